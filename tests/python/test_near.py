@@ -1,9 +1,16 @@
-"""The nearest word and recovered words of drawn lines: what they are off by is counted on paper."""
+"""The nearest word and recovered words of drawn lines, whose distances are counted on paper; and due numbers that are
+the nearest words of their lines: they count as read."""
 
 import unittest
 
 import ldvbi
 from cases import InFolder, reason
+from compact import check, made, of_member
+from discs import plain, second
+from ldvbi_side.command.map import map_rows
+from ldvbi_side.judge.answer import analyse
+from ldvbi_side.seek import seek, wanted_of
+from ldvbi_side.side import side_of_tbc
 from streams import NTSC, PAL, line_with, worn_line, write_stream
 
 # Of each setup the columns in which words that differ in one bit differ, the columns of the first half cell, those of a
@@ -24,38 +31,17 @@ class Nearest(unittest.TestCase):
             self.assertEqual(ldvbi.nearest(2 * line_with(0, setup), *setup), (None, 0, 0, 2 * fewest * column, 0))
 
 
-SHOWN = ldvbi.Cause.word
-BLANK = (ldvbi.Cause.blank, 0, 0, 0)
+# Fields, of whose worn lines each has its word, the cell in which columns are turned over, and how many: of PAL 3 more.
+# With 11 a word is ahead by 6 or 7, as a code of its line has to be. With 13 it is ahead by 2 or 3, but lines 17 and 18
+# together by 30 and more: each has the other's worn cell.
+FIELDS = ([(0x8DC0A1, 5, 11), 0xF12345, 0], [0, (0xF12345, 9, 13), (0xF12345, 13, 13)], [0, 0, (0xF54321, 13, 11)])
 
 
 class Recovered(InFolder):
-    def setUp(self):
-        super().setUp()
-        # With 11 columns turned over a word is ahead by 6 or 7, as a code of its line has to be, with 12 by 4 or 5.
-        # With 13 it is ahead by 2 or 3, but lines 17 and 18 together by 30 and more: each has the other's worn cell.
-        self.fields = {setup: [
-            [self.worn(0x8DC0A1, setup, 5, 11), 0xF12345, 0],
-            [0, self.worn(0xF12345, setup, 9, 13), self.worn(0xF12345, setup, 13, 13)],
-            [self.worn(0x8DC0A1, setup, 5, 12), 0, self.worn(0xF54321, setup, 13, 11)]] for setup in (NTSC, PAL)}
-        self.wanted = [
-            ((SHOWN, 3, 0, 0x8DC0A1), (SHOWN, 1, 0, 0xF12345), BLANK),
-            (BLANK, (SHOWN, 3, 0, 0xF12345), (SHOWN, 3, 0, 0xF12345)),
-            (None, BLANK, (SHOWN, 3, 0, 0xF54321))]
-
     @staticmethod
-    def worn(word, setup, cell, columns):
-        return worn_line(word, setup, cell, columns + (3 if setup == PAL else 0))
-
-    def check(self, found, setup, is_recovered):
-        """Fields that were read, recovered or not."""
-        self.assertEqual(len(found), 3)
-        for field, shown, rows in zip(found, self.wanted, self.fields[setup]):
-            for line, wanted, row in zip(field, shown, rows):
-                if wanted is None or not is_recovered and isinstance(row, bytes):
-                    self.assertIn(line.cause, (ldvbi.Cause.change, ldvbi.Cause.hold))
-                    self.assertEqual((line.pass_, line.word), (0, 0))
-                else:
-                    self.assertEqual(line, wanted)
+    def drawn(setup):
+        return [[worn_line(line[0], setup, line[1], line[2] + 3 * (setup == PAL)) if isinstance(line, tuple)
+                 else line_with(line, setup) for line in field] for field in FIELDS]
 
     def readings(self, setup, *words):
         """The fields as each call reads them."""
@@ -70,38 +56,85 @@ class Recovered(InFolder):
         yield [ldvbi.read_rows(one[15 * line:18 * line], *setup, *words) for one in data]
 
     def test_each_call(self):
-        for setup, fields in self.fields.items():
-            write_stream(self.path, setup, fields, 1000)
+        for setup in (NTSC, PAL):
+            write_stream(self.path, setup, self.drawn(setup), 1000)
             for words in ((), (False,), (True,)):
-                with self.subTest((setup, words)):
-                    for found in self.readings(setup, *words):
-                        self.check(found, setup, words == (True,))
+                recovered = (lambda word: (word, 3)) if words == (True,) else lambda word: (0, 0)
+                wanted = [recovered(line[0]) if isinstance(line, tuple) else (line, int(line > 0))
+                          for field in FIELDS for line in field]
+                for found in self.readings(setup, *words):
+                    self.assertEqual([(line.word, line.pass_) for field in found for line in field], wanted, words)
 
     def test_the_samples_of_rows(self):
-        write_stream(self.path, PAL, self.fields[PAL])
-        drawn = [b"".join(row if isinstance(row, bytes) else line_with(row, PAL) for row in field)
-                 for field in self.fields[PAL]]
+        drawn = self.drawn(PAL)
+        write_stream(self.path, PAL, drawn)
         with ldvbi.Stream(self.path, *PAL) as side:
-            self.assertEqual([side.rows(index) for index in (0, 1, 2, -1)], [*drawn, drawn[2]])
+            self.assertEqual([side.rows(index) for index in (0, 1, 2, -1)], [*map(b"".join, drawn), b"".join(drawn[2])])
             for index in (3, -4):
-                with self.assertRaises(IndexError):
-                    side.rows(index)
-        with self.assertRaisesRegex(ValueError, "^the stream is closed$"):
-            side.rows(0)
+                self.assertIsNotNone(reason(side.rows, index, kind=IndexError))
+        self.assertEqual(reason(side.rows, 0), "the stream is closed")
 
-    def test_refusals(self):
-        line = line_with(0xF12345, NTSC)
-        for call, words, text in (
-                (ldvbi.nearest, (b"", 3, 2, 2), "system is neither NTSC nor PAL"),
-                (ldvbi.nearest, (b"", "NTSC", 2, 2), "black is not below white"),
-                (ldvbi.nearest, (b"", "NTSC", 1, 65536), "white is not from 0 to 65535"),
-                (ldvbi.nearest, (b"", "NTSC", 1, 2), "1 to 28 lines have 1820 bytes each, and these are 0"),
-                (ldvbi.nearest, (line[1:], "NTSC", 1, 2), "1 to 28 lines have 1820 bytes each, and these are 1819"),
-                (ldvbi.nearest, (line, "PAL", 1, 2), "1 to 28 lines have 2270 bytes each, and these are 1820"),
-                (ldvbi.nearest, (29 * line, "NTSC", 1, 2), "1 to 28 lines have 1820 bytes each, and these are 52780"),
-                (ldvbi.nearest, ([1, 2], "NTSC", 1, 2), "samples are not bytes, but of the type list"),
-                (ldvbi.read_rows, (b"", 3, 2, 2, True), "system is neither NTSC nor PAL"),
-                (ldvbi.read_rows, (b"", "NTSC", 1, 2, True), "three lines have 5460 bytes, not 0"),
-                (ldvbi.read_field, (b"", "PAL", 1, 2, True), "a field has 710510 bytes, not 0"),
-                (ldvbi.Stream, (b"", "NTSC", 2, 2, True), "black is not below white")):
-            self.assertEqual(reason(call, *words), text)
+
+DUE = "1..20 9=?"  # picture 5, in field 9
+
+
+def asked(text, words):
+    """The answer of a side, of whose lines these are the nearest words, by field, first and last line."""
+    return analyse(made(text, plain)._replace(nearest_word=lambda *place: words.get(place)))
+
+
+class Confirmed(InFolder):
+    def check(self, found, is_confirmed):
+        wanted = ("9", "", "", "20") if is_confirmed else ("", "5@9", "5 unread", "19")
+        self.assertEqual(tuple(of_member(found, name) for name in ("confirmed", "unread", "missing", "count")), wanted)
+        self.assertEqual((of_member(found, "@9"), found["whole"]), ("5" if is_confirmed else "", "yes"))
+
+    def test_pictures(self):
+        """A line or both say one of its two words: the first bit of the first digit has no meaning."""
+        for place, word, is_confirmed in (
+                *(((9, *lines), word, True) for lines in ((17, 17), (18, 18), (17, 18))
+                  for word in (0xF00005, 0xF80005)),
+                ((1, 17, 17), 0, False), ((9, 17, 17), 0xF00006, False), ((9, 17, 17), 0x805DDD, False),
+                ((9, 16, 16), 0xF00005, False), ((10, 17, 17), 0xF00005, False), ((7, 18, 18), 0xF00005, False)):
+            with self.subTest((place, word)):
+                self.check(asked(DUE, {place: word}), is_confirmed)
+        # beside a wrong word, which is set aside all the same
+        found = asked("1..20 9=-/#79999/?", {(9, 17, 17): 0xF79999, (9, 18, 18): 0xF00005})
+        self.check(found, True)
+        self.assertEqual([(one["field"], one["number"]) for one in found["doubtful"]], [(9, 79999)])
+        # where none is due, and of a document
+        for text, nearest in (("1..20 ?x2", lambda *place: 0xF00021), (DUE, None)):
+            check(self, "none | %s | no confirmed" % text, nearest_word=nearest)
+
+    def test_sought_and_mapped(self):
+        found = asked(DUE, {(9, 17, 17): 0xF00005})
+        self.assertEqual(seek(found, wanted_of("5")), {"field": 9, "frame": 5, "read": True, "other": None})
+        self.assertEqual([row for row in map_rows(found) if row[0] == "picture"][3:6],
+                         [("picture", 4, 7, 4, "read"), ("picture", 5, 9, 5, "near"), ("picture", 6, 11, 6, "read")])
+
+    def test_times(self):
+        """Time 0:01:00.00 stands in field 21. Minutes alone aren't confirmed."""
+        for word, is_confirmed in ((second(0, 0), True), (second(0, 1), False), (second(1, 0), False),
+                                   ("F0DD01", False)):
+            found = asked("t1490..1509 21=?/M/?", {(21, 16, 16): int(word, 16)})
+            self.assertEqual(of_member(found, "confirmed"), "21" if is_confirmed else "", word)
+            self.assertEqual(["0:01:00.00", 21, 21] in found["showings"], is_confirmed)
+        words = {(field, 18, 18): 0xF0DD10 for field in range(1, 6001)}
+        self.assertEqual(asked("m9x3000 m11x3000", words)["confirmed"], [])
+
+    def test_samples(self):
+        """Of 20 pictures picture 5 has this line alone, which shows no word. It is ahead by 2 or 3 columns, which are
+        too few to recover it where no number is due; half of the 28 columns of a cell are turned over, so that the word
+        with the other bit is as near; or with one more cell behind the word the row is nearer by 14 columns."""
+        for setup, line, is_nearest in ((NTSC, worn_line(0xF00005, NTSC, 9, 13), True),
+                                        (PAL, worn_line(0xF00005, PAL, 9, 16), True),
+                                        (NTSC, worn_line(0xF00005, NTSC, 5, 14), False),
+                                        (NTSC, line_with(0xF00005, NTSC, [(150 + 687, 150 + 700, True)]), False)):
+            fields = [field for number in range(1, 21)
+                      for field in ([0, 0xF00000 + int(str(number), 16), 0], [0, 0x800DDD, 0x800DDD])]
+            fields[8] = [0, line, 0]
+            write_stream(self.path, setup, fields)
+            for recover in (True, False):
+                one = side_of_tbc(self.path, ldvbi.System[setup[0]], *setup[1:], recover=recover)
+                self.assertEqual(one.readings[8].second.word, 0)
+                self.check(one.answer, is_nearest and recover)

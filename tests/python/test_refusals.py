@@ -29,7 +29,18 @@ class Refusals(unittest.TestCase):
                 (ldvbi.draw_line, ("F12345", *NTSC), "word is not a whole number"),
                 (ldvbi.classify, (0x7FFFFF,), "number is no code word"),
                 (ldvbi.read_line, (b"", 3, 2, 2), NO_SYSTEM), (ldvbi.read_line, (b"", "NTSC", 2, 2), NOT_BELOW),
-                (ldvbi.draw_line, (5, "NTSC", 2, 2), NOT_BELOW)):
+                (ldvbi.draw_line, (5, "NTSC", 2, 2), NOT_BELOW),
+                (ldvbi.nearest, (b"", 3, 2, 2), NO_SYSTEM), (ldvbi.nearest, (b"", "NTSC", 2, 2), NOT_BELOW),
+                (ldvbi.nearest, (b"", "NTSC", 1, 65536), "white is not from 0 to 65535"),
+                (ldvbi.nearest, (b"", "NTSC", 1, 2), "1 to 28 lines have 1820 bytes each, and these are 0"),
+                (ldvbi.nearest, (LINE[1:], "NTSC", 1, 2), "1 to 28 lines have 1820 bytes each, and these are 1819"),
+                (ldvbi.nearest, (LINE, "PAL", 1, 2), "1 to 28 lines have 2270 bytes each, and these are 1820"),
+                (ldvbi.nearest, (29 * LINE, "NTSC", 1, 2), "1 to 28 lines have 1820 bytes each, and these are 52780"),
+                (ldvbi.nearest, ([1, 2], "NTSC", 1, 2), "samples are not bytes, but of the type list"),
+                (ldvbi.read_rows, (b"", 3, 2, 2, True), NO_SYSTEM),
+                (ldvbi.read_rows, (b"", "NTSC", 1, 2, True), "three lines have 5460 bytes, not 0"),
+                (ldvbi.read_field, (b"", "PAL", 1, 2, True), "a field has 710510 bytes, not 0"),
+                (ldvbi.Stream, (b"", "NTSC", 2, 2, True), NOT_BELOW)):
             with self.subTest((call.__name__, words[1:])):
                 self.assertEqual(reason(call, *words), text)
 

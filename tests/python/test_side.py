@@ -1,4 +1,4 @@
-"""The class `Side`, seeking, and what the command prints of an answer."""
+"""The class `Side`, seeking, the map that a player loads, and what the command prints of an answer."""
 
 import gc
 import os
@@ -10,6 +10,7 @@ from cases import InFolder, reason
 from compact import made
 from discs import plain, side
 from ldvbi.readings import Cut
+from ldvbi_side.command.map import map_rows
 from ldvbi_side.command.summary import MOST_LINES, summary
 from ldvbi_side.command.tables import bad_line_rows, field_rows
 from ldvbi_side.draw.plot import plot_command, tbc_name
@@ -60,6 +61,40 @@ class Seeking(unittest.TestCase):
                 with self.subTest((text, number)):
                     found = text_of(seek(made(text), wanted_of(number)))
                     self.assertEqual(re.sub(r"^field (\d+), frame ", r"\1 ", found), wanted or "not found")
+
+
+# A side, and its map: of each kind the number, the field, the frame and how it is known there
+MAPS = (
+    ("L 1..6 4=? 6=S/S/#3 8=-/#70000/#70000* 11=-/c1/c1 13=-/c1/c1",
+     "picture 1 2 1 read, picture 2 4 2 neighbours, picture 3 6 3 read, picture 4 8 4 neighbours, picture 5 10 5 read, "
+     "picture 6 12 6 read, chapter 0 3 2 read, chapter 1 11 6 read, stop 3 6 3 read"),
+    ("t1499..1500", "time 0:00:59.24 1 1 read, time 0:01:00.00 3 2 read, chapter 0 2 1 read"),
+    ("m9..10x3000", "minute 0:09 1 1 read, minute 0:10 3001 1501 read"),
+    ("PAL/1 S/-/- B", "stop - 1 0 read"), ("", ""),
+    ("PAL/1 5..6", "picture 5 1 0 read, picture 6 3 1 read, chapter 0 2 1 read"))
+
+
+class Maps(unittest.TestCase):
+    def test_rows(self):
+        for text, wanted in MAPS:
+            self.assertEqual(", ".join(" ".join(map(str, row)) for row in map_rows(made(text))), wanted, text)
+        # a stop at picture 0
+        self.assertEqual(list(map_rows(made("0..9 1=S/#0/#0")))[-1], ("stop", 0, 1, 1, "read"))
+
+    def test_a_time_is_sought_where_it_was_read(self):
+        """Not in the field before, in which it is only due; of a second the first field that has any of it counts."""
+        known = made("t1500..1529 t1510..1539 31=?/?/?")  # 0:01:00.15, which is read in field 71
+        found = [seek(known, wanted_of(text)) for text in ("0:01:00.15", "0:01:00", "0:01:00.14")]
+        self.assertEqual([(one["field"], one["read"]) for one in found], [(71, True), (1, True), (29, True)])
+
+    def test_it_says_what_seeking_says(self):
+        known = made("1..40 21..60 60x4 70..90 1:210/14=?")
+        mapped = {number: row for kind, number, *row in map_rows(known) if kind == "picture"}
+        for number in range(100):
+            found = seek(known, wanted_of(str(number)))
+            row = found and [found["field"], found["frame"], "read" if found["read"] else "neighbours"]
+            self.assertEqual(mapped.get(number), row, number)
+        self.assertIn("neighbours", [row[2] for row in mapped.values()])
 
 
 # Rows of sides: field, frame, format, picture, chapter, time, stop, doubtful, programme status, users' codes, unknown.
