@@ -191,16 +191,6 @@ class Chains(unittest.TestCase):
                 known = [(one.values, [list(map(max, less[::2], less[1::2])) for less in one.less]) for one in found]
                 self.assertEqual(known[1:], known[:1] * 2, (kind, seed))
 
-    def test_variants(self):
-        """The second field of a picture is one; film has 3 fields of pictures with an odd or with an even number."""
-        found = chain([Reading(field, 10 + field // 2, 4, (17, 18)) for field in range(2, 12)], Pace("both"))
-        self.assertEqual([(one.number, one.variant) for one in found],
-                         [(number, variant) for number in range(11, 16) for variant in (0, 1)])
-        for odd in (0, 1):
-            fields = [2 * number - 1 + (number - 1 + odd) // 2 for number in range(1, 31)]
-            found = chain([Reading(field, number, 4, (17, 18)) for number, field in enumerate(fields, 1)], Pace("film"))
-            self.assertEqual([one.variant for one in found], [1 - odd] * 30)
-
 
 # Fields with their pictures of a second, others with their minutes, and which number is then in which field. A minute
 # in a field without a second counts for the run that the field is in, or that is right beside it.

@@ -73,17 +73,17 @@ class Clv(unittest.TestCase):
         """NTSC has 30 numbers to a second of 29.97: one of 1001 is left out, or two at the start of each minute but the
         tenth. Of what is left in one stretch number 5000 is 5005, for instance."""
         check(self, """
-    one in 1001 | NTSC t0..5999!400%1001 | no missing lost | whys clock
-        | leftOut 0:00:13.10, 0:00:46.21, 0:01:20.02, 0:01:53.13, 0:02:26.24, 0:03:00.05
+    one in 1001 | NTSC t0..3999!400%1001 | no missing lost | whys clock
+        | leftOut 0:00:13.10, 0:00:46.21, 0:01:20.02, 0:01:53.13
     two a minute | NTSC t12602..17999!0,1%1800 t18000..18001 t18002..19999!0,1%1800 | no missing
         | leftOut 0:08:00.00-0:08:00.01, 0:09:00.00-0:09:00.01, 0:11:00.00-0:11:00.01
     damage beside them | NTSC t0..1999!1800,1801 3599=?/?/? | missing 0:00:59.29 unread
         | leftOut 0:01:00.00-0:01:00.01
     half of it is lost | NTSC t0..8007!400%1001 -4001:12000 | lost 3999-4001 8008 number | leftOut x4 | missing x1
-    two sides have a clock each | NTSC t0..4999!400%1001 t0..4999!750%1001 | no lost | breaks x1
+    two sides have a clock each | NTSC t0..3999!400%1001 t0..3999!750%1001 | no lost | breaks x1
     a short stretch by a long one | NTSC t0..5004!400%1001 t6507..8999!400%1001 | lost x1
     short ones together | NTSC t0..1501!400%1001 t2903..4403!400%1001 t5906..7406!400%1001 | lost x2
-    frames that are lost | NTSC t0..5999!400,1700,4100 | lost x3
+    frames that are lost | NTSC t0..4199!400,1700,4100 | lost x3
         | missing 0:00:13.10 lost, 0:00:56.20 lost, 0:02:16.20 lost
     less than 4000 numbers don't say | NTSC t0..3998!400 | missing 0:00:13.10 undecided
     as many do | NTSC t0..3999!400 | missing 0:00:13.10 lost
@@ -96,10 +96,10 @@ class Clv(unittest.TestCase):
     not at one of 999 | NTSC t0..3100!500,1500,2500 t4100..4200!4150 | missing .., 0:02:18.10 lost
     three places are enough | NTSC t0..3399!400%1001 | whys clock
     two are not | NTSC t0..2399!400%1001 | whys undecided
-    nor are three of many that are due | NTSC t0..8999!1000,2001,3002 | missing x3 | whys lost
-    at a tenth minute | NTSC t17000..21999!18000,18001 | missing 0:10:00.00-0:10:00.01 lost
-    three at once | NTSC t0..4999!500,501,502 | missing 0:00:16.20-0:00:16.22 lost
-    two elsewhere | NTSC t0..4999!900,901 | missing 0:00:30.00-0:00:30.01 lost
-    PAL has none | t0..5999!400%1001 | missing x6 | no leftOut
+    nor are three of many that are due | NTSC t0..7999!1000,2001,3002 | missing x3 | whys lost
+    at a tenth minute | NTSC t17000..21001!18000,18001 | missing 0:10:00.00-0:10:00.01 lost
+    three at once | NTSC t0..4002!500,501,502 | missing 0:00:16.20-0:00:16.22 lost
+    two elsewhere | NTSC t0..4001!900,901 | missing 0:00:30.00-0:00:30.01 lost
+    PAL has none | t0..4003!400%1001 | missing x4 | no leftOut
     one beside it was not read | NTSC t0..5999!400%1001 799:800=B | missing 0:00:13.09 unread | leftOut x6
     """)

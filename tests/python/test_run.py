@@ -42,7 +42,7 @@ class Documents(Calls):
 
     def test_refused(self):
         for words in ("--document --csv", "--document --json", "--document --summary", "--document --bad-lines",
-                      "--csv --seek 1", "--seek x", "--seek -1", "--system SECAM", "--black 1.0"):
+                      "--csv --seek 1", "--seek x", "--seek -1", "--system SECAM", "--black 1.0", "--recovered"):
             self.assertEqual(self.run_command("side.tbc LEVELS " + words)[:2], (2, b""), words)
 
 
@@ -54,7 +54,8 @@ class Metadata(Calls):
         self.metadata("side.tbc.json", count=12)
         self.metadata("other.json", count=12, black16bIre=60000, white16bIre=60001)
         for words, text in (("--seek 4", b"field 5, frame 2\n"), ("--white 51200 --document", self.document),
-                            ("LEVELS --seek 4", b"field 5, frame 3\n")):
+                            ("LEVELS --seek 4", b"field 5, frame 3\n"),
+                            ("--meta other.json LEVELS --seek 4", b"field 5, frame 2\n")):
             self.assertEqual(self.printed("side.tbc " + words), text)
         self.assertEqual(self.run_command("side.tbc --meta other.json --seek 4")[:2], (1, b"not found\n"))
         self.assertEqual(self.printed("side.vbi.json --meta side.tbc.json --seek 4"), b"field 5, frame 2\n")

@@ -239,12 +239,6 @@ class Others(Calls):
             self.assertTrue(shown.replace("\n", "").isprintable())
             self.assertLess(len(shown), 750)
 
-    def test_an_option_beside_metadata(self):
-        self.metadata("side.tbc.json")
-        for option in (["--system", "PAL"], ["--black", "20000"], ["--white", "40000"]):
-            wanted = self.extracted("side.tbc", ["--meta", self.named("side.tbc.json"), *option])
-            self.assertEqual(self.run_command("side.tbc", *option, "--document")[1], wanted, option)
-
     def test_what_has_no_end(self):
         for words in ("/dev/zero", "side.tbc --meta /dev/zero", "index index.html /dev/zero", "scan --csv /dev/zero"):
             with self.subTest(words):
