@@ -26,7 +26,7 @@ test_joined_sets test_join test_classes'
     cd "$here" && xargs -P "$(nproc)" -n 1 sh -c '
     case $2 in
         test_chapters | test_classes | test_examples | test_joined_sets | test_judged) COVERAGE_PROCESS_START= ;;
-        test_other_damage | test_places | test_simulated | test_soundness | test_worn) COVERAGE_PROCESS_START= ;;
+        test_places | test_simulated | test_soundness | test_worn) COVERAGE_PROCESS_START= ;;
     esac
     status=0
     timeout -k 5 "$seconds" python3 -m unittest -v "$2" < /dev/null > "$1/$2.out" 2> "$1/$2.err" || status=$?

@@ -71,8 +71,7 @@ class Documents(InFolder):
         """Whole streams and cut ones."""
         for setup in (NTSC, PAL):
             size = ldvbi.field_bytes(setup[0])
-            for count, rest in ((0, 0), (1, 0), (63, 0), (64, 0), (65, 0), (128, 0), (129, 0), (0, 1), (0, size - 1),
-                                (2, 1), (64, 1000), (3, size - 1), (1025, 1000)):
+            for count, rest in ((0, 0), (1, 0), (64, 0), (65, 0), (129, 0), (0, 1), (64, 1000), (3, size - 1)):
                 with self.subTest((setup, count, rest)):
                     self.compare(setup, pictures(count), rest)
 

@@ -1,4 +1,4 @@
-"""What the module's calls refuse, in the library's order and words, and what they return."""
+"""What the module's calls refuse, in the library's order and words."""
 
 import unittest
 
@@ -16,6 +16,7 @@ class Refusals(unittest.TestCase):
         """Of what is refused for more than one reason that is raised which comes first in the library's order."""
         for call, words, text in (
                 (ldvbi.read_line, (LINE, "ntsc", 1, 2), NO_SYSTEM), (ldvbi.read_line, (LINE, None, 1, 2), NO_SYSTEM),
+                (ldvbi.read_line, (LINE, 1, 1, 2), None),
                 (ldvbi.read_line, (LINE, "NTSC", 1.0, 2), "black is not a whole number"),
                 (ldvbi.read_line, (LINE, "NTSC", 1, "2"), "white is not a whole number"),
                 (ldvbi.read_line, (LINE[1:], "NTSC", 1, 2), "a line has 1820 bytes, not 1819"),
@@ -60,15 +61,3 @@ class Refusals(unittest.TestCase):
                 self.assertEqual(reason(call, first, *setup), text, (call, setup))
         for word in (256, 257, 65535, 0x7FFFFF, 0x1000000) + WIDE:
             self.assertEqual(reason(ldvbi.draw_line, word, *NTSC), "number is no code word", word)
-
-
-class Values(unittest.TestCase):
-    def test_results(self):
-        self.assertEqual(ldvbi.read_line(ldvbi.draw_line(0, *NTSC), 1, 16384, 51200), (ldvbi.Cause.blank, 0, 0, 0))
-        rows = b"".join(ldvbi.draw_line(word, *NTSC) for word in (0x82CFFF, 0, 0xF00001))
-        readings = ldvbi.read_rows(rows, *NTSC)
-        self.assertEqual([line.word for line in readings], [0x82CFFF, 0, 0xF00001])
-        field = bytearray(FIELD)
-        field[15 * 1820:18 * 1820] = rows
-        self.assertEqual(ldvbi.read_field(field, *NTSC), readings)
-        self.assertIsInstance(readings, ldvbi.FieldReadings)
