@@ -155,16 +155,9 @@ sides trial
 document "$top/docs/FORMATS.md" trial
 
 # The lines of README and of the pages for callers stand in a program of examples/, or in a caller that is proved.
-# lines_of [FILE]: the lines of a source without their indents, of an import one for each name
+# lines_of [FILE]: the lines of a source without their indents, of an import one for each word
 lines_of() {
-    sed 's/^ *//' "$@" | awk '!/use .*[{].*[}];$/ { print; next }
-    {
-        head = names = $0
-        sub(/[{].*/, "", head)
-        gsub(/^[^{]*[{]|[}];$/, "", names)
-        for (count = split(names, name, /, */); count; count--)
-            print head name[count]
-    }'
+    sed 's/^ *//; /^\(ghost \)\?use /s/[^a-zA-Z0-9_][^a-zA-Z0-9_]*/\n/g' "$@"
 }
 while read -r page kind source; do
     sed -n '/^```'$kind'$/,/^```$/{/^```/d;p;}' "$top/$page" | lines_of > found

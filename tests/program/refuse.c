@@ -1,6 +1,6 @@
 /* Refuses one allocation of a program that it is loaded before (LD_PRELOAD): the one whose number, from 1, the
    environment's REFUSE_AT has. The file that REFUSE_MARK names gets a byte for each allocation that is refused, here or
-   by the system, so that its absence says that there was none. */
+   by the system, so that its absence says that there was none. The programs ask for no aligned memory. */
 #define _GNU_SOURCE
 #include <dlfcn.h>
 #include <errno.h>
@@ -55,18 +55,4 @@ void *realloc(void *block_before, size_t size)
 void *calloc(size_t number, size_t size)
 {
     REFUSABLE("calloc", (size_t, size_t), number, size);
-}
-
-void *aligned_alloc(size_t alignment, size_t size)
-{
-    REFUSABLE("aligned_alloc", (size_t, size_t), alignment, size);
-}
-
-int posix_memalign(void **block, size_t alignment, size_t size)
-{
-    void *made = aligned_alloc(alignment, size);
-
-    if (made != NULL)
-        *block = made;
-    return made == NULL ? ENOMEM : 0;
 }

@@ -26,9 +26,9 @@ VALUES = ["", "-", "0", "1", "5", "-1", "+5", "++5", "65535", "65536", "8224", "
           " 5", "99999999999999999999", "-99999999999999999999", "NTSC", "PAL", "NTS", "PALS", "ntsc", "line.raw",
           "absent", ".", "meta.json", "bad.json", "\u00e4\u20ac\U0001f4bf"]
 # Words that are near a command or an option, and others
-STRAY = ["--", "-x", "-xh", "-hx", "-5", "--met", "--meat", "--blac", "--maxfields", "--syste", "--helq", "--vers",
-         "--zzz", "---", "lines", "lien", "Line", "extra", "lineextract", "sho", "daw", "help", "helps", "--=5", "-=",
-         "--help=x", "--black=x=y", "\u00fc"]
+STRAY = ["--", "-x", "-xh", "-hx", "-5", "--met=meta.json", "--meat", "--blac=5", "--maxfields", "--syste",
+         "--helq", "--vers", "--zzz", "---", "lines", "lien", "Line", "extra", "lineextract", "sho",
+         "daw", "help", "helps", "--=5", "-=", "--help=x", "--black=x=y", "\u00fc"]
 # Options that make a job
 FIT = {"--meta": ["meta.json"], "--system": ["NTSC", "NTSC", "PAL"], "--black": ["5", "+5", "08224", "16448"],
        "--white": ["16448", "51200", "65535"], "--max-fields": ["1", "5", "0", "1000000"]}
@@ -71,8 +71,7 @@ def random_words(choose):
         parts += [random_parts(choose)] * (choose.random() < 0.6)
         choose.shuffle(parts)
         return sum(parts, words)
-    if choose.random() < 0.3:
-        words = []
+    words = choose.choice([words, words, [], [choose.choice(STRAY)]])
     if choose.random() < 0.1:
         words.insert(0, "help")
     for _ in range(choose.randrange(5)):
