@@ -1,7 +1,7 @@
 #!/bin/sh
 # Compares what was run, lines on standard input, with the list in git, .ci/ran.txt; of both those that PATTERN means.
-# Prints each line that is gone (<) or new (>), and then has status 3. The list as it would be then is .ci/ran.new, which
-# `make ran` takes over; what earlier runs found is in it as well, unless the list has changed since.
+# Prints each line that is gone (<) or new (>), and then has status 3. The list as it would be then is .ci/ran.new,
+# which `make ran` takes over; what earlier runs found is in it as well, unless the list has changed since.
 # usage: sh tests/ran.sh PATTERN < LINES
 set -eu
 LC_ALL=C

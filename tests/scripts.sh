@@ -87,8 +87,8 @@ done
     < /dev/null || exit 1
 [ -z "$outer" ] || exit 0
 
-# compared: the names of the scripts whose checks are compared: those that ran, and, where all on the proved program did,
-# those that the list alone has
+# compared: the names of the scripts whose checks are compared: those that ran, and, where all on the proved program
+# did, those that the list alone has
 compared() {
     sed -n 's/^script \([a-z_]*\).*/\1/p' "$RAN"
     [ "$whole" ] && [ -z "$on" ] || return 0

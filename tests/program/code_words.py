@@ -1,5 +1,5 @@
-"""Prints code words to try a table of classes with: words at the corners of each pattern of codes, and 20,000 drawn ones.
-Its input are the patterns, a line each: the least and the greatest digit at each place, as its two words.
+"""Prints code words to try a table of classes with: words at the corners of each pattern of codes, and 20,000 drawn
+ones. Its input are the patterns, a line each: the least and the greatest digit at each place, as its two words.
 
 The corners: at each place of a pattern the digits at its bounds and one beyond, all other digits at either bound. Then
 the drawn words: by thirds any word, one of a pattern, and one of a pattern with a digit that is replaced."""

@@ -1,7 +1,7 @@
 #!/bin/sh
 # Makes reads and writes of the commands, and reads of metadata, fail, be interrupted, move few bytes or end, and
 # compares what the built program writes, what it says, its status, and how often it asks its devices. Here the devices
-# are those of the system; what becomes of a fault at each byte is proved, and tested in the crates over devices made up.
+# are those of the system; what becomes of a fault at each byte is proved, and tested in the crates over made-up ones.
 # usage: sh tests/program/device_faults.sh PROGRAM
 # runs: everywhere rust
 # fails where: tests/program/device_faults.sh|s/write failed/write foiled/g

@@ -1,6 +1,6 @@
 #!/bin/sh
-# Makes the pictures of docs/FORMATS.md again and compares them with those that stand there; and has contrib/plot_line.py
-# draw lines of each kind, and compares what it marks with what the lines are made of.
+# Makes the pictures of docs/FORMATS.md again and compares them with those that stand there; and has
+# contrib/plot_line.py draw lines of each kind, and compares what it marks with what the lines are made of.
 # usage: sh tests/program/plots.sh PROGRAM
 # runs: everywhere
 # fails where: contrib/plot_line.py|s/(pass 2)/(pass 3)/
@@ -33,8 +33,8 @@ check 'the picture has its row' grep -q '>no word: .*; the row of 82CFFF from co
     "$pictures/nearest.svg"
 check "FORMATS.md has its distance, and its rival's" grep -q '280\.8 columns.* 289\.7 ' "$top/docs/FORMATS.md"
 
-# What a picture of a line has, on a line each: its title, digits and bits, the columns at which cells begin and end; how
-# many columns are marked, and which; and what reaches out of the frame. It is read as XML.
+# What a picture of a line has, on a line each: its title, digits and bits, the columns at which cells begin and end;
+# how many columns are marked, and which; and what reaches out of the frame. It is read as XML.
 cat > found.py << 'END'
 import re
 import sys
@@ -74,7 +74,7 @@ print("cells", *sorted(set(columns_of(of_class("cell"), "x1"))))
 print(sum(part.tag.endswith("rect") for part in marked), "marked", *columns_of(marked, "x"))
 print("outside", *[part.tag.rpartition("}")[2] for part in picture.iter() if is_outside(part)])
 END
-# plotted OPTION..: draws the line in the file `line.raw`, of so many columns (`width`), and finds what is in its picture
+# plotted OPTION..: draws the line in the file `line.raw`, of so many columns (`width`), and finds what is in the picture
 plotted() {
     status=0
     {
@@ -115,7 +115,8 @@ check 'a boundary out of sight' grep -qx "cells $first" found
 # Columns are numbered by tens where at most 301 are seen
 for row in '300 31' '301 7'; do
     plotted $ntsc --last "${row% *}"
-    check "numbers of columns up to ${row% *}" [ "$(grep -c 'y="[0-9.]*" text-anchor="middle">[0-9]' out)" = "${row#* }" ]
+    check "numbers of columns up to ${row% *}" \
+        [ "$(grep -c 'y="[0-9.]*" text-anchor="middle">[0-9]' out)" = "${row#* }" ]
 done
 # Samples at the middle of black and white are low, those above it high
 for levels in '--black 0 --white 32768' '--black 50000 --white 52399'; do
@@ -130,9 +131,9 @@ sed -n 's/^cells \([0-9]*\) .* \([0-9]*\)$/\1 \2/p' found |
 check 'where a word of PAL begins and ends' [ "$(wc -l < ends)" = 1 ]
 
 # What is drawn of a line with these words: how the title begins, the digits, how many columns are marked and which, as
-# patterns; and nothing beside the frame. The half cells are the shortest and the longest ones; a word that these samples
-# wouldn't show by the script's own reading is a fault. 82CFFF changes its level in 42 columns, and 82CFFE is another
-# word in the 29 columns of its last cell.
+# patterns; and nothing beside the frame. The half cells are the shortest and the longest ones; a word that these
+# samples wouldn't show by the script's own reading is a fault. 82CFFF changes its level in 42 columns, and 82CFFE is
+# another word in the 29 columns of its last cell.
 while IFS='|' read -r system description words title digits marked; do
     lined $system "$description"
     plotted $options $words
@@ -161,7 +162,7 @@ PAL|800000/22/48||800000, by the samples|800000|0 marked
 PAL|L207 H928||no word: hold 251||1 marked 251
 NTSC|82CFFF|--near 82CFFF@151|82CFFF; the row of 82CFFF from column 151 on is 42.0 columns away|82CFFF|42 marked *
 NTSC|82CFFF|--near 82CFFE@150|82CFFF; the row of 82CFFE from column 150 on is 29.0 columns away|82CFFE|29 marked *
-NTSC|82CFFF @170-174L|--near 82CFFF@150|no word: change 170; the row of 82CFFF from column 150 on is 5.0 columns away|82CFFF|5 marked *
+NTSC|82CFFF @170-174L|--near 82CFFF@150|no word: change 170; the row of 82CFFF * is 5.0 columns away|82CFFF|5 marked *
 NTSC|82CFFF|--near 82CFFF@223||*|*
 NTSC|82CFFF|--last 10||*|0 marked
 NTSC|82CFFF|--first 909||*|0 marked
@@ -179,9 +180,9 @@ echo 82CFFF | signal NTSC 0 | tr 'zLyH' '\000\000\377\377' > line.raw
 plotted --system NTSC --black 20000 --white 40000
 check 'samples beyond black and white: in the frame' [ "$status $(tail -n 1 found)" = '0 outside' ]
 
-# The script reads a word itself, to find its half cells: those of the lengths of its system, and no others. This program
-# says a word of each line, also of one that shows none. 48 half cells that are too long have no room in a line: one of
-# them stands among the shortest, and two of one level.
+# The script reads a word itself, to find its half cells: those of the lengths of its system, and no others. This
+# program says a word of each line, also of one that shows none. 48 half cells that are too long have no room in a line:
+# one of them stands among the shortest, and two of one level.
 stub says_word 'cat > rest; echo "$WORD"'
 rest() {
     printf " L$1 H$1%.0s" 1 2 3 4 5 6 7 8 9 10 11 12 13 14 15 16 17 18 19 20 21

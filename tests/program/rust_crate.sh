@@ -44,7 +44,7 @@ a function without a body|$behind|a function has no body|$levels|\$apub fn level
 an unknown macro|$behind|'print' is no macro that is known|$levels|\$aconst PRINTED: () = print!("");
 an unknown attribute|$behind|'ensures' is no attribute that is known|$levels|\$a#[ensures(true)]
 a sign of contracts|$behind|'≡' is unknown here|$levels|\$aconst SAME: bool = 1 ≡ 1;
-a let .. else in another place|$behind|a let .. else of another form|$levels|\$afn few(word: Option<u8>) { let Some(_) = word }
+a let .. else in another place|$behind|a let .. else of another form|$levels|\$afn few() { let Some(_) = None::<u8> }
 END
 
 version=$(sed -n 's/^version = "\(.*\)"$/\1/p' "$top/rust/hand/Cargo.toml")

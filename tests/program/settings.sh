@@ -75,7 +75,7 @@ done << END
 "fieldHeight":264|$levels|field height differs
 END
 
-# Brackets that open so often, and then close; and as many bytes as are allowed, which take no room on a disk, or one more
+# Brackets that open so often, and then close; as many bytes as are allowed, which take no room on a disk; and one more
 for depth in 127 128; do
     { printf "%${depth}s" '' | tr ' ' '['; printf "%${depth}s" '' | tr ' ' ']'; } > nested$depth.json
 done

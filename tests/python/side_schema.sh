@@ -69,7 +69,8 @@ bounded jq '.videoParameters += {system: "PAL", fieldWidth: 1135, fieldHeight: 3
 bounded jq '.fields[1].vbiNear[1] |= {word: 0, distance: 0, rival: 0}' documents/ntsc.json < empty > documents/none.json
 bounded jq '.fields[1].vbiCause[1] = "word"' documents/ntsc.json < empty > documents/word.json
 says valid recovered 4 documents
-check 'recovered: there are some' [ "$(bounded jq -c '[.fields[].vbiPass]' documents/ntsc.json < empty)" = '[[1,2,0],[0,3,3]]' ]
+check 'recovered: there are some' \
+    [ "$(bounded jq -c '[.fields[].vbiPass]' documents/ntsc.json < empty)" = '[[1,2,0],[0,3,3]]' ]
 refuses recovered documents/ntsc.json << 'END'
 .version = 2
 .fields[1].vbiNear[1] = null
