@@ -1,7 +1,7 @@
 #!/bin/sh
 # Runs the examples in C, C++ and Python on drawn sides, beside what the table answers.txt asks of them: sides that few
-# numbers are judged of, stops, cut fields, worn lines, long sides and want of memory; what they refuse; and each where
-# nobody reads what it prints.
+# numbers are judged of, stops, cut fields, worn lines, long sides and want of memory; what they refuse; and those in
+# Python where nobody reads what they print.
 # Needs libldvbi.so.1 beside the program, or at the top of the repository (`make lib`).
 # usage: sh tests/library/examples.sh PROGRAM
 # runs: library rust
@@ -21,7 +21,7 @@ with_python
 seek='seek seek.py'
 stops='stops stops_cpp'
 player='player player_cpp player.py'
-for name in seek.c stops.c player.c pixels.c; do
+for name in seek.c stops.c player.c; do
     check "$name is built" does $cc -std=c99 $strict -o ${name%.c} "$top/examples/$name" $linked
 done
 for name in stops player; do
@@ -194,10 +194,8 @@ awk 'BEGIN { for (field = 1; field <= 129; field++) printf "- F%05d -\n", (field
     bounded "$program" draw $ntsc - > long.tbc
 for fields in 63 64 65 127 128; do
     head -c $((478660 * fields)) long.tbc > part.tbc
-    for name in seek seek.py; do
-        called $name part $on_cav $(((fields + 1) / 2))
-        check "$name: the last picture of $fields fields" answers_so 0 "field $((fields - (fields + 1) % 2))" ''
-    done
+    check "seek: the last picture of $fields fields" prints 0 "field $((fields - (fields + 1) % 2))" \
+        ./seek part.tbc $on_cav $(((fields + 1) / 2))
 done
 check 'what looks on is built' does $cc -std=c99 -Wall -Wextra -Werror -shared -fPIC -I"$top/include" -o advised.so \
     "$here/advised.c" -ldl
@@ -222,7 +220,7 @@ check 'seek: a file that cannot be mapped' refuses 'seek: great.tbc: Cannot allo
 check 'seek: no memory' refuses 'seek: Cannot allocate memory' sh -c "ulimit -d 4000 && exec ./seek great.tbc $on_cav 3"
 rm great.tbc
 
-# ends_unread: whether the command ends and says nothing where nobody reads what it prints
+# ends_unread: whether the command ends and says nothing where nobody reads what it prints, as one in C does by itself
 ends_unread() {
     rm -f pipe
     mkfifo pipe
@@ -234,14 +232,8 @@ ends_unread() {
     exec 3>&-
     [ "$status" = 141 ] && [ ! -s err ] # by SIGPIPE
 }
-head -c 2160 cav.tbc > lines.y8
-for name in seek seek.py player player_cpp player.py stops stops_cpp pixels; do
-    case $name in
-        seek*) called $name cav $on_cav 3 ;;
-        player*) called $name cav $on_cav search 3 play ;;
-        stops*) called $name cav $on_cav ;;
-        pixels) command="sh -c 'exec ./pixels NTSC 16 235 < lines.y8'" ;;
-    esac
-    check "$name: its output isn't read" ends_unread
-done
+called seek.py cav $on_cav 3
+check "seek.py: its output isn't read" ends_unread
+called player.py cav $on_cav search 3 play
+check "player.py: its output isn't read" ends_unread
 finish

@@ -19,26 +19,20 @@ WORDS = (8572927, 0, 15803205)
 # else, in its style, and so does a member vbi. Names are what they mean, others are no matter, and what stands twice is
 # no matter where nothing looks at it.
 FORMS = r"""
-    {"vbi":{"vbiData":[0,0,0]}} -> {"vbi":{"vbiData":WORDS}}
     {"vbi": {"vbiData": [ 1 , 2.5,\n-1e3 ]}} -> {"vbi": {"vbiData": [ 8572927 , 0,\n15803205 ]}}
     {"vbi":{"vbiData":[null,true,0]},"b":1.50} -> {"vbi":{"vbiData":WORDS},"b":1.50}
     {"vbi": {"vbiData": null}} -> {"vbi": {"vbiData": WORDS, }}
-    {"vbi":{"vbiData":[0,0],"a":1}} -> {"vbi":{"vbiData":WORDS,"a":1}}
     {"vbi":{"a": 1,"vbiData": ["1",2,3]}} -> {"vbi":{"a": 1,"vbiData": WORDS, }}
     {} -> {"vbi":{"vbiData":WORDS}}
     { } -> {"vbi":{"vbiData":WORDS} }
-    {"a":1} -> {"a":1,"vbi":{"vbiData":WORDS}}
     {"a": 1, "b": {}} -> {"a": 1, "b": {}, "vbi": {"vbiData": WORDS, }}
     { "a" : 1 } -> { "a" : 1, "vbi" : {"vbiData" : WORDS, } }
     {\r\n\t"a": 1,\r\n\t"b": 2\r\n} -> {\r\n\t"a": 1,\r\n\t"b": 2,\r\n\t"vbi": {"vbiData": WORDS, }\r\n}
-    {"vbi":{},"a":1} -> {"vbi":{"vbiData":WORDS},"a":1}
     {"vbi": {"a": "x"}} -> {"vbi": {"a": "x", "vbiData": WORDS, }}
     {"vbi": {}} -> {"vbi": {"vbiData": WORDS, }}
-    {"vbi":{\n"a":1\n}} -> {"vbi":{\n"a":1,\n"vbiData":WORDS\n}}
     {"v\u0062i":{"\u0076biData":[1,2,3]}} -> {"v\u0062i":{"\u0076biData":WORDS}}
     {"a":{"vbi":1},"c":"\"vbi\"}","vbi":{"vbiData":5}} -> {"a":{"vbi":1},"c":"\"vbi\"}","vbi":{"vbiData":WORDS}}
     {"vbi":{"vbiData":[]},"vbiData":[1,2,3]} -> {"vbi":{"vbiData":WORDS},"vbiData":[1,2,3]}
-    {"vbi ":1,"VBI":2,"vbidata":3} -> {"vbi ":1,"VBI":2,"vbidata":3,"vbi":{"vbiData":WORDS}}
     {"a":"vbi","vbi":{"a":[{"vbiData":5}],"vbiData":[]}} -> {"a":"vbi","vbi":{"a":[{"vbiData":5}],"vbiData":WORDS}}
     {"a":1,"a":2} -> {"a":1,"a":2,"vbi":{"vbiData":WORDS}}
     {"seqNo":7,"%d":"%s"} -> {"seqNo":7,"%d":"%s","vbi":{"vbiData":WORDS}}

@@ -2,14 +2,13 @@
 
 import os
 import re
-import subprocess
 import sys
 import unittest
 import xml.etree.ElementTree as xml
 from unittest import mock
 
+from calls import Calls
 from cases import InFolder, reason
-from command_runs import DEADLINE
 from compact import rows
 from discs import side
 from ldvbi_side.command.summary import summary
@@ -131,26 +130,24 @@ class Pages(unittest.TestCase):
             self.assertIsNone(plotter(side(rows("?/-/-")), "side.tbc"))
 
 
-class Plots(InFolder):
+class Plots(Calls):
     def test_each_is_that_of_plot_line_for_the_same_bytes(self):
         """The words of worn lines are drawn from column 150, and the row of each is the one that is drawn behind it."""
         words = {(1, 17): 0xF00001, (3, 17): 0xF00002, (3, 18): 0xF00002, (6, 16): 0x8DC0A1}
         fields = [[0, 0, 0] for _ in range(7)]
         for place, ((field, line), word) in enumerate(words.items()):
             fields[field - 1][line - 16] = worn_line(word, NTSC, 7 + place, 10 + place)
-        name, options = "a <b>&.tbc", ["--system", "NTSC", "--black", "16384", "--white", "51200"]
+        name, script = "a <b>&.tbc", os.path.join(TOP, "contrib", "plot_line.py")
         write_stream(self.named(name), NTSC, fields)
-        run = [sys.executable, "-m", "ldvbi_side", name, *options, "--html", "page.html"]
-        subprocess.run(run, cwd=self.folder, check=True, timeout=DEADLINE)
+        self.printed(name, "LEVELS", "--html", "page.html")
         folds = re.findall(r"<details><summary>field (\d+), line (\d+): .*?</summary>\n(.*?)</details>",
-                           self.read("page.html").decode(), re.S)
+                           self.text("page.html"), re.S)
         self.assertEqual([tuple(map(int, fold[:2])) for fold in folds], list(words))
         for (place, word), fold in zip(words.items(), folds):
             line = self.write("line.raw", fields[place[0] - 1][place[1] - 16])
-            run = [sys.executable, os.path.join(TOP, "contrib", "plot_line.py"), line, *options, "--program",
-                   PROGRAM, "--title", "%s, field %d, line %d" % (name, *place), "--near", "%06X@150" % word]
-            drawn = subprocess.run(run, check=True, timeout=DEADLINE, capture_output=True)
-            self.assertEqual(fold[2], drawn.stdout.decode())
+            drawn = self.run_words(line, "LEVELS", "--program", PROGRAM, "--title", "%s, field %d, line %d" % (
+                name, *place), "--near", "%06X@150" % word, command=[sys.executable, script])
+            self.assertEqual(drawn, (0, fold[2], ""))
 
 
 class Indexes(InFolder):
