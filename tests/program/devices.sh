@@ -1,12 +1,7 @@
 # shellcheck shell=sh disable=SC2034,SC2154
 # What the scripts share that make the built program's reads and writes fail (by devices.c), after helpers.sh.
 
-compiler=${CC:-cc}
-command -v "$compiler" > /dev/null || {
-    echo "$script: there is no C compiler $compiler to build tests/program/devices.c" >&2
-    exit 1
-}
-"$compiler" -std=c99 -shared -fPIC -O2 -Wall -o devices.so "$here/devices.c" -ldl || exit 1
+"${CC:-cc}" -std=c99 -shared -fPIC -O2 -Wall -o devices.so "$here/devices.c" -ldl || exit 1
 
 DEVICE_RECORD=$work/record
 export DEVICE_READ DEVICE_WRITE DEVICE_RECORD

@@ -34,10 +34,8 @@ head -c -2 records > large.begun
 
 run_with large.tbc extract $ntsc
 judge 'the document of standard input' 3 large.json ''
-judge_rows << END
-the report of a file|show $ntsc large.tbc|3|large.txt|
-metadata|line $ntsc --meta large.tbc drawn.tbc|1|empty|metadata too large
-END
+run show $ntsc large.tbc
+judge 'the report of a file' 3 large.txt ''
 faulty_with large.tbc '0 4298366805 error' 1 extract $ntsc
 stands 'reads fail behind 4 GiB' 1 large.begun 'ldvbi: read failed in field 8981 at byte 5' '2361742 1' '8981 0'
 

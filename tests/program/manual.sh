@@ -15,8 +15,7 @@ commands='draw extract line show'
 
 # same NAME: whether the files found and wanted are the same, and say something
 same() {
-    check "$1" [ -s wanted ]
-    check "$1" cmp found wanted
+    check "$1" sh -c '[ -s wanted ] && cmp found wanted'
 }
 # options_in_help: the long options in the help on standard input, sorted
 options_in_help() {
