@@ -159,7 +159,6 @@ ITEMS.update(leadOut=ITEMS["leadIn"], chapterConflicts=ITEMS["conflicts"])
 MEMBERS = {
     "numbers": lambda found: "{count} {least} to {greatest}".format(**found["numbers"]),
     "count": lambda found: str(found["numbers"]["count"]),
-    "shown": lambda found: ", ".join(str(number) for number, _, _ in found["showings"]),
     "whys": lambda found: ", ".join(sorted({one["why"] for one in found["missing"] + found["leftOut"]})),
     "aside": lambda found: ", ".join(str(one["field"]) for one in found["doubtful"]),
     "levels": lambda found: found["levels"] and "{shows} {words} {bad} {blank} {field}/{line}".format(

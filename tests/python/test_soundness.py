@@ -112,7 +112,7 @@ ROWS = (
     ("joined", emptied("stray"), TORN), (CONFLICTS, other("conflicts", taken=None), DIFFER),
     (CONFLICTS, without("conflicts"), DIFFER), (CHAPTERED, due_in_a_chapter, "which has another code"),
     (("cav-pal", "cav-film", "clv-pal"), other("doubtful", is_beside_others, after=None), "has other numbers around"),
-    ("losses", other("missing", lambda entry: entry["why"] == "lost", count=1000), FEW), ("losses", emptied("lost"), FEW),
+    ("losses", emptied("lost"), FEW), ("losses", other("missing", lambda one: one["why"] == "lost", count=1000), FEW),
     (TWO, more("lost", after=1, before=2, fields=None, by="parity"), "lost beside the numbers, behind field 1"),
     (TWO, more("lost", after=60, before=66, fields=9, by="number"), "lost between two sides, behind field 60"),
     (TWO, more("stills", number=2, first=6, last=8), "another number in the still from field 6 on"),
