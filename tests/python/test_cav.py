@@ -87,7 +87,6 @@ class Cav(unittest.TestCase):
         | stray 1/16 picture line, 39/17 cx on line
     """)
 
-
     def test_between_other_codes_alone_a_number_of_film_is_undecided(self):
         """Picture 10 is due in field 24, which shows a chapter. It is unread if a line beside is no chapter."""
         film = " ".join("%d=-/#%d/-" % (5 * number // 2 - 1, number) for number in range(1, 31) if number != 10)

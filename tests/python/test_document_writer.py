@@ -60,9 +60,11 @@ class Documents(InFolder):
         return wanted.decode("ascii")
 
     def test_causes_and_passes(self):
+        """Of a file, and of a buffer."""
         for setup in (NTSC, PAL, ("NTSC", 0, 65535), ("PAL", 65534, 65535)):
             with self.subTest(setup):
                 text = self.compare(setup, causes(setup))
+                self.assertEqual(written(self.read("side.tbc"), setup), text.encode())
                 last = {"NTSC": '"change 909"', "PAL": '"change 1134"'}[setup[0]]
                 for part in ('"word"', '"blank"', '"unfinished"', '"change ', '"hold ', '"vbiPass":[1,2,0]', last):
                     self.assertIn(part, text)
@@ -74,11 +76,6 @@ class Documents(InFolder):
             for count, rest in ((0, 0), (1, 0), (64, 0), (65, 0), (129, 0), (0, 1), (64, 1000), (3, size - 1)):
                 with self.subTest((setup, count, rest)):
                     self.compare(setup, pictures(count), rest)
-
-    def test_a_buffer(self):
-        self.compare(NTSC, causes(NTSC), 7)
-        with open(self.path, "rb") as file:
-            self.assertEqual(written(file.read(), NTSC), extracted(self.path, NTSC)[0])
 
     def test_too_many_fields(self):
         """As the program, which takes at most 1,000,000."""

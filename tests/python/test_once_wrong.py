@@ -41,7 +41,6 @@ class Read(unittest.TestCase):
     programme status | t0..29 19=8DC0A1/-/- | no unread
     and off | t0..29 19=8BA0A1/-/- | no unread
     neither | t0..29 19=?/?/? | unread 0:00:00.09@19
-    both lines | 1..60 59=70030 | no unread | missing 30 unread
     one in pass 2 | 1..60 59=-/#70030/#70030* | unread 30@59=70030
     as many of both formats | -/#1/#1 -/M/- | format cav
     in one field | -/M/#1 | format cav

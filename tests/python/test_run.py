@@ -42,7 +42,8 @@ class Documents(Calls):
 
     def test_refused(self):
         for words in ("--document --csv", "--document --json", "--document --summary", "--document --bad-lines",
-                      "--csv --seek 1", "--seek x", "--seek -1", "--system SECAM", "--black 1.0", "--recovered"):
+                      "--csv --seek 1", "--seek x", "--seek -1", "--system SECAM", "--black 1.0", "--recovered",
+                      "--recovered --json", "--recovered --document --no-recover"):
             self.assertEqual(self.run_command("side.tbc LEVELS " + words)[:2], (2, b""), words)
 
 

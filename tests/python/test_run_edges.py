@@ -198,13 +198,14 @@ class Names(Calls):
         self.assertEqual("".join(title.itertext()), 2 * "s\ufffd\ufffd[31m\ufffd<&>.tbc")
         self.assertEqual(self.run_command("compare", self.NAME, "side.vbi.json")[0], 0)
 
-    def test_where_output_has_few_letters(self):
-        """In a locale of ASCII, say: a letter that it lacks is escaped."""
-        self.write("\u00fc.vbi.json", self.document)
-        status, text, said = self.run_command("compare", "\u00fc.vbi.json", "side.vbi.json",
-                                              env=dict(os.environ, PYTHONIOENCODING="ascii"))
-        self.assertEqual((status, text.split(b"\n")[0], said), (
-            0, b"pictures: 12 in \\xfc.vbi.json, 12 in side.vbi.json, 12 in both", ""))
+    def test_on_standard_output(self):
+        """In a locale of ASCII, say, a letter that it lacks is escaped; a name that is no text is printed as it is."""
+        name = os.fsdecode(b"\xc3\xbc\xff.vbi.json")
+        self.write(name, self.document)
+        for encoding, shown in (("ascii", b"\\xfc\\udcff.vbi.json,no,"), ("utf-8", b"\xc3\xbc\xff.vbi.json,no,")):
+            environment = dict(os.environ, PYTHONIOENCODING=encoding)
+            status, text, said = self.run_command("scan", "--csv", name, env=environment)
+            self.assertEqual((status, text.split(b"\n")[1][:len(shown)], said), (1, shown, ""))
 
     def test_in_messages(self):
         name = os.fsdecode(b"\x1b[31m\n\xff")

@@ -111,13 +111,9 @@ class Documents(Calls):
         # a document is not judged by the library
         self.assertEqual(json.loads(self.printed("again.json --json")), dict(known, judged=None))
 
-    def test_a_cut_field_and_refused(self):
+    def test_a_cut_field(self):
         write_stream(self.named("side.tbc"), NTSC, [], 7)
         status, text, said = self.run_command("side.tbc LEVELS --document --recovered")
         self.assertEqual((status, said), (
             3, "ldvbi-side: side.tbc: the last field is cut: field 1 has 7 of 478660 bytes\n"))
         self.assertEqual(json.loads(text)["cutField"], {"seqNo": 1, "bytes": 7})
-        for words in ("", " --json", " --document --no-recover"):
-            status, text, said = self.run_command("side.tbc --recovered" + words)
-            self.assertEqual((status, text), (2, b""))
-            self.assertTrue(said.endswith("error: --recovered is of --document or --into, and not with --no-recover\n"))
