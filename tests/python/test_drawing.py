@@ -9,7 +9,7 @@ from discs import side
 from ldvbi.readings import Cut
 from ldvbi_side.draw.curve import ticks
 from ldvbi_side.draw.drawing import drawing_of
-from ldvbi_side.draw.marks import Mark, counts_of, marks_of
+from ldvbi_side.draw.marks import Mark, marks_of
 from ldvbi_side.draw.svg import Svg, shortened
 
 SPACE = "{http://www.w3.org/2000/svg}"
@@ -80,14 +80,6 @@ class Marks(unittest.TestCase):
                 self.assertEqual(marks[lane], [Mark(first, last, text)])
         self.assertEqual(marks_of(answer_with(breaks=[entry("breaks", kind="lost")]))["jumps"], [])
 
-    def test_counts(self):
-        counts = counts_of(answer_with(
-            missing=[entry("missing", why=why, count=count)
-                     for why, count in (("lost", 3), ("unread", 1), ("undecided", 2))],
-            lost=[entry("lost", fields=6), entry("lost", by="parity", fields=None)]))
-        self.assertEqual([counts[lane] for lane in ("lost", "unread", "undecided", "lost fields", "stills")],
-                         [3, 1, 2, 7, 0])
-
 
 class Parts(unittest.TestCase):
     def test_texts_that_fit(self):
@@ -135,9 +127,10 @@ DRAWN = (
 # A side, and one of its lanes, with how much is in it; some stand there only where there is something in them (None).
 # Doubtful numbers beyond the scale stand on both lines, which is one mark on the curve and two in the lane's count.
 COUNTS = (("t0..57/3", "other speeds", 1), ("t0..57/3", "swapped fields", None), ("1..9 ?x4 14..30", "undecided", 4),
-          ("1", "lost", 0), ("1", "undecided", None), ("1..600!0%8", "lost", 74), (FAR, "stops", 3),
-          ("10..19 79999 21..29", "doubtful", 2), ("10..19 1 21..29", "doubtful", 2), ("-/#3/#5", "doubtful", 2),
-          ("8AE001/@0:01/@0:02", "doubtful", 3), ("-/@0:01/@0:02", "doubtful", 2))
+          ("PAL/8 1..3 6..9", "lost fields", 5), ("1..30 21=?", "unread", 1), ("1", "lost", 0), ("1", "undecided", None),
+          ("1..600!0%8", "lost", 74), (FAR, "stops", 3), ("10..19 79999 21..29", "doubtful", 2),
+          ("10..19 1 21..29", "doubtful", 2), ("-/#3/#5", "doubtful", 2), ("8AE001/@0:01/@0:02", "doubtful", 3),
+          ("-/@0:01/@0:02", "doubtful", 2))
 
 
 class Drawings(unittest.TestCase):

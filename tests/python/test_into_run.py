@@ -1,15 +1,15 @@
 """The option --into of the command as a process: which words it copies, where it writes, and what it leaves alone."""
 
+import itertools
 import json
 import os
 import resource
-import signal
-import sys
-import time
+from unittest import mock
 
 from calls import Calls
 from cases import in_database
-from command_runs import COMMAND, DEADLINE, IN_PLACE, NO_METADATA, SIZE
+from command_runs import COMMAND, IN_PLACE, NO_METADATA, SIZE
+from ldvbi_side.command import into
 from streams import NTSC, pictures, worn_line, write_stream
 from test_into_rows import FORM
 
@@ -155,33 +155,21 @@ class Refused(Copies):
         self.assertNotIn("copy", self.names())
 
 
-# A run in which the words end in a long wait: a part of the copy is written then.
-WAITING = """
-import itertools, sys, time, ldvbi_side.__main__
-from ldvbi_side.command import into
-words = into._words_of_stream
-def waiting(stream):
-    yield from itertools.islice(words(stream), 5)
-    time.sleep(%d)
-into._words_of_stream = waiting
-sys.exit(ldvbi_side.__main__.main(sys.argv[1:]))
-""" % DEADLINE
-
-
 class Interrupted(Copies):
     def test_nothing_is_left_of_a_copy(self):
+        """Where its words end in a fault. Until then a part of it is there under another name."""
         self.database(12)
+        before, parts, words = self.names(), [], into._words_of_stream
+
+        def failing(stream):
+            yield from itertools.islice(words(stream), 5)
+            parts.extend(set(self.names()) - set(before))
+            raise ValueError("no more words")
         for meta in ("side.tbc.json", "side.tbc.db"):
-            before = self.names()
-            process = self.started("side.tbc", "--meta", meta, "--into", "copy",
-                                   command=[sys.executable, "-c", WAITING])
-            end = time.monotonic() + DEADLINE
-            while self.names() == before and time.monotonic() < end:
-                time.sleep(0.001)
-            self.assertEqual([name for name in self.names() if name not in before], ["copy.%d.part" % process.pid])
-            process.send_signal(signal.SIGINT)
-            self.ended(process, 130)
+            with mock.patch.object(into, "_words_of_stream", failing):
+                self.assertEqual(self.run_command("side.tbc --into copy --meta " + meta)[:2], (2, b""))
             self.assertEqual(self.names(), before)
+        self.assertEqual(parts, ["copy.%d.part" % os.getpid()] * 2)
 
 
 class Long(Copies):
