@@ -5,16 +5,17 @@ import ctypes
 import io
 import mmap
 import os
-import shutil
 import subprocess
 import sys
 import tempfile
 import unittest
+from unittest import mock
 
 import ldvbi
 from cases import InFolder, reason
+from ldvbi import library
 from ldvbi.samples import Samples, _Buffer
-from streams import NTSC, TOP, line_with
+from streams import NTSC, line_with
 
 WORD = (ldvbi.Cause.word, 1, 0, 0xF12345)
 
@@ -105,9 +106,8 @@ class Kinds(unittest.TestCase):
 
 
 def run(code, **variables):
-    """Runs Python code in a process of its own, with these environment variables, of which None takes one away."""
-    merged = dict(os.environ, PYTHONDONTWRITEBYTECODE="1", **variables)
-    known = {name: value for name, value in merged.items() if value is not None}
+    """Runs Python code in a process of its own, with these environment variables."""
+    known = dict(os.environ, PYTHONDONTWRITEBYTECODE="1", **variables)
     return subprocess.run([sys.executable, "-c", code], env=known, stdout=subprocess.PIPE, stderr=subprocess.STDOUT,
                           universal_newlines=True, check=False).stdout
 
@@ -129,15 +129,6 @@ JUDGE = "unsigned ldvbi_judge(unsigned system, unsigned counted, unsigned pace, 
 
 
 class Library(InFolder):
-    def installed(self, place=None):
-        """A copy of the module in share/ldvbi/python of a folder, with the library in this place."""
-        python = self.named("share/ldvbi/python")
-        shutil.copytree(os.path.join(TOP, "python"), python)
-        if place:
-            os.makedirs(self.named(place), exist_ok=True)
-            shutil.copy(os.environ["LDVBI_LIBRARY"], self.named(place + "/libldvbi.so.1"))
-        return {"PYTHONPATH": python, "LDVBI_LIBRARY": None}
-
     def other(self, interface, status, cause, more=""):
         """The file of a library with this interface, whose calls return this status and write this cause; `more` is the
         source of another call."""
@@ -155,7 +146,6 @@ class Library(InFolder):
         for code, variables, wanted in (
                 (TRY % words, {"LDVBI_LIBRARY": "/absent"}, "(12345, 'clv', 710510)\n"),
                 (READ, {"LDVBI_LIBRARY": "/absent"}, NONE % "/absent"),
-                (READ, self.installed(), NONE % "libldvbi.so.1"),
                 (READ, {"LDVBI_LIBRARY": file},
                  "%s has the interface 2, not 1: %s the one that fits, %s" % (file, MAKE, NAMES))):
             self.assertEqual(run(code, **variables), wanted)
@@ -167,12 +157,12 @@ class Library(InFolder):
         cause = TRY % '[ldvbi.read_line(bytes(1820), "NTSC", 1, 2).cause] + ' \
             '[cause for (cause, *_), *_ in ldvbi.fields(bytearray(478660), "NTSC", 1, 2)]'
         state = TRY % 'tuple(ldvbi.judge(bytes(24), "NTSC")[0])'
-        for code, library, said in (
+        for code, made, said in (
                 (cause, (1, 0, 5), "[5, 5]"), (cause, (1, 0, 255), "[255, 255]"),
                 (cause, (1, 9, 0), "the library's status is 9"), (state, (1, 0, 0, JUDGE % (4, 0)), "(5, 4)"),
                 (state, (1, 0, 0, JUDGE % (2 ** 31 - 1, 0)), "(5, 2147483647)"),
                 (state, (1, 0, 0, JUDGE % (0, 9)), "the library's status is 9")):
-            self.assertEqual(run(code, LDVBI_LIBRARY=self.other(*library)), said + "\n")
+            self.assertEqual(run(code, LDVBI_LIBRARY=self.other(*made)), said + "\n")
 
     def test_an_older_library(self):
         """It reads samples, and says at a call that it lacks that it is too old for it."""
@@ -189,17 +179,17 @@ class Library(InFolder):
                                  file, purpose, name, MAKE, NAMES))
 
     def test_places(self):
-        """Each place before those behind it, which have no library that can be loaded; the variable before all, but an
-        empty one names none."""
-        for count, place in enumerate(PLACES):
-            for others in ((), PLACES[count + 1:]):
-                with self.subTest((place, others)):
-                    for name in ("share", "lib"):
-                        shutil.rmtree(self.named(name), ignore_errors=True)
-                    variables = self.installed(place)
-                    for other in others:
-                        os.makedirs(self.named(other), exist_ok=True)
-                        self.write(other + "/libldvbi.so.1", "no library")
-                    self.assertEqual(run(READ, **variables), "blank\n")
-        self.assertEqual(run(READ, **dict(variables, LDVBI_LIBRARY="")), "blank\n")
-        self.assertEqual(run(READ, **dict(variables, LDVBI_LIBRARY="/absent")), NONE % "/absent")
+        """Each place before those behind it; the variable before all, but an empty one names none. Without a file the
+        loader looks for the name."""
+        with mock.patch.object(library, "__file__", self.named("share/ldvbi/python/ldvbi/library.py")), \
+                mock.patch.dict(os.environ, LDVBI_LIBRARY=""):
+            os.makedirs(self.named("share/ldvbi/python/ldvbi"))
+            self.assertEqual(library._library_file(), "libldvbi.so.1")
+            for place in reversed(PLACES):
+                os.makedirs(self.named(place), exist_ok=True)
+                path = self.write(place + "/libldvbi.so.1", "")
+                self.assertEqual(os.path.realpath(library._library_file()), path)
+            os.environ["LDVBI_LIBRARY"] = "/absent"
+            self.assertEqual(library._library_file(), "/absent")
+            del os.environ["LDVBI_LIBRARY"]
+            self.assertEqual(os.path.realpath(library._library_file()), path)
