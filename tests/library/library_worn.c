@@ -56,12 +56,6 @@ static void draw_signals(const Television *tv, const Kind *kind, uint8_t *rows)
     }
 }
 
-/* How many of these lines may be wrong where so many of 100,000 may: one more, as few lines have one by chance. */
-static int64_t allowed(int lines, int of_100000)
-{
-    return of_100000 == 0 ? 0 : 1 + (int64_t)lines * of_100000 / 100000;
-}
-
 static void test_row(const Television *tv, const Row *row, int fields, int is_shown)
 {
     size_t line = 2 * tv->samples;
@@ -79,7 +73,8 @@ static void test_row(const Television *tv, const Row *row, int fields, int is_sh
             recovered += worn.lines[place].word != 0;
         }
     }
-    int is_wrong = recovered > allowed(lines, row->wrong);
+    /* One more may be, as few lines have one by chance. */
+    int is_wrong = recovered > (row->wrong == 0 ? 0 : 1 + (int64_t)lines * row->wrong / 100000);
 
     wrong += is_wrong;
     if (is_shown || is_wrong)

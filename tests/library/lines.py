@@ -1,5 +1,5 @@
 """Hands lines that are drawn here to the library, and compares what is drawn, read, nearest and recovered with them:
-20,000 words a system, lines of other sample rates, 8-bit samples among them, with changes of level a sample early or
+4,000 words a system, lines of other sample rates, 8-bit samples among them, with changes of level a sample early or
 late, and with columns turned over. Lines end where no page follows.
 
 usage: lines.py"""
@@ -61,13 +61,10 @@ def some_words(count=WORDS):
 # ---- Words and causes, and the sizes of lines
 
 def test_words(tv):
-    """Each word as the library draws it, and as it reads it. A word is put together from its cells."""
-    edges, draw_line = edges_of(tv), call("draw_line")
-    blank, zeros, ones = (drawn(tv, bits).tobytes() for bits in (0, 1 << 24, 0xFFFFFF))
-    cells = [(zeros[2 * begin:2 * end], ones[2 * begin:2 * end]) for begin, end in zip(edges[::2], edges[2::2])]
-    for word in (0, *some_words(20000)):
-        shown = b"".join(cell[word >> (23 - place) & 1] for place, cell in enumerate(cells))
-        line = zeros[:2 * edges[0]] + shown + zeros[2 * edges[48]:] if word else blank
+    """Each word as the library draws it, and as it reads it."""
+    draw_line = call("draw_line")
+    for word in (0, *some_words(4000)):
+        line = drawn(tv, word).tobytes()
         at = ROOM.put(b"\xAA" * len(line))
         expect(draw_line(*tv[:3], word, at, len(line)) == 0 and ROOM.get(len(line)) == line, "draws", hex(word))
         found = read(tv, array("H", line))

@@ -10,7 +10,7 @@ import subprocess
 import sys
 
 import ldvbi
-from cases import InFolder, in_database
+from cases import InFolder
 from streams import NTSC, PROGRAM, pictures, write_stream
 
 COMMAND = [sys.executable, "-m", "ldvbi_side"]
@@ -93,11 +93,6 @@ class Commands(InFolder):
         if count is not None:
             known["fields"] = [{"isFirstField": place % 2 == 1} for place in range(count)]
         self.write(name, json.dumps(known))
-
-    def database(self, name):
-        """The same in SQLite, without fields."""
-        form = "CREATE TABLE capture (system TEXT, black_16b_ire INTEGER, white_16b_ire INTEGER)"
-        in_database(self.named(name), form, "INSERT INTO capture VALUES ('NTSC', 16384, 51200)")
 
 
 class Runs(Commands):

@@ -3,6 +3,7 @@
 import gzip
 import os
 
+from cases import in_database
 from command_runs import Commands
 from compact import cells_of, words_of
 from ldvbi import System
@@ -53,7 +54,8 @@ class Scans(Commands):
         self.write("a/broken.vbi.json", '{"version":2,"videoParameters":{')
         self.write("b/packed.tbc", gzip.compress(b"video"))
         os.rename(self.named("b/missing.tbc.json"), self.named("b/packed.tbc.json"))
-        self.database("a/database.tbc.db")
+        form = "CREATE TABLE capture (system TEXT, black_16b_ire INTEGER, white_16b_ire INTEGER)"
+        in_database(self.named("a/database.tbc.db"), form, "INSERT INTO capture VALUES ('NTSC', 16384, 51200)")
         os.unlink(self.named("a/database.tbc.json"))
 
     def scan(self, *words):
