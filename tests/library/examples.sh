@@ -104,7 +104,7 @@ ln -s /dev/null null.tbc
 draw_side misread 30 "$ntsc" > misread.tbc
 bounded sh "$top/examples/side.sh" "$program"
 # Parts of a side: so many fields, and bytes of the next one
-for part in 4_478659 5_1 8_32760 0_1; do
+for part in 4_478659 5_1 8_32760; do
     head -c $((478660 * ${part%_*} + ${part#*_})) stops.tbc > stops_$part.tbc
 done
 
@@ -148,8 +148,6 @@ stops_cpp|0|field 5 picture 3;field 6;field 9 picture 5;field 10;4 stops|once|@|
 $stops|0|field 3 picture 2;field 21 picture 11;field 39 picture 20;3 stops|worn|@|
 stops_cpp|0|0 stops|stops_4_478659|@|$cut 5 has 478659 of 478660 bytes
 $stops|0|field 5 picture 3;1 stops|stops_5_1|@|$cut 6 has 1 of 478660 bytes
-stops_cpp|0|field 5 picture 3;field 8;2 stops|stops_8_32760|@|$cut 9 has 32760 of 478660 bytes
-stops_cpp|0|0 stops|stops_0_1|@|$cut 1 has 1 of 478660 bytes
 stops|2||folder|@|Is a directory
 stops_cpp|2||folder|@|standard input: Is a directory
 $stops|2||cav|@ cav.tbc|usage

@@ -195,7 +195,7 @@ def test_first_of():
 def main():
     tests = {"numbers": test_numbers, "found": functools.partial(test_numbers, is_found=True),
              "chapters": test_chapters, "shown": test_shown}
-    expect(sum(len(rows) for _, _, rows in tables()) == 212, "judged.txt has more rows, or fewer")
+    expect(sum(len(rows) for _, _, rows in tables()) == 211, "judged.txt has more rows, or fewer")
     for kind, settings, rows in tables():
         if kind == "stops":
             test_stops(rows)

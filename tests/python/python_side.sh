@@ -62,9 +62,6 @@ none side.vbi.json
 near side.tbc $ntsc
 none side.tbc $ntsc --no-recover
 END
-# where a bad line is said to begin its samples do: line 16 of field 2 is black up to column 899
-tail -c +505961 side.tbc | head -c 1820 | bounded "$program" line $ntsc > found
-check 'the offset is that of the line' [ "$(cat found)" = unfinished ]
 
 # The pictures of SIDES.md, made again
 mkdir made

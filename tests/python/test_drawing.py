@@ -118,8 +118,6 @@ DRAWN = (
     ("", "empty", [NOTHING]),
     ("Bx40", "empty", [NOTHING, "lines 17 and 18 have 0 words, 0 are bad, 80 blank: are black and white right?"]),
     ("10..19 79999 21..29", "number-label", ["10", "15", "20", "25"]),
-    ("10..19 1 21..29", "number-label", ["10", "15", "20", "25"]),
-    ("1..11 Bx10 12..23", "jumps", ["10 fields too many, from 11 in field 21 to 12 in field 33"]),
     # stops that fall together are one mark
     (FAR, "stop", ["picture stop of 501 in field 1001, line 16", "picture stop of 1001 in field 2001, line 16"]),
     # a picture of a second has no place on the curve
