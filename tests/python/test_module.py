@@ -100,10 +100,6 @@ class Kinds(unittest.TestCase):
         self.assertIsNotNone(reason(ldvbi.read_line, line, *NTSC))
         line.append(0)
 
-    def test_sizes(self):
-        for system, line, field in (("NTSC", 1820, 478660), (ldvbi.System.PAL, 2270, 710510), (1, 1820, 478660)):
-            self.assertEqual((ldvbi.line_bytes(system), ldvbi.field_bytes(system)), (line, field))
-
 
 def run(code, **variables):
     """Runs Python code in a process of its own, with these environment variables."""
