@@ -206,7 +206,7 @@ with_jsonschema() {
 
 # validates SCHEMA DOCUMENT..: says `valid` or `refused` of each document
 validates() {
-    bounded "$(with_jsonschema)" "$tests/program/validate.py" "$@" < empty
+    bounded env COVERAGE_PROCESS_START= "$(with_jsonschema)" "$tests/program/validate.py" "$@" < empty
 }
 
 # signal SYSTEM FIELDS < DESCRIPTIONS: lines (FIELDS is 0) or fields (1) as text, see signal.awk
