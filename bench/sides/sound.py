@@ -255,14 +255,15 @@ class Sound:
 
     def _look_at_dark_and_sparse(self):
         """A number that is due in no field is unread only where something was seen among the fields that pass it over:
-        else a player may have searched in the dark. Where line 16 has a time on each k-th picture alone, blank ones
-        are no unread ones."""
+        else a player may have searched in the dark. Beside a number that the clock left out, a field is there for it.
+        Where line 16 has a time on each k-th picture alone, blank ones are no unread ones."""
         due = {self.number_of(one["number"]): one["field"] for one in self.answer["unread"]}
         passed = [(self.number_of(one["from"]), self.number_of(one["to"]), one["after"], one["before"])
                   for one in self.answer["breaks"]]
+        clocks = {(one["after"], one["before"]) for one in self.answer["leftOut"]}
         for one in self.answer["missing"]:
             for number in range(self.number_of(one["first"]), self.number_of(one["last"]) + 1):
-                if one["why"] != "unread" or number in due:
+                if one["why"] != "unread" or number in due or (one["after"], one["before"]) in clocks:
                     continue
                 spans = [(after, before) for low, high, after, before in passed if low < number < high]
                 if not any(map(self._is_seen, (field for after, before in spans + [(one["after"], one["before"])]

@@ -102,7 +102,7 @@ class Truth:
         captured = set(self.side.numbers)
         self.missing = {number: "unread" if number in captured else "lost"
                         for number in span if number not in self.read and number in on_disc}
-        self.left_out = {number for number in span if number not in on_disc | between}
+        self.left_out = {number for number in span if number not in on_disc and number not in between}
 
     def join_is_seen(self):
         """Whether lead-out or lead-in can be read between two joined discs, in pass 1 or on two lines."""
