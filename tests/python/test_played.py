@@ -88,6 +88,14 @@ class Speeds(unittest.TestCase):
     a still | 0..89 90x60 91..119 | no speeds
     """)
 
+    def test_turned_by_hand(self):
+        """Each picture was shown, though some are 3 off the one before and near the one behind by others alone."""
+        check(self, """
+    627 is near 624, which is near 621 | 610..618 619 618 619 620x3 621x2 624 627 625x3 626 629 630x2 631..650
+        | no doubtful | missing 622-623 lost, 628 lost | @37 627
+    183 is near 186 | 150..177 178x3 179x2 182 183 184x2 185x2 183 186x2 189x2 190x4 192..220 | no doubtful | @79 183
+    """)
+
     def test_weak_numbers_before_a_jump_back_are_no_stretch(self):
         """At twice the speed, each on one line in pass 2: they weigh less than a jump back behind them costs. Where
         the disc goes on behind them as far ahead, they cost no more than it does without them."""

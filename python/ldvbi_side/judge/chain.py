@@ -30,24 +30,29 @@ from .paces import AnyPace, Pace, price
 from .readings import Reading
 
 REACH = 40  # readings back: setting aside more than these costs more than two of the widest breaks
-NEAR = 2  # readings back where breaks are dense
+NEAR = 1  # readings back where breaks are dense
 NONE = -REACH - 1  # a reading that none can reach
 # Readings that are looked at for each one, in the mean, and more than that at first: on a side with damage it is fewer
 LOOKS, MOST_LOOKS = 2, 4000
+MOST = 3, 4  # readings that nearly fit another one, where they do so by chance
 NEVER = -10 ** 9  # the value of a state that no chain has
 MOST_PRICES = 1 << 14  # to remember: a side has few different ones, and noise has any
 SURE = 100  # a value that is greater than each price
-_MOVING, _ON = (0, NEVER), ((1, 0), None)
+_MOVING, _ON, _STAYS = (0, NEVER), ((1, 0), None), (None, (1, 1))
 
 
-def chain(readings: List[Reading], pace: AnyPace) -> List[Reading]:
-    """The readings that are believed, each with its variant. They ascend by field, those of one field side by side."""
+def chain(readings: List[Reading], pace: AnyPace, is_row: bool = False) -> List[Reading]:
+    """The readings that are believed, each with its variant. They ascend by field, those of one field side by side.
+    With `is_row` there are none where breaks are dense among readings of which most nearly fit another one: by chance,
+    as numbers do that are few."""
     chains = chains_of(readings, pace)
     if not chains.take_in(0, True):
         near = _near_another(readings, pace) if isinstance(pace, Pace) else readings
+        is_chance = is_row and MOST[1] * len(near) > MOST[0] * len(readings)
         if len(near) < len(readings):
             readings, chains = near, chains_of(near, pace)
-        chains.take_in(len(chains.values), False)
+        if not chains.take_in(len(chains.values), is_chance):
+            return []
     return _without_ties(readings, chains.best(), pace)
 
 
@@ -60,9 +65,9 @@ def _near_another(readings, pace):
     """Those of these readings that have another one within reach which has the same number, or fits with FIT fields
     too many or too few, or little more. Between two that are further off a reading costs more than it weighs."""
     kept = bytearray(len(readings))
-    for places in pace.places(readings):
-        _keep_near(kept, places, (0, -1, 1))
     _keep_near(kept, [one.number for one in readings], (0,))
+    for places in pace.places(readings) if not all(kept) else ():
+        _keep_near(kept, places, (0, -1, 1))
     return list(itertools.compress(readings, kept))
 
 
@@ -96,31 +101,31 @@ class _Chains:
     def take_in(self, index, is_tried):
         """Takes in the readings from this one on. Returns whether all were: if it is tried, it ends where the looks are
         used up."""
-        while index < len(self.readings):
-            index = self.go_on(index)
+        count, values, tops = len(self.readings), self.values, self.tops
+        while index < count:
+            if index and values[-1] == tops[-1] and self.states == 2:
+                index = self.go_on(index)
             if is_tried and self.left < REACH:
                 return False
-            if index < len(self.readings):
+            if index < count:
                 self.add(index)
                 index += 1
         return True
 
     def go_on(self, index):
-        """Takes in the readings from this one on with which the best chain of all goes on without a break, where
-        nothing can be better, and returns the first other one."""
-        if not index or self.states > 2 or self.less[-1][0] or self.values[-1] != self.tops[-1]:
-            return index
-        readings, off = self.readings, self.pace.off
-        value, before = self.tops[-1], readings[index - 1]
+        """Takes in the readings from this one on with which the best chain of all, which the one before ends, goes on
+        without a break, or stays where it did, since nothing can be better. Returns the first other one."""
+        readings, off, is_still = self.readings, self.pace.off, self.less[-1][0] < 0
+        value, before, origin = self.tops[-1], readings[index - 1], _STAYS if is_still else _ON
         for place in range(index, len(readings)):
             reading = readings[place]
-            apart = reading.field - before.field
-            if not apart or off(apart, before.number, reading.number - before.number) != 0:
+            apart, step = reading.field - before.field, reading.number - before.number
+            if not apart or (step if is_still else off(apart, before.number, step) != 0):
                 return place
+            self.less.append((-value, 0) if is_still else _MOVING)
             value += reading.weight
             self.values.append(value)
-            self.less.append(_MOVING)
-            self.origins.append(_ON)
+            self.origins.append(origin)
             self.tops.append(value)
             self.top_at.append(place)
             self.last_of[reading.number] = place
@@ -292,33 +297,33 @@ class _VideoChains(_Chains):
     def add(self, index):
         fields, numbers, places, values, tops = self.fields, self.numbers, self.places, self.values, self.tops
         field, number, place = fields[index], numbers[index], places[index]
-        moving, still, enough, moving_from, still_from = 0, NEVER, 0, None, None
-        limit = index - (REACH if self.left >= REACH else NEAR)
-        before, joined = index - 1, 0
-        while before >= 0:
-            value = values[before]
-            if value > enough:
-                if numbers[before] == number:
-                    worth, state = self._stay(before, field)
-                    if worth > still:
-                        still, still_from = worth, (index - before, state)
-                else:
-                    off = place - places[before]
-                    worth = value - 1 - off.bit_length() if off else value
-                    if worth > moving and fields[before] != field:
-                        moving, moving_from = worth, (index - before, int(self.less[before][0] < 0))
-                enough = still if still > moving else moving
-            joined += 1
-            if before == 0 or tops[before - 1] <= enough:
+        moving, still, moving_at, still_from, enough, looks = 0, NEVER, None, None, 0, 0
+        end = max(index - (REACH if self.left >= REACH else NEAR), 0)
+        for before in itertools.chain(range(index - 1, end - 1, -1), self.top_at[end - 1:end]):
+            if tops[before] <= enough:  # no state can get better
                 break
-            before = before - 1 if before > limit else self.top_at[before - 1] if before == limit else -1
+            looks += 1
+            value = values[before]
+            if value <= enough:
+                continue
+            if numbers[before] == number:
+                worth, state = self._stay(before, field)
+                if worth > still:
+                    still, still_from = worth, (index - before, state)
+            else:
+                off = place - places[before]
+                worth = value - 1 - off.bit_length() if off else value
+                if worth > moving and fields[before] != field:
+                    moving, moving_at = worth, before
+            enough = still if still > moving else moving
         same = self.last_of.get(number, NONE)
-        if index - REACH <= same < index - joined:
+        if index - REACH <= same < index - looks:
             worth, state = self._stay(same, field)
             if worth > still:
                 still, still_from = worth, (index - same, state)
-            joined += 1
-        self._spend(joined)
+            looks += 1
+        self._spend(looks)
+        moving_from = None if moving_at is None else (index - moving_at, int(self.less[moving_at][0] < 0))
         top = still if still > moving else moving
         self._keep(index, top, _MOVING if still == NEVER else (moving - top, still - top), (moving_from, still_from))
 
@@ -352,11 +357,11 @@ def _is_tied(readings, found, place, reading, pace):
               if 0 <= near < len(readings) and readings[near].field == reading.field]
     around = [(readings[found[near][0]], found[near][1]) for near in (place - 1, place + 1) if 0 <= near < len(found)]
     worth = _worth(reading, variant, around, pace)
-    return any(_worth(rival, variant, around, pace) >= worth for rival in rivals)
+    return any(_worth(rival, variant, around, pace, worth) >= worth for rival in rivals)
 
 
-def _worth(reading, variant, around, pace):
-    """What a reading is worth between these readings with their variants."""
+def _worth(reading, variant, around, pace, least=NEVER):
+    """What a reading is worth between these readings with their variants; or, where that is less, less than `least`."""
     total = reading.weight
     for near, other in around:
         if near.field < reading.field:
@@ -364,4 +369,6 @@ def _worth(reading, variant, around, pace):
         else:
             off = pace.off(near.field - reading.field, reading.number, near.number - reading.number, variant, other)
         total -= price(off)
+        if total < least:
+            break
     return total

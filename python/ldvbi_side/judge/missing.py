@@ -142,8 +142,8 @@ def _fate(one, numbers, fields):
                    for field in between)
         return 0, False if seen > one["to"] - one["from"] - 2 else None
     is_lost = one["fields"] >= numbers.pace.least
-    if all(field in numbers.others for field in between):
-        return 0, is_lost
+    if all(field in numbers.others for field in between):  # so that each number was in a field that is lost
+        return 0, is_lost if one["fields"] >= one["to"] - one["from"] - 1 else None
     return max(one["to"] - one["from"] - 1 - numbers.pace.numbers_in(one["fields"]), 0), is_lost
 
 

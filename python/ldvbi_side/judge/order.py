@@ -4,6 +4,7 @@ played at another speed, whose numbers go by in other steps, backwards, or three
 
 import bisect
 import math
+import operator
 from collections import Counter
 from typing import Callable, Collection, Counter as Counted, Dict, List, Mapping
 
@@ -17,6 +18,7 @@ STEPS = (2, 3, -1, -2, -3)  # numbers from one picture to the next
 ROUNDS = 2  # of a loop
 # By hand: numbers from one that is shown to the next, fields in which there are so many breaks and such numbers beside
 TURN, TURNED, SIGNS = 5, 40, 3
+TURNS = 3  # times that those beside what was found are looked at
 
 
 # ---- Loops, and stills one after the other
@@ -49,14 +51,30 @@ def with_turned(numbers: Numbers, readings: List[Reading]) -> Numbers:
     """These numbers, with those that a disc showed while it was turned by hand: near those before and behind it, among
     breaks that are as near. The chain passes over them where two others fit by chance."""
     assert isinstance(numbers.pace, Pace)  # of pictures
-    taken, near, breaks = set(numbers.fields), [], []
-    for one in readings if taken else ():
-        if one.field not in taken:
-            place = bisect.bisect(numbers.fields, one.field)
-            around = numbers.believed[max(place - 1, 0):place + 1]
-            if _is_near(around[0], one) and _is_near(around[-1], one) and (
-                    one.weight >= WEIGHTS[1] or any(other.number == one.number for other in around)):
-                near.append(one)
+    for _ in range(TURNS):
+        taken = set(numbers.fields)
+        aside = [one for one in readings if one.field not in taken] if taken else []
+        near, others = _turned_of(numbers, aside)
+        if not near:
+            break
+        # those beside what was found may be near that
+        readings = others
+        numbers = numbers.believing(sorted(numbers.believed + near, key=lambda one: one.field))
+    return numbers
+
+
+def _turned_of(numbers, aside):
+    """Those of the readings that are set aside that a disc showed while it was turned by hand, and the others between
+    the same numbers."""
+    near, breaks, others = [], [], []
+    for one in aside:
+        place = bisect.bisect(numbers.fields, one.field)
+        around = numbers.believed[max(place - 1, 0):place + 1]
+        if _is_near(around[0], one) and _is_near(around[-1], one) and (
+                one.weight >= WEIGHTS[1] or any(other.number == one.number for other in around)):
+            near.append(one)
+        else:
+            others.append((place, one))
     is_still = False
     for one, other in zip(numbers.believed, numbers.believed[1:]) if near else ():
         off = numbers.off(one, other)
@@ -66,7 +84,8 @@ def with_turned(numbers: Numbers, readings: List[Reading]) -> Numbers:
     fields = sorted(breaks + [one.field for one in near])
     more = {one.field: one for one in near if
             bisect.bisect(fields, one.field + TURNED) - bisect.bisect_left(fields, one.field - TURNED) > SIGNS}
-    return numbers.believing(sorted(numbers.believed + list(more.values()), key=lambda one: one.field))
+    places = {bisect.bisect(numbers.fields, field) for field in more}
+    return list(more.values()), [one for place, one in others if place in places]
 
 
 def _is_near(one, other):
@@ -186,10 +205,10 @@ def _lines(loose, is_both):
     for phase in (0, 1) if len(loose) >= LEAST else ():
         # where both fields of a picture have its number, it begins with an odd one or with an even one
         near = loose if is_both else [one for one in loose if one.field % 2 == phase]
-        rows.append((phase, near, [(one.number, (one.field - phase) // 2) for one in near]))
+        rows.append((phase, near, [one.number for one in near], [(one.field - phase) // 2 for one in near]))
     for step in STEPS:
-        for phase, near, places in rows:
-            for ones in _groups(near, [number - step * picture for number, picture in places]):
+        for phase, near, numbers, pictures in rows:
+            for ones in _groups(near, list(map(operator.sub, numbers, map(step.__mul__, pictures)))):
                 begin = ones[0].field - (ones[0].field - phase) % 2
                 found.append((Line(step, 2, begin, ones[0].number), ones))
     return found
