@@ -25,7 +25,7 @@ test_messages test_scan_ends test_classes test_chain test_side'
 { printf '%s\n' $longest && basename -s .py "$here"/test_*.py; } | awk '!known[$0]++' | (
     cd "$here" && xargs -P "$(nproc)" -n 1 sh -c '
     case $2 in
-        test_chapters | test_classes | test_examples | test_joined_sets | test_judged) COVERAGE_PROCESS_START= ;;
+        test_chapters | test_classes | test_joined_sets | test_judged) COVERAGE_PROCESS_START= ;;
         test_places | test_simulated | test_soundness | test_worn) COVERAGE_PROCESS_START= ;;
     esac
     status=0
