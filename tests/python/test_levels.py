@@ -35,6 +35,7 @@ class Levels(InFolder):
         system, black, white = setup
         side = side_of_tbc(self.path, ldvbi.System[system], black, white)
         self.addCleanup(side.samples.close)
+        self.assertEqual(side.levels, (black, white))
         return side.answer["levels"]
 
     def draw(self, setup, line_of=steep):

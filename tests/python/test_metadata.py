@@ -97,19 +97,12 @@ class Json(Metadata):
 
     def test_a_pipe(self):
         """As from a shell's <( ), whose first bytes may be few."""
-        path = self.named("pipe")
-        os.mkfifo(path)
-        text = b'{"videoParameters":{"system":"PAL","black16bIre":1,"white16bIre":2}}'
-
-        def write():
-            with open(path, "wb", buffering=0) as file:
-                for begin in range(0, len(text), 10):
-                    file.write(text[begin:begin + 10])
-
-        writer = threading.Thread(target=write)
-        writer.start()
-        self.assertEqual(settings_of(path), ("PAL", 1, 2, ()))
-        writer.join()
+        ours, theirs = os.pipe()
+        os.write(theirs, b'{"videoPar')
+        rest = b'ameters":{"system":"PAL","black16bIre":1,"white16bIre":2}}'
+        threading.Timer(0.2, lambda: (os.write(theirs, rest), os.close(theirs))).start()
+        self.assertEqual(settings_of("/dev/fd/%d" % ours), ("PAL", 1, 2, ()))
+        os.close(ours)
 
     def test_fields(self):
         """How many fields there are, and which of them begin a frame; without a list the head has the count."""

@@ -52,17 +52,8 @@ class Kinds(unittest.TestCase):
         for place, source in enumerate(taken):
             with self.subTest((place, type(source))):
                 self.assertEqual(ldvbi.read_line(source, *NTSC), WORD)
-
-    def test_each_cause(self):
-        """Lines by each call: one whose word smoothed levels alone show, and two without a word, of which each has
-        another column."""
-        lines = [line_with(word, NTSC, [change]) for word, *change in (
-            (0x82CFFF, 170, 171, False), (0, 14, 33, True), (0, 164, 909, True))]
-        wanted = [(ldvbi.Cause.word, 2, 0, 0x82CFFF), (ldvbi.Cause.change, 0, 34, 0), (ldvbi.Cause.hold, 0, 200, 0)]
-        rows, field = b"".join(lines), bytes(15 * 1820) + b"".join(lines) + bytes(245 * 1820)
-        for found in ([ldvbi.read_line(line, *NTSC) for line in lines], ldvbi.read_rows(rows, *NTSC),
-                      ldvbi.read_field(field, *NTSC), *ldvbi.fields(field, *NTSC)):
-            self.assertEqual(list(found), wanted)
+        changed = line_with(0, NTSC, [(14, 33, True)])
+        self.assertEqual(ldvbi.read_line(changed, *NTSC), (ldvbi.Cause.change, 0, 34, 0))
 
     def test_refused(self):
         view, calls = memoryview(self.line), (ldvbi.read_line, ldvbi.read_rows, ldvbi.read_field, ldvbi.fields,

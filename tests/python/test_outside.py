@@ -113,15 +113,18 @@ class Pages(InFolder):
         self.refused("/dev/zero")
 
     def test_names(self):
-        """A page is text in UTF-8 without control characters, whatever its side and its own file are called."""
+        """A page is text in UTF-8 without control characters, whatever its side and its own file are called. Its link
+        goes on from the index."""
+        for folder in ("pages", "indexes"):
+            os.mkdir(self.named(folder))
         side = discs.side(discs.pictures(range(1, 9)))
-        page = self.write(os.fsdecode(b"\xff <\x1b>.html"), page_of(side, NAME, ["whole: yes", "name: " + NAME]))
+        page = self.write(os.fsdecode(b"pages/\xff <\x1b>.html"), page_of(side, NAME, ["whole: yes", "name: " + NAME]))
         text = self.read(page).decode()
         wanted = shown(NAME).replace("&", "&amp;").replace("<", "&lt;").replace(">", "&gt;")
         for part in ("<title>%s</title>", "<h1>%s</h1>", "<dd>%s</dd>"):
             self.assertIn(part % wanted, text)
-        index = index_of(self.named("index.html"), [page], [(NAME, "a fault of " + NAME)])
-        self.assertIn('<a href="%%FF%%20%%3C%%1B%%3E.html">%s</a>' % wanted, index)
+        index = index_of(self.named("indexes/all.html"), [page], [(NAME, "a fault of " + NAME)])
+        self.assertIn('<a href="../pages/%%FF%%20%%3C%%1B%%3E.html">%s</a>' % wanted, index)
         self.assertIn("<tr><td>%s</td><td>fault</td><td></td><td></td><td></td><td>a fault of %s</td></tr>" % (
             wanted, wanted), index)
         for one in (text, index):

@@ -15,7 +15,7 @@ from ldvbi_side.command.summary import summary
 from ldvbi_side.draw.index import index_of
 from ldvbi_side.draw.page import LISTS, page_of
 from ldvbi_side.draw.plotting import plotter
-from streams import NTSC, PROGRAM, TOP, worn_line, write_stream
+from streams import NTSC, PROGRAM, TOP, line_with, worn_line, write_stream
 
 SPACE = "{http://www.w3.org/2000/svg}"
 
@@ -132,43 +132,36 @@ class Pages(unittest.TestCase):
 
 class Plots(Calls):
     def test_each_is_that_of_plot_line_for_the_same_bytes(self):
-        """The words of worn lines are drawn from column 150, and the row of each is the one that is drawn behind it."""
+        """The words of worn lines are drawn from column 150, and the row of each is the one that is drawn behind it. A
+        line with a few high columns has no such row, and no line has one without recovered words."""
         words = {(1, 17): 0xF00001, (3, 17): 0xF00002, (3, 18): 0xF00002, (6, 16): 0x8DC0A1}
-        fields = [[0, 0, 0] for _ in range(7)]
-        for place, ((field, line), word) in enumerate(words.items()):
-            fields[field - 1][line - 16] = worn_line(word, NTSC, 7 + place, 10 + place)
+        lines = {place: worn_line(words[place], NTSC, 7 + count, 10 + count) for count, place in enumerate(words)}
+        lines[7, 16] = line_with(0, NTSC, [(3, 30, True)])
         name, script = "a <b>&.tbc", os.path.join(TOP, "contrib", "plot_line.py")
-        write_stream(self.named(name), NTSC, fields)
-        self.printed(name, "LEVELS", "--html", "page.html")
-        folds = re.findall(r"<details><summary>field (\d+), line (\d+): .*?</summary>\n(.*?)</details>",
-                           self.text("page.html"), re.S)
-        self.assertEqual([tuple(map(int, fold[:2])) for fold in folds], list(words))
-        for (place, word), fold in zip(words.items(), folds):
-            line = self.write("line.raw", fields[place[0] - 1][place[1] - 16])
-            drawn = self.run_words(line, "LEVELS", "--program", PROGRAM, "--title", "%s, field %d, line %d" % (
-                name, *place), "--near", "%06X@150" % word, command=[sys.executable, script])
-            self.assertEqual(drawn, (0, fold[2], ""))
+        write_stream(self.named(name), NTSC, [[lines.get((field, line), 0) for line in (16, 17, 18)]
+                                              for field in range(1, 8)])
+        for more, near in (("LEVELS", words), ("--no-recover", {})):
+            self.printed(name, "LEVELS", "--html", "page.html", more)
+            folds = re.findall(r"<details><summary>field (\d+), line (\d+): (.*?)</summary>\n(.*?)</details>",
+                               self.text("page.html"), re.S)
+            self.assertEqual([tuple(map(int, fold[:2])) for fold in folds], list(lines))
+            self.assertEqual([">recovered: F0000" in fold[2] for fold in folds], 3 * [near == words] + [False] * 2)
+            for place, fold in zip(lines, folds):
+                row = ["--near", "%06X@150" % near[place]] if place in near else []
+                drawn = self.run_words(
+                    self.write("line.raw", lines[place]), "LEVELS", "--program", PROGRAM, "--title",
+                    "%s, field %d, line %d" % (name, *place), *row, command=[sys.executable, script])
+                self.assertEqual(drawn, (0, fold[3], ""))
 
 
 class Indexes(InFolder):
-    def test_links_from_another_folder(self):
-        title = "<b>&one</b>.tbc"
-        for name in ("pages", "indexes"):
-            os.mkdir(self.named(name))
-        there = self.write("pages/<b>&.html", page(side(rows("1..2")), title=title))
-        read = Page(index_of(self.named("indexes/all.html"), [there], [("<b>&bad</b>", "<b>&fault</b>")]))
-        self.assertEqual([known["href"] for tag, known in read.tags if tag == "a"], ["../pages/%3Cb%3E%26.html"])
-        self.assertEqual(read.texts["a"], [title])
-        self.assertEqual(read.texts["th"], ["side", "whole", "fields", "numbers", "lost", "why"])
-        self.assertEqual(read.texts["td"][:6], ["<b>&bad</b>", "fault", "", "", "", "<b>&fault</b>"])
-        self.assertNotIn("b", [tag for tag, _ in read.tags])
-
     def test_an_index(self):
         names = [self.write(title + " #1.html", page(side(rows(text)), title=title))
                  for title, text in (("one & two.tbc", "1..2"), ("none", ""), ("other", "7..9 12..14"))]
         read = Page(index_of(self.named("index.html"), names))
         self.assertEqual(read.texts["h1"], ["3 sides, whole: 1 yes, 1 no, 1 can't tell"])
         self.assertEqual(read.texts["a"], ["other", "none", "one & two.tbc"])
+        self.assertEqual(read.texts["th"], ["side", "whole", "fields", "numbers", "lost", "why"])
         self.assertEqual([known["href"] for tag, known in read.tags if tag == "a"],
                          ["other%20%231.html", "none%20%231.html", "one%20%26%20two.tbc%20%231.html"])
         self.assertEqual([read.texts["td"][begin:begin + 5] for begin in (1, 7, 13)], [

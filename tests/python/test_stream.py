@@ -9,7 +9,6 @@ from unittest import mock
 
 import ldvbi
 from cases import InFolder, reason
-from ldvbi_side.side import side_of_tbc
 from streams import NTSC, PAL, pictures, write_stream
 
 COUNT = 2 * ldvbi.BLOCK + 3  # two blocks and a part of one
@@ -68,14 +67,6 @@ class Sequences(Streams):
             self.assertEqual([number_of(field) for field in ldvbi.Stream(source, *NTSC)], [0, 1, 2])
         self.assertEqual(len(ldvbi.Stream(b"", *NTSC)), 0)
         self.assertEqual(ldvbi.Stream(data[:-1], *NTSC).cut_bytes, ldvbi.field_bytes("NTSC") - 1)
-
-    def test_a_side(self):
-        for rest in (0, 100):
-            self.drawn(3, PAL, rest).close()
-            side = side_of_tbc(self.path, *PAL)
-            self.assertEqual(([number_of(field) for field in side.readings], side.levels), ([0, 1, 2], PAL[1:]))
-            self.assertEqual((side.system, side.cut), (ldvbi.System.PAL, (4, 100) if rest else None))
-
 
     def test_more_than_4_gib(self):
         """Fields without a drawn line, the last of which shows a picture."""

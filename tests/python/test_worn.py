@@ -7,7 +7,7 @@ import struct
 import ldvbi
 from calls import Calls
 from simulated_discs import disc
-from streams import NTSC, PAL, line_with, worn_line, write_stream
+from streams import NTSC, PAL, worn_line, write_stream
 
 SETUPS = {"cav-ntsc": NTSC, "cav-pal": PAL, "cav-film": NTSC, "clv-pal": PAL}
 PICTURES = 24
@@ -65,22 +65,6 @@ class Noise(Calls):
                                                      if number is not None])
                 self.assertGreater(len(found["confirmed"]), 1)
                 self.assertEqual((found["missing"], found["unread"]), ([], []))
-
-
-class Pages(Calls):
-    def test_the_row_of_the_nearest_word(self):
-        """It is drawn behind a bad line that has one, and the columns that differ are marked."""
-        write_stream(self.named("side.tbc"), NTSC, [[0, worn_line(0xF12345, NTSC, 9, 11), 0],
-                                                   [line_with(0, NTSC, [(3, 30, True)]), 0, 0]])
-        page, without = ((self.printed("side.tbc LEVELS --html page.html" + more), self.read("page.html").decode())[1]
-                         for more in ("", " --no-recover"))
-        folds = page.split("<summary>field ")[1:]
-        self.assertEqual([fold.partition(":")[0] for fold in folds], ["1, line 17", "2, line 16"])
-        self.assertEqual([fold.count('<span class="recovered">recovered: F12345</span>') for fold in folds], [1, 0])
-        self.assertIn("; the row of F12345 from column 150 on is 11.0 columns away<", folds[0])
-        self.assertEqual(folds[0].count('class="marked"'), 11)
-        self.assertIn(">no word: change 3 ", folds[1])
-        self.assertNotIn("the row of", folds[1] + without)
 
 
 class Documents(Calls):
