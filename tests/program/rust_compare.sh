@@ -63,21 +63,19 @@ END
 cat > turning.c << 'END'
 #define _GNU_SOURCE
 #include <dlfcn.h>
-#include <stdint.h>
+#include <ldvbi.h>
 
-uint32_t ldvbi_nearest(uint32_t system, uint32_t black, uint32_t white, const void *bytes, size_t count,
-                       unsigned char *near)
+uint32_t ldvbi_classify(uint32_t word, LdvbiCode *code)
 {
     static int calls;
-    uint32_t (*call)(uint32_t, uint32_t, uint32_t, const void *, size_t, unsigned char *) = dlsym(RTLD_NEXT,
-        "ldvbi_nearest");
-    uint32_t done = call(system, black, white, bytes, count, near);
+    uint32_t done = ((__typeof__(&ldvbi_classify))dlsym(RTLD_NEXT, "ldvbi_classify"))(word, code);
 
-    near[16] ^= ++calls == 5;
+    code->second ^= ++calls == 5;
     return done;
 }
 END
-"${CC:-cc}" -shared -fPIC -o turning.so turning.c -Wl,--no-as-needed,-rpath,"$top" "$top/libldvbi.so.1" || exit 1
+"${CC:-cc}" -shared -fPIC -I"$top/include" -o turning.so turning.c -Wl,--no-as-needed,-rpath,"$top" \
+    "$top/libldvbi.so.1" || exit 1
 ALTERING=$work
 export ALTERING ALTER_FILE ALTER_LIKE ALTER_HOW
 

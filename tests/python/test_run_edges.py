@@ -91,17 +91,6 @@ class Signals(Runs):
                     self.ended(process, status)
                 self.assertEqual(self.names(), before)
 
-    def test_while_a_page_is_written(self):
-        write_stream(self.named("worn.tbc"), NTSC, [[WORN] * 3] * 80)
-        before = self.names()
-        process = self.started("worn.tbc LEVELS --html page.html")
-        while not any(name.endswith(".part") for name in self.names()):
-            self.assertIsNone(process.poll())
-            time.sleep(0.005)
-        process.send_signal(signal.SIGTERM)
-        self.ended(process, 143)
-        self.assertEqual(self.names(), before)
-
     def test_while_it_is_loaded(self):
         """The package isn't loaded before there is a text in the pipe, nor, in the second run, one of Python's modules,
         which the command wants."""
