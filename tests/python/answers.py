@@ -8,8 +8,8 @@ import json
 import os
 import sys
 
-from compact import cells_of, made, rows
-from discs import answer, joined, pictures, plain
+from compact import cells_of, made
+from discs import answer, joined, pictures, plain, side
 from ldvbi_side.judge.answer import analyse
 from measure import fields_of
 from simulate import KINDS, simulated
@@ -36,8 +36,8 @@ SIDES = """
 
 
 def hand_made():
-    for name, side in cells_of(SIDES):
-        yield name, made(side)
+    for name, text in cells_of(SIDES):
+        yield name, made(text)
     yield "cut", answer(pictures([1, 2]), cut={"seqNo": 5, "bytes": 7}, first=[False, True, True, False])
     yield "second row", made(" ".join("-/#%d/#%d B" % (number, number + 1000) for number in range(60)))
     yield "confirmed", analyse(made("1..2 ? B 4..6", plain)._replace(nearest_word=lambda *_: 0xF00003))
@@ -49,19 +49,18 @@ def hand_made():
 
 def together():
     """What captures have together, with each form of a member, by name."""
-    yield "detour", joined(rows("1..50 151..170 71..100"), rows("1..98"))
-    yield "lost", joined(rows("1..3 6..8"), rows("6..9"), rows("1..3"))
-    some = rows("t0..4499!7%1000", 30)
-    yield "some", joined(some, some[200:], system="NTSC")
-    yield "minutes", joined(rows("m58..59x3000"), rows("m58..59x3000"))
+    for name, *texts in (("detour", "1..50 151..170 71..100", "1..98"), ("lost", "1..3 6..8", "6..9", "1..3"),
+                         ("some", "NTSC t0..4499!7%1000", "NTSC t0..4499!7%1000 -1:200"),
+                         ("minutes", "m58..59x3000", "m58..59x3000")):
+        yield name, joined(*(made(text, side) for text in texts))
 
 
 def main():
     folder, other_folder = sys.argv[1:]
     known = dict(hand_made())
     for seed, kind in enumerate(KINDS):
-        side = simulated(seed, kind, 0.02, 400)
-        known[kind] = analyse(fields_of(side, seed % 2 == 0))
+        one = simulated(seed, kind, 0.02, 400)
+        known[kind] = analyse(fields_of(one, seed % 2 == 0))
     write(folder, known)
     write(other_folder, dict(together()))
 

@@ -97,6 +97,6 @@ def side(rows, system="PAL", first=None, cut=None):
     return Side(System[system], readings, cut, Levels(16384, 51200), first)
 
 
-def joined(*captures, system="PAL"):
-    """What sides with these rows, named a, b, c, have together."""
-    return join([capture_of(side(rows, system), name) for name, rows in zip("abc", captures)])
+def joined(*sides):
+    """What these sides, named a, b, c, have together."""
+    return join([capture_of(one, name) for name, one in zip("abc", sides)])

@@ -7,7 +7,7 @@ import xml.etree.ElementTree as xml
 
 from cases import reason
 from compact import made, span
-from discs import side
+from discs import joined, side
 from ldvbi_side.command.join import joined_text, range_rows
 from ldvbi_side.draw.bars import COLOURS, bars_of
 from ldvbi_side.draw.together import page_of_joined
@@ -24,12 +24,8 @@ def capture(text):
     return made(text, side)
 
 
-def join_sides(*sides):
-    return join([capture_of(one, name) for name, one in zip("abc", sides)])
-
-
 def together(*texts, system="PAL"):
-    return join_sides(*(capture("%s %s" % (system, text)) for text in texts))
+    return joined(*(capture("%s %s" % (system, text)) for text in texts))
 
 
 def taken(found, number):
@@ -82,11 +78,11 @@ class Taken(unittest.TestCase):
         due, near = made("1..40 7=B", side), made("1..40 7=B", side)
         near.answer.update(confirmed=[7], unread=[])
         near.answer["showings"].append([4, 7, 7])
-        self.assertEqual(taken(join_sides(due, near), 4), ["b", 7, 4, "near"])
-        self.assertEqual(taken(join_sides(due, near, made("1..40 7=-/-/#4*", side)), 4), ["c", 7, 4, "read"])
+        self.assertEqual(taken(joined(due, near), 4), ["b", 7, 4, "near"])
+        self.assertEqual(taken(joined(due, near, made("1..40 7=-/-/#4*", side)), 4), ["c", 7, 4, "read"])
 
     def test_frames_of_a_capture_that_begins_with_a_second_field(self):
-        found = join_sides(made("PAL/1 1..40 -1", side), made("1..10", side))
+        found = joined(made("PAL/1 1..40 -1", side), made("1..10", side))
         self.assertEqual([taken(found, 1), taken(found, 2)], [["b", 1, 1, "read"], ["a", 2, 1, "read"]])
 
 
@@ -205,7 +201,7 @@ REFUSED = (
 class Refused(unittest.TestCase):
     def test_rows(self):
         for text, *sides in REFUSED:
-            self.assertEqual(reason(join_sides, *(made(one, side) for one in sides)), text, sides)
+            self.assertEqual(reason(joined, *(made(one, side) for one in sides)), text, sides)
 
 
 class Page(unittest.TestCase):

@@ -60,17 +60,6 @@ class WholeFiles(InFolder):
             self.assertEqual((self.text(), self.names()), ("new ü\n", ["side.vbi.json"]))
             self.assertEqual(stat.S_IMODE(os.stat(self.path).st_mode), mode)
 
-    def test_nothing_is_left_of_a_part(self):
-        for error in (ValueError, KeyboardInterrupt):
-            for older in (None, "old"):
-                if older:
-                    self.write("side.vbi.json", older)
-                with self.assertRaises(error), whole_file(self.path) as file:
-                    file.write("new")
-                    raise error
-                self.assertEqual((self.text(), len(self.names())), (older, int(older is not None)))
-            os.unlink(self.path)
-
     def test_links_and_what_is_no_file(self):
         """A link stays one, and what is no file is written to."""
         os.symlink("target", self.path)

@@ -65,30 +65,22 @@ class Messages(unittest.TestCase):
 
 class Sides(unittest.TestCase):
     def test_a_line_for_all(self):
-        """What is written while these parts of sides are reached, one each second; for None the line is emptied. Of the
-        fields of three sides the first has a half, and the others a quarter each."""
-        for sizes, parts, errors, wanted in (
-                ([200, 100, 100], [(0, 0.5), (1, 1), None, (0, 0.6), (0, 1), (2, 1)], Terminal(), shown(
+        """What is written while these parts of sides are reached, each so many seconds after the one before; for None
+        the line is emptied. Of the fields of three sides the first has a half, and the others a quarter each."""
+        for sizes, seconds, parts, errors, wanted in (
+                ([200, 100, 100], 1, [(0, 0.5), (1, 1), None, (0, 0.6), (0, 1), (2, 1)], Terminal(), shown(
                     "0 of 3 sides, 0 %", "0 of 3 sides, 25 %, 0:03 left", "1 of 3 sides, 50 %, 0:02 left", "",
                     "1 of 3 sides, 55 %, 0:02 left", "2 of 3 sides, 75 %, 0:01 left", "3 of 3 sides, 100 %", "")),
-                ([], [], Terminal(), shown("")), ([1], [(0, 0.5), None, (0, 1)], io.StringIO(), "")):
+                ([1], 0, [*9 * [(0, 0.5)], None, (0, 0.5)], Terminal(), shown(
+                    "0 of 1 sides, 0 %", "", "0 of 1 sides, 50 %, 0:00 left", "")),
+                ([], 1, [], Terminal(), shown("")), ([1], 1, [(0, 0.5), None, (0, 1)], io.StringIO(), "")):
             clock = mock.Mock(return_value=100.0)
             with mock.patch("time.monotonic", clock), mock.patch("sys.stderr", errors), \
                     SidesProgress(sizes) as progress:
                 for part in parts:
-                    clock.return_value += part is not None
+                    clock.return_value += seconds * (part is not None)
                     if part:
                         progress.reached(*part)
                     else:
                         progress.clear()
             self.assertEqual(errors.getvalue(), wanted)
-
-    def test_few_messages_a_second(self):
-        with mock.patch("time.monotonic", return_value=100.0), mock.patch("sys.stderr", Terminal()) as errors:
-            with SidesProgress([1]) as progress:
-                for _ in range(9):
-                    progress.reached(0, 0.5)
-                self.assertEqual(errors.getvalue(), shown("0 of 1 sides, 0 %"))
-                progress.clear()
-                progress.reached(0, 0.5)
-        self.assertEqual(errors.getvalue(), shown("0 of 1 sides, 0 %", "", "0 of 1 sides, 50 %, 0:00 left", ""))
