@@ -145,9 +145,6 @@ done << 'END'
 NTSC|82CFFF||82CFFF, by the samples as they are (pass 1)|82CFFF|0 marked
 NTSC|82CFFF @170-171L||82CFFF, by the smoothed levels (pass 2)|82CFFF|2 marked 170 171
 NTSC|82CFFF @0-0H||82CFFF, by the smoothed levels (pass 2)|82CFFF|1 marked 0
-NTSC|FFFFFF/11/48||FFFFFF, by the samples|FFFFFF|0 marked
-NTSC|FFFFFF/18/48||FFFFFF, by the samples|FFFFFF|0 marked
-NTSC|AAAAAA/18/48||AAAAAA, by the samples|AAAAAA|0 marked
 NTSC|L382 FFFFFE/11/47||FFFFFE, by the samples|FFFFFE|0 marked
 NTSC|L382 FFFFFF/11/48||FFFFFF, by the samples|FFFFFF|0 marked
 NTSC|FFFFFF/11/47 H18||FFFFFF, by the samples|FFFFFF|0 marked
@@ -157,8 +154,6 @@ NTSC|-||no word: blank||0 marked
 NTSC|L900 H10||no word: unfinished||0 marked
 PAL|8AE012||8AE012, by the samples|8AE012|0 marked
 PAL|8AE012 @50-52H||8AE012, by the smoothed levels (pass 2)|8AE012|3 marked 50 51 52
-PAL|FFFFFF/14/48||FFFFFF, by the samples|FFFFFF|0 marked
-PAL|800000/22/48||800000, by the samples|800000|0 marked
 PAL|L207 H928||no word: hold 251||1 marked 251
 NTSC|82CFFF|--near 82CFFF@151|82CFFF; the row of 82CFFF from column 151 on is 42.0 columns away|82CFFF|42 marked *
 NTSC|82CFFF|--near 82CFFE@150|82CFFF; the row of 82CFFE from column 150 on is 29.0 columns away|82CFFE|29 marked *
@@ -169,7 +164,6 @@ NTSC|82CFFF|--first 909||*|0 marked
 NTSC|82CFFF|--first 837||*|0 marked
 NTSC|82CFFF @170-171L|--first 170 --last 171||*|2 marked *
 NTSC|82CFFF @170-171L|--first 171 --last 300||*|1 marked *
-NTSC|82CFFF @170-171L|--first 172 --last 300||*|0 marked
 NTSC|82CFFF @170-171L|--last 169||*|0 marked
 NTSC|82CFFF @170-174L|--first 170 --last 170||*|1 marked *
 NTSC|L164 H746|--last 200||*|1 marked *
