@@ -10,20 +10,10 @@ from compact import made
 from discs import plain, side
 from judged import packed_of
 from judged_chapters import ChapterTruth, chapter_in, judged, of_package
-from ldvbi import Number, State
+from ldvbi import State
 from ldvbi_side.judge.answer import analyse
 from simulate import KINDS, Simulated
 from test_judged import PICTURES, sides_of
-
-NOTHING = Number(None, State.nothing)
-
-
-class Chapters(unittest.TestCase):
-    def test_states(self):
-        known = ldvbi.judge_chapters(made("B -/c7/-x5 -/c48/- B -/c7/-", side).readings)
-        self.assertEqual(known, [NOTHING] + [(7, State.believed)] * 5 + [(48, State.doubtful), NOTHING]
-                         + [(7, State.believed)])
-        self.assertEqual([ldvbi.first_of(known, number) for number in (7, 48)], [1, None])
 
 
 def truth_of(text, misread=()):
