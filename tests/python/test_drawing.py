@@ -7,7 +7,7 @@ import xml.etree.ElementTree as xml
 from compact import made
 from discs import side
 from ldvbi.readings import Cut
-from ldvbi_side.draw.curve import ticks
+from ldvbi_side.draw.curve import Scale, ticks
 from ldvbi_side.draw.drawing import drawing_of
 from ldvbi_side.draw.marks import Mark, marks_of
 from ldvbi_side.draw.svg import Svg, shortened
@@ -95,6 +95,8 @@ class Parts(unittest.TestCase):
         self.assertEqual(ticks(1, 3, 5, [1, 2]), [1, 2, 3])
         self.assertEqual(ticks(7, 100, 5, [1, 2]), [7] + list(range(8, 101, 2)))  # no step is large enough
         self.assertEqual(ticks(1, 0, 5, [1]), [])
+        minutes = {"least": "0:00", "greatest": "0:29"}  # whose least step is a minute
+        self.assertEqual(Scale({"unit": "minute", "system": "PAL", "numbers": minutes}, 0, 9).ticks(), [0, 10, 20])
 
 
 def drawn(text, **more):

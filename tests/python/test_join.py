@@ -242,7 +242,7 @@ class Page(unittest.TestCase):
         for text in (*("<p>%s</p>" % text for text in joined_text(self.found)), bars_of(self.found),
                      '<details id="missing"><summary>numbers that no capture has: 1</summary>',
                      "<tr><td>22</td><td>22</td><td>1</td><td>lost</td></tr>",
-                     "<p>disagreements of two captures: 0</p>"):
+                     "<p>disagreements of two captures: 0</p>", '<head><meta charset="utf-8"><title>a, b</title>'):
             self.assertIn(text, page)
         self.assertEqual(page.count("<details"), 3)
         page = page_of_joined(join([capture_of(made("1..40", side), name) for name in ("<a>.tbc", "b & c.tbc")]), [])

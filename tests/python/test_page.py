@@ -170,7 +170,8 @@ class Indexes(InFolder):
             ["can't tell", "0", "none", "none", "no picture number and no time"],
             ["yes", "4", "2, 1 to 2", "none", ""]])
         known, none = '<meta name="ldvbi-side" content="%s">', "no page that --html wrote"
-        for text, why in ((known % "{}", "a page of another version: write it again"), (known % "[]", none),
+        other = "a page of another version: write it again"
+        for text, why in ((known % "{}", other), (known % "{&quot;version&quot;: 1}", other), (known % "[]", none),
                           (known % "{&quot;version&quot;: 2}", none), ('<meta name="ldvbi-side">', none),
                           ("<meta name=x>", none), (b"<title>\xff\xfe</title>", none)):
             self.assertEqual(reason(index_of, "index.html", [self.write("other.html", text)]),

@@ -151,7 +151,10 @@ class Refused(unittest.TestCase):
             inner = begin * depth + end * depth
             self.assertEqual(scanned("[%s%s]" % (before, inner), 50)[-1][2], inner)
             self.refused("[%s[%s]]" % (before, inner), deep % (1 + len(before)), 50)
-        self.assertEqual(len(scanned("[%s]" % ",".join(["[[]]"] * 200), 50)), 200)  # many, and none deep
+        many = "[%s]" % ",".join(["[[]]"] * 200)  # none of which is deep
+        self.assertEqual(len(scanned(many, 50)), 200)
+        one = Scanner(io.StringIO(many))
+        self.assertEqual([one.value() for _ in one.items() for _ in one.items()], [[]] * 200)
         self.assertEqual([value for _, value, *_ in scanned("[1e308,-1e-999]", 50)], [1e308, 0])
         with mock.patch.object(scanner, "LONGEST", 20):
             self.assertEqual(len(scanned('["%s"]' % ("a" * 18), 1)), 1)
