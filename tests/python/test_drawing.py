@@ -127,10 +127,10 @@ DRAWN = (
 # A side, and one of its lanes, with how much is in it; some stand there only where there is something in them (None).
 # Doubtful numbers beyond the scale stand on both lines, which is one mark on the curve and two in the lane's count.
 COUNTS = (("t0..57/3", "other speeds", 1), ("t0..57/3", "swapped fields", None), ("1..9 ?x4 14..30", "undecided", 4),
-          ("PAL/8 1..3 6..9", "lost fields", 5), ("1..30 21=?", "unread", 1), ("1", "lost", 0), ("1", "undecided", None),
-          ("1..600!0%8", "lost", 74), (FAR, "stops", 3), ("10..19 79999 21..29", "doubtful", 2),
-          ("10..19 1 21..29", "doubtful", 2), ("-/#3/#5", "doubtful", 2), ("8AE001/@0:01/@0:02", "doubtful", 3),
-          ("-/@0:01/@0:02", "doubtful", 2))
+          ("PAL/8 1..3 6..9", "lost fields", 5), ("1..30 21=?", "unread", 1), ("1", "lost", 0),
+          ("1", "undecided", None), ("1..600!0%8", "lost", 74), (FAR, "stops", 3), ("-/#3/#5", "doubtful", 2),
+          ("10..19 79999 21..29", "doubtful", 2), ("10..19 1 21..29", "doubtful", 2),
+          ("8AE001/@0:01/@0:02", "doubtful", 3), ("-/@0:01/@0:02", "doubtful", 2))
 
 
 class Drawings(unittest.TestCase):
