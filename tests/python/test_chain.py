@@ -148,7 +148,7 @@ class Chains(unittest.TestCase):
                      40000 * (place // 5 % 2) + place for place in range(count)]}
         for kind in ("video", "both", "film"):
             for name, numbers in noise.items():
-                self.assertLessEqual(walked(readings(*numbers, weight=2), kind).looks, 3 * count + 4000, (kind, name))
+                self.assertLessEqual(walked(readings(*numbers, weight=2), kind).looks, 4 * count + 4000, (kind, name))
         sound = readings(*range(count))
         self.assertEqual(walked(sound, "video").looks, 0)
         sound[1000:1000] = [Reading(2000, 7, 4, (17, 18))]
@@ -164,8 +164,7 @@ class Chains(unittest.TestCase):
         self.assertEqual((found.best(), found.looks), (other.best(), other.looks))
 
     def test_among_noise_numbers_that_nearly_fit_none_are_no_candidates(self):
-        """Of each row all is believed, as without the noise, on which no looks are spent. Noise of which all nearly
-        fits is no row, though its best chain is believed where there is nothing else."""
+        """Of each row all is believed, as without the noise, on which no looks are spent."""
         dice = random.Random(7)
         for kind in ("video", "film", "both"):
             pace, row, noise = Pace(kind), [], []
@@ -177,11 +176,8 @@ class Chains(unittest.TestCase):
             self.assertFalse(chains.chains_of(ones, pace).take_in(0, True), kind)
             near = chains._near_another(ones, pace)
             self.assertLess(len(near), len(row) + len(noise) // 4, kind)
-            for is_row in (False, True):
-                self.assertEqual([(one.field, one.number) for one in chain(ones, pace, is_row)],
-                                 [(one.field, one.number) for one in row], kind)
-            small = readings(*[dice.randrange(50) for _ in range(2000)], weight=2)
-            self.assertEqual([bool(chain(small, pace, is_row)) for is_row in (False, True)], [True, False], kind)
+            self.assertEqual([(one.field, one.number) for one in chain(ones, pace)],
+                             [(one.field, one.number) for one in row], kind)
 
     def test_with_and_without_memory(self):
         """Random readings, damaged in few ways over and over: each chain is worth as much."""

@@ -30,29 +30,24 @@ from .paces import AnyPace, Pace, price
 from .readings import Reading
 
 REACH = 40  # readings back: setting aside more than these costs more than two of the widest breaks
-NEAR = 1  # readings back where breaks are dense
+NEAR = 2  # readings back where breaks are dense
 NONE = -REACH - 1  # a reading that none can reach
 # Readings that are looked at for each one, in the mean, and more than that at first: on a side with damage it is fewer
 LOOKS, MOST_LOOKS = 2, 4000
-MOST = 3, 4  # readings that nearly fit another one, where they do so by chance
 NEVER = -10 ** 9  # the value of a state that no chain has
 MOST_PRICES = 1 << 14  # to remember: a side has few different ones, and noise has any
 SURE = 100  # a value that is greater than each price
 _MOVING, _ON, _STAYS = (0, NEVER), ((1, 0), None), (None, (1, 1))
 
 
-def chain(readings: List[Reading], pace: AnyPace, is_row: bool = False) -> List[Reading]:
-    """The readings that are believed, each with its variant. They ascend by field, those of one field side by side.
-    With `is_row` there are none where breaks are dense among readings of which most nearly fit another one: by chance,
-    as numbers do that are few."""
+def chain(readings: List[Reading], pace: AnyPace) -> List[Reading]:
+    """The readings that are believed, each with its variant. They ascend by field, those of one field side by side."""
     chains = chains_of(readings, pace)
     if not chains.take_in(0, True):
         near = _near_another(readings, pace) if isinstance(pace, Pace) else readings
-        is_chance = is_row and MOST[1] * len(near) > MOST[0] * len(readings)
         if len(near) < len(readings):
             readings, chains = near, chains_of(near, pace)
-        if not chains.take_in(len(chains.values), is_chance):
-            return []
+        chains.take_in(len(chains.values), False)
     return _without_ties(readings, chains.best(), pace)
 
 

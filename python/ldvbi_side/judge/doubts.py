@@ -144,7 +144,7 @@ def second_rows(numbers: Numbers, readings: List[Reading]) -> List[Answer]:
     rest = [one for one in readings if (one.field, one.number) not in taken]
     if numbers.pace is None or not rest or not numbers.believed:
         return []  # where none is believed, the chain has found no row
-    row = chain(rest, numbers.pace, is_row=True)
+    row = chain(rest, numbers.pace)
     weight = sum(one.weight for one in row)
     if weight - sum(price(numbers.off(*pair)) for pair in zip(row, row[1:])) <= WIDEST:
         return []
