@@ -18,7 +18,7 @@ STEPS = (2, 3, -1, -2, -3)  # numbers from one picture to the next
 ROUNDS = 2  # of a loop
 # By hand: numbers from one that is shown to the next, fields in which there are so many breaks and such numbers beside
 TURN, TURNED, SIGNS = 5, 40, 3
-TURNS = 3  # times that those beside what was found are looked at
+TURNS = 2  # times that those beside what was found are looked at
 
 
 # ---- Loops, and stills one after the other
