@@ -150,6 +150,7 @@ class Interrupted(Runs):
         waiting = [-2, -1]
         while waiting[-1] != waiting[-2] or waiting[-1] < 4096:
             time.sleep(0.1)
+            self.assertIsNone(process.poll())
             count = fcntl.ioctl(process.stdout.fileno(), termios.FIONREAD, bytes(4))
             waiting.append(int.from_bytes(count, sys.byteorder))
         process.send_signal(signal.SIGINT)
