@@ -8,6 +8,7 @@ import pty
 import shlex
 import subprocess
 import sys
+import time
 
 import ldvbi
 from cases import InFolder
@@ -68,6 +69,18 @@ class Commands(InFolder):
         for stream in filter(None, (process.stdout, process.stderr)):
             self.addCleanup(stream.close)
         return process
+
+    def opened_by(self, process, name):
+        """A pipe to write to, as soon as a run has opened it. A run that ends without that is a failure."""
+        while True:
+            try:
+                pipe = os.open(self.named(name), os.O_WRONLY | os.O_NONBLOCK)
+            except OSError:
+                self.assertIsNone(process.poll())
+                time.sleep(0.01)
+            else:
+                os.set_blocking(pipe, True)
+                return open(pipe, "wb")
 
     def ended(self, process, status, text=b""):
         """Checks how a run ends, what it printed by then, and that it says nothing."""

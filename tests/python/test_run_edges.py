@@ -84,7 +84,7 @@ class Signals(Runs):
         for (number, status), words in (*((one, "--csv -o out") for one in SIGNALS), (SIGNALS[2], "")):
             with self.subTest((number, words)):
                 process = self.started("side.tbc --meta meta.json " + words)
-                with open(self.named("meta.json"), "wb"):  # opened as soon as the command opens it
+                with self.opened_by(process, "meta.json"):
                     self.assertEqual(len(self.names()), len(before) + bool(words))
                     process.send_signal(number)
                     process.send_signal(number)
@@ -105,7 +105,7 @@ class Signals(Runs):
 
     def stopped_while_it_loads(self, number, status, **more):
         process = self.started("side.vbi.json", **more)
-        with open(self.named("pipe"), "wb"):
+        with self.opened_by(process, "pipe"):
             process.send_signal(number)
             self.ended(process, status)
 
@@ -115,7 +115,7 @@ class Signals(Runs):
         self.metadata("meta.json")
         process = self.started("side.tbc", "--meta", "pipe", "--seek", "3",
                                preexec_fn=functools.partial(signal.signal, signal.SIGHUP, signal.SIG_IGN))
-        with open(self.named("pipe"), "wb") as file:
+        with self.opened_by(process, "pipe") as file:
             process.send_signal(signal.SIGHUP)
             time.sleep(0.2)
             file.write(self.read("meta.json"))

@@ -151,7 +151,7 @@ class Pages(Scans, Calls):
         os.unlink(self.named("side.tbc.json"))
         os.mkfifo(self.named("side.tbc.json"))
         process = self.started("scan --html pages --csv side.tbc")
-        with open(self.named("side.tbc.json"), "wb") as file:
+        with self.opened_by(process, "side.tbc.json") as file:
             began = time.time_ns()
             file.write(self.read("meta.json"))
         self.ended(process, 0, ("%s\n%s\n" % (",".join(HEAD), YES)).encode())
