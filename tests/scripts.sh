@@ -24,11 +24,12 @@ fault() {
     exit 1
 }
 
-# tagged WORD..: the scripts with one of these words in their line; those of python/, which take longest, come first
+# tagged WORD..: the scripts with one of these words in their line. Those of answers/ and python/, which take longest,
+# come first.
 tagged() {
     for word; do
         (cd "$here" && grep -rlw --include='*.sh' "^# runs: .*$word" .)
-    done | sort -ru
+    done | sed 's|^./answers|./~&|' | LC_ALL=C sort -ru | sed 's|~./||'
 }
 
 # named NAME..: the scripts with these names
