@@ -1,5 +1,5 @@
-# What bash offers behind each command line of standard input, by a file of completions for one command: `files` where it
-# is file names.
+# What bash offers behind each command line of standard input, by a file of completions for one command: `files` where
+# it is file names.
 # usage: bash tests/program/complete.bash FILE
 compopt() { printf 'files\n'; }
 # shellcheck source=share/completions/ldvbi.bash

@@ -74,7 +74,7 @@ print("cells", *sorted(set(columns_of(of_class("cell"), "x1"))))
 print(sum(part.tag.endswith("rect") for part in marked), "marked", *columns_of(marked, "x"))
 print("outside", *[part.tag.rpartition("}")[2] for part in picture.iter() if is_outside(part)])
 END
-# plotted OPTION..: draws the line in the file `line.raw`, of so many columns (`width`), and finds what is in the picture
+# plotted OPTION..: draws the line in the file `line.raw`, of so many columns (`width`); finds what is in the picture
 plotted() {
     status=0
     {
