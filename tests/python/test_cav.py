@@ -63,6 +63,8 @@ class Cav(unittest.TestCase):
     both fields of picture 21, and the first one of 22, are lost | 1..60 -41:43 | missing 21-22 lost
         | lost 39-42 3 number | breaks lost 39-42 20 to 23, 3
     a second field | 1..60 -40 | no missing | lost 39-40 1 number
+    between chapters a field is lost for each | 1..20 -/c0/c0x2 23..40 40=-/c0/c0 | missing 21-22 lost
+    and fewer | 1..20 -/c0/c0x3 23..40 40=-/c0/c0 | missing 21-22 undecided | lost 39-44 1 number
     back | 1..30 21..60 | no missing | breaks back 59-61 30 to 21, 20 | repeated 21-30@61-79 after 41
     back, with damage | 1..30 21..60 51=? 67=? | no missing | repeated 21-30@61-79 after 41 | unread 26@51, 24@67
     a still | 1..30 30x9 31..60 | stills 30@59-77 | no missing doubtful breaks | repeated 30@61-77 after 59
