@@ -13,7 +13,8 @@
 # the library alone; DESTDIR goes before all of them; `make uninstall PREFIX=DIR` takes all of it away; `make wheel`
 # packs the Python module with the library for pip; `make check PROGRAM=./ldvbi` runs the gate's scripts on the program;
 # `make dist` packs source and what is built, with checksums; `make peers` has other programs read what it reads, and
-# needs mame-tools and libzvbi-dev. With FROM=rust `install`, `install-lib` and `wheel` take what `make rust` built. The
+# needs mame-tools and libzvbi-dev; `make channel` has the library read simulated lines of worn discs, and needs
+# python3-numpy and python3-scipy. With FROM=rust `install`, `install-lib` and `wheel` take what `make rust` built. The
 # system's loader finds a library that is installed to /usr/local once `ldconfig` was run as root.
 
 PREFIX ?= /usr/local
@@ -232,6 +233,11 @@ bench: ldvbi lib rust
 peers:
 	sh peers/compare.sh $(PROGRAM) 200 docs/measured/peers.txt
 
+# The library beside the program, or the one at the top
+channel:
+	sh bench/channel/tables.sh $(firstword $(wildcard $(dir $(PROGRAM))libldvbi.so.$(ABI)) libldvbi.so.$(ABI)) \
+	    docs/measured/channel
+
 clean:
 	rm -rf ldvbi libldvbi.a libldvbi.so libldvbi.so.$(ABI) dist .ci/ran.new
 	rm -rf crates/*/out rust/out rust/crate rust/ldvbi rust/libldvbi.* rust/*-*-*
@@ -239,4 +245,4 @@ clean:
 toolchain:
 	@command -v rt > /dev/null || { echo "make: the command rt of the Rattle toolchain is not on the PATH" >&2; exit 1; }
 
-.PHONY: lib test ran rust rust-compare setup places install install-lib uninstall check wheel dist bench peers clean toolchain
+.PHONY: lib test ran rust rust-compare setup places install install-lib uninstall check wheel dist bench peers channel clean toolchain

@@ -1,5 +1,5 @@
 /* The nearest word of a line as one writes it from its definition: start by start, by sums of what the columns before
-   each column cost. */
+   each column cost. A column costs as much as white is from black at most. */
 
 enum { CELLS = 24, WIDEST = 1135 };
 
@@ -13,6 +13,13 @@ typedef struct {
 } PlainNear;
 
 static const PlainSystem plain_ntsc = {910, 315, 22}, plain_pal = {1135, 709379, 40000};
+
+static uint64_t plain_cost(int sample, int drawn, int most)
+{
+    int off = abs(sample - drawn);
+
+    return (uint64_t)(off < most ? off : most);
+}
 
 static PlainNear plain_nearer(PlainNear one, PlainNear other)
 {
@@ -63,8 +70,8 @@ static PlainNear plain_nearest(const PlainSystem *system, int black, int white, 
     for (uint32_t column = 0; column < width; column++) {
         int sample = line[2 * column] | line[2 * column + 1] << 8;
 
-        dark[column + 1] = dark[column] + (uint64_t)abs(sample - black);
-        light[column + 1] = light[column] + (uint64_t)abs(sample - white);
+        dark[column + 1] = dark[column] + plain_cost(sample, black, white - black);
+        light[column + 1] = light[column] + plain_cost(sample, white, white - black);
     }
     PlainNear best = {0, 0, dark[width], UINT64_MAX};
 

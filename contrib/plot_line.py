@@ -211,7 +211,8 @@ def draw_near(drawing, near, answer, samples, arguments):
             drawing.box(column, column + 1, "#fca5a5", ' class="marked"')
     row = [arguments.white if level else arguments.black for level in row]
     draw_samples(drawing, row, 'stroke="#16a34a" stroke-width="3"')
-    distance = sum(abs(sample - drawn) for sample, drawn in zip(samples, row)) / (arguments.white - arguments.black)
+    most = arguments.white - arguments.black
+    distance = sum(min(abs(sample - drawn), most) for sample, drawn in zip(samples, row)) / most
     said = answer if answer.isupper() or answer.isdigit() else f"no word: {answer}"
     return f"{said}; the row of {word:06X} from column {start} on is {distance:.1f} columns away"
 

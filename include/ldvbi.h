@@ -82,8 +82,8 @@ size_t ldvbi_field_bytes(uint32_t system);
 uint32_t ldvbi_abi(void);     /* the interface of the library that is linked */
 uint32_t ldvbi_version(void); /* its version, as a number */
 
-/* ---- Statuses, in the order in which they are tested: a call has those of the arguments that it takes. After any
- * other than LDVBI_DONE, all that the call could have written is as it was. */
+/* ---- Statuses, in the order in which they are tested, but that LDVBI_BAD_ERASED comes last: a call has those of
+ * the arguments that it takes. After any other than LDVBI_DONE, all that the call could have written is as it was. */
 enum LdvbiStatus {
     LDVBI_DONE = 0,
     LDVBI_BAD_SYSTEM = 1, /* the system is neither LDVBI_NTSC nor LDVBI_PAL */
@@ -91,7 +91,10 @@ enum LdvbiStatus {
     LDVBI_BAD_LENGTH = 3, /* not the bytes of the call's lines or fields in this system; arrays of different lengths */
     LDVBI_BAD_WORD = 4,   /* a number is no code word: not from 0x800000 to 0xFFFFFF, nor 0 where 0 stands for none */
     LDVBI_BAD_COUNTED = 5, /* neither LDVBI_PICTURES nor LDVBI_TIMES */
-    LDVBI_BAD_PACE = 6     /* none of LDVBI_VIDEO, LDVBI_FILM and LDVBI_FIND_PACE */
+    LDVBI_BAD_PACE = 6,    /* none of LDVBI_VIDEO, LDVBI_FILM and LDVBI_FIND_PACE */
+    LDVBI_BAD_ERASED = 7,  /* a list of LdvbiErased isn't sorted, or has an entry that isn't as it says there */
+    LDVBI_BAD_LINE = 8,    /* the line is none of 16, 17 and 18; tested before a list */
+    LDVBI_BAD_KNOWN = 9    /* whether dropouts are known is neither 0 nor 1; tested before a list */
 };
 
 /* ---- Reading: a line shows a word, or the first of these causes for which it shows none. Column c is hopeless where
@@ -137,7 +140,8 @@ LDVBI_RESULT uint32_t ldvbi_read_fields(uint32_t system, uint32_t black, uint32_
  *
  * A word can be drawn from each column on that leaves room for it: 224 columns of NTSC, 285 of PAL. Of all these rows,
  * and of that of no word, which is black, the nearest one has the least distance from some lines: the sum, over their
- * samples, of how far each is from the row's. (white - black) is that of one column with the other level, in one line.
+ * samples, of how far each is from the row's, but at most (white - black). That is one column with the other level, in
+ * one line.
  *
  * This is proved: no row of any word, nor that of none, is nearer to the lines than the answered one, and no row of
  * another word, or of none, is nearer than `rival`. So if another word was recorded, the samples are off by `rival` or
@@ -160,18 +164,25 @@ typedef struct LdvbiNear {
 LDVBI_RESULT LDVBI_POINTER(6) uint32_t ldvbi_nearest(uint32_t system, uint32_t black, uint32_t white,
     const void *samples, size_t length, LdvbiNear *near);
 
-/* Reads lines 16, 17 and 18 as ldvbi_read_rows does, and recovers the words of worn ones: a line without a word that
- * isn't blank has its nearest word, as pass 3, where the margin is so many columns at least, of (white - black) each:
+/* Reads lines 16, 17 and 18 as ldvbi_read_rows does, and recovers the words of worn ones, as pass 3: a line without a
+ * word that isn't blank has the nearest code that may stand on it, where no word is nearer by more than 10 columns,
+ * else its nearest word. The margin over the other codes, or over other words, has to be so many columns at least, of
+ * (white - black) each:
  *
  *                                           a code that may stand on the line   any other word
  *     one line                                               6                        8
- *     lines 17 and 18 together                               6                       10
+ *     lines 17 and 18 together                               8                       10
  *     either, where they don't agree                        10                       12
  *
- * If both lack a word, they are taken together where they agree: where the nearest word of each is the same, or their
- * common one is at most 10 columns farther from the two than the nearest word of each is from its own line. Nothing is
- * recovered where `longer` is below `distance` by more than 4 columns in each line, nor of two lines together where it
- * is so of each. A word of pass 2 stays only where its line alone says it so.
+ * If both lack a word, they are taken together where they agree: where the nearest word or code of each is the same, or
+ * the common one is at most 30 columns farther from the two than that of each is from its own line. Nothing is
+ * recovered where the row with one cell more (`longer`), or with one or two cells black at an end, is nearer by more
+ * than 4 columns in each line, nor of two lines together where the longer one is so of each.
+ *
+ * All that is asked first of the levelled lines: the mean of six cells is taken off, and the rest made to swing from
+ * black to white, if it swings by 3 to 16 tenths of that, and of two lines neither more than twice as much as the
+ * other. Then of the lines as they are. A word of pass 2 stays only where its line alone says it so, or where a row of
+ * it whose cells have 98 to 102 hundredths of their length is nearer than that of any other word by 8 columns.
  *
  * This is proved: the answer is that of this rule, a word of pass 1 stays as it is, and a blank line stays blank. That
  * a recovered word is the recorded one is not: it is measured on simulated lines. */
@@ -181,6 +192,37 @@ LDVBI_RESULT LDVBI_POINTER(6) uint32_t ldvbi_recover_rows(uint32_t system, uint3
 /* The same for `count` fields, as ldvbi_read_fields takes them. */
 LDVBI_RESULT uint32_t ldvbi_recover_fields(uint32_t system, uint32_t black, uint32_t white, const void *samples,
     size_t length, LdvbiFieldReadings *readings, size_t count);
+
+/* Columns of a line that are erased, as those of a dropout: they count for no nearest word. */
+typedef struct LdvbiErased {
+    uint32_t field; /* of the fields in the call's bytes, counted from 0 */
+    uint32_t line;  /* 16, 17 or 18 */
+    uint32_t first; /* the first erased column, counted from 0 */
+    uint32_t last;  /* the last one, not before the first; those beyond the line count for nothing */
+} LdvbiErased;
+
+/* The same as the two above without the columns that are erased. The list is sorted by field, then line, then first
+ * column, and its entries may overlap. An empty one erases nothing. LDVBI_BAD_ERASED comes last: where all else is
+ * right. This is proved: just the columns of a line that an entry names count for no nearest word of it. */
+LDVBI_RESULT LDVBI_POINTER(8) uint32_t ldvbi_recover_rows_without(uint32_t system, uint32_t black, uint32_t white,
+    const void *samples, size_t length, const LdvbiErased *erased, size_t erased_count, LdvbiFieldReadings *readings);
+LDVBI_RESULT uint32_t ldvbi_recover_fields_without(uint32_t system, uint32_t black, uint32_t white,
+    const void *samples, size_t length, const LdvbiErased *erased, size_t erased_count, LdvbiFieldReadings *readings,
+    size_t count);
+
+/* Finds the word that 1 to 28 lines say together, which all have one word, or none: `word` gets 0 where they say none.
+ * They are of one number, `line`: 16, 17 or 18. They lie one after the other, as ldvbi_nearest takes them, and may be
+ * of several fields or captures. `erased` lists columns that count for nothing: `field` is the place of the line among
+ * these, counted from 0, and `line` is that number.
+ *
+ * The rule is that of ldvbi_recover_rows for two lines, but for the margins: where dropouts are known (`known` is 1), a
+ * code that may stand on the line has to be ahead by 6 columns, else (`known` is 0) by 10; any other word by 10. Asked
+ * first are the levelled lines, if each swings so much, and none more than twice as much as another.
+ *
+ * This is proved: the answer is that of this rule, and just the columns that an entry names count for nothing. */
+LDVBI_RESULT LDVBI_POINTER(10) uint32_t ldvbi_recover_pile(uint32_t system, uint32_t black, uint32_t white,
+    uint32_t line, uint32_t known, const void *samples, size_t length, const LdvbiErased *erased, size_t erased_count,
+    uint32_t *word);
 
 /* ---- What words say */
 enum LdvbiKind {
@@ -366,8 +408,10 @@ static inline const char *ldvbi_status_text(uint32_t status) {
     static const char *const texts[] = {
         "done", "system is neither NTSC nor PAL", "black is not below white, or one of them is above 65535",
         "length does not fit the system", "number is no code word", "neither pictures nor times are counted",
-        "pace is neither that of video nor of film, nor to be found"};
-    return status <= LDVBI_BAD_PACE ? texts[status] : "unknown";
+        "pace is neither that of video nor of film, nor to be found",
+        "list of erased columns is not sorted, or has columns of no line", "line is none of 16, 17 and 18",
+        "whether dropouts are known is neither 0 nor 1"};
+    return status <= LDVBI_BAD_KNOWN ? texts[status] : "unknown";
 }
 
 static inline const char *ldvbi_cause_text(uint32_t cause) {

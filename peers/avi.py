@@ -1,34 +1,40 @@
 """Writes fields of an NTSC stream as an AVI file that MAME's chdman takes for a LaserDisc: frames of 720 by 524 pixels
 of two fields each, uncompressed (YUY2), at 13.5 MHz."""
 
+import functools
 import struct
 
 WIDTH, FIELD_HEIGHT = 720, 262
 FRAME_BYTES = WIDTH * 2 * FIELD_HEIGHT * 2
 
-# The columns of a line of the stream, at 14.318 MHz, at which a line of 13.5 MHz has its pixels: the first one 122
-# pixels behind the line's start, as in ITU-R BT.601
-COLUMNS = [(pixel + 122) * (315 / 22) / 13.5 for pixel in range(WIDTH)]
+NTSC_RATE = 315 / 22
 
 
-def pixels_of(line):
+@functools.lru_cache(maxsize=None)
+def columns_of(rate):
+    """The columns of a line of this rate in MHz at which a line of 13.5 MHz has its pixels: the first one 122 pixels
+    behind the line's start, as in ITU-R BT.601."""
+    return [(pixel + 122) * rate / 13.5 for pixel in range(WIDTH)]
+
+
+def pixels_of(line, rate=NTSC_RATE):
     """A line of 8-bit samples as pixels, by linear interpolation; the colour bytes are neutral."""
     pixels = bytearray(b"\x00\x80" * WIDTH)
-    for pixel, column in enumerate(COLUMNS):
+    for pixel, column in enumerate(columns_of(rate)):
         left = int(column)
         rest = column - left
         pixels[2 * pixel] = round(line[left] * (1 - rest) + line[left + 1] * rest)
     return pixels
 
 
-def frame_of(fields, black):
+def frame_of(fields, black, rate):
     """A frame of two fields, each three lines: those are lines 16, 17 and 18, which MAME finds in rows of these
     numbers. Rows of the two fields take turns."""
     frame = bytearray(bytes((black, 0x80)) * (FRAME_BYTES // 2))
     for parity, lines in enumerate(fields):
         for number, line in zip((16, 17, 18), lines):
             start = (2 * number + parity) * WIDTH * 2
-            frame[start:start + WIDTH * 2] = pixels_of(line)
+            frame[start:start + WIDTH * 2] = pixels_of(line, rate)
     return bytes(frame)
 
 
@@ -48,8 +54,9 @@ def headers(frames):
     return chunk(b"LIST", b"hdrl" + chunk(b"avih", main) + streams)
 
 
-def write(path, fields, black):
-    """Writes the fields, an even number of them, each a list of three lines of 8-bit samples."""
+def write(path, fields, black, rate=NTSC_RATE):
+    """Writes the fields, an even number of them, each a list of three lines of 8-bit samples. Lines of PAL, with their
+    rate, go into frames of NTSC as well."""
     frames = len(fields) // 2
     head = headers(frames)
     movie = 4 + frames * (8 + FRAME_BYTES)
@@ -60,5 +67,5 @@ def write(path, fields, black):
         file.write(b"RIFF" + struct.pack("<I", 4 + len(head) + 8 + movie + 8 + len(index)) + b"AVI " + head)
         file.write(b"LIST" + struct.pack("<I", movie) + b"movi")
         for frame in range(frames):
-            file.write(chunk(b"00dc", frame_of(fields[2 * frame:2 * frame + 2], black)))
+            file.write(chunk(b"00dc", frame_of(fields[2 * frame:2 * frame + 2], black, rate)))
         file.write(chunk(b"idx1", index))

@@ -61,25 +61,25 @@ def recovered_of_both(folder, lines, others):
 
 # ---- the others
 
-def in_eight_bits(lines):
+def in_eight_bits(lines, white=WHITE):
     """Black as 16 and white as 235."""
-    return [bytes(min(max(round(16 + (sample - BLACK) * 219 / (WHITE - BLACK)), 0), 255) for sample in line)
+    return [bytes(min(max(round(16 + (sample - BLACK) * 219 / (white - BLACK)), 0), 255) for sample in line)
             for line in lines]
 
 
-def disc_of_mame(folder, lines):
-    """The path of a disc that chdman makes of these lines of 8 bits."""
+def disc_of_mame(folder, lines, rate=avi.NTSC_RATE):
+    """The path of a disc that chdman makes of these lines of 8 bits, and of this rate in MHz."""
     video, disc = os.path.join(folder, "side.avi"), os.path.join(folder, "side.chd")
-    avi.write(video, [lines[field:field + 3] for field in range(0, len(lines), 3)], 16)
+    avi.write(video, [lines[field:field + 3] for field in range(0, len(lines), 3)], 16, rate)
     said("chdman", "createld", "-f", "-np", "1", "-i", video, "-o", disc)
     return disc
 
 
-def by_mame(lines):
+def by_mame(lines, rate=avi.NTSC_RATE):
     """The words in the AVLD metadata that chdman writes: 16 bytes a field, with the words of lines 16, 17 and 18 behind
     the field's number and its white flag."""
     with tempfile.TemporaryDirectory() as folder:
-        disc, metadata = disc_of_mame(folder, lines), os.path.join(folder, "side.meta")
+        disc, metadata = disc_of_mame(folder, lines, rate), os.path.join(folder, "side.meta")
         said("chdman", "dumpmeta", "-f", "-t", "AVLD", "-i", disc, "-o", metadata)
         with open(metadata, "rb") as file:
             packed = file.read()
@@ -87,9 +87,9 @@ def by_mame(lines):
             for field in range(len(lines) // 3) for start in range(16 * field + 4, 16 * field + 13, 3)]
 
 
-def by_edges(folder, lines):
+def by_edges(folder, lines, white=WHITE, system="NTSC"):
     """The words of peers/edges.c."""
-    command = [os.path.join(folder, "edges"), str(BLACK), str(WHITE)]
+    command = [os.path.join(folder, "edges"), str(BLACK), str(white)] + ([] if system == "NTSC" else [system])
     return [int(answer, 16) for answer in answers_of(command, lines)]
 
 

@@ -104,6 +104,7 @@ def systems() -> str:
 
 def package() -> Dict[str, Any]:
     """The constants of the rules by which `ldvbi-side` judges."""
+    from ldvbi import near
     from ldvbi_side import levels
     from ldvbi_side.command import summary
     from ldvbi_side.draw import page
@@ -127,7 +128,8 @@ def package() -> Dict[str, Any]:
         "order.turned": order.TURNED, "sparse.least": sparse.LEAST, "lines.few": lines.FEW,
         "levels.fields": levels.FIELDS, "levels.few": levels.FEW, "levels.step": levels.STEP,
         "ends.longest": ends.LONGEST, "begins": len(ends.FIRST["time"]), "format.near": whole.NEAR,
-        "doubtful.share": whole.SHARE, "format.even": readings.codes_of(even).format.upper(),
+        "doubtful.share": whole.SHARE, "pile.lines": near.MOST_LINES,
+        "format.even": readings.codes_of(even).format.upper(),
     }
 
 

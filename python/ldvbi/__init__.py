@@ -25,16 +25,16 @@ package, in the one above that, or in lib/ of the folder to which `make install`
 loader finds. `classify` and `format_of` need no library. Only CPython and its standard library are needed besides.
 
 Read first `classes` (what a word says) and `codes` (on which lines), then `library` and `samples` (the calls of C and
-the memory that they get), `readings`, `near`, `stream`, `judging` and `seeking` (these calls in Python), at last
-`document` and `metadata` (with `scanner` and `database`), the files beside a TBC file. What the words of a whole side
-mean is the business of the package `ldvbi_side`, which stands on this one: nothing here imports it.
+the memory that they get), `dropouts`, `readings`, `near`, `stream`, `judging` and `seeking` (these calls in Python), at
+last `document` and `metadata` (with `scanner` and `database`), the files beside a TBC file. What the words of a whole
+side mean is the business of the package `ldvbi_side`, which stands on this one: nothing here imports it.
 """
 
 
 from .classes import Code, Format, Kind, classify, format_of
 from .judging import Number, State, find_pace, first_of, judge, judge_chapters, judge_field, judge_stops
 from .library import Counted, Pace, System
-from .near import Near, nearest
+from .near import Near, nearest, recover_pile
 from .readings import (PACKED_FIELD, Cause, FieldReadings, Reading, draw_line, field_bytes, line_bytes, read_field,
                        read_line, read_rows)
 from .seeking import Sought, seek
@@ -43,6 +43,6 @@ from .stream import BLOCK, Stream, fields
 __all__ = ["System", "Cause", "Kind", "Format", "Counted", "Pace", "State", "Reading", "FieldReadings", "Code",
            "Number", "Near", "Sought", "Stream", "line_bytes", "field_bytes", "read_line", "read_rows", "read_field",
            "fields", "classify", "format_of", "judge", "judge_field", "find_pace", "judge_chapters", "judge_stops",
-           "first_of", "seek", "nearest", "draw_line"]
+           "first_of", "seek", "nearest", "recover_pile", "draw_line"]
 
 __version__ = "0.1.0"

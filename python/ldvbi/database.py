@@ -1,14 +1,20 @@
 """ld-decode's metadata in SQLite, as newer versions keep it: table `capture` with the columns `system`, `black_16b_ire`
-and `white_16b_ire`, and perhaps with the fields' size and count; and a table of the fields, whatever its name is, with
-the columns `field_id` and `is_first_field`. No file of ld-decode's own was at hand to try it on."""
+and `white_16b_ire`, and perhaps with the fields' size and count; a table of the fields, whatever its name is, with the
+columns `field_id` and `is_first_field`; and perhaps a table `drop_outs`. No file of ld-decode's own was at hand to try
+it on."""
 
 import contextlib
 import pathlib
 import sqlite3
 from typing import Any, Dict, Iterable, Iterator, List, Optional
 
+from .codes import LINES
+from .dropouts import Dropout, told_dropouts
+
 # The columns that are read, and the members of the JSON metadata that they stand for
 _COLUMNS = {"system": "system", "black_16b_ire": "black16bIre", "white_16b_ire": "white16bIre"}
+# Those of a dropout, behind that of its field, likewise
+_OF_DROPOUT = {"field_line": "fieldLine", "startx": "startx", "endx": "endx"}
 _OPTIONAL = {"field_width": "fieldWidth", "field_height": "fieldHeight",
              "number_of_sequential_fields": "numberOfSequentialFields"}
 
@@ -26,6 +32,23 @@ def first_of_database(path: str) -> List[Any]:
     with opened(path) as database:
         values = column_of_fields(database, "is_first_field") or []
     return [bool(value) if value in (0, 1) else None for value in values]
+
+
+def dropouts_of_database(path: str) -> List[Dropout]:
+    """The dropouts of lines 16, 17 and 18. There are none where the table `drop_outs` isn't as ld-decode makes it, nor
+    where no table, or more than one, has the fields."""
+    with opened(path) as database:
+        columns = ["field_id", *_OF_DROPOUT]
+        if not set(columns) <= set(columns_of(database, "drop_outs")):
+            return []
+        rows = database.execute("SELECT %s FROM drop_outs WHERE field_line IN (%d, %d, %d)" % (
+            ", ".join(columns), *LINES)).fetchall()
+        fields = column_of_fields(database, "field_id") if rows else None
+    told: Dict[Any, List[Any]] = {}
+    for field, *one in rows:
+        told.setdefault(field, []).append(one)
+    return [dropout for place, field in enumerate(fields or []) if field in told
+            for dropout in told_dropouts(place, dict(zip(_OF_DROPOUT.values(), zip(*told[field]))))]
 
 
 @contextlib.contextmanager

@@ -9,13 +9,18 @@ from typing import Any, NamedTuple
 from .classes import whole_number
 
 ABI = 1
-BAD_SYSTEM, BAD_LEVELS, BAD_LENGTH, BAD_WORD, BAD_COUNTED, BAD_PACE = range(1, 7)  # statuses
+# statuses
+(BAD_SYSTEM, BAD_LEVELS, BAD_LENGTH, BAD_WORD, BAD_COUNTED, BAD_PACE, BAD_ERASED, BAD_LINE,
+ BAD_KNOWN) = range(1, 10)
 
 _NO_SYSTEM = "system is neither NTSC nor PAL"
 _TEXTS = {BAD_SYSTEM: _NO_SYSTEM, BAD_WORD: "number is no code word",
           BAD_COUNTED: "neither pictures nor times are counted",
-          BAD_PACE: "pace is neither that of video nor of film, nor to be found"}
-_MOST = 0xFFFFFFFF
+          BAD_PACE: "pace is neither that of video nor of film, nor to be found",
+          BAD_ERASED: "list of erased columns is not sorted, or has columns of no line",
+          BAD_LINE: "line is none of 16, 17 and 18",
+          BAD_KNOWN: "whether dropouts are known is neither 0 nor 1"}
+MOST = 0xFFFFFFFF  # of 32 bits
 _MAKE = "`make lib` or `make rust` builds"
 
 
@@ -78,6 +83,9 @@ _LATER = {
     "ldvbi_nearest": ("find nearest words", _SETUP + [_MEMORY, _SIZE, _MEMORY]),
     "ldvbi_recover_rows": ("recover words", _SETUP + [_MEMORY, _SIZE, _MEMORY]),
     "ldvbi_recover_fields": ("recover words", _SETUP + [_MEMORY, _SIZE, _MEMORY, _SIZE]),
+    "ldvbi_recover_pile": ("recover words of piles", _SETUP + [_NUMBER] * 2 + [_MEMORY, _SIZE] * 2 + [_MEMORY]),
+    "ldvbi_recover_rows_without": ("leave out columns", _SETUP + [_MEMORY, _SIZE] * 2 + [_MEMORY]),
+    "ldvbi_recover_fields_without": ("leave out columns", _SETUP + [_MEMORY, _SIZE] * 3),
 }
 
 
@@ -122,7 +130,7 @@ def later_call(name: str) -> Any:
 def number_of(name: str, value: Any) -> int:
     """A whole number as the library takes it. Anything outside 32 bits becomes 2^32 - 1, which is refused as well."""
     number = whole_number(name, value)
-    return number if 0 <= number <= _MOST else _MOST
+    return number if 0 <= number <= MOST else MOST
 
 
 def _member_number(enumeration, value, refusal):

@@ -1,13 +1,15 @@
-"""System, black and white of a run, how many fields there are and which of them begin a frame, from ld-decode's
-metadata, JSON or SQLite. JSON is read as `ldvbi` reads it, but for this: levels with decimals are rounded here to the
-next whole number, a half upwards, and no more than a few fields are held at a time."""
+"""System, black and white of a run, how many fields there are, which of them begin a frame, and where lines 16, 17 and
+18 have dropouts, from ld-decode's metadata, JSON or SQLite. JSON is read as `ldvbi` reads it, but for this: levels with
+decimals are rounded here to the next whole number, a half upwards, and no more than a few fields are held at a time.
+"""
 
 import io
 import math
 import os
-from typing import Any, BinaryIO, Callable, Dict, Iterator, List, NamedTuple, Optional, Tuple
+from typing import Any, BinaryIO, Callable, Dict, Iterable, Iterator, List, NamedTuple, Optional, Tuple
 
 from .collector import paused
+from .dropouts import Dropout, told_dropouts
 from .library import System
 from .packed import refuse_packed
 from .readings import size_of
@@ -19,11 +21,12 @@ OnField = Callable[[int, str, Any], None]
 
 class Metadata(NamedTuple):
     """What a file has: the videoParameters, how many fields there are, and of each `isFirstField`. Each is None where
-    the file doesn't have it."""
+    the file doesn't have it. `dropouts` are those of lines 16, 17 and 18, as `ldvbi.Stream` takes them."""
     path: str
     parameters: Optional[Dict[str, Any]]
     fields: Optional[int]
     first: Optional[List[bool]]
+    dropouts: List[Dropout]
 
 
 class Settings(NamedTuple):
@@ -47,55 +50,65 @@ def is_database(begin: bytes) -> bool:
 @paused()
 def read_metadata(path: str, on_field: Optional[OnField] = None) -> Metadata:
     """The `Metadata` of a file, which is read once, since it may be a pipe. A database of another form is a ValueError,
-    and so is a compressed file; a text that isn't metadata has none of the three. `on_field` is called with each field
+    and so is a compressed file; a text that isn't metadata has none of all this. `on_field` is called with each field
     of a text as it is read."""
     with open(path, "rb") as file:
         begin = file.peek(16)
         refuse_packed(path, begin)
         # A pipe begins with less, perhaps, and is no database.
         if is_database(begin):
-            from .database import first_of_database, parameters_of_database  # the smallest Pythons have no sqlite3
-            found = _Found(parameters_of_database(path), first_of_database(path))
+            from . import database  # the smallest Pythons have no sqlite3
+            found = _Found(database.parameters_of_database(path), database.first_of_database(path),
+                           database.dropouts_of_database(path))
         else:
             found = _of_text(file, on_field)
-    parameters, first = found
+    parameters, first, dropouts = found
     count = len(first) if first else _count(parameters or {})
-    return Metadata(path, parameters, count, first if first and all(isinstance(one, bool) for one in first) else None)
+    is_known = first and all(isinstance(one, bool) for one in first)
+    return Metadata(path, parameters, count, first if is_known else None, dropouts)
 
 
 class _Found(NamedTuple):
-    """The videoParameters, and of each field its `isFirstField`, each None where it isn't there."""
+    """The videoParameters, and of each field its `isFirstField`, each None where it isn't there; and the dropouts."""
     parameters: Optional[Dict[str, Any]]
     first: List[Any]
+    dropouts: List[Dropout]
 
 
 def _of_text(file: BinaryIO, on_field: Optional[OnField]) -> _Found:
     """What a JSON text has. Of members with one name the last one counts."""
     parameters: Optional[Dict[str, Any]] = None
     first: List[Any] = []
+    dropouts: List[Dropout] = []
     with io.TextIOWrapper(file, encoding="utf-8", newline="") as text:
         scanner = Scanner(text)
         try:
             for name in scanner.members():
                 if name == "fields" and scanner.comes("["):
-                    first = _first_of_each(scanner, on_field)
+                    first, dropouts = _of_each(_told(scanner, on_field) if on_field else scanner.values())
                     continue
                 value = scanner.value()
                 if name == "videoParameters":
                     parameters = value if isinstance(value, dict) else None
                 elif name == "fields":
-                    first = []
+                    first, dropouts = [], []
             scanner.end()
         except NotJson:
-            return _Found(None, [])
-    return _Found(parameters, first)
+            return _Found(None, [], [])
+    return _Found(parameters, first, dropouts)
 
 
-def _first_of_each(scanner: Scanner, on_field: Optional[OnField]) -> List[Any]:
+def _of_each(fields: Iterable[List[Any]]) -> Tuple[List[Any], List[Dropout]]:
+    """The `isFirstField` of each of the fields, which come some at a time, and the dropouts of all."""
     first: List[Any] = []
-    for fields in _told(scanner, on_field) if on_field else scanner.values():
-        first += [field.get("isFirstField") if isinstance(field, dict) else None for field in fields]
-    return first
+    dropouts: List[Dropout] = []
+    for some in fields:
+        for field in some:
+            known = field if isinstance(field, dict) else {}
+            if "dropOuts" in known:
+                dropouts += told_dropouts(len(first), known["dropOuts"])
+            first.append(known.get("isFirstField"))
+    return first, dropouts
 
 
 def _told(scanner: Scanner, on_field: OnField) -> Iterator[List[Any]]:

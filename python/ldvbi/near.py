@@ -1,10 +1,11 @@
-"""The nearest word of lines: the one whose drawn row their samples are off by least."""
+"""The nearest word of lines: the one whose drawn row their samples are off by least; and what a pile of lines says."""
 
 import ctypes
 import struct
-from typing import Any, NamedTuple, Optional
+from typing import Any, Iterable, NamedTuple, Optional, Tuple
 
-from .library import BAD_LENGTH, later_call, setup_of
+from .dropouts import dropouts_of_lines
+from .library import BAD_LENGTH, Setup, later_call, number_of, setup_of
 from .readings import AnySystem, line_bytes
 from .samples import Samples
 
@@ -22,6 +23,7 @@ class Near(NamedTuple):
     longer: int
 
 
+MOST_LINES = 28  # of a pile
 _PACKED_NEAR = struct.Struct("=IIQQQ")  # LdvbiNear of ldvbi.h
 
 
@@ -36,10 +38,31 @@ def nearest(lines: Any, system: AnySystem, black: int, white: int) -> Near:
     setup = setup_of(system, black, white)
     out = ctypes.create_string_buffer(_PACKED_NEAR.size)
     with Samples(lines) as memory:
-        status = call(*setup, memory.address, memory.length, out)
-        if status == BAD_LENGTH:
-            raise ValueError("1 to 28 lines have %d bytes each, and these are %d"
-                             % (line_bytes(setup.system), memory.length))
-        setup.check(status)
+        _check(setup, call(*setup, memory.address, memory.length, out), memory)
     word, *rest = _PACKED_NEAR.unpack(out)
     return Near(word or None, *rest)
+
+
+def recover_pile(lines: Any, system: AnySystem, black: int, white: int, line: int,
+                 dropouts: Optional[Iterable[Tuple[int, int, int]]] = None) -> Optional[int]:
+    """The word that 1 to 28 lines say together, which all have one word, such as one line of several captures; None
+    where they say none. `line` is the number of all these lines, 16, 17 or 18. Columns of `dropouts` count for nothing:
+    of each the place of its line among these, its first column and its last, counted from 0. They are known, also where
+    there are none of them: a code has to be ahead of any other by 6 columns then, without them by 10."""
+    call = later_call("ldvbi_recover_pile")
+    setup, number = setup_of(system, black, white), number_of("line", line)
+    word = ctypes.c_uint32()
+    with Samples(lines) as memory:
+        erased = dropouts_of_lines(dropouts or (), number, memory.length // line_bytes(setup.system))
+        status = call(*setup, number, int(dropouts is not None), memory.address, memory.length,
+                      *erased.packed(0, MOST_LINES), ctypes.byref(word))
+        _check(setup, status, memory)
+    return word.value or None
+
+
+def _check(setup: Setup, status: int, memory: Samples) -> None:
+    """Raises a ValueError for a status by which a call refused these lines."""
+    if status == BAD_LENGTH:
+        raise ValueError("1 to 28 lines have %d bytes each, and these are %d" % (
+            line_bytes(setup.system), memory.length))
+    setup.check(status)

@@ -6,11 +6,14 @@ import enum
 import struct
 from typing import Any, Callable, Dict, Iterable, Iterator, List, NamedTuple, Optional, Sequence, Tuple, Union, overload
 
+from .dropouts import dropouts_of_field, refuse_dropouts
 from .library import BAD_LENGTH, Setup, System, later_call, library, number_of, setup_of, system_of
 from .samples import Samples
 
 # A system may be named; samples are anything with the buffer protocol.
 AnySystem = Union[System, str, int]
+# Of each dropout of a field the line, the first column and the last, counted from 0
+FieldDropouts = Optional[Iterable[Tuple[int, int, int]]]
 
 
 class Cause(enum.IntEnum):
@@ -83,23 +86,39 @@ def read_line(samples: Any, system: AnySystem, black: int, white: int) -> Readin
     return Reading(_CAUSES[cause], pass_, column, word)
 
 
-def read_rows(samples: Any, system: AnySystem, black: int, white: int, recover: bool = False) -> FieldReadings:
+def read_rows(samples: Any, system: AnySystem, black: int, white: int, recover: bool = False,
+              dropouts: FieldDropouts = None) -> FieldReadings:
     """The readings of a field's lines 16, 17 and 18 alone, which follow each other, as os.pread fetches them. In their
     field they are behind 15 others. With `recover` a worn line has its nearest word, of pass 3, where no other is near:
-    ldvbi_recover_rows in ldvbi.h has the rule."""
-    read = later_call("ldvbi_recover_rows") if recover else library().ldvbi_read_rows
+    ldvbi_recover_rows in ldvbi.h has the rule. Columns of `dropouts` count for no nearest word: of each its line, its
+    first column and its last, counted from 0."""
+    refuse_dropouts(recover, dropouts)
+    read = _recovering("ldvbi_recover_rows", dropouts) if recover else library().ldvbi_read_rows
     setup = setup_of(system, black, white)
     out = _read(read, samples, setup, PACKED_FIELD, "three lines have", lambda system: 3 * line_bytes(system))
     return next(unpacked(out))
 
 
-def read_field(samples: Any, system: AnySystem, black: int, white: int, recover: bool = False) -> FieldReadings:
-    """The readings of a field's lines 16, 17 and 18; with `recover` as `read_rows` has them."""
-    def recovered(*words: Any) -> int:
-        return later_call("ldvbi_recover_fields")(*words, 1)
-    read = recovered if recover else library().ldvbi_read_field
+def read_field(samples: Any, system: AnySystem, black: int, white: int, recover: bool = False,
+               dropouts: FieldDropouts = None) -> FieldReadings:
+    """The readings of a field's lines 16, 17 and 18; with `recover` and `dropouts` as `read_rows` has them."""
+    refuse_dropouts(recover, dropouts)
+    read = _recovering("ldvbi_recover_fields", dropouts, 1) if recover else library().ldvbi_read_field
     out = _read(read, samples, setup_of(system, black, white), PACKED_FIELD, "a field has", field_bytes)
     return next(unpacked(out))
+
+
+def _recovering(name: str, dropouts: FieldDropouts, *more: int) -> Callable[..., int]:
+    """The call of the library with this name, or, where a field has dropouts, its sibling that leaves these out;
+    `more` comes behind its other arguments."""
+    erased = dropouts_of_field(dropouts)
+    call = later_call(name + "_without" if erased else name)
+
+    def read(*words: Any) -> int:
+        *samples, out = words
+        status: int = call(*samples, *(erased.packed(0, 1) if erased else ()), out, *more)
+        return status
+    return read
 
 
 def _read(read: Any, samples: Any, setup: Setup, packed: struct.Struct, owner: str,

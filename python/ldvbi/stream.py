@@ -5,14 +5,18 @@ import mmap
 import operator
 import os
 import stat
-from typing import Any, Iterator, List, Optional, Tuple, Union, overload
+from typing import Any, Iterable, Iterator, List, Optional, Tuple, Union, overload
 
+from .dropouts import Dropouts, refuse_dropouts
 from .library import System, later_call, library, setup_of
 from .readings import PACKED_FIELD, AnySystem, Cut, FieldReadings, field_bytes, line_bytes, unpacked
 from .samples import Samples
 
 BLOCK = 64  # fields to a call of the library; of a mapped file the pages of so many are fetched ahead
 _GIVE_BACK = getattr(mmap, "MADV_DONTNEED", None)  # not every system has it
+
+# Of each dropout of a stream the field, the line, the first column and the last; all but the line are counted from 0
+StreamDropouts = Optional[Iterable[Tuple[int, int, int, int]]]
 
 
 class Stream:
@@ -21,14 +25,18 @@ class Stream:
     of them. Each field is read when it is asked for. `cut_bytes` is the number of bytes past the last whole field.
 
     With `recover` a worn line has its nearest word, of pass 3, where no other is near, and a word of pass 2 stays only
-    where it is the nearest one. ldvbi_recover_rows in ldvbi.h has the rule.
+    where it is the nearest one. ldvbi_recover_rows in ldvbi.h has the rule. `dropouts` are columns that count for no
+    nearest word: of each its field, counted as the stream's index, its line, its first column and its last, counted
+    from 0.
 
     A file is mapped. Only the pages with lines 16, 17 and 18 are read from it, and a loop has the system fetch those of
     the next fields ahead. Pages that were read are given back at once, so that a long file takes no more memory. If the
     file is made shorter meanwhile, this process ends by SIGBUS. `close`, or the end of a `with` block, releases the
     file or buffer. Whoever asks for a field after that gets a ValueError."""
 
-    def __init__(self, source: Any, system: AnySystem, black: int, white: int, recover: bool = False) -> None:
+    def __init__(self, source: Any, system: AnySystem, black: int, white: int, recover: bool = False,
+                 dropouts: StreamDropouts = None) -> None:
+        refuse_dropouts(recover, dropouts)
         self._setup = setup_of(system, black, white)
         self._read = later_call("ldvbi_recover_fields") if recover else library().ldvbi_read_fields
         self._setup.check(self._read(*self._setup, None, 0, None, 0))
@@ -44,6 +52,9 @@ class Stream:
                              "bytes" % len(source))
         self._samples: Optional[Samples] = Samples(source)
         self._count, self.cut_bytes = divmod(self._samples.length, self._size)
+        self.dropouts = Dropouts(dropouts, self._count)
+        if self.dropouts:
+            self._read = later_call("ldvbi_recover_fields_without")
 
     def close(self) -> None:
         if self._samples is not None:
@@ -126,7 +137,8 @@ class Stream:
     def _packed_block(self, first: int, count: int) -> Any:
         out = ctypes.create_string_buffer(PACKED_FIELD.size * count)
         address = self._open_samples().address + first * self._size
-        self._setup.check(self._read(*self._setup, address, count * self._size, out, count))
+        erased = self.dropouts.packed(first, first + count) if self.dropouts else ()
+        self._setup.check(self._read(*self._setup, address, count * self._size, *erased, out, count))
         self._give_back(first * self._size, (first + count) * self._size)
         return out
 
@@ -161,10 +173,11 @@ def _mapped(path: Union[str, os.PathLike]) -> Optional[mmap.mmap]:
         return mapped
 
 
-def fields(source: Any, system: AnySystem, black: int, white: int, recover: bool = False) -> Iterator[FieldReadings]:
+def fields(source: Any, system: AnySystem, black: int, white: int, recover: bool = False,
+           dropouts: StreamDropouts = None) -> Iterator[FieldReadings]:
     """Yields the readings of each whole field, as `Stream` has them, of a TBC file, given by its path, or of a buffer.
     Bytes past the last whole field are left out."""
-    return iter(Stream(source, system, black, white, recover))
+    return iter(Stream(source, system, black, white, recover, dropouts))
 
 
 def cut_of(stream: Stream) -> Optional[Cut]:

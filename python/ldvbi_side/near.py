@@ -1,6 +1,6 @@
 """The nearest words of a side's lines, where its samples are at hand."""
 
-from typing import NamedTuple, Optional
+from typing import NamedTuple, Optional, Set
 
 from ldvbi import Near, Stream, line_bytes, nearest
 from ldvbi.codes import LINES
@@ -19,17 +19,32 @@ class Measured(NamedTuple):
 
 def nearest_in(stream: Stream, field: int, first: int, last: int) -> Near:
     """The nearest word of a field's lines from the first to the last, such as 17 and 18, which have one word or none.
-    Fields are counted from 1."""
+    Fields are counted from 1. Each erased column is made half black and half white: it is as far from the rows of all
+    words then, and its distance is taken off again. Where the two levels are an odd number apart, the distances of some
+    rows have one sample more for each of these columns."""
     size = line_bytes(stream.system)
-    rows = stream.rows(field - 1)[(first - LINES[0]) * size:(last + 1 - LINES[0]) * size]
-    return nearest(rows, stream.system, stream.black, stream.white)
+    rows = bytearray(stream.rows(field - 1)[(first - LINES[0]) * size:(last + 1 - LINES[0]) * size])
+    half = (stream.white - stream.black) // 2
+    places = erased_in(stream, field, first, last)
+    for place in places:
+        rows[2 * place:2 * place + 2] = (stream.black + half).to_bytes(2, "little")
+    near, erased = nearest(rows, stream.system, stream.black, stream.white), half * len(places)
+    return near._replace(distance=near.distance - erased, rival=near.rival - erased, longer=near.longer - erased)
+
+
+def erased_in(stream: Stream, field: int, first: int, last: int) -> Set[int]:
+    """The columns of these lines, one behind the other, that the stream's dropouts erase."""
+    width = line_bytes(stream.system) // 2
+    return {(one.line - first) * width + column for one in stream.dropouts.of(field - 1, field)
+            if first <= one.line <= last for column in range(one.first, min(one.last + 1, width))}
 
 
 def nearest_word_in(stream: Stream, field: int, first: int, last: int) -> Optional[int]:
     """The nearest word of these lines, where each other one is farther and the signal doesn't go on beyond it."""
     near, column = nearest_in(stream, field, first, last), stream.white - stream.black
     goes_on = near.distance - near.longer > BEYOND * (last + 1 - first) * column
-    return None if goes_on or near.rival == near.distance else near.word
+    uncertain = column % 2 * len(erased_in(stream, field, first, last))
+    return None if goes_on or near.rival - near.distance <= uncertain else near.word
 
 
 def measured(stream: Stream, field: int, line: int) -> Measured:

@@ -7,8 +7,9 @@ from typing import Any, Callable, Dict, Iterable, Iterator, List, Optional, Tupl
 from ldvbi import FieldReadings, Reading, State, Stream, System, format_of, judge, read_rows
 from ldvbi.codes import code, codes_by_kind
 from ldvbi.document import read_document
+from ldvbi.metadata import Metadata, Settings
 from ldvbi.readings import PACKED_FIELD, Cut, Levels, PackedFields
-from ldvbi.stream import BLOCK, cut_of
+from ldvbi.stream import BLOCK, StreamDropouts, cut_of
 from .judge.answer import analyse
 from .judge.readings import Answer, Fields, Judge
 from .levels import tried_on
@@ -108,6 +109,16 @@ def _firsts(pairs):
     return found
 
 
+def stream_of_tbc(path: str, settings: Settings, metadata: Optional[Metadata], recover: bool) -> Stream:
+    """The stream of a TBC file. With `recover` the words of worn lines are recovered, without the dropouts of its
+    metadata; those of another count of fields aren't its own."""
+    dropouts = None
+    if recover and metadata and metadata.dropouts:
+        with Stream(path, settings.system, settings.black, settings.white) as plain:
+            dropouts = metadata.dropouts if len(plain) == metadata.fields else None
+    return Stream(path, settings.system, settings.black, settings.white, recover, dropouts)
+
+
 def side_of_stream(stream: Stream, over: Optional[Callable[[Iterable[Any], int], Iterable[Any]]] = None,
                    first: Optional[List[bool]] = None) -> Side:
     """The side that a stream holds. `over` yields the blocks that it gets, each of so many fields, and may say
@@ -149,10 +160,11 @@ def _with_causes(readings: PackedFields, stream: Stream) -> PackedFields:
 
 
 def side_of_tbc(path: str, system: System, black: int, white: int, first: Optional[List[bool]] = None,
-                recover: bool = True) -> Side:
+                recover: bool = True, dropouts: StreamDropouts = None) -> Side:
     """The side that a TBC file holds. Only lines 16, 17 and 18 are read from it. With `recover` the words of worn lines
-    are recovered, and the file stays open as long as the side is there."""
-    stream = Stream(path, system, black, white, recover)
+    are recovered, without the columns of `dropouts`, as its metadata has them, and the file stays open as long as the
+    side is there."""
+    stream = Stream(path, system, black, white, recover, dropouts)
     side = side_of_stream(stream, first=first)
     if not recover:
         stream.close()

@@ -13,8 +13,9 @@ _TYPES = {"N": ctypes.c_uint32, "S": ctypes.c_size_t, "P": ctypes.c_void_p}
 _SIZES = ("line_samples", "line_bytes", "lines", "field_bytes", "first_of")
 _CALLS = dict.fromkeys(("read_line", "read_rows", "read_field", "nearest", "recover_rows"), "NNNPSP")
 _CALLS.update(dict.fromkeys(_SIZES, "N"), first_of="PSN", read_fields="NNNPSPS", recover_fields="NNNPSPS",
-              draw_line="NNNNPS", classify="NP", format="NNNP", judge="NNNPSPSPS", judge_field="NNNPSSP",
-              judge_chapters="PSPSPS", judge_stops="PSPS", find_pace="NNPSPSP", seek="NNNNNPSNP")
+              recover_rows_without="NNNPSPSP", recover_fields_without="NNNPSPSPS", draw_line="NNNNPS", classify="NP",
+              format="NNNP", judge="NNNPSPSPS", judge_field="NNNPSSP", judge_chapters="PSPSPS", judge_stops="PSPS",
+              find_pace="NNPSPSP", seek="NNNNNPSNP", recover_pile="NNNNNPSPSP")
 _wrong = []
 
 

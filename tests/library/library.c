@@ -23,7 +23,8 @@ static void test_numbers(void)
     CHECK(LDVBI_NTSC == 1 && LDVBI_PAL == 2 && LDVBI_PICTURES == 1 && LDVBI_TIMES == 2);
     CHECK(LDVBI_VIDEO == 1 && LDVBI_FILM == 2 && LDVBI_FIND_PACE == 3);
     CHECK(LDVBI_REACH == 24 && LDVBI_PART == 97 && LDVBI_LOOKED == 400);
-    CHECK(LDVBI_BAD_LENGTH == 3 && LDVBI_BAD_COUNTED == 5 && LDVBI_BAD_PACE == 6);
+    CHECK(LDVBI_BAD_LENGTH == 3 && LDVBI_BAD_COUNTED == 5 && LDVBI_BAD_PACE == 6 && LDVBI_BAD_ERASED == 7);
+    CHECK(LDVBI_BAD_LINE == 8 && LDVBI_BAD_KNOWN == 9);
     CHECK(LDVBI_UNFINISHED == 2 && LDVBI_CHANGE == 3 && LDVBI_CAV == 1 && LDVBI_CLV == 2);
     CHECK(LDVBI_NOTHING == 0 && LDVBI_BELIEVED == 1 && LDVBI_DOUBTFUL == 2 && LDVBI_DUE == 3);
 }
@@ -47,12 +48,14 @@ static void test_layout(void)
     LdvbiNear near = {.word = FIRST, .start = SECOND, .distance = 0x100F0E0D0C0B0A09, .rival = 0x1817161514131211,
                       .longer = 0x201F1E1D1C1B1A19};
     LdvbiNumber number = {.number = THIRD, .state = FOURTH};
+    LdvbiErased erased = {.field = FIRST, .line = SECOND, .first = THIRD, .last = FOURTH};
     LdvbiSought sought = {.field = 0x0807060504030201, .number = number, .pace = FIFTH, .looked = 0x18171615};
 
     has_bytes(&reading, sizeof reading, 8);
     has_bytes(&code, sizeof code, 12);
     has_bytes(&seen, sizeof seen, 20);
     has_bytes(&near, sizeof near, 32);
+    has_bytes(&erased, sizeof erased, 16);
     has_bytes(&sought, sizeof sought, 24);
     CHECK(sizeof(LdvbiFieldReadings) == 24 && offsetof(LdvbiFieldReadings, lines[2]) == 16);
 }
@@ -72,12 +75,15 @@ static void are_texts(const char *(*text_of)(uint32_t), uint32_t last, const cha
 
 static void test_texts(void)
 {
-    are_texts(ldvbi_status_text, LDVBI_BAD_PACE, (const char *[]){
+    are_texts(ldvbi_status_text, LDVBI_BAD_KNOWN, (const char *[]){
         [LDVBI_DONE] = "done", [LDVBI_BAD_SYSTEM] = "system is neither NTSC nor PAL",
         [LDVBI_BAD_LEVELS] = "black is not below white, or one of them is above 65535",
         [LDVBI_BAD_LENGTH] = "length does not fit the system", [LDVBI_BAD_WORD] = "number is no code word",
         [LDVBI_BAD_COUNTED] = "neither pictures nor times are counted",
-        [LDVBI_BAD_PACE] = "pace is neither that of video nor of film, nor to be found"});
+        [LDVBI_BAD_PACE] = "pace is neither that of video nor of film, nor to be found",
+        [LDVBI_BAD_ERASED] = "list of erased columns is not sorted, or has columns of no line",
+        [LDVBI_BAD_LINE] = "line is none of 16, 17 and 18",
+        [LDVBI_BAD_KNOWN] = "whether dropouts are known is neither 0 nor 1"});
     are_texts(ldvbi_cause_text, LDVBI_HOLD, (const char *[]){
         [LDVBI_WORD] = "word", [LDVBI_BLANK] = "blank", [LDVBI_UNFINISHED] = "unfinished", [LDVBI_CHANGE] = "change",
         [LDVBI_HOLD] = "hold"});

@@ -1,6 +1,6 @@
-"""Hands lines that are drawn here to the library, and compares what is drawn, read, nearest and recovered with them:
-4,000 words a system, lines of other sample rates, 8-bit samples among them, with changes of level a sample early or
-late, and with columns turned over. Lines end where no page follows.
+"""Hands lines that are drawn here to the library, and compares what is drawn, read and nearest with them: 4,000 words a
+system, and lines of other sample rates, 8-bit samples among them, with changes of level a sample early or late. Lines
+end where no page follows.
 
 usage: lines.py"""
 
@@ -160,7 +160,7 @@ def test_near(tv, starts, cell, shorter, longer, fewest, most):
     # black lines, of which the row of no word is nearest; and white ones, whose sums are greatest. Several words have
     # the most high columns.
     one, blank = drawn(tv, 0x82CFFF), drawn(tv, 0)
-    first, last = one[:], one[:]
+    first, last, farther = one[:], one[:], one[:]
     first[0] += 612
     first[-1] -= 88
     last[7] += 1
@@ -171,60 +171,13 @@ def test_near(tv, starts, cell, shorter, longer, fewest, most):
         wanted = 0x82CFFF, tv.start // tv.over, off, count * cell * column + off, count * shorter * column + off
         expect(near(tv, lines) == wanted, tv.system, count, "lines")
         expect(near(tv, blank * count) == (0, 0, 0, count * fewest * column, 0), tv.system, count, "black lines")
+    # A sample that is farther from black than white is counts as much as one of white.
+    farther[3], farther[-2] = 65535, tv.white + 1
+    wanted = 0x82CFFF, tv.start // tv.over, 2 * column, (cell + 2) * column, (shorter + 2) * column
+    expect(near(tv, farther) == wanted, tv.system, "farther than white", near(tv, farther))
     found = near(tv._replace(black=0, white=65535), array("H", [65535]) * tv.samples * MOST_LINES)
     off = MOST_LINES * (tv.samples - most) * 65535
     expect(found[0] >= 0x800000 and found[2:] == (off, off, off - MOST_LINES * longer * 65535), tv.system, found)
-
-
-# ---- Worn lines, alone and in a stream: columns of one cell are turned over, so that no levels show a word
-
-# Words, how many of the 28 columns of a cell of NTSC (29 of some) are turned over on lines 16, 17 and 18, and the
-# passes in which they are recovered, 0 where they aren't. Of the 35 or 36 columns of PAL it is three more. So 9 leave a
-# word ahead of the one with this bit turned by 10 or 11 columns, 8 by 12 or 13, and so on to 12 by 4 or 5.
-WORN = (
-    ((0x8DC0A1, 0xF12345, 0xF12345), (0, 0, 0), (1, 1, 1)),
-    # one line: a code that may stand on it, or not
-    ((0x8DC0A1, 0, 0), (11, 0, 0), (3, 0, 0)), ((0x8DC0A1, 0, 0), (12, 0, 0), (0, 0, 0)),
-    ((0xF12345, 0, 0), (10, 0, 0), (3, 0, 0)), ((0xF12345, 0, 0), (11, 0, 0), (0, 0, 0)),
-    ((0x8DC0A1, 0xF12345, 0), (0, 11, 0), (1, 3, 0)), ((0, 0xF12345, 0xF54321), (0, 0, 11), (0, 1, 3)),
-    # lines 17 and 18 of one word, where neither alone is enough
-    ((0, 0xF12345, 0xF12345), (0, 13, 13), (0, 3, 3)), ((0x8DC0A1, 0xF1234A, 0xF1234A), (12, 12, 12), (0, 3, 3)),
-    # of two words
-    ((0, 0xF12345, 0xF54321), (0, 9, 10), (0, 3, 0)), ((0, 0xF54321, 0xF1234A), (0, 10, 8), (0, 0, 3)),
-    ((0, 0xF1234A, 0xF54321), (0, 9, 9), (0, 0, 3)))
-
-
-def worn_rows(tv, words, turned):
-    """Lines 16, 17 and 18, of which the last begins a column late. Half of the columns that are turned over lie in the
-    middle of either half cell."""
-    rows = array("H")
-    for row, (word, columns) in enumerate(zip(words, turned)):
-        begun = tv._replace(start=tv.start + (row == 2) * tv.over)
-        line, edges = drawn(begun, word), edges_of(begun)
-        for place in range(columns and columns + (3 if tv is PAL else 0)):
-            column = edges[2 * (5 + 4 * row) + place % 2] + 4 + place // 2
-            line[column] = tv.black + tv.white - line[column]
-        rows += line
-    return rows
-
-
-def are_recovered(tv, worn, packed):
-    for (words, turned, passes), row in zip(worn, range(0, len(packed), 24)):
-        for word, of_pass, (cause, *found) in zip(words, passes, READING.iter_unpack(packed[row:row + 24])):
-            is_right = found == ([of_pass, 0, word] if of_pass else [0, found[1], 0])
-            is_right = is_right and (cause == 0, cause == BLANK) == (of_pass > 0, word == 0)
-            expect(is_right, tv.system, words, turned, "is read as", cause, *found)
-
-
-def test_worn(tv):
-    """Each row alone, and each three that follow each other as the fields of a stream."""
-    for row in WORN:
-        are_recovered(tv, [row], answered_of("recover_rows", tv, worn_rows(tv, *row[:2]), 24))
-    before, behind = (array("H", b"\xAA" * 2 * tv.samples * lines) for lines in (15, tv.lines - 18))
-    for first in range(0, len(WORN), FIELDS):
-        fields = WORN[first:first + FIELDS]
-        stream = sum((before + worn_rows(tv, *row[:2]) + behind for row in fields), array("H"))
-        are_recovered(tv, fields, answered_of("recover_fields", tv, stream, 24 * FIELDS, FIELDS))
 
 
 def main():
@@ -235,7 +188,6 @@ def main():
         test_near(*row)
     for tv in TELEVISIONS:
         test_words(tv)
-        test_worn(tv)
     finish()
 
 

@@ -8,7 +8,7 @@ import struct
 
 from border import Guarded, call, expect, finish
 
-DONE, BAD_SYSTEM, BAD_LEVELS, BAD_LENGTH, BAD_WORD, BAD_COUNTED, BAD_PACE = range(7)
+DONE, BAD_SYSTEM, BAD_LEVELS, BAD_LENGTH, BAD_WORD, BAD_COUNTED, BAD_PACE, BAD_ERASED = range(8)
 NTSC, PAL, PICTURES, TIMES, FILM, FIND_PACE, PART = 1, 2, 1, 2, 2, 3, 97
 LINE_BYTES, LINES = {NTSC: 1820, PAL: 2270}, {NTSC: 263, PAL: 313}
 MOST, MOST_BYTES = 2 ** 32 - 1, 2 ** 64 - 1
@@ -17,8 +17,8 @@ BAD_PAIRS = ((2, 2), (65535, 0), (65535, 65535), (65536, 65537), (65536, 51200),
              (256, 1 << 31), (1 << 31, MOST), (0, MOST), (MOST, MOST))
 PAIRS = ((0, 1), (0, 65535), (65534, 65535), (0, 256), (256, 257))
 SIGHTINGS, READINGS, NEAR = 20, 24, 32  # bytes
-ROOM = 2270 * 313 + 8
-OPEN, CLOSED, ANSWER, SEEN, NUMBERS = map(Guarded, (ROOM, ROOM, NEAR, 4 * SIGHTINGS, 4 * 8))
+ROOM = 2 * 2270 * 313 + 8
+OPEN, CLOSED, ANSWER, SEEN, NUMBERS, LIST = map(Guarded, (ROOM, ROOM, NEAR, 4 * SIGHTINGS, 4 * 8, 4096))
 
 
 def at(memory, size):
@@ -31,14 +31,20 @@ def at(memory, size):
 # How many lines a call takes (None: a field), and what stands behind its answer: a count of fields, or a word to draw,
 # which is none here, as that is refused last of all
 CALLS = {"read_line": (1, ()), "read_rows": (3, ()), "read_field": (None, ()), "read_fields": (None, (1, )),
-         "nearest": (1, ()), "recover_rows": (3, ()), "recover_fields": (None, (1, )), "draw_line": (1, (1, ))}
+         "nearest": (1, ()), "recover_rows": (3, ()), "recover_fields": (None, (1, )), "draw_line": (1, (1, )),
+         "recover_rows_without": (3, ()), "recover_fields_without": (None, (1, ))}
 
 
-def has_status(name, asked, length, status, more=()):
-    """The call has this status, and has written nothing but where that is DONE."""
+def has_status(name, asked, length, status, more=(), erased=(None, 0)):
+    """The call has this status, and has written nothing but where that is DONE. Without a list, one that could be
+    touched nowhere isn't looked at."""
     samples = at(OPEN if status == DONE else CLOSED, length)
     answer = ANSWER.put(b"\x55" * NEAR)
-    words = (*more, samples, length) if name == "draw_line" else (samples, length, answer, *more)
+    if name.endswith("_without"):
+        answer_and_more = (*(erased if status in (DONE, BAD_ERASED) else (CLOSED.end - 160, 10)), answer, *more)
+    else:
+        answer_and_more = (answer, *more)
+    words = (*more, samples, length) if name == "draw_line" else (samples, length, *answer_and_more)
     found = call(name)(*asked, *words)
     expect(found == status and (status == DONE or ANSWER.get(NEAR) == b"\x55" * NEAR), name, asked, length, more, found)
 
@@ -62,17 +68,52 @@ def test_lengths(system):
     """Lengths that are other ones than so many lines, or so many fields; numbers that are no words."""
     asked, line = (system, 1, 2), LINE_BYTES[system]
     field = line * LINES[system]
-    for name in ("read_fields", "recover_fields"):
+    for name in ("read_fields", "recover_fields", "recover_fields_without"):
         for length, count in ((field, 0), (field, 2), (field, MOST_BYTES), (0, 1), (0, MOST_BYTES // field + 1),
                               (field - 1, 0)):
             has_status(name, asked, length, BAD_LENGTH, (count, ))
-        expect(call(name)(*asked, None, 0, None, 0) == DONE, name, "of no field")
+        expect(call(name)(*asked, *(None, 0) * (3 if name.endswith("_without") else 2)) == DONE, name, "of no field")
     for length in (28 * line + 1, 29 * line, MOST_BYTES):
         has_status("nearest", asked, length, BAD_LENGTH)
-    for name in ("read_rows", "recover_rows"):
+    for name in ("read_rows", "recover_rows", "recover_rows_without"):
         has_status(name, asked, line, BAD_LENGTH)
     for word in (256, 65536, 0x7FFFFF, 0x1000000, 0x1800000, 0x80800000, MOST):
         has_status("draw_line", asked, line, BAD_WORD, (word, ))
+
+
+# ---- Lists of erased columns
+
+# Entries, each with its field, line, first and last column, by how many fields the call takes
+TAKEN = {
+    0: ((), ),
+    1: ((), ("0 16 0 0", ), ("0 16 4 4", "0 16 4 3000", "0 16 4 5"), ("0 16 9 9", "0 17 0 0", "0 18 0 0"),
+        ("0 18 909 910", "0 18 5000 4294967295", "0 18 4294967295 4294967295"), ("0 17 0 9", "0 17 1 1", "0 17 2 3")),
+    2: (("0 16 0 0", "1 16 0 0"), ("0 18 9 9", "1 16 0 0", "1 17 0 0"), ("1 18 0 4294967295", ), ("0 17 3 4", ))}
+REFUSED = {
+    0: (("0 16 0 0", ), ),
+    1: (*((line, ) for line in ("0 15 3 4", "0 19 3 4", "0 0 3 4", "0 17 4 3", "0 17 1 0", "0 17 4294967295 0")),
+        *(("0 %d 3 4" % (16 + high), ) for high in (256, 65536, 1 << 31)), ("0 4294967295 3 4", ),
+        *(("%d 16 3 4" % field, ) for field in (1, 256, 65536, MOST)), ("0 16 3 4", "1 16 3 4"),
+        ("0 16 5 9", "0 16 4 9"), ("0 17 0 0", "0 16 0 0"), ("0 18 0 0", "0 17 9 9"), ("0 16 65536 65536", "0 16 1 1"),
+        ("0 16 0 0", "0 17 0 0", "0 18 4 4", "0 18 3 4"), ("0 16 5 5", "0 16 6 5", "0 16 7 7")),
+    2: (("2 16 0 0", ), ("1 16 0 0", "0 17 5 5"), ("1 16 0 0", "0 16 0 0"), ("0 16 0 0", "1 18 0 0", "1 17 0 0"),
+        ("0 16 0 0", "2 16 0 0"), ("258 16 0 0", ))}
+
+
+def test_lists(system):
+    """Lists that are taken, and lists that are refused when all else is right."""
+    asked, size = (system, 1, 2), LINE_BYTES[system] * LINES[system]
+    for status, lists in ((DONE, TAKEN), (BAD_ERASED, REFUSED)):
+        for count, entries in ((count, one) for count, several in lists.items() for one in several):
+            packed = b"".join(struct.pack("<4I", *map(int, entry.split())) for entry in entries)
+            erased = (LIST.put(packed) if entries else None), len(entries)
+            samples = at(OPEN if status == DONE else CLOSED, count * size)
+            answer = ANSWER.put(b"\x55" * count * READINGS)
+            found = call("recover_fields_without")(*asked, samples, count * size, *erased, answer, count)
+            is_kept = ANSWER.get(count * READINGS) == b"\x55" * count * READINGS
+            expect(found == status and is_kept == (status != DONE or not count), system, count, entries, found)
+            if count == 1:
+                has_status("recover_rows_without", asked, 3 * LINE_BYTES[system], status, (), erased)
 
 
 # ---- Codes and formats. What each word says, tests/python/test_classes.py compares.
@@ -161,6 +202,7 @@ def main():
         test_call(name, lines, more)
     for system in LINES:
         test_lengths(system)
+        test_lists(system)
     for status, rows in JUDGED.items():
         for asked, lengths in map(str.split, rows.split(", ")):
             test_judged(tuple(map(int, asked)), map(int, lengths), status)

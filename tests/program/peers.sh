@@ -98,6 +98,10 @@ built_reader() {
 }
 built_reader edges
 check 'the reader by edges' [ "$(./edges 16384 51200 < lines | paste -s -d ' ')" = 'F12345 none 800001' ]
+output_of draw $pal words > drawn_pal.tbc
+tail -c +34051 drawn_pal.tbc | head -c 6810 > pal_lines
+check 'the reader by edges, of PAL' \
+    [ "$(./edges 16384 54016 PAL < pal_lines | paste -s -d ' ')" = 'F12345 none 800001' ]
 if [ -e "$built/libldvbi.so" ]; then
     built_reader recovered "-I$top/include" "-L$built" -lldvbi "-Wl,-rpath,$built"
     check 'the reader of recovered words, line by line' \

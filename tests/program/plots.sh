@@ -25,13 +25,13 @@ if [ -e "$built/libldvbi.so.1" ]; then
 import ldvbi
 near = ldvbi.nearest(open("worn.raw", "rb").read(), "NTSC", 16384, 51200)
 print("%06X@%d %.1f %.1f" % (near.word, near.start, near.distance / 34816, near.rival / 34816))' > near 2> err
-    check 'the nearest word of the worn line' [ "$(cat near)" = '82CFFF@150 280.8 289.7' ]
+    check 'the nearest word of the worn line' [ "$(cat near)" = '82CFFF@150 280.6 288.0' ]
 else
     leave_out 1
 fi
-check 'the picture has its row' grep -q '>no word: .*; the row of 82CFFF from column 150 on is 280.8 columns away<' \
+check 'the picture has its row' grep -q '>no word: .*; the row of 82CFFF from column 150 on is 280.6 columns away<' \
     "$pictures/nearest.svg"
-check "FORMATS.md has its distance, and its rival's" grep -q '280\.8 columns.* 289\.7 ' "$top/docs/FORMATS.md"
+check "FORMATS.md has its distance, and its rival's" grep -q '280\.6 columns.* 288\.0 ' "$top/docs/FORMATS.md"
 
 # What a picture of a line has, on a line each: its title, digits and bits, the columns at which cells begin and end;
 # how many columns are marked, and which; and what reaches out of the frame. It is read as XML.

@@ -47,7 +47,8 @@ def random_line(choose, system, black, white):
 
 
 def worn_line(choose, system, black, white):
-    """The bytes of a line whose word begins up to three columns off, with moved edges, noise and a dropout."""
+    """The bytes of a line whose word begins up to three columns off, with moved edges, noise and a dropout. It may
+    swing more or less than from black to white, about another level."""
     _, width, _ = SYSTEMS[system]
     first, half = (147, 315 / 22) if system == "NTSC" else (187, 709379 / 40000)
     start, moved = first + choose.randrange(7), choose.choice([0, 1, 3, 5])
@@ -61,6 +62,10 @@ def worn_line(choose, system, black, white):
         hole, length = choose.randrange(width), choose.choice([5, 20, 60])
         level = choose.choice([black, white, (black + white) // 2])
         line[hole:hole + length] = [level] * len(line[hole:hole + length])
+    if choose.random() < 0.4:
+        swing, above = choose.choice([1, 2, 5, 8, 13, 15, 17]), choose.choice([-3, 0, 2, 4])
+        line = [(black + white) // 2 + (sample - (black + white) // 2) * swing // 10 + above * (white - black) // 10
+                for sample in line]
     spread = choose.choice([0, 1, 3, 6]) * (white - black) // 4
     noise = struct.unpack(f"<{width}H", choose.getrandbits(16 * width).to_bytes(2 * width, "little"))
     worn = [min(max(sample + (spread * (one - 32768) >> 15), 0), 65535) for sample, one in zip(line, noise)]

@@ -241,6 +241,15 @@ def compare_seek(call, choose, draw):
                number(begin + choose.randrange(8)), ..., room=24)
 
 
+def random_erased(choose, fields):
+    """A list of erased columns, which is sorted but rarely, and how many they are."""
+    columns = (sorted(choose.randrange(1200) for _ in range(2)) for _ in range(choose.randrange(6)))
+    entries = sorted((choose.randrange(fields), choose.randrange(16, 19), *both) for both in columns)
+    if choose.random() < 0.1:
+        choose.shuffle(entries)
+    return b"".join(struct.pack("<4I", *entry) for entry in entries), size(len(entries))
+
+
 def compare_lines(call, choose, draw):
     """Lines of any kind, read alone, as rows and as fields, and drawn; their nearest words, and the recovered ones."""
     system = choose.choice(list(SYSTEMS))
@@ -260,12 +269,20 @@ def compare_lines(call, choose, draw):
         yield call("ldvbi_nearest", *first, worn, size(len(worn) - off), ..., room=32)
         rows = worn_rows(choose, system, black, white, 3)
         yield call("ldvbi_recover_rows", *first, rows, size(len(rows) - off), ..., room=24)
+        yield call("ldvbi_recover_rows_without", *first, rows, size(len(rows) - off), *random_erased(choose, 1), ...,
+                   room=24)
+        asked = number(rarely(choose, (15, 19, 272), 17)), number(choose.choice([0, 1, 1, 2]))
+        entries = b"".join(struct.pack("<4I", place, 17, 300, 300 + choose.randrange(200)) for place in range(2))
+        yield call("ldvbi_recover_pile", *first, *asked, worn, size(len(worn) - off), entries,
+                   size(choose.choice([0, 1, 2])), ..., room=4)
     if choose.random() < 0.05:
         field = bytes(2 * width * 15) + rows + bytes(2 * width * (height - 18))
         yield call("ldvbi_read_field", *first, field, size(len(field)), ..., room=24)
         for name in ("ldvbi_read_fields", "ldvbi_recover_fields"):
             count = size(choose.choice([1, 2, 2, 2, 3, 2 ** 40]))
             yield call(name, *first, field * 2, size(2 * len(field)), ..., count, room=72)
+        yield call("ldvbi_recover_fields_without", *first, field * 2, size(2 * len(field)), *random_erased(choose, 2),
+                   ..., size(2), room=72)
         yield from compare_seek(call, choose, draw)
 
 

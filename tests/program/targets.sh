@@ -10,11 +10,12 @@
 . "$(dirname "$0")/../helpers.sh"
 
 # A tree in which each script says its name and its words, and nothing has to be built
-mkdir -p tree/tests tree/bench tree/peers tree/rust tree/.ci tree/crates bin
+mkdir -p tree/tests tree/bench/channel tree/peers tree/rust tree/.ci tree/crates bin
 cp "$top/Makefile" tree
 cp "$top/.ci/run" tree/.ci
 : > tree/crates.txt
-for script_path in tests/tools.sh tests/gate.sh tests/scripts.sh bench/all.sh peers/compare.sh rust/build.sh; do
+for script_path in tests/tools.sh tests/gate.sh tests/scripts.sh bench/all.sh bench/channel/tables.sh \
+    peers/compare.sh rust/build.sh; do
     stub tree/$script_path "echo $script_path \"\$@\"; [ \"\${FAULT:-}\" != $script_path ]"
 done
 touch tree/libldvbi.a tree/libldvbi.so.1 tree/ldvbi
@@ -49,6 +50,8 @@ rust-compare TARGET=x-windows-y|tests/scripts.sh rust/x-windows-y/ldvbi.exe rust
 bench|rust/build.sh,bench/all.sh ./ldvbi
 peers|peers/compare.sh ./ldvbi 200 docs/measured/peers.txt
 peers PROGRAM=/a/ldvbi|peers/compare.sh /a/ldvbi 200 docs/measured/peers.txt
+channel|bench/channel/tables.sh ./libldvbi.so.1 docs/measured/channel
+channel PROGRAM=/a/ldvbi|bench/channel/tables.sh libldvbi.so.1 docs/measured/channel
 END
 stub tree/tests/scripts.sh 'echo "$COMPARE_RUNS, $COMPARE_SEED, <$COMPARE_RUNNER>"'
 ran tree make -s rust-compare N=3 SEED=7 RUNNER='qemu -L /usr'

@@ -134,5 +134,5 @@ END
 
 # What captures have together
 says valid join 4 together
-places join together "$here/join_schema.txt" '68 places, 1219 documents'
+places join together "$here/join_schema.txt" '68 places, 1220 documents'
 finish

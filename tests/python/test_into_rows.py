@@ -138,7 +138,7 @@ class FirstFields(Databases):
         for change, wanted in (("disk_loc = 0", [False, True] * 2), ("field_id = 9 - field_id", [True, False] * 2),
                                ("is_first_field = NULL WHERE field_id = 2", None)):
             self.make("UPDATE field_record SET " + change, count=4)
-            self.assertEqual(read_metadata(self.path)[2:], (4, wanted))
+            self.assertEqual(read_metadata(self.path)[2:4], (4, wanted))
 
     def test_which_table_has_them(self):
         """One alone, whatever its name is; else the count is that of the table capture."""
@@ -146,9 +146,9 @@ class FirstFields(Databases):
         for name in ("field_record", "fields", '"my ""own"" fields"'):
             self.make("INSERT INTO %s VALUES (4, 0, 0, 0, 0), (4, 1, 0, 1, 0)" % name, count, count=0,
                       form=FORM.replace("field_record", name))
-            self.assertEqual((read_metadata(self.path)[2:], len(Rows(self.path))), ((2, [False, True]), 2))
+            self.assertEqual((read_metadata(self.path)[2:4], len(Rows(self.path))), ((2, [False, True]), 2))
             in_database(self.path, "CREATE TABLE b AS SELECT * FROM " + name)
-            self.assertEqual((read_metadata(self.path)[2:], len(Rows(self.path))), ((640, None), 0))
+            self.assertEqual((read_metadata(self.path)[2:4], len(Rows(self.path))), ((640, None), 0))
         self.make(count, "INSERT INTO field_record VALUES (4, 0, 0, 0, 0)", count=0,
                   form=FORM.replace("is_first_field", "first"))
-        self.assertEqual(read_metadata(self.path)[2:], (640, None))
+        self.assertEqual(read_metadata(self.path)[2:4], (640, None))

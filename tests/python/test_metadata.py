@@ -115,7 +115,7 @@ class Json(Metadata):
         rows += [(text, (None, None)) for text in ("{}", "[]", '{"fields":5}', "x", "[" * 100000,
                                                    '{"videoParameters":5}')]
         for text, wanted in rows:
-            self.assertEqual(read_metadata(self.write("meta.json", text))[2:], wanted, text[:80])
+            self.assertEqual(read_metadata(self.write("meta.json", text))[2:4], wanted, text[:80])
 
     def test_what_lies_beside_a_file(self):
         self.assertIsNone(beside(self.path))
@@ -148,7 +148,7 @@ class Database(Metadata):
                  "number_of_sequential_fields) VALUES ('PAL', 1, 2, ?, ?, ?)"
         for row, fields in (((1135, 313, 640), 640), ((None, None, None), None)):
             path = self.make(more, (insert, row))
-            self.assertEqual([settings_of(path), read_metadata(path)[2:]], [("PAL", 1, 2, ()), (fields, None)])
+            self.assertEqual([settings_of(path), read_metadata(path)[2:4]], [("PAL", 1, 2, ()), (fields, None)])
         self.refused("fieldHeight is not 313", self.make(more, (insert, (1135, 263, 640))))
         self.assertIsNone(read_metadata(self.make(CAPTURE, (INSERT, ("PAL", 1, 2)))).fields)
 

@@ -146,9 +146,9 @@ class Library(InFolder):
         state = TRY % 'tuple(ldvbi.judge(bytes(24), "NTSC")[0])'
         for code, made, said in (
                 (cause, (1, 0, 5), "[5, 5]"), (cause, (1, 0, 255), "[255, 255]"),
-                (cause, (1, 9, 0), "the library's status is 9"), (state, (1, 0, 0, JUDGE % (4, 0)), "(5, 4)"),
+                (cause, (1, 99, 0), "the library's status is 99"), (state, (1, 0, 0, JUDGE % (4, 0)), "(5, 4)"),
                 (state, (1, 0, 0, JUDGE % (2 ** 31 - 1, 0)), "(5, 2147483647)"),
-                (state, (1, 0, 0, JUDGE % (0, 9)), "the library's status is 9")):
+                (state, (1, 0, 0, JUDGE % (0, 99)), "the library's status is 99")):
             self.assertEqual(run(code, LDVBI_LIBRARY=self.other(*made)), said + "\n")
 
     def test_an_older_library(self):
@@ -160,7 +160,10 @@ class Library(InFolder):
                                     ("judge_chapters([])", "judge chapters", "judge_chapters"),
                                     ("judge_stops([])", "judge stops", "judge_stops"),
                                     ("nearest(b'', 'NTSC', 1, 2)", "find nearest words", "nearest"),
-                                    ("Stream(b'', 'NTSC', 1, 2, True)", "recover words", "recover_fields")):
+                                    ("recover_pile(b'', 'NTSC', 1, 2, 17)", "recover words of piles", "recover_pile"),
+                                    ("Stream(b'', 'NTSC', 1, 2, True)", "recover words", "recover_fields"),
+                                    ("read_rows(b'', 'NTSC', 1, 2, True, [(17, 1, 2)])", "leave out columns",
+                                     "recover_rows_without")):
             self.assertEqual(run(READ + TRY % ("ldvbi." + call), LDVBI_LIBRARY=file),
                              "blank\n%s is too old to %s, it has no ldvbi_%s: %s a later one, %s" % (
                                  file, purpose, name, MAKE, NAMES))

@@ -31,10 +31,38 @@ class Nearest(unittest.TestCase):
             self.assertEqual(ldvbi.nearest(2 * line_with(0, setup), *setup), (None, 0, 0, 2 * fewest * column, 0))
 
 
+# Of piles the word, the number of its lines, the columns of cell 9 (of 29) that are turned over in each, whether
+# dropouts are known, and whether the word is said. With 12 another one is farther by 5, with 13 by 3, with 14 by 1.
+PILES = ((0xF00005, 17, (12, 14), True, True), (0xF00005, 18, (12, 14), True, True),
+         (0xF00005, 17, (12, 14), False, False), (0xF00005, 17, (12, ), True, False),
+         (0xF00005, 17, (12, 13), False, False), (0xF00005, 17, (12, 12), False, True),
+         # a word that is no code, or that of another line
+         (0xA12345, 17, (12, 13), True, False), (0xA12345, 17, (12, 12), True, True),
+         (0xF00005, 16, (12, 13), True, False), (0xF00005, 16, (12, 12), True, True),
+         (0xF00005, 17, (13, ) * 28, False, True))
+
+
+class Piles(unittest.TestCase):
+    def test_margins(self):
+        for word, line, turned, is_known, is_said in PILES:
+            lines = b"".join(worn_line(word, NTSC, 9, columns) for columns in turned)
+            found = ldvbi.recover_pile(lines, *NTSC, line, () if is_known else None)
+            self.assertEqual(found, word if is_said else None, (hex(word), line, turned))
+
+    def test_dropouts(self):
+        """Two lines differ in cell 9: without the columns of the one the other says what it is."""
+        for setup, cell in ((NTSC, (407, 436)), (PAL, (509, 545))):
+            lines = line_with(0xF04005, setup) + line_with(0xF00005, setup)
+            for dropouts, word in (((), None), ([(0, *cell)], 0xF00005), ([(1, *cell)], 0xF04005),
+                                   ([(1, 0, 9), (0, *cell), (1, 2000, 2 ** 40)], 0xF00005)):
+                self.assertEqual(ldvbi.recover_pile(lines, *setup, 17, dropouts), word, (setup, dropouts))
+        self.assertIsNone(ldvbi.recover_pile(2 * line_with(0, NTSC), *NTSC, 17))
+
+
 # Fields, of whose worn lines each has its word, the cell in which columns are turned over, and how many: of PAL 3 more.
-# With 11 a word is ahead by 6 or 7, as a code of its line has to be. With 13 it is ahead by 2 or 3, but lines 17 and 18
-# together by 30 and more: each has the other's worn cell.
-FIELDS = ([(0x8DC0A1, 5, 11), 0xF12345, 0], [0, (0xF12345, 9, 13), (0xF12345, 13, 13)], [0, 0, (0xF54321, 13, 11)])
+# With 11 a word is ahead by 6 or 7, as a code of its line has to be of another, which that with this bit turned is.
+# With 13 it is ahead by 2 or 3, but lines 17 and 18 together by 30 and more: each has the other's worn cell.
+FIELDS = ([(0x85D0A1, 5, 11), 0xF12345, 0], [0, (0xF12345, 9, 13), (0xF12345, 13, 13)], [0, 0, (0xF54321, 13, 11)])
 
 
 class Recovered(InFolder):

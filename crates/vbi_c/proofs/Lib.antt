@@ -1,4 +1,7 @@
 mod Drawn
+pub mod Erasing
 mod Judged
+pub mod Marks
+pub mod MarkedLines
 pub mod Sought
 pub mod PartOfReadings

@@ -1,5 +1,6 @@
 pub mod Codes
 pub mod Drawing
+pub mod Erased
 pub mod Fields
 pub mod Judging
 pub mod Nearest
@@ -8,6 +9,7 @@ pub mod Setups
 pub mod Statuses
 pub mod Words
 pub mod Recovering
+pub mod Piling
 pub mod Seeking
 pub mod Chapters
 pub mod Stops

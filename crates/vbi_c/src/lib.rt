@@ -12,6 +12,7 @@
 mod chapters;
 mod code;
 mod drawing;
+mod erased;
 mod fields;
 mod format;
 mod judging;
@@ -19,6 +20,7 @@ mod line;
 mod nearest;
 mod one_field;
 mod pace;
+mod piling;
 mod probing;
 mod reading;
 mod recovering;
@@ -33,6 +35,7 @@ mod word;
 pub use chapters::ldvbi_judge_chapters;
 pub use code::{LdvbiCode, ldvbi_classify};
 pub use drawing::ldvbi_draw_line;
+pub use erased::LdvbiErased;
 pub use fields::{LdvbiFieldReadings, ldvbi_read_field, ldvbi_read_fields, ldvbi_read_rows};
 pub use format::ldvbi_format;
 pub use judging::{ldvbi_first_of, ldvbi_judge};
@@ -40,8 +43,12 @@ pub use line::ldvbi_read_line;
 pub use nearest::{LdvbiNear, ldvbi_nearest};
 pub use one_field::ldvbi_judge_field;
 pub use pace::ldvbi_find_pace;
+pub use piling::ldvbi_recover_pile;
 pub use reading::LdvbiReading;
-pub use recovering::{ldvbi_recover_fields, ldvbi_recover_rows};
+pub use recovering::{
+    ldvbi_recover_fields, ldvbi_recover_fields_without, ldvbi_recover_rows,
+    ldvbi_recover_rows_without,
+};
 pub use seeking::{LdvbiSought, ldvbi_seek};
 pub use sizes::{ldvbi_field_bytes, ldvbi_line_bytes, ldvbi_line_samples, ldvbi_lines};
 pub use stops::ldvbi_judge_stops;

@@ -1,18 +1,23 @@
 //! Reading fields with the nearest words of worn lines.
 
-ghost use Rattle.std.specs.Prelude.{◌≡◌, ◌≢◌, ◌*◌, ◌<◌, length, IfOk};
-ghost use Rattle.vbi_words.specs.Geometry.{line_bytes, field_bytes};
+ghost use Rattle.std.specs.Prelude.{◌≡◌, ◌≢◌, ◌*◌, ◌<◌, length, IfOk, IsTrue};
+ghost use Rattle.vbi_words.specs.Geometry.{line_bytes, field_bytes, width_of};
+ghost use Rattle.vbi_c.specs.Erased.{is_taken, with_erased, erased_of, none_erased};
 ghost use Rattle.vbi_c.specs.Fields.{field_in};
 ghost use Rattle.vbi_c.specs.Recovering.{recovered_for_c, AreRecovered, code_bytes, AreAllRecovered};
 ghost use Rattle.vbi_c.specs.Setups.{rows_setup, fields_setup};
 ghost use Rattle.vbi_c.specs.Statuses.{status_of};
 
+use crate::erased::{LdvbiErased, mark_field, with_erased};
 use crate::fields::{FIRST_ROW, LdvbiFieldReadings};
 use crate::reading::{LdvbiReading, outcome_for_c};
 use crate::setup::{Setup, fields_setup, rows_setup};
 use crate::status::DONE;
 use vbi_near::{Recovered, recover_rows};
 use vbi_words::System;
+
+/// The samples of the longest line, that of PAL.
+const WIDEST: usize = 1135;
 
 /// What a line shows, as C sees it.
 fn recovered_for_c(line: Recovered) -> LdvbiReading
@@ -21,12 +26,13 @@ fn recovered_for_c(line: Recovered) -> LdvbiReading
     outcome_for_c(line.outcome, line.pass)
 }
 
-/// What lines 16, 17 and 18 show, by the bytes of their rows.
-fn recover_three(setup: &Setup, rows: &[u8]) -> LdvbiFieldReadings
-    requires { length rows.now ≡ 3 * line_bytes setup.now.system }
-    ensures { AreRecovered setup.now rows.now result }
+/// What lines 16, 17 and 18 show, by the bytes of their rows and the marks of their erased columns.
+fn recover_three(setup: &Setup, rows: &[u8], marks: &[bool]) -> LdvbiFieldReadings
+    requires rows { length rows.now ≡ 3 * line_bytes setup.now.system }
+    requires marks { length marks.now ≡ 3 * width_of setup.now.system }
+    ensures { AreRecovered setup.now rows.now marks.now result }
 {
-    let [first, second, third] = recover_rows(setup.system, setup.levels, rows);
+    let [first, second, third] = recover_rows(setup.system, setup.levels, rows, marks);
     LdvbiFieldReadings {
         lines: [
             recovered_for_c(first),
@@ -34,6 +40,18 @@ fn recover_three(setup: &Setup, rows: &[u8]) -> LdvbiFieldReadings
             recovered_for_c(third),
         ],
     }
+}
+
+/// The same, by a list of erased columns of one field.
+fn recover_listed(setup: &Setup, rows: &[u8], erased: &[LdvbiErased]) -> LdvbiFieldReadings
+    requires rows { length rows.now ≡ 3 * line_bytes setup.now.system }
+    requires taken { IsTrue (is_taken 1 erased.now) }
+    ensures { AreRecovered setup.now rows.now (erased_of erased.now setup.now.system 0) result }
+{
+    let mut widest = [false; 3 * WIDEST];
+    let marks = &mut widest[..3 * setup.system.width()];
+    mark_field(setup.system, erased, 0, 0, marks);
+    recover_three(setup, rows, marks)
 }
 
 /// The bytes of the rows of a field that are its lines 16, 17 and 18.
@@ -58,14 +76,25 @@ fn field_in(system: System, stream: &[u8], count: usize, i: usize) -> &[u8]
 }
 
 /// Puts what the lines of each of a stream's fields show, which are whole, into its place.
-fn recover_all(setup: &Setup, stream: &[u8], readings: &mut [LdvbiFieldReadings])
-    requires { length stream.now ≡ length readings.old * field_bytes setup.now.system }
-    ensures { AreAllRecovered setup.now stream.now (length readings.old) readings.new }
+fn recover_all(
+    setup: &Setup,
+    stream: &[u8],
+    erased: &[LdvbiErased],
+    readings: &mut [LdvbiFieldReadings],
+)
+    requires whole { length stream.now ≡ length readings.old * field_bytes setup.now.system }
+    requires taken { IsTrue (is_taken (length readings.old) erased.now) }
+    ensures { AreAllRecovered setup.now stream.now (erased_of erased.now setup.now.system) (length readings.old)
+        readings.new }
 {
     let count = readings.len();
+    let mut widest = [false; 3 * WIDEST];
+    let marks = &mut widest[..3 * setup.system.width()];
+    let mut place = 0;
     for i in 0..count {
+        place = mark_field(setup.system, erased, place, i, marks);
         let field = field_in(setup.system, stream, count, i);
-        readings[i] = recover_three(setup, code_bytes(setup.system, field));
+        readings[i] = recover_three(setup, code_bytes(setup.system, field), marks);
     }
 }
 
@@ -81,12 +110,12 @@ pub extern "C" fn ldvbi_recover_rows(
 ) -> u32
     ensures status { result ≡ status_of (rows_setup system black white (length bytes.now)) }
     ensures recovers { IfOk (rows_setup system black white (length bytes.now)) (λ setup.
-        AreRecovered setup bytes.now readings.new) }
+        AreRecovered setup bytes.now (none_erased setup.system) readings.new) }
     ensures unwritten { result ≢ 0 → readings.new ≡ readings.old }
 {
     match rows_setup(system, black, white, bytes.len()) {
         Ok(setup) => {
-            *readings = recover_three(&setup, bytes);
+            *readings = recover_listed(&setup, bytes, &[]);
             DONE
         }
         Err(refusal) => refusal.status(),
@@ -105,12 +134,65 @@ pub extern "C" fn ldvbi_recover_fields(
 ) -> u32
     ensures status { result ≡ status_of (fields_setup system black white (length bytes.now) (length readings.old)) }
     ensures recovers { IfOk (fields_setup system black white (length bytes.now) (length readings.old)) (λ setup.
-        AreAllRecovered setup bytes.now (length readings.old) readings.new) }
+        AreAllRecovered setup bytes.now (λ field. none_erased setup.system) (length readings.old) readings.new) }
     ensures unwritten { result ≢ 0 → readings.new ≡ readings.old }
 {
     match fields_setup(system, black, white, bytes.len(), readings.len()) {
         Ok(setup) => {
-            recover_all(&setup, bytes, readings);
+            recover_all(&setup, bytes, &[], readings);
+            DONE
+        }
+        Err(refusal) => refusal.status(),
+    }
+}
+
+/// As `ldvbi_recover_rows`, but that the columns that are erased count for no nearest word. The list is one of field 0.
+#[unsafe(no_mangle)]
+pub extern "C" fn ldvbi_recover_rows_without(
+    system: u32,
+    black: u32,
+    white: u32,
+    bytes: &[u8],
+    erased: &[LdvbiErased],
+    readings: &mut LdvbiFieldReadings,
+) -> u32
+    ensures status { result ≡ status_of (with_erased 1 erased.now (rows_setup system black white (length bytes.now))) }
+    ensures recovers { IfOk (with_erased 1 erased.now (rows_setup system black white (length bytes.now))) (λ setup.
+        AreRecovered setup bytes.now (erased_of erased.now setup.system 0) readings.new) }
+    ensures unwritten { result ≢ 0 → readings.new ≡ readings.old }
+{
+    let asked = rows_setup(system, black, white, bytes.len());
+    match with_erased(1, erased, asked) {
+        Ok(setup) => {
+            *readings = recover_listed(&setup, bytes, erased);
+            DONE
+        }
+        Err(refusal) => refusal.status(),
+    }
+}
+
+/// As `ldvbi_recover_fields`, but that the columns that are erased count for no nearest word.
+#[unsafe(no_mangle)]
+pub extern "C" fn ldvbi_recover_fields_without(
+    system: u32,
+    black: u32,
+    white: u32,
+    bytes: &[u8],
+    erased: &[LdvbiErased],
+    readings: &mut [LdvbiFieldReadings],
+) -> u32
+    ensures status { result ≡ status_of (with_erased (length readings.old) erased.now
+        (fields_setup system black white (length bytes.now) (length readings.old))) }
+    ensures recovers { IfOk (with_erased (length readings.old) erased.now
+        (fields_setup system black white (length bytes.now) (length readings.old))) (λ setup.
+        AreAllRecovered setup bytes.now (erased_of erased.now setup.system) (length readings.old) readings.new) }
+    ensures unwritten { result ≢ 0 → readings.new ≡ readings.old }
+{
+    let count = readings.len();
+    let asked = fields_setup(system, black, white, bytes.len(), count);
+    match with_erased(count, erased, asked) {
+        Ok(setup) => {
+            recover_all(&setup, bytes, erased, readings);
             DONE
         }
         Err(refusal) => refusal.status(),

@@ -8,7 +8,7 @@ use crate::status::Refusal;
 use vbi_words::{Levels, System};
 
 /// So many lines at most have their nearest word searched: the sums of more could pass 32 bits.
-const MOST_LINES: usize = 28;
+pub(crate) const MOST_LINES: usize = 28;
 
 /// A system and its black and white.
 #[derive(Clone, Copy)]

@@ -18,8 +18,14 @@ pub const BAD_WORD: u32 = 4;
 pub const BAD_COUNTED: u32 = 5;
 /// The number of the pace is none of 1 to 3.
 pub const BAD_PACE: u32 = 6;
+/// A list of erased columns isn't sorted, or has an entry that is none.
+pub const BAD_ERASED: u32 = 7;
+/// The number of the line is none of 16 to 18.
+pub const BAD_LINE: u32 = 8;
+/// What says whether dropouts are known is neither 0 nor 1.
+pub const BAD_KNOWN: u32 = 9;
 
-/// Why a call is refused. What comes first here is tested first.
+/// Why a call is refused. What comes first here is tested first, but lists are tested last.
 #[derive(Clone, Copy)]
 pub(crate) enum Refusal {
     /// There is no system of that number.
@@ -34,6 +40,12 @@ pub(crate) enum Refusal {
     Counted,
     /// There is no pace of that number.
     Pace,
+    /// A list of erased columns that isn't sorted, or an entry of it that is none.
+    Erased,
+    /// No line of that number has code words.
+    Line,
+    /// Nothing says whether dropouts are known.
+    Known,
 }
 
 impl Refusal {
@@ -48,6 +60,9 @@ impl Refusal {
             Refusal::Word => BAD_WORD,
             Refusal::Counted => BAD_COUNTED,
             Refusal::Pace => BAD_PACE,
+            Refusal::Erased => BAD_ERASED,
+            Refusal::Line => BAD_LINE,
+            Refusal::Known => BAD_KNOWN,
         }
     }
 }

@@ -11,7 +11,6 @@ use Rattle.vbi_near.specs.Pictures.{column_of, word_length, starts}
 use Rattle.vbi_near.specs.Distances.{Shades}
 use Rattle.vbi_near.specs.Sums.{IsRising, AreRowSums, total_in, span}
 use Rattle.vbi_near.specs.Costs.{cell_cost, place_cost}
-use Rattle.vbi_near.specs.Best.{IsFound}
 use Rattle.vbi_near.specs.Longer.{cell_length, IsBeside, IsWithCell, IsLongerFound}
 use Rattle.vbi_near.proofs.BestBits.{min_is}
 use Rattle.vbi_near.proofs.Columns.{word-fits}
@@ -80,19 +79,19 @@ module _ (sums : Shades) (system : System) (rises : AreRowSums system sums) wher
       )
 
   -- a cell's columns are black in the row of a word beside it, so its distance has what they cost
-  pub black-beside : (found : Found) → IsFound (place_cost sums system) 0 (starts system) found → (begin : ℕ)
-      → IsBeside system found.start begin → total_in sums.dark begin (cell_length system) ≤ found.distance
+  pub black-beside : (found : Found) → found.start < starts system
+      → place_cost sums system found.start found.word ≡ found.distance → (begin : ℕ) → IsBeside system found.start begin
+      → total_in sums.dark begin (cell_length system) ≤ found.distance
   unfolding place_cost
-  black-beside found is begin (inl e) =
+  black-beside found before exact begin (inl e) =
       let fits = word-fits system in
-      let before = is.before in
-      omega (arith, is.exact, before-split found.start begin e (omega (arith, fits, before)))
-  black-beside found is begin (inr (e, room)) =
+      omega (arith, exact, before-split found.start begin e (omega (arith, fits, before)))
+  black-beside found before exact begin (inr (e, room)) =
       let split = behind-split begin room in
       let same : span sums false begin (width_of system - begin)
       ≡ span sums false (found.start + word_length system) (width_of system - (found.start + word_length system))
       = ap (λ (k : ℕ). span sums false k (width_of system - k)) e in
-      omega (arith, is.exact, split, same)
+      omega (arith, exact, split, same)
 
 -- ---- the least of the choices
 

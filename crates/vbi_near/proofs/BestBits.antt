@@ -82,7 +82,7 @@ joined-cost cost m a b =
 
 module _ (cost : ℕ → Bool → ℕ) (n : ℕ) (best : Bits) (is : IsBest cost n best) (bit : Bool) (less more : ℕ)
     (cheap : cost (suc n) bit ≡ less) (dear : cost (suc n) (not bit) ≡ more) (order : less ≤ more)
-    (near : more < 2 ^ 26) where
+    (near : more < 2 ^ 26) (tie : less ≡ more → bit_of bit ≡ 0) where
   -- the better choice
   abbrev pub chosen : Bits
   chosen = record {
@@ -157,6 +157,29 @@ module _ (cost : ℕ → Bool → ℕ) (n : ℕ) (best : Bits) (is : IsBest cost
       go (inl less) = followed (omega arith) other
       go (inr le) = flipped le
 
+  -- no bits before this cell cost less
+  floor : (a : ℕ) → IsBits n a → best.distance ≤ bits_cost cost (suc n) a
+  floor a bits = go (cases_eq a best.word)
+    where
+      go : (a ≡ best.word) ⊎ (a ≡ best.word → ⊥) → best.distance ≤ bits_cost cost (suc n) a
+      go (inl e) = omega (arith, is.exact, ap (bits_cost cost (suc n)) e)
+      go (inr other) = omega (arith, is.ahead a bits other)
+
+  -- bits that cost as little are no less
+  earliest : (a : ℕ) (b : Bool) → IsBits n a
+      → bits_cost cost (suc (suc n)) (2 * a + bit_of b) ≡ chosen.distance → chosen.word ≤ 2 * a + bit_of b
+  earliest a b bits same = go (other_bit b bit)
+    where
+      word : best.word ≤ a
+      word = is.first a bits (omega (arith, joined-cost cost (suc n) a b, floor a bits, least b, same))
+
+      go : (b ≡ bit) ⊎ (b ≡ not bit) → chosen.word ≤ 2 * a + bit_of b
+      go (inl e) = let x : bit_of b ≡ bit_of bit = ap bit_of e in omega (arith, word, x)
+      go (inr e) =
+          let t : less ≡ more =
+          omega (arith, joined-cost cost (suc n) a b, floor a bits, least b, same, ap (cost (suc n)) e, dear, order) in
+          omega (arith, tie t, word)
+
   pub with_cell_is : IsBest cost (suc n) chosen
   with_cell_is = record {
     word = IsBits-joined n best.word bit is.word;
@@ -164,6 +187,8 @@ module _ (cost : ℕ → Bool → ℕ) (n : ℕ) (best : Bits) (is : IsBest cost
     ahead = λ v bits differs. subst (λ (x : ℕ). x ≢ chosen.word
         → chosen.distance + chosen.margin ≤ bits_cost cost (suc (suc n)) x) (sym (joined-again v))
         (behind (v / 2) (last_of v) (IsBits-half n v bits)) differs;
+    first = λ v bits same. subst (λ (x : ℕ). bits_cost cost (suc (suc n)) x ≡ chosen.distance → chosen.word ≤ x)
+        (sym (joined-again v)) (earliest (v / 2) (last_of v) (IsBits-half n v bits)) same;
     other = inr (another is.other);
   }
 
@@ -187,5 +212,6 @@ first_is cost distance margin e wide = record {
   word = (omega arith, omega arith);
   exact = omega (arith, e);
   ahead = λ v bits other. absurd (other (omega (arith, bits.0, bits.1)));
+  first = λ v bits same. omega (arith, bits.0);
   other = inl (refl, wide);
 }

@@ -12,7 +12,7 @@ use Rattle.vbi_near.specs.Distances.{Shades, distance_from}
 use Rattle.vbi_near.specs.Sums.{span}
 use Rattle.vbi_near.specs.Costs.{place_cost}
 use Rattle.vbi_near.specs.Best.{IsFound, IsChosen}
-use Rattle.vbi_near.specs.Nearest.{IsNearestBy}
+use Rattle.vbi_near.specs.Nearest.{IsNearestBy, IsFirstBy, Precedes}
 use Rattle.vbi_near.proofs.BestBits.{min_is}
 use Rattle.vbi_near.proofs.Columns.{word-fits, starts-few}
 use Rattle.vbi_near.proofs.Costs.{blank-cost, word-cost}
@@ -79,9 +79,10 @@ module _ (costs sums : Shades) (system : System) (both : AreBoth costs sums (wid
       distance = span sums false 0 (width_of system);
       rival = found.distance;
       longer = span sums false 0 (width_of system);
+      shorter = span sums false 0 (width_of system);
     }
 
-    none_is : IsNearestBy system (far system costs) none_near
+    none_is : IsNearestBy (IsPlace system) (far system costs) none_near
     unfolding none_near
     none_is = record {
       place = refl;
@@ -107,7 +108,11 @@ module _ (costs sums : Shades) (system : System) (both : AreBoth costs sums (wid
         rival None start place differs = absurd (differs refl)
         rival (Some w) start place differs = least_far start w place
 
-  module _ (longer : ℕ) (order : found.distance < span sums false 0 (width_of system)) where
+    none_first : IsFirstBy (IsPlace system) (far system costs) none_near
+    unfolding none_near
+    none_first = record { first = λ word start place same. tt }
+
+  module _ (longer shorter : ℕ) (order : found.distance < span sums false 0 (width_of system)) where
     word_near : Near
     word_near = record {
       word = Some found.word;
@@ -115,9 +120,10 @@ module _ (costs sums : Shades) (system : System) (both : AreBoth costs sums (wid
       distance = found.distance;
       rival = min found.rival (span sums false 0 (width_of system));
       longer = longer;
+      shorter = shorter;
     }
 
-    word_is : IsNearestBy system (far system costs) word_near
+    word_is : IsNearestBy (IsPlace system) (far system costs) word_near
     unfolding word_near
     word_is = record {
       place = (is.word, fits found.start is.before);
@@ -162,13 +168,35 @@ module _ (costs sums : Shades) (system : System) (both : AreBoth costs sums (wid
             )
         another (inr (m, less)) = (None, 0, refl, none_some found.word, blank_far 0 refl ∙ sym m)
 
-  pub start-few : (longer blank : ℕ) (near : Near) → IsChosen found longer blank near → near.start < 285
-  start-few longer blank near (inl (order, e)) = omega (arith, ap (λ (n : Near). n.start) e)
-  start-few longer blank near (inr (order, e)) =
+    word_first : IsFirstBy (IsPlace system) (far system costs) word_near
+    unfolding word_near
+    word_first = record { first = first }
+      where
+        first : (word : Option ℕ) (start : ℕ) → IsPlace system word start
+            → far system costs word start ≡ found.distance → Precedes (Some found.word) found.start word start
+        first None start place same = absurd (omega (arith, blank_far start place, order, same))
+        first (Some w) start (word, room) same =
+            is.first start w (omega arith) (starting start room) word (sym (word_far start w room) ∙ same)
+
+  pub first_is : (longer shorter : ℕ) (near : Near)
+      → IsChosen found longer shorter (span sums false 0 (width_of system)) near
+      → IsFirstBy (IsPlace system) (far system costs) near
+  unfolding none_near word_near
+  first_is longer shorter near (inl (order, e)) =
+      subst (IsFirstBy (IsPlace system) (far system costs)) (sym e) (none_first order)
+  first_is longer shorter near (inr (order, e)) =
+      subst (IsFirstBy (IsPlace system) (far system costs)) (sym e) (word_first longer shorter order)
+
+  pub start-few : (longer shorter blank : ℕ) (near : Near) → IsChosen found longer shorter blank near → near.start < 285
+  start-few longer shorter blank near (inl (order, e)) = omega (arith, ap (λ (n : Near). n.start) e)
+  start-few longer shorter blank near (inr (order, e)) =
       omega (arith, ap (λ (n : Near). n.start) e, is.before, starts-few system)
 
-  pub nearest_is : (longer : ℕ) (near : Near) → IsChosen found longer (span sums false 0 (width_of system)) near
-      → IsNearestBy system (far system costs) near
+  pub nearest_is : (longer shorter : ℕ) (near : Near)
+      → IsChosen found longer shorter (span sums false 0 (width_of system)) near
+      → IsNearestBy (IsPlace system) (far system costs) near
   unfolding none_near word_near
-  nearest_is longer near (inl (order, e)) = subst (IsNearestBy system (far system costs)) (sym e) (none_is order)
-  nearest_is longer near (inr (order, e)) = subst (IsNearestBy system (far system costs)) (sym e) (word_is longer order)
+  nearest_is longer shorter near (inl (order, e)) =
+      subst (IsNearestBy (IsPlace system) (far system costs)) (sym e) (none_is order)
+  nearest_is longer shorter near (inr (order, e)) =
+      subst (IsNearestBy (IsPlace system) (far system costs)) (sym e) (word_is longer shorter order)

@@ -1,11 +1,11 @@
 -- Adding one line more.
 use Rattle.std.proofs.Common.{◌≡◌, ℕ, suc, zero, ◌≤◌, ◌<◌, ◌+◌, ◌*◌, List, [], ◌∷◌, Bool, true, false, length}
-use Rattle.std.proofs.Common.{◌++◌, get_or, arith, ap, sym, ◌∙◌, refl, cond}
+use Rattle.std.proofs.Common.{◌++◌, get_or, arith, ap, sym, ◌∙◌, refl, cond, subst}
 use Rattle.std.proofs.Math.ListN.{replicate, take}
 use Rattle.std.proofs.lemmas.List.{length-take-le, length-replicate, take-replicate}
 use Rattle.std.proofs.lemmas.List.Elements.{All-append}
 use Rattle.std.specs.List.{All}
-use Rattle.std.specs.Prelude.{Some, None}
+use Rattle.std.specs.Prelude.{Some, None, min}
 use Rattle.std.specs.Int.{abs_diff}
 use Rattle.vbi_words.specs.declared.system.System.{System}
 use Rattle.vbi_words.specs.declared.system.System.TheVariants.{Ntsc, Pal}
@@ -15,7 +15,7 @@ use Rattle.vbi_line.proofs.Slicing.{length-samples_of}
 use Rattle.vbi_line.specs.Line.{sample_at}
 use Rattle.vbi_near.specs.Pictures.{sample_of}
 use Rattle.vbi_near.proofs.Columns.{width-few}
-use Rattle.vbi_near.specs.Distances.{Samples, off_by, known, known_but, shade, shades, column_cost}
+use Rattle.vbi_near.specs.Distances.{Samples, unit_of, off_by, known, known_but, shade, shades, column_cost}
 use Rattle.vbi_near.specs.Distances.{IsPile, AreFew}
 
 -- ---- no line yet
@@ -79,25 +79,26 @@ sample-read (low ∷ high ∷ bytes) (suc k) l =
 -- what one line more costs in a column
 column_cost-append : (slicing : Slicing) (lines : List Samples) (line : Samples) (k : ℕ) (level : Bool)
     → column_cost slicing (lines ++ line ∷ []) k level
-    ≡ column_cost slicing lines k level + off_by (get_or line k None) (sample_of slicing level)
+    ≡ column_cost slicing lines k level + off_by (unit_of slicing) (get_or line k None) (sample_of slicing level)
 unfolding column_cost
 column_cost-append slicing [] line k level = omega arith
 column_cost-append slicing (first ∷ lines) line k level = omega (arith, column_cost-append slicing lines line k level)
 
--- how far a sample is from a level, if its column isn't erased
-abbrev pub kept : Bool → ℕ → ℕ → ℕ
-kept erased sample level = cond erased 0 (abs_diff sample level)
+-- how far a sample is from a level, or `most`, if its column isn't erased
+abbrev pub kept : ℕ → Bool → ℕ → ℕ → ℕ
+kept most erased sample level = cond erased 0 (min (abs_diff sample level) most)
 
-kept-read : (erased : List Bool) (samples : List ℕ) (k level : ℕ) → k < length erased → k < length samples
-    → kept (get_or erased k false) (get_or samples k 0) level ≡ off_by (get_or (known_but erased samples) k None) level
-kept-read [] samples k level l m = absurd (omega arith)
-kept-read (e ∷ erased) [] k level l m = absurd (omega arith)
-kept-read (true ∷ erased) (s ∷ samples) zero level l m = refl
-kept-read (false ∷ erased) (s ∷ samples) zero level l m = refl
-kept-read (true ∷ erased) (s ∷ samples) (suc k) level l m =
-    kept-read erased samples k level (omega arith) (omega arith)
-kept-read (false ∷ erased) (s ∷ samples) (suc k) level l m =
-    kept-read erased samples k level (omega arith) (omega arith)
+kept-read : (most : ℕ) (erased : List Bool) (samples : List ℕ) (k level : ℕ) → k < length erased → k < length samples
+    → kept most (get_or erased k false) (get_or samples k 0) level
+    ≡ off_by most (get_or (known_but erased samples) k None) level
+kept-read most [] samples k level l m = absurd (omega arith)
+kept-read most (e ∷ erased) [] k level l m = absurd (omega arith)
+kept-read most (true ∷ erased) (s ∷ samples) zero level l m = refl
+kept-read most (false ∷ erased) (s ∷ samples) zero level l m = refl
+kept-read most (true ∷ erased) (s ∷ samples) (suc k) level l m =
+    kept-read most erased samples k level (omega arith) (omega arith)
+kept-read most (false ∷ erased) (s ∷ samples) (suc k) level l m =
+    kept-read most erased samples k level (omega arith) (omega arith)
 
 length-known_but : (erased : List Bool) (samples : List ℕ) → length erased ≡ length samples
     → length (known_but erased samples) ≡ length samples
@@ -122,15 +123,25 @@ line-samples Ntsc bytes e = length-samples_of bytes 910 (omega (arith, e))
 line-samples Pal bytes e = length-samples_of bytes 1135 (omega (arith, e))
 
 -- below i each cost has that of its column more, and from i on none
-pub record IsAdded (bytes : List ℕ) (erased : List Bool) (level : ℕ) (costs new : List ℕ) (i : ℕ) : Type 0 where
+pub record IsAdded (bytes : List ℕ) (erased : List Bool) (most level : ℕ) (costs new : List ℕ) (i : ℕ) : Type 0 where
   pub below : (k : ℕ) → k < i
-      → get_or new k 0 ≡ get_or costs k 0 + kept (get_or erased k false) (sample_at bytes k) level
+      → get_or new k 0 ≡ get_or costs k 0 + kept most (get_or erased k false) (sample_at bytes k) level
   pub behind : (k : ℕ) → i ≤ k → get_or new k 0 ≡ get_or costs k 0
+
+-- a line that is cut to as long as it is
+pub added_whole : (cut bytes : List ℕ) (marks erased : List Bool) (most level : ℕ) (costs new : List ℕ) (i n : ℕ)
+    → cut ≡ bytes → marks ≡ erased → i ≡ n → IsAdded cut marks most level costs new i
+    → IsAdded bytes erased most level costs new n
+added_whole cut bytes marks erased most level costs new i n same are end is =
+    let whole : IsAdded bytes marks most level costs new i
+    = subst (λ (l : List ℕ). IsAdded l marks most level costs new i) same is in
+    subst (IsAdded bytes erased most level costs new) end
+    (subst (λ (m : List Bool). IsAdded bytes m most level costs new i) are whole)
 
 pub pile-added : (system : System) (slicing : Slicing) (bytes : List ℕ) (erased : List Bool) (lines : List Samples)
     (darks lights dark light : List ℕ) → length bytes ≡ 2 * length darks → length erased ≡ length darks
-    → length darks ≡ width_of system → IsAdded bytes erased slicing.black darks dark (length darks)
-    → IsAdded bytes erased slicing.white lights light (length darks)
+    → length darks ≡ width_of system → IsAdded bytes erased (unit_of slicing) slicing.black darks dark (length darks)
+    → IsAdded bytes erased (unit_of slicing) slicing.white lights light (length darks)
     → IsPile system slicing lines (shades darks lights)
     → IsPile system slicing (lines ++ known_but erased (samples_of bytes) ∷ []) (shades dark light)
 pile-added system slicing bytes erased lines darks lights dark light room as_many wide is are pile = record {
@@ -152,11 +163,12 @@ pile-added system slicing bytes erased lines darks lights dark light room as_man
     whole = All-append (λ line. length line ≡ width_of system) lines (known_but erased (samples_of bytes) ∷ [])
         pile.whole last
 
-    off : (k level : ℕ) → k < width_of system → kept (get_or erased k false) (sample_at bytes k) level
-        ≡ off_by (get_or (known_but erased (samples_of bytes)) k None) level
+    off : (k level : ℕ) → k < width_of system
+        → kept (unit_of slicing) (get_or erased k false) (sample_at bytes k) level
+        ≡ off_by (unit_of slicing) (get_or (known_but erased (samples_of bytes)) k None) level
     off k level l =
-        ap (λ (s : ℕ). kept (get_or erased k false) s level) (sample-read bytes k (omega arith))
-        ∙ kept-read erased (samples_of bytes) k level (omega arith) (omega (arith, samples-long))
+        ap (λ (s : ℕ). kept (unit_of slicing) (get_or erased k false) s level) (sample-read bytes k (omega arith))
+        ∙ kept-read (unit_of slicing) erased (samples_of bytes) k level (omega arith) (omega (arith, samples-long))
 
     exact : (k : ℕ) (level : Bool) → k < width_of system
         → get_or (shade (shades dark light) level) k 0

@@ -2,7 +2,7 @@
 use Rattle.std.proofs.Common.{◌≡◌, ◌≢◌, ℕ, suc, ◌≤◌, ◌<◌, ◌+◌, ◌-◌, ◌*◌, List, [], ◌∷◌, ◌++◌, Bool, true, false}
 use Rattle.std.proofs.Common.{length, map, refl, arith, ap, ap₂, sym, ◌∙◌, subst, Option, ◌⊎◌, inl, inr, suc-mul}
 use Rattle.std.proofs.Common.{append_assoc, append-nil}
-use Rattle.std.specs.Prelude.{Some, None}
+use Rattle.std.specs.Prelude.{Some, None, min}
 use Rattle.std.specs.List.{All}
 use Rattle.std.specs.Int.{abs_diff}
 use Rattle.std.proofs.Math.ListN.{replicate}
@@ -20,7 +20,7 @@ use Rattle.vbi_words.proofs.Shown.{word_bits}
 use Rattle.vbi_words.proofs.Apart.{differences_sym}
 use Rattle.vbi_near.specs.declared.near.Near.{Near}
 use Rattle.vbi_near.specs.Pictures.{word_length, drawn_halves, picture_of, IsPlace, sample_of, drawn_as}
-use Rattle.vbi_near.specs.Distances.{known, row_distance, distance_of}
+use Rattle.vbi_near.specs.Distances.{known, unit_of, row_distance, distance_of}
 use Rattle.vbi_near.specs.Nearest.{IsNearest, far_from}
 use Rattle.vbi_near.specs.Apart.{picture_distance}
 use Rattle.vbi_near.proofs.Columns.{length-picture}
@@ -140,7 +140,8 @@ pictures_apart system (Some v) (Some w) s t p q differ = words_apart system s t 
 
 one_differs : (slicing : Slicing) (sample : ℕ) (b c : Bool)
     → differs b c * (slicing.white - slicing.black)
-    ≤ abs_diff sample (sample_of slicing b) + abs_diff sample (sample_of slicing c)
+    ≤ min (abs_diff sample (sample_of slicing b)) (unit_of slicing)
+    + min (abs_diff sample (sample_of slicing c)) (unit_of slicing)
 one_differs slicing sample true true = omega arith
 one_differs slicing sample true false = omega arith
 one_differs slicing sample false true = omega arith
@@ -148,16 +149,19 @@ one_differs slicing sample false false = omega arith
 
 triangle : (slicing : Slicing) (line : List ℕ) (x y : List Bool) → length line ≡ length x → length line ≡ length y
     → differences x y * (slicing.white - slicing.black)
-    ≤ row_distance (known line) (drawn_as slicing x) + row_distance (known line) (drawn_as slicing y)
+    ≤ row_distance (unit_of slicing) (known line) (drawn_as slicing x)
+    + row_distance (unit_of slicing) (known line) (drawn_as slicing y)
 unfolding row_distance
 triangle slicing [] [] y a b = omega arith
 triangle slicing [] (p ∷ x) y a b = absurd (omega arith)
 triangle slicing (l ∷ line) [] y a b = absurd (omega arith)
 triangle slicing (l ∷ line) (p ∷ x) [] a b = absurd (omega arith)
 triangle slicing (l ∷ line) (p ∷ x) (q ∷ y) a b =
-    joined (differs p q) (differences x y) (slicing.white - slicing.black) (abs_diff l (sample_of slicing p))
-    (abs_diff l (sample_of slicing q)) (row_distance (known line) (drawn_as slicing x))
-    (row_distance (known line) (drawn_as slicing y)) (one_differs slicing l p q)
+    joined (differs p q) (differences x y) (slicing.white - slicing.black)
+    (min (abs_diff l (sample_of slicing p)) (unit_of slicing))
+    (min (abs_diff l (sample_of slicing q)) (unit_of slicing))
+    (row_distance (unit_of slicing) (known line) (drawn_as slicing x))
+    (row_distance (unit_of slicing) (known line) (drawn_as slicing y)) (one_differs slicing l p q)
     (triangle slicing line x y (omega arith) (omega arith))
   where
     joined : (m n u a b c d : ℕ) → m * u ≤ a + b → n * u ≤ c + d → (m + n) * u ≤ a + c + (b + d)
@@ -166,7 +170,8 @@ triangle slicing (l ∷ line) (p ∷ x) (q ∷ y) a b =
 triangles : (slicing : Slicing) (width : ℕ) (lines : List (List ℕ)) (x y : List Bool) → length x ≡ width
     → length y ≡ width → All (λ line. length line ≡ width) lines
     → length lines * (differences x y * (slicing.white - slicing.black))
-    ≤ distance_of (map known lines) (drawn_as slicing x) + distance_of (map known lines) (drawn_as slicing y)
+    ≤ distance_of (unit_of slicing) (map known lines) (drawn_as slicing x)
+    + distance_of (unit_of slicing) (map known lines) (drawn_as slicing y)
 unfolding distance_of
 triangles slicing width [] x y a b all =
     let none : 0 * (differences x y * (slicing.white - slicing.black)) ≡ 0 = omega arith in omega (arith, none)
@@ -182,21 +187,21 @@ triangles slicing width (line ∷ lines) x y a b all =
 
 pub rows : (slicing : Slicing) (x y : List Bool) → length x ≡ length y
     → differences x y * (slicing.white - slicing.black)
-    ≤ row_distance (known (drawn_as slicing x)) (drawn_as slicing y)
+    ≤ row_distance (unit_of slicing) (known (drawn_as slicing x)) (drawn_as slicing y)
 unfolding row_distance
 rows slicing [] y a = omega arith
 rows slicing (p ∷ x) [] a = absurd (omega arith)
 rows slicing (p ∷ x) (q ∷ y) a =
     joined (differs p q) (differences x y) (slicing.white - slicing.black)
-    (abs_diff (sample_of slicing p) (sample_of slicing q))
-    (row_distance (known (drawn_as slicing x)) (drawn_as slicing y))
+    (min (abs_diff (sample_of slicing p) (sample_of slicing q)) (unit_of slicing))
+    (row_distance (unit_of slicing) (known (drawn_as slicing x)) (drawn_as slicing y))
     (one p q) (rows slicing x y (omega arith))
   where
     joined : (m n u a b : ℕ) → m * u ≤ a → n * u ≤ b → (m + n) * u ≤ a + b
     joined m n u a b e f = omega (arith, add-mul m n u)
 
     one : (b c : Bool) → differs b c * (slicing.white - slicing.black)
-        ≤ abs_diff (sample_of slicing b) (sample_of slicing c)
+        ≤ min (abs_diff (sample_of slicing b) (sample_of slicing c)) (unit_of slicing)
     one true true = omega arith
     one true false = omega arith
     one false true = omega arith
@@ -205,7 +210,7 @@ rows slicing (p ∷ x) (q ∷ y) a =
 pub rows_apart : (system : System) (slicing : Slicing) (one other : Option ℕ) (s t : ℕ) → IsPlace system one s
     → IsPlace system other t → one ≢ other
     → picture_distance system * (slicing.white - slicing.black)
-    ≤ row_distance (known (drawn_as slicing (picture_of system one s)))
+    ≤ row_distance (unit_of slicing) (known (drawn_as slicing (picture_of system one s)))
     (drawn_as slicing (picture_of system other t))
 rows_apart system slicing one other s t p q differ =
     let x : List Bool = picture_of system one s in

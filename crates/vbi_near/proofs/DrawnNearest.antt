@@ -1,7 +1,7 @@
 -- A drawn row's word is the nearest one of lines that are this row.
 use Rattle.std.proofs.Common.{◌≡◌, ℕ, suc, ◌≤◌, ◌<◌, ◌+◌, ◌-◌, ◌*◌, List, [], ◌∷◌, Bool, true, false, length}
 use Rattle.std.proofs.Common.{get_or, map, refl, arith, ap, sym, ◌∙◌, ◌⊎◌, inl, inr, suc-mul, Option}
-use Rattle.std.specs.Prelude.{Some, None}
+use Rattle.std.specs.Prelude.{Some, None, min}
 use Rattle.std.specs.List.{All, flat_map}
 use Rattle.std.specs.Int.{abs_diff}
 use Rattle.std.proofs.lemmas.Nat.{mul-le}
@@ -29,23 +29,27 @@ use Rattle.vbi_near.proofs.Distinct.{rows, rows_apart, few_misread}
 no_difference : (n : ℕ) → abs_diff n n ≡ 0
 no_difference n = omega arith
 
-row-itself : (row : List ℕ) → row_distance (known row) row ≡ 0
+row-itself : (most : ℕ) (row : List ℕ) → row_distance most (known row) row ≡ 0
 unfolding row_distance
-row-itself [] = refl
-row-itself (sample ∷ row) = omega (arith, no_difference sample, row-itself row)
+row-itself most [] = refl
+row-itself most (sample ∷ row) =
+    let same : min (abs_diff sample sample) most ≡ 0
+    = ap (λ (n : ℕ). min n most) (no_difference sample) ∙ omega arith in
+    omega (arith, same, row-itself most row)
 
-distance-each : (row other : List ℕ) (lines : List (List ℕ)) → All (λ line. line ≡ row) lines
-    → distance_of (map known lines) other ≡ length lines * row_distance (known row) other
+distance-each : (most : ℕ) (row other : List ℕ) (lines : List (List ℕ)) → All (λ line. line ≡ row) lines
+    → distance_of most (map known lines) other ≡ length lines * row_distance most (known row) other
 unfolding distance_of
-distance-each row other [] all = let none : 0 * row_distance (known row) other ≡ 0 = omega arith in omega (arith, none)
-distance-each row other (line ∷ lines) all =
-    let first : row_distance (known line) other ≡ row_distance (known row) other
-    = ap (λ (l : List ℕ). row_distance (known l) other) (all 0 [] (omega arith)) in
+distance-each most row other [] all =
+    let none : 0 * row_distance most (known row) other ≡ 0 = omega arith in omega (arith, none)
+distance-each most row other (line ∷ lines) all =
+    let first : row_distance most (known line) other ≡ row_distance most (known row) other
+    = ap (λ (l : List ℕ). row_distance most (known l) other) (all 0 [] (omega arith)) in
     omega (
       arith,
       first,
-      suc-mul (length lines) (row_distance (known row) other),
-      distance-each row other lines (λ k d l. all (suc k) d (omega arith)),
+      suc-mul (length lines) (row_distance most (known row) other),
+      distance-each most row other lines (λ k d l. all (suc k) d (omega arith)),
     )
 
 -- ---- where a picture begins
@@ -145,9 +149,9 @@ module _ (system : System) (slicing : Slicing) (lines : List (List ℕ)) (near :
 
   nothing : far_from system slicing (map known lines) word start ≡ 0
   nothing =
-      let each = distance-each row row lines all in
-      let none : length lines * row_distance (known row) row ≡ length lines * 0
-      = ap (λ (n : ℕ). length lines * n) (row-itself row) in
+      let each = distance-each unit row row lines all in
+      let none : length lines * row_distance unit (known row) row ≡ length lines * 0
+      = ap (λ (n : ℕ). length lines * n) (row-itself unit row) in
       omega (arith, each, none)
 
   pub drawn-distance : near.distance ≡ 0
@@ -161,18 +165,18 @@ module _ (system : System) (slicing : Slicing) (lines : List (List ℕ)) (near :
       omega (arith, nothing, far))
 
   -- the row answered has the samples of the row drawn, and so its levels
-  same-row : row_distance (known row) (drawn_as slicing (picture_of system near.word near.start)) ≡ 0
-  same-row = go (cases_lt 0 (row_distance (known row) other))
+  same-row : row_distance unit (known row) (drawn_as slicing (picture_of system near.word near.start)) ≡ 0
+  same-row = go (cases_lt 0 (row_distance unit (known row) other))
     where
       other : List ℕ
       other = drawn_as slicing (picture_of system near.word near.start)
 
-      go : (0 < row_distance (known row) other) ⊎ (row_distance (known row) other ≤ 0)
-          → row_distance (known row) other ≡ 0
+      go : (0 < row_distance unit (known row) other) ⊎ (row_distance unit (known row) other ≤ 0)
+          → row_distance unit (known row) other ≡ 0
       go (inr le) = omega arith
       go (inl l) =
-          let far = positive (length lines) (row_distance (known row) other) some l in
-          absurd (omega (arith, far, distance-each row other lines all, is.exact, drawn-distance))
+          let far = positive (length lines) (row_distance unit (known row) other) some l in
+          absurd (omega (arith, far, distance-each unit row other lines all, is.exact, drawn-distance))
 
   same-picture : picture_of system word start ≡ picture_of system near.word near.start
   same-picture = all_same x y long (go (cases_lt 0 (differences x y)))
@@ -199,7 +203,7 @@ module _ (system : System) (slicing : Slicing) (lines : List (List ℕ)) (near :
   drawn-rival =
       let o = is.other in
       let far = rows_apart system slicing word o.0 start o.1 place o.2 (λ e. o.3 (sym e ∙ sym drawn-word)) in
-      let each = distance-each row (drawn_as slicing (picture_of system o.0 o.1)) lines all in
+      let each = distance-each unit row (drawn_as slicing (picture_of system o.0 o.1)) lines all in
       let grow = mul-le (length lines) (picture_distance system * unit) (length lines)
-      (row_distance (known row) (drawn_as slicing (picture_of system o.0 o.1))) (omega arith) far in
+      (row_distance unit (known row) (drawn_as slicing (picture_of system o.0 o.1))) (omega arith) far in
       omega (arith, grow, each, o.4)

@@ -1,5 +1,5 @@
 -- The distance of rows on which a word goes on.
-use Rattle.std.proofs.Common.{◌≡◌, ℕ, ◌≤◌, ◌+◌, ◌-◌, List, ◌++◌, Bool, false, length}
+use Rattle.std.proofs.Common.{◌≡◌, ℕ, ◌≤◌, ◌<◌, ◌+◌, ◌-◌, List, ◌++◌, Bool, false, length}
 use Rattle.std.proofs.Common.{inl, inr, refl, arith, ap, sym, subst, ◌∙◌}
 use Rattle.std.proofs.Math.ListN.{replicate}
 use Rattle.std.proofs.lemmas.List.{length-append, length-replicate}
@@ -12,7 +12,7 @@ use Rattle.vbi_near.specs.Pictures.{word_length, drawn_halves, starts}
 use Rattle.vbi_near.specs.Distances.{Shades, distance_from}
 use Rattle.vbi_near.specs.Sums.{AreRowSums, total_in, span}
 use Rattle.vbi_near.specs.Costs.{cell_cost, bits_cost, place_cost}
-use Rattle.vbi_near.specs.Best.{IsFound, IsChosen}
+use Rattle.vbi_near.specs.Best.{IsChosen}
 use Rattle.vbi_near.specs.Longer.{cell_length, begun_earlier, ended_later, GoesOn, IsLeastLonger, HasLonger}
 use Rattle.vbi_near.specs.Longer.{IsBeside, IsWithCell, IsLongerFound}
 use Rattle.vbi_near.proofs.Columns.{column-first, column-drawn, word-drawn, word-fits}
@@ -144,16 +144,17 @@ module _ (costs sums : Shades) (system : System) (both : AreBoth costs sums (wid
           behind-split sums system rises (start + word_length system) room,
         )
 
-    module _ (found : Found) (is : IsFound (place_cost sums system) 0 (starts system) found) (longer : ℕ)
+    module _ (found : Found) (before : found.start < starts system)
+        (place : place_cost sums system found.start found.word ≡ found.distance) (longer : ℕ)
         (longest : IsLongerFound sums system found longer) where
       fits : found.start + word_length system ≤ width_of system
-      fits = omega (arith, word-fits system, is.before)
+      fits = omega (arith, word-fits system, before)
 
       exact : (begin far : ℕ) (bit : Bool)
           → IsWithCell sums system (place_cost sums system found.start found.word) begin bit far
           → IsWithCell sums system found.distance begin bit far
       exact begin far bit with_cell =
-          with_cell ∙ ap (λ (d : ℕ). d + cell_cost sums system begin 0 bit) is.exact
+          with_cell ∙ ap (λ (d : ℕ). d + cell_cost sums system begin 0 bit) place
 
       least : (levels : List Bool) → GoesOn system found.word found.start levels → longer ≤ distance_from costs 0 levels
       least levels (bit, inl (room, e)) =
@@ -197,13 +198,13 @@ module _ (costs sums : Shades) (system : System) (both : AreBoth costs sums (wid
             ),
       )
 
-      least_longer : IsLeastLonger system (distance_from costs 0) found.word found.start longer
+      pub least_longer : IsLeastLonger system (distance_from costs 0) found.word found.start longer
       least_longer =
           let o = longest.one in record { least = least; one = one o.0 o.1 o.2 o.3 }
 
-      pub longer_is : (near : Near) (blank : ℕ) → IsChosen found longer blank near
+      pub longer_is : (near : Near) (shorter blank : ℕ) → IsChosen found longer shorter blank near
           → HasLonger system (distance_from costs 0) near.word near
-      longer_is near blank (inl (order, e)) =
+      longer_is near shorter blank (inl (order, e)) =
           subst (λ (n : Near). HasLonger system (distance_from costs 0) n.word n) (sym e) refl
-      longer_is near blank (inr (order, e)) =
+      longer_is near shorter blank (inr (order, e)) =
           subst (λ (n : Near). HasLonger system (distance_from costs 0) n.word n) (sym e) least_longer

@@ -7,9 +7,9 @@ use Rattle.vbi_words.specs.Geometry.{width_of}
 use Rattle.vbi_words.specs.Levels.{Slicing}
 use Rattle.vbi_near.specs.declared.near.Near.{Near}
 use Rattle.vbi_near.specs.Pictures.{IsPlace, picture_of, sample_of, drawn_as}
-use Rattle.vbi_near.specs.Distances.{Samples, off_by, row_distance, distance_of, Shades, shade, column_cost}
+use Rattle.vbi_near.specs.Distances.{Samples, unit_of, off_by, row_distance, distance_of, Shades, shade, column_cost}
 use Rattle.vbi_near.specs.Distances.{distance_from, IsPile}
-use Rattle.vbi_near.specs.Nearest.{IsNearestBy, IsNearest, far_from}
+use Rattle.vbi_near.specs.Nearest.{IsNearestBy, IsNearest, IsFirstBy, IsFirst, far_from}
 use Rattle.vbi_near.specs.Longer.{GoesOn, HasLonger, IsLonger}
 use Rattle.std.specs.Prelude.{Some, None}
 use Rattle.vbi_near.proofs.OneCellMore.{length-longer}
@@ -22,11 +22,11 @@ use Rattle.vbi_near.proofs.Chosen.{far}
 row_from : Slicing → Samples → ℕ → List Bool → ℕ
 row_from slicing line i [] = 0
 row_from slicing line i (level ∷ levels) =
-    off_by (get_or line i None) (sample_of slicing level) + row_from slicing line (suc i) levels
+    off_by (unit_of slicing) (get_or line i None) (sample_of slicing level) + row_from slicing line (suc i) levels
 
 row_is : (slicing : Slicing) (whole : Samples) (i : ℕ) (line : Samples) (levels : List Bool)
     → length line ≡ length levels → ((j : ℕ) → get_or whole (i + j) None ≡ get_or line j None)
-    → row_from slicing whole i levels ≡ row_distance line (drawn_as slicing levels)
+    → row_from slicing whole i levels ≡ row_distance (unit_of slicing) line (drawn_as slicing levels)
 unfolding row_from row_distance
 row_is slicing whole i [] [] same at = refl
 row_is slicing whole i [] (y ∷ levels) same at = absurd (omega arith)
@@ -34,13 +34,14 @@ row_is slicing whole i (x ∷ line) [] same at = absurd (omega arith)
 row_is slicing whole i (x ∷ line) (y ∷ levels) same at =
     let e : i ≡ i + 0 = omega arith in
     let here : get_or whole i None ≡ x = ap (λ (k : ℕ). get_or whole k None) e ∙ at 0 in
-    let first : off_by (get_or whole i None) (sample_of slicing y) ≡ off_by x (sample_of slicing y)
-    = ap (λ (s : Option ℕ). off_by s (sample_of slicing y)) here in
+    let first : off_by (unit_of slicing) (get_or whole i None) (sample_of slicing y)
+    ≡ off_by (unit_of slicing) x (sample_of slicing y)
+    = ap (λ (s : Option ℕ). off_by (unit_of slicing) s (sample_of slicing y)) here in
     let next : (j : ℕ) → suc i + j ≡ i + suc j = λ j. omega arith in
     let rest = row_is slicing whole (suc i) line levels (omega arith)
     (λ j. ap (λ (k : ℕ). get_or whole k None) (next j) ∙ at (suc j)) in
     ap (λ (a : ℕ). a + row_from slicing whole (suc i) levels) first
-    ∙ ap (λ (b : ℕ). off_by x (sample_of slicing y) + b) rest
+    ∙ ap (λ (b : ℕ). off_by (unit_of slicing) x (sample_of slicing y) + b) rest
 
 -- ---- all lines
 
@@ -62,14 +63,16 @@ rows_more : (slicing : Slicing) (lines : List Samples) (i : ℕ) (level : Bool) 
 unfolding rows_from row_from column_cost
 rows_more slicing [] i level levels = refl
 rows_more slicing (line ∷ lines) i level levels =
-    ap (λ (n : ℕ). off_by (get_or line i None) (sample_of slicing level) + row_from slicing line (suc i) levels + n)
+    ap (λ (n : ℕ). off_by (unit_of slicing) (get_or line i None) (sample_of slicing level)
+    + row_from slicing line (suc i) levels + n)
     (rows_more slicing lines i level levels)
-    ∙ swapped (off_by (get_or line i None) (sample_of slicing level)) (row_from slicing line (suc i) levels)
+    ∙ swapped (off_by (unit_of slicing) (get_or line i None) (sample_of slicing level))
+    (row_from slicing line (suc i) levels)
     (column_cost slicing lines i level) (rows_from slicing lines (suc i) levels)
 
 rows_are : (slicing : Slicing) (width : ℕ) (lines : List Samples) (levels : List Bool) → length levels ≡ width
     → All (λ line. length line ≡ width) lines
-    → rows_from slicing lines 0 levels ≡ distance_of lines (drawn_as slicing levels)
+    → rows_from slicing lines 0 levels ≡ distance_of (unit_of slicing) lines (drawn_as slicing levels)
 unfolding rows_from distance_of
 rows_are slicing width [] levels wide all = refl
 rows_are slicing width (line ∷ lines) levels wide all =
@@ -96,9 +99,9 @@ costs_are slicing lines costs width i (level ∷ levels) exact wide =
       costs_are slicing lines costs width (suc i) levels exact (omega arith),
     )
 
-levels-same : (system : System) (slicing : Slicing) (lines : List Samples) (costs : Shades)
+pub levels-same : (system : System) (slicing : Slicing) (lines : List Samples) (costs : Shades)
     → IsPile system slicing lines costs → (levels : List Bool) → length levels ≡ width_of system
-    → distance_from costs 0 levels ≡ distance_of lines (drawn_as slicing levels)
+    → distance_from costs 0 levels ≡ distance_of (unit_of slicing) lines (drawn_as slicing levels)
 levels-same system slicing lines costs pile levels wide =
     costs_are slicing lines costs (width_of system) 0 levels pile.exact (omega (arith, wide))
     ∙ rows_are slicing (width_of system) lines levels wide pile.whole
@@ -109,10 +112,11 @@ far-same : (system : System) (slicing : Slicing) (lines : List Samples) (costs :
 far-same system slicing lines costs pile word start place =
     levels-same system slicing lines costs pile (picture_of system word start) (length-picture system word start place)
 
-pub nearest-same : (system : System) (slicing : Slicing) (lines : List Samples) (costs : Shades) (near : Near)
-    → IsPile system slicing lines costs → IsNearestBy system (far system costs) near
-    → IsNearest system slicing lines near
-nearest-same system slicing lines costs near pile is = record {
+pub nearest-there : (IsThere : Option ℕ → ℕ → Type 0) (system : System)
+    → ((word : Option ℕ) (start : ℕ) → IsThere word start → IsPlace system word start) → (slicing : Slicing)
+    (lines : List Samples) (costs : Shades) (near : Near) → IsPile system slicing lines costs
+    → IsNearestBy IsThere (far system costs) near → IsNearestBy IsThere (far_from system slicing lines) near
+nearest-there IsThere system fits slicing lines costs near pile is = record {
   place = is.place;
   exact = sym (same near.word near.start is.place) ∙ is.exact;
   least = λ word start place. omega (arith, is.least word start place, same word start place);
@@ -126,16 +130,37 @@ nearest-same system slicing lines costs near pile is = record {
   );
 }
   where
-    same : (word : Option ℕ) (start : ℕ) → IsPlace system word start
+    same : (word : Option ℕ) (start : ℕ) → IsThere word start
         → far system costs word start ≡ far_from system slicing lines word start
-    same word start place = far-same system slicing lines costs pile word start place
+    same word start place = far-same system slicing lines costs pile word start (fits word start place)
+
+pub nearest-same : (system : System) (slicing : Slicing) (lines : List Samples) (costs : Shades) (near : Near)
+    → IsPile system slicing lines costs → IsNearestBy (IsPlace system) (far system costs) near
+    → IsNearest system slicing lines near
+nearest-same system slicing lines costs near pile is =
+    nearest-there (IsPlace system) system (λ word start place. place) slicing lines costs near pile is
+
+pub first-there : (IsThere : Option ℕ → ℕ → Type 0) (system : System)
+    → ((word : Option ℕ) (start : ℕ) → IsThere word start → IsPlace system word start) → (slicing : Slicing)
+    (lines : List Samples) (costs : Shades) (near : Near) → IsPile system slicing lines costs
+    → IsFirstBy IsThere (far system costs) near → IsFirstBy IsThere (far_from system slicing lines) near
+first-there IsThere system fits slicing lines costs near pile is = record {
+  first = λ word start place same. is.first word start place
+      (far-same system slicing lines costs pile word start (fits word start place) ∙ same);
+}
+
+pub first-same : (system : System) (slicing : Slicing) (lines : List Samples) (costs : Shades) (near : Near)
+    → IsPile system slicing lines costs → IsFirstBy (IsPlace system) (far system costs) near
+    → IsFirst system slicing lines near
+first-same system slicing lines costs near pile is =
+    first-there (IsPlace system) system (λ word start place. place) slicing lines costs near pile is
 
 -- ---- rows on which the word goes on
 
 longer-by : (system : System) (slicing : Slicing) (lines : List Samples) (costs : Shades) (near : Near)
     → IsPile system slicing lines costs → (word : Option ℕ) → IsPlace system word near.start
     → HasLonger system (distance_from costs 0) word near
-    → HasLonger system (λ levels. distance_of lines (drawn_as slicing levels)) word near
+    → HasLonger system (λ levels. distance_of (unit_of slicing) lines (drawn_as slicing levels)) word near
 longer-by system slicing lines costs near pile None place is = is
 longer-by system slicing lines costs near pile (Some w) place is = record {
   least = λ levels on. omega (arith, is.least levels on, same levels on);
@@ -143,7 +168,7 @@ longer-by system slicing lines costs near pile (Some w) place is = record {
 }
   where
     same : (levels : List Bool) → GoesOn system w near.start levels
-        → distance_from costs 0 levels ≡ distance_of lines (drawn_as slicing levels)
+        → distance_from costs 0 levels ≡ distance_of (unit_of slicing) lines (drawn_as slicing levels)
     same levels on =
         levels-same system slicing lines costs pile levels (length-longer system w near.start levels place.1 on)
 

@@ -6,6 +6,7 @@ use Rattle.vbi_near.specs.declared.bits.Bits.{Bits}
 use Rattle.vbi_near.specs.declared.found.Found.{Found}
 use Rattle.vbi_near.specs.declared.near.Near.{Near}
 use Rattle.vbi_near.specs.Costs.{bits_cost}
+use Rattle.vbi_near.specs.Nearest.{IsBefore}
 
 -- a number of n bits behind a one
 abbrev pub IsBits : ℕ → ℕ → Type 0
@@ -16,11 +17,13 @@ abbrev pub HasOther : (ℕ → Bool → ℕ) → ℕ → Bits → Type 0
 HasOther cost n best = (best.margin < 2 ^ 26) × ((v : ℕ) × IsBits n v × (v ≢ best.word)
     × (bits_cost cost (suc n) v ≡ best.distance + best.margin))
 
--- of all numbers of n bits behind a one this has the least cost, and any other costs the margin more at least
+-- of all numbers of n bits behind a one this has the least cost, and any other costs the margin more at least; of those
+-- that cost as little it is the least
 pub record IsBest (cost : ℕ → Bool → ℕ) (n : ℕ) (best : Bits) : Type 0 where
   pub word : IsBits n best.word
   pub exact : bits_cost cost (suc n) best.word ≡ best.distance
   pub ahead : (v : ℕ) → IsBits n v → v ≢ best.word → best.distance + best.margin ≤ bits_cost cost (suc n) v
+  pub first : (v : ℕ) → IsBits n v → bits_cost cost (suc n) v ≡ best.distance → best.word ≤ v
   pub other : ((n ≡ 0) × (2 ^ 26 ≤ best.margin)) ⊎ HasOther cost n best
 
 -- words, distances and margins of words that begin at each column
@@ -54,7 +57,7 @@ pub record AreGrown (ones zeros : List ℕ) (old new : Every) (column : ℕ) : T
   pub behind : (start : ℕ) → column ≤ start → bits_at new start ≡ bits_at old start
 
 -- of all words that begin from `low` on and before `high` this has the least distance; `rival` is that of the nearest
--- other word
+-- other word; of words that are as near it begins first, and of those that begin where it does it is the least
 pub record IsFound (distance : ℕ → ℕ → ℕ) (low high : ℕ) (found : Found) : Type 0 where
   pub word : IsWord found.word
   pub from : low ≤ found.start
@@ -63,18 +66,26 @@ pub record IsFound (distance : ℕ → ℕ → ℕ) (low high : ℕ) (found : Fo
   pub least : (start word : ℕ) → low ≤ start → start < high → IsWord word → found.distance ≤ distance start word
   pub rival : (start word : ℕ) → low ≤ start → start < high → IsWord word → word ≢ found.word
       → found.rival ≤ distance start word
+  pub first : (start word : ℕ) → low ≤ start → start < high → IsWord word → distance start word ≡ found.distance
+      → IsBefore found.start found.word start word
   pub other : (start : ℕ) × (word : ℕ) × (low ≤ start) × (start < high) × IsWord word × (word ≢ found.word)
       × (distance start word ≡ found.rival)
 
+-- no word that begins at a column before this is nearer than the column's bound
+abbrev pub AreBounds : (ℕ → ℕ → ℕ) → ℕ → List ℕ → Type 0
+AreBounds distance high bounds = (start word : ℕ) → start < high → IsWord word
+    → slice_index_or bounds start 0 ≤ distance start word
+
 -- the nearer of the nearest word and of none
-abbrev pub IsChosen : Found → ℕ → ℕ → Near → Type 0
-IsChosen found longer blank near =
+abbrev pub IsChosen : Found → ℕ → ℕ → ℕ → Near → Type 0
+IsChosen found longer shorter blank near =
     ((blank ≤ found.distance) × (near ≡ record {
       word = None;
       start = 0;
       distance = blank;
       rival = found.distance;
       longer = blank;
+      shorter = blank;
     }))
     ⊎ ((found.distance < blank) × (near ≡ record {
       word = Some found.word;
@@ -82,4 +93,5 @@ IsChosen found longer blank near =
       distance = found.distance;
       rival = min found.rival blank;
       longer = longer;
+      shorter = shorter;
     }))

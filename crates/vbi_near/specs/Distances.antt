@@ -1,5 +1,6 @@
--- How far some lines are from a drawn row: the sum, over all their samples, of how far each is from the drawn one.
-use Rattle.std.specs.Prelude.{◌≡◌, ◌≤◌, ◌<◌, ℕ, suc, ◌+◌, ◌*◌, Bool, true, false, List, [], ◌∷◌, length, map}
+-- How far some lines are from a drawn row: the sum, over all their samples, of how far each is from the drawn one, but
+-- at most as far as white is from black. So a column counts once at most in each line, whatever a dropout leaves there.
+use Rattle.std.specs.Prelude.{◌≡◌, ◌≤◌, ◌<◌, ℕ, suc, ◌+◌, ◌-◌, ◌*◌, min, Bool, true, false, List, [], ◌∷◌, length, map}
 use Rattle.std.specs.Prelude.{slice_index_or, Option, Some, None}
 use Rattle.std.specs.List.{All, range_with_len}
 use Rattle.std.specs.Int.{abs_diff}
@@ -12,21 +13,25 @@ use Rattle.vbi_near.specs.Pictures.{sample_of}
 abbrev pub Samples : Type 0
 Samples = List (Option ℕ)
 
--- how far a sample is from a drawn one; an erased one is as far from any
-abbrev pub off_by : Option ℕ → ℕ → ℕ
-off_by None drawn = 0
-off_by (Some sample) drawn = abs_diff sample drawn
+-- how far white is from black: as far as a sample counts at most
+abbrev pub unit_of : Slicing → ℕ
+unit_of slicing = slicing.white - slicing.black
 
--- how far the samples of a line are from those of a row, in sum
-unfoldable pub row_distance : Samples → List ℕ → ℕ
-row_distance [] row = 0
-row_distance (sample ∷ line) [] = 0
-row_distance (sample ∷ line) (drawn ∷ row) = off_by sample drawn + row_distance line row
+-- how far a sample is from a drawn one, or `most` if that is less; an erased one is as far from any
+abbrev pub off_by : ℕ → Option ℕ → ℕ → ℕ
+off_by most None drawn = 0
+off_by most (Some sample) drawn = min (abs_diff sample drawn) most
+
+-- how far the samples of a line are from those of a row, in sum, each by `most` at most
+unfoldable pub row_distance : ℕ → Samples → List ℕ → ℕ
+row_distance most [] row = 0
+row_distance most (sample ∷ line) [] = 0
+row_distance most (sample ∷ line) (drawn ∷ row) = off_by most sample drawn + row_distance most line row
 
 -- how far the samples of all the lines are from those of a row, in sum
-unfoldable pub distance_of : List Samples → List ℕ → ℕ
-distance_of [] row = 0
-distance_of (line ∷ lines) row = row_distance line row + distance_of lines row
+unfoldable pub distance_of : ℕ → List Samples → List ℕ → ℕ
+distance_of most [] row = 0
+distance_of most (line ∷ lines) row = row_distance most line row + distance_of most lines row
 
 -- samples that are all known
 abbrev pub known : List ℕ → Samples
@@ -61,7 +66,8 @@ shade of false = of.dark
 unfoldable pub column_cost : Slicing → List Samples → ℕ → Bool → ℕ
 column_cost slicing [] column level = 0
 column_cost slicing (line ∷ lines) column level =
-    off_by (slice_index_or line column None) (sample_of slicing level) + column_cost slicing lines column level
+    off_by (unit_of slicing) (slice_index_or line column None) (sample_of slicing level)
+    + column_cost slicing lines column level
 
 -- lines of the system, of which `costs` says for each column how far they are from black there, and from white
 pub record IsPile (system : System) (slicing : Slicing) (lines : List Samples) (costs : Shades) : Type 0 where

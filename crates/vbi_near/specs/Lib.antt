@@ -6,5 +6,14 @@ pub mod Best
 pub mod Nearest
 pub mod Apart
 pub mod Longer
+pub mod Shorter
+pub mod Stretched
+pub mod LineCodes
+pub mod Leads
+pub mod Levelled
+pub mod WorkedLevels
+pub mod Said
+pub mod Candidates
 pub mod Recovery
+pub mod Piled
 pub mod WorkedRules

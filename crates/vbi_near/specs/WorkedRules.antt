@@ -1,11 +1,30 @@
 -- Nearest words written down, with the numbers of the rule at their limits. White is 100 above black.
-use Rattle.std.specs.Prelude.{ℕ, ◌≡◌, List, map, Option, Some}
+use Rattle.std.specs.Prelude.{ℕ, ◌≡◌, List, map, Option, Some, None}
 use Rattle.vbi_words.specs.declared.outcome.Outcome.{Outcome}
 use Rattle.vbi_words.specs.declared.outcome.Outcome.TheVariants.{Word, Unfinished, Change}
 use Rattle.vbi_words.specs.Outcomes.{word_of}
 use Rattle.vbi_near.specs.declared.near.Near.{Near}
+use Rattle.vbi_near.specs.declared.lines.Nears.{Nears}
 use Rattle.vbi_near.specs.declared.recovery.Recovered.{Recovered}
-use Rattle.vbi_near.specs.declared.recovery.Seen.{Seen}
+use Rattle.vbi_near.specs.Candidates.{Candidates}
+use Rattle.vbi_near.specs.Recovery.{Seen}
+
+-- a nearest word that is a code, and one that is none beside which no code is near
+abbrev pub as_code : Near → Nears
+as_code near = record { word = near; code = near }
+
+abbrev pub as_other : Near → Nears
+as_other near = record {
+  word = near;
+  code = record {
+    word = None;
+    start = 0;
+    distance = 99999;
+    rival = 99999;
+    longer = 99999;
+    shorter = 99999;
+  };
+}
 
 -- a word at a distance of 10,000, with the distance of its rival, and of the row that goes on
 abbrev pub near_with : ℕ → ℕ → ℕ → Near
@@ -15,40 +34,82 @@ near_with word rival longer = record {
   distance = 10000;
   rival = rival;
   longer = longer;
+  shorter = 10000;
 }
 
+-- one with the distance of the row that is cut short
+abbrev pub cut_at : ℕ → Near
+cut_at shorter = record (near_with 0xF12345 20000 10000) { shorter = shorter }
+
+-- a word that no code is, beside a code at this distance, with that of the code's rival
+abbrev pub beside : ℕ → ℕ → Nears
+beside distance rival = record {
+  word = near_with 0xF1234A 10100 10000;
+  code = record {
+    word = Some 0xF12345;
+    start = 150;
+    distance = distance;
+    rival = rival;
+    longer = distance;
+    shorter = distance;
+  };
+}
+
+-- nearest words of lines as they are, which can't be levelled; and of lines that can
+abbrev pub as_given : Nears → Candidates
+as_given near = record { levelled = None; given = near }
+
+abbrev pub levelled_as : Nears → Nears → Candidates
+levelled_as near given = record { levelled = Some near; given = given }
+
 -- a line that is read as unfinished, and a line whose smoothed levels alone show a word
-abbrev pub worn : Near → Seen
-worn near = record {
+abbrev pub worn_by : Candidates → Seen
+worn_by near = record {
   reading = record { outcome = Unfinished; pass = 0 };
   plain = Unfinished;
   near = near;
+  stretched = 0;
 }
 
-abbrev pub smoothed : ℕ → Near → Seen
-smoothed word near = record {
+abbrev pub worn : Nears → Seen
+worn near = worn_by (as_given near)
+
+abbrev pub smoothed_at : ℕ → ℕ → Candidates → Seen
+smoothed_at stretched word near = record {
   reading = record { outcome = Word word; pass = 2 };
   plain = Change 34;
   near = near;
+  stretched = stretched;
 }
+
+abbrev pub smoothed_by : ℕ → Candidates → Seen
+smoothed_by word near = smoothed_at 99999 word near
+
+abbrev pub smoothed : ℕ → Nears → Seen
+smoothed word near = smoothed_by word (as_given near)
 
 -- a line that is read so, whatever its nearest word is
 abbrev pub read_as : Outcome → ℕ → Seen
 read_as outcome pass = record {
   reading = record { outcome = outcome; pass = pass };
   plain = outcome;
-  near = near_with 0xF55555 99999 99999;
+  near = as_given (as_code (near_with 0xF55555 99999 99999));
+  stretched = 0;
 }
 
 -- two lines at this distance together from the picture number 12345, with that of their rival
-abbrev pub together_at : ℕ → ℕ → Near
-together_at distance rival = record {
+abbrev pub both_at : ℕ → ℕ → Nears
+both_at distance rival = as_code (record {
   word = Some 0xF12345;
   start = 150;
   distance = distance;
   rival = rival;
   longer = distance;
-}
+  shorter = distance;
+})
+
+abbrev pub together_at : ℕ → ℕ → Candidates
+together_at distance rival = as_given (both_at distance rival)
 
 -- the words and the passes of lines
 abbrev pub words_of : List Recovered → List (Option ℕ)

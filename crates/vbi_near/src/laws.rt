@@ -1,35 +1,41 @@
 //! Laws of the definitions in `specs/`. A function here does nothing: its contract is a law, which holds of all lines.
 
-ghost use Rattle.std.specs.Prelude.{◌≡◌, ◌≢◌, ℕ, ◌*◌, ◌-◌, ◌≤◌, ◌<◌, true, false, List, [], ◌∷◌, length, map};
-ghost use Rattle.std.specs.Prelude.{replicate, Option, Some, None};
+ghost use Rattle.std.specs.Prelude.{◌≡◌, ◌≢◌, ℕ, ◌*◌, ◌-◌, ◌≤◌, ◌<◌, Bool, true, false, List, [], ◌∷◌, length};
+ghost use Rattle.std.specs.Prelude.{map, replicate, Option, Some, None, ◌↔◌, IsTrue};
 ghost use Rattle.std.specs.List.{All};
 ghost use Rattle.vbi_words.specs.declared.system.System.{System};
 ghost use Rattle.vbi_words.specs.declared.system.System.TheVariants.{Ntsc, Pal};
 ghost use Rattle.vbi_words.specs.Geometry.{width_of, start_of};
 ghost use Rattle.vbi_words.specs.Levels.{Slicing};
-ghost use Rattle.vbi_words.specs.Words.{IsWordOrNone};
+ghost use Rattle.vbi_words.specs.Words.{IsWord, IsWordOrNone};
+ghost use Rattle.vbi_words.specs.Codes.{may_stand, code_of};
 ghost use Rattle.vbi_words.specs.Jitter.{differences};
 ghost use Rattle.vbi_words.specs.Drawn.{drawn_row_of};
 ghost use Rattle.vbi_near.specs.declared.near.Near.{Near};
 ghost use Rattle.vbi_words.specs.WorkedLines.{changing};
 ghost use Rattle.vbi_near.specs.Pictures.{IsPlace, starts, picture_of, drawn_as};
-ghost use Rattle.vbi_near.specs.Distances.{Samples, known, known_but, row_distance, distance_of};
-ghost use Rattle.vbi_near.specs.Nearest.{IsNearest};
-ghost use Rattle.vbi_near.specs.Longer.{begun_earlier, ended_later};
+ghost use Rattle.vbi_near.specs.Distances.{Samples, unit_of, known, known_but, row_distance, distance_of};
+ghost use Rattle.vbi_near.specs.Nearest.{IsNearest, IsFirst, IsNearestCode, IsFirstCode};
+ghost use Rattle.vbi_near.specs.Longer.{begun_earlier, ended_later, IsLonger};
+ghost use Rattle.vbi_near.specs.Shorter.{IsShorter};
 ghost use Rattle.vbi_near.specs.Apart.{picture_distance};
+ghost use Rattle.vbi_near.specs.LineCodes.{IsOneOf, codes_of};
+ghost use Rattle.vbi_near.specs.declared.recovery.Recovered.{Recovered};
+ghost use Rattle.vbi_near.specs.Recovery.{IsRecovered};
 
 /// Where another word than the one answered was recorded, the samples of the lines are off by `rival` or more in sum.
 pub fn misread_at_least()
     ensures { (system : System) (slicing : Slicing) (lines : List Samples) (near : Near) (word : Option ℕ) (start : ℕ)
         → IsNearest system slicing lines near → IsPlace system word start → word ≢ near.word
-        → near.rival ≤ distance_of lines (drawn_as slicing (picture_of system word start)) }
+        → near.rival ≤ distance_of (unit_of slicing) lines (drawn_as slicing (picture_of system word start)) }
 {}
 
 /// Where the samples are off by less than `rival` in sum, the word answered is the recorded one.
 pub fn right_below_rival()
     ensures { (system : System) (slicing : Slicing) (lines : List Samples) (near : Near) (word : Option ℕ) (start : ℕ)
         → IsNearest system slicing lines near → IsPlace system word start
-        → distance_of lines (drawn_as slicing (picture_of system word start)) < near.rival → word ≡ near.word }
+        → distance_of (unit_of slicing) lines (drawn_as slicing (picture_of system word start)) < near.rival
+        → word ≡ near.word }
 {}
 
 /// Of some lines there is one least distance; and where the rival is farther, one nearest word.
@@ -39,6 +45,52 @@ pub fn one_nearest()
     ensures word { (system : System) (slicing : Slicing) (lines : List Samples) (near other : Near)
         → IsNearest system slicing lines near → IsNearest system slicing lines other → near.distance < near.rival
         → other.word ≡ near.word }
+{}
+
+/// Of some lines one word is the first of the nearest, from one start on, and so is one code: all that is answered is
+/// fixed by the lines.
+pub fn one_near()
+    ensures word { (system : System) (slicing : Slicing) (lines : List Samples) (near other : Near)
+        → IsNearest system slicing lines near → IsFirst system slicing lines near → IsLonger system slicing lines near
+        → IsShorter system slicing lines near → IsNearest system slicing lines other
+        → IsFirst system slicing lines other → IsLonger system slicing lines other
+        → IsShorter system slicing lines other → near ≡ other }
+    ensures code { (system : System) (line : ℕ) (slicing : Slicing) (lines : List Samples) (near other : Near)
+        → IsNearestCode system line slicing lines near → IsFirstCode system line slicing lines near
+        → IsLonger system slicing lines near → IsShorter system slicing lines near
+        → IsNearestCode system line slicing lines other → IsFirstCode system line slicing lines other
+        → IsLonger system slicing lines other → IsShorter system slicing lines other → near ≡ other }
+{}
+
+/// Any lines have such a nearest word, and such a nearest code.
+pub fn some_near()
+    ensures word { (system : System) (slicing : Slicing) (lines : List Samples)
+        → (near : Near) × IsNearest system slicing lines near × IsFirst system slicing lines near
+        × IsLonger system slicing lines near × IsShorter system slicing lines near }
+    ensures code { (system : System) (line : ℕ) (slicing : Slicing) (lines : List Samples)
+        → (near : Near) × IsNearestCode system line slicing lines near × IsFirstCode system line slicing lines near
+        × IsLonger system slicing lines near × IsShorter system slicing lines near }
+{}
+
+/// The table that is searched for codes has the words whose code may stand on the line, by the table of classes, and no
+/// others.
+pub fn codes_stand()
+    ensures { (system : System) (line word : ℕ) → 16 ≤ line → line ≤ 18 → IsWord word
+        → (IsOneOf (codes_of system line) word ↔ IsTrue (may_stand system line (code_of word))) }
+{}
+
+/// Three rows, of which some columns are erased, show one thing: what their lines are taken to show is fixed by the
+/// bytes, the erased columns and the levels of black and white.
+pub fn one_recovered()
+    ensures { (system : System) (slicing : Slicing) (rows : List ℕ) (erased : List Bool)
+        (recovered other : List Recovered) → IsRecovered system slicing rows erased recovered
+        → IsRecovered system slicing rows erased other → recovered ≡ other }
+{}
+
+/// Any three rows show something, whichever of their columns are erased.
+pub fn some_recovered()
+    ensures { (system : System) (slicing : Slicing) (rows : List ℕ) (erased : List Bool)
+        → (recovered : List Recovered) × IsRecovered system slicing rows erased recovered }
 {}
 
 /// Pictures of different words, or of a word and of none, are apart, wherever they begin.
@@ -52,7 +104,7 @@ pub fn pictures_apart()
 pub fn rows_apart()
     ensures { (system : System) (slicing : Slicing) (one other : Option ℕ) (s t : ℕ) → IsPlace system one s
         → IsPlace system other t → one ≢ other → picture_distance system * (slicing.white - slicing.black)
-        ≤ row_distance (known (drawn_as slicing (picture_of system one s)))
+        ≤ row_distance (unit_of slicing) (known (drawn_as slicing (picture_of system one s)))
         (drawn_as slicing (picture_of system other t)) }
 {}
 
@@ -62,7 +114,7 @@ pub fn few_misread()
     ensures { (system : System) (slicing : Slicing) (lines : List (List ℕ)) (near : Near) (word : Option ℕ) (start : ℕ)
         → All (λ line. length line ≡ width_of system) lines → IsNearest system slicing (map known lines) near
         → IsPlace system word start
-        → 2 * distance_of (map known lines) (drawn_as slicing (picture_of system word start))
+        → 2 * distance_of (unit_of slicing) (map known lines) (drawn_as slicing (picture_of system word start))
         < length lines * (picture_distance system * (slicing.white - slicing.black))
         → near.word ≡ word }
 {}
@@ -110,8 +162,10 @@ pub fn worked_near()
         × (differences (picture_of Pal (Some 0x800000) 0) (picture_of Pal (Some 0xC00000) 0) ≡ 35) }
     ensures samples { drawn_as (record { black = 16384; white = 51200 }) (false ∷ true ∷ true ∷ [])
         ≡ 16384 ∷ 51200 ∷ 51200 ∷ [] }
-    ensures distance { distance_of (map known ((16384 ∷ 51000 ∷ 60000 ∷ []) ∷ (16000 ∷ 51200 ∷ 65535 ∷ []) ∷ []))
+    ensures distance { distance_of 34816 (map known ((16384 ∷ 51000 ∷ 60000 ∷ []) ∷ (16000 ∷ 51200 ∷ 65535 ∷ []) ∷ []))
         (16384 ∷ 51200 ∷ 51200 ∷ []) ≡ 23719 }
-    ensures erased { distance_of (known_but (false ∷ true ∷ false ∷ []) (16384 ∷ 51000 ∷ 60000 ∷ []) ∷ [])
+    ensures erased { distance_of 34816 (known_but (false ∷ true ∷ false ∷ []) (16384 ∷ 51000 ∷ 60000 ∷ []) ∷ [])
         (16384 ∷ 51200 ∷ 51200 ∷ []) ≡ 8800 }
+    ensures at_most { distance_of 34816 (map known ((16384 ∷ 0 ∷ 16385 ∷ []) ∷ (65535 ∷ 51200 ∷ 16383 ∷ []) ∷ []))
+        (16384 ∷ 51200 ∷ 51200 ∷ []) ≡ 139263 }
 {}

@@ -6,18 +6,33 @@
 
 mod beyond;
 mod bits;
+mod candidates;
 mod cell;
+mod codes;
+mod confirmed;
 mod found;
 pub mod laws;
+mod levelled;
+pub mod levelled_laws;
 mod lines;
 mod near;
+mod near_code;
+mod order;
 mod pile;
+mod piled;
 mod recovery;
+pub mod row_laws;
 pub mod rule_laws;
+mod said;
 mod starts;
+mod stretched;
 mod sums;
+mod within;
 
-pub use lines::nearest_of_lines;
+pub use lines::{Nears, nearest_of_lines, nears_of};
 pub use near::{Near, nearest};
+pub use near_code::nearest_of_codes;
 pub use pile::add_line;
+pub use piled::recover_pile;
 pub use recovery::{Recovered, recover_rows};
+pub use stretched::stretched_distance;

@@ -1,12 +1,16 @@
 //! The nearest word of lines that lie one behind the other.
 
-ghost use Rattle.std.specs.Prelude.{◌≡◌, ◌+◌, ◌*◌, ◌≤◌, ◌<◌, length};
-ghost use Rattle.vbi_words.specs.Geometry.{line_bytes, line_at};
-ghost use Rattle.vbi_near.specs.Distances.{lines_of};
-ghost use Rattle.vbi_near.specs.Nearest.{IsNearest};
+ghost use Rattle.std.specs.Prelude.{◌≡◌, ◌+◌, ◌*◌, ◌≤◌, ◌<◌, length, List};
+ghost use Rattle.vbi_words.specs.Geometry.{line_bytes, line_at, width_of};
+ghost use Rattle.vbi_words.specs.Levels.{Slicing};
+ghost use Rattle.vbi_near.specs.Candidates.{HasNear};
+ghost use Rattle.vbi_near.specs.Distances.{Samples, lines_of, IsPile, AreFew, shades};
+ghost use Rattle.vbi_near.specs.Nearest.{IsNearest, IsFirst};
 ghost use Rattle.vbi_near.specs.Longer.{IsLonger};
+ghost use Rattle.vbi_near.specs.Shorter.{IsShorter};
 
 use crate::near::{Near, WIDEST, nearest};
+use crate::near_code::nears;
 use crate::pile::add_line;
 use vbi_words::{Levels, System};
 
@@ -25,7 +29,9 @@ pub fn nearest_of_lines(system: System, levels: Levels, lines: &[u8], count: usi
     requires few { count ≤ 28 }
     requires whole { length lines.now ≡ count * line_bytes system }
     ensures nearest { IsNearest system levels (lines_of system lines.now count) result }
+    ensures first { IsFirst system levels (lines_of system lines.now count) result }
     ensures longer { IsLonger system levels (lines_of system lines.now count) result }
+    ensures shorter { IsShorter system levels (lines_of system lines.now count) result }
     ensures start { result.start < 285 }
 {
     let none_erased = [false; WIDEST];
@@ -38,4 +44,25 @@ pub fn nearest_of_lines(system: System, levels: Levels, lines: &[u8], count: usi
         add_line(levels, line_of(system, lines, line), erased, darks, lights);
     }
     nearest(system, darks, lights)
+}
+
+/// The word that is nearest to some lines, and the code that is nearest.
+#[derive(Clone, Copy)]
+pub struct Nears {
+    /// Of all words, or none.
+    pub word: Near,
+    /// Of the codes that may stand on a line, or none.
+    pub code: Near,
+}
+
+/// The word that is nearest to some lines, and the nearest of the codes that may stand on a line of this number, by how
+/// far their samples are from black in each column, and from white.
+pub fn nears_of(system: System, number: u32, darks: &[u32], lights: &[u32]) -> Nears
+    requires dark { length darks.now ≡ width_of system }
+    requires light { length lights.now ≡ width_of system }
+    requires few { AreFew 28 darks.now × AreFew 28 lights.now }
+    ensures { (slicing : Slicing) (lines : List Samples) → IsPile system slicing lines (shades darks.now lights.now)
+        → HasNear system number slicing lines result }
+{
+    nears(system, number, darks, lights)
 }

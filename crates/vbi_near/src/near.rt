@@ -9,12 +9,15 @@ ghost use Rattle.vbi_near.specs.Sums.{span};
 ghost use Rattle.vbi_near.specs.Costs.{place_cost};
 ghost use Rattle.vbi_near.specs.Best.{IsFound, IsChosen};
 ghost use Rattle.vbi_near.specs.Distances.{Samples, IsPile, AreFew, shades};
-ghost use Rattle.vbi_near.specs.Nearest.{IsNearest};
+ghost use Rattle.vbi_near.specs.Nearest.{IsNearest, IsFirst};
 ghost use Rattle.vbi_near.specs.Longer.{IsLonger};
+ghost use Rattle.vbi_near.specs.Shorter.{IsShorter};
 
 use crate::beyond::longer_distance;
-use crate::found::{Found, nearest_word};
+use crate::bits::MOST_STARTS;
+use crate::found::{Found, nearest_word, start_count};
 use crate::sums::{between, sum_up};
+use crate::within::shorter_distance;
 use vbi_words::{System, Word24};
 
 /// The samples of the longest line, that of PAL.
@@ -34,10 +37,13 @@ pub struct Near {
     /// The least distance of a drawn row that has one cell more before or behind those of the word; the distance where
     /// there is none.
     pub longer: u32,
+    /// The least distance of a drawn row that has fewer cells: the row of the word with its first one, its first two,
+    /// its last one or its last two cells black; the distance where there is none.
+    pub shorter: u32,
 }
 
 /// The word of this number.
-fn word_of(word: u32) -> Word24
+pub(crate) fn word_of(word: u32) -> Word24
     requires { IsWord word }
     ensures { result ≡ word }
 {
@@ -45,9 +51,9 @@ fn word_of(word: u32) -> Word24
 }
 
 /// The nearer of the nearest word and of none.
-fn or_none(found: Found, longer: u32, blank: u32) -> Near
+pub(crate) fn or_none(found: Found, longer: u32, shorter: u32, blank: u32) -> Near
     requires { IsWord found.word }
-    ensures { IsChosen found longer blank result }
+    ensures { IsChosen found longer shorter blank result }
 {
     if blank <= found.distance {
         Near {
@@ -56,6 +62,7 @@ fn or_none(found: Found, longer: u32, blank: u32) -> Near
             distance: blank,
             rival: found.distance,
             longer: blank,
+            shorter: blank,
         }
     } else {
         Near {
@@ -64,21 +71,26 @@ fn or_none(found: Found, longer: u32, blank: u32) -> Near
             distance: found.distance,
             rival: found.rival.min(blank),
             longer,
+            shorter,
         }
     }
 }
 
 /// The word that is nearest to some lines, of which `darks` and `lights` say for each column how far their samples are
-/// from black there, and from white, in sum. Of drawn rows that are as near, the one of no word comes first, and then
-/// the one that begins first.
+/// from black there, and from white, in sum. Of drawn rows that are as near, the one of no word comes first, then the
+/// one that begins first, and of these the one of the least word.
 pub fn nearest(system: System, darks: &[u32], lights: &[u32]) -> Near
     requires dark { length darks.now ≡ width_of system }
     requires light { length lights.now ≡ width_of system }
     requires few { AreFew 28 darks.now × AreFew 28 lights.now }
     ensures nearest { (slicing : Slicing) (lines : List Samples)
         → IsPile system slicing lines (shades darks.now lights.now) → IsNearest system slicing lines result }
+    ensures first { (slicing : Slicing) (lines : List Samples)
+        → IsPile system slicing lines (shades darks.now lights.now) → IsFirst system slicing lines result }
     ensures longer { (slicing : Slicing) (lines : List Samples)
         → IsPile system slicing lines (shades darks.now lights.now) → IsLonger system slicing lines result }
+    ensures shorter { (slicing : Slicing) (lines : List Samples)
+        → IsPile system slicing lines (shades darks.now lights.now) → IsShorter system slicing lines result }
     ensures start { result.start < 285 }
 {
     let mut dark_sums = [0; WIDEST + 1];
@@ -88,7 +100,9 @@ pub fn nearest(system: System, darks: &[u32], lights: &[u32]) -> Near
     sum_up(darks, dark);
     sum_up(lights, light);
     let blank = between(dark, 0, system.width());
-    let found = nearest_word(dark, light, system);
+    let mut bounds = [0; MOST_STARTS];
+    let found = nearest_word(dark, light, system, &mut bounds[..start_count(system)]);
     let longer = longer_distance(dark, light, system, found);
-    or_none(found, longer, blank)
+    let shorter = shorter_distance(dark, light, system, found);
+    or_none(found, longer, shorter, blank)
 }

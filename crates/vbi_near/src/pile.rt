@@ -1,4 +1,5 @@
-//! What the columns of lines that have one word cost: how far their samples are from black, and from white.
+//! What the columns of lines that have one word cost: how far their samples are from black, and from white, each at
+//! most as far as white is from black.
 
 ghost use Rattle.std.specs.Prelude.{◌≡◌, ℕ, ◌+◌, ◌*◌, ◌≤◌, ◌<◌, ◌∷◌, ◌++◌, [], length, List};
 ghost use Rattle.vbi_words.specs.declared.system.System.{System};
@@ -34,11 +35,17 @@ pub fn add_line(levels: Levels, line: &[u8], erased: &[bool], darks: &mut [u32],
     ensures few { (lines : ℕ) → AreFew lines darks.old × AreFew lines lights.old
         → AreFew (lines + 1) darks.new × AreFew (lines + 1) lights.new }
 {
-    for column in 0..darks.len() {
+    let unit = levels.white() - levels.black();
+    let count = darks.len();
+
+    // As many bytes and marks as columns, and no branch: so a compiler leaves out the tests of indices, and neither
+    // dropouts nor noise slow the loop.
+    let line = &line[..2 * count];
+    let erased = &erased[..count];
+    for column in 0..count {
         let sample = sample(line, column);
-        if !erased[column] {
-            darks[column] += u32::from(sample.abs_diff(levels.black()));
-            lights[column] += u32::from(sample.abs_diff(levels.white()));
-        }
+        let most = if erased[column] { 0 } else { unit };
+        darks[column] += u32::from(sample.abs_diff(levels.black()).min(most));
+        lights[column] += u32::from(sample.abs_diff(levels.white()).min(most));
     }
 }

@@ -1,51 +1,31 @@
-//! The words of a field's three lines, by their readings and their nearest words.
+//! The words of a field's three lines, by their readings and the words that they may have.
+//!
+//! `said.rt` has what a nearest word says, `candidates.rt` finds the nearest words of a line and of two, as they are
+//! and levelled (`levelled.rt`), `confirmed.rt` has what a line says by itself. Here a line's reading, its candidates
+//! and those of lines 17 and 18 together become what the line shows. The definitions of `specs/Recovery.antt`,
+//! `Said.antt`, `Candidates.antt` and `Levelled.antt` go with them.
+//!
+//! As in `confirmed.rt`, lines as they are are searched only where the levelled ones say no word, and the contracts say
+//! that a call answers as the definitions do by whatever nearest words the lines have, of which there is one each.
 
-ghost use Rattle.std.specs.Prelude.{◌≡◌, ◌+◌, ◌-◌, ◌*◌, ◌≤◌, ◌<◌, ◌^◌, ◌∷◌, [], length, IsTrue};
-ghost use Rattle.vbi_words.specs.Geometry.{line_bytes, line_at};
+ghost use Rattle.std.specs.Prelude.{◌≡◌, ℕ, ◌+◌, ◌*◌, ◌-◌, ◌<◌, ◌^◌, ◌&&◌, List, ◌∷◌, [], length, take, drop, IsTrue};
+ghost use Rattle.vbi_words.specs.Geometry.{line_bytes, width_of};
 ghost use Rattle.vbi_words.specs.Levels.{row_levels};
-ghost use Rattle.vbi_line.specs.OneReading.{outcome_of};
-ghost use Rattle.vbi_near.specs.Recovery.{is_ahead, goes_on, columns_for, said_of, is_said, stays, own_of, is_open};
-ghost use Rattle.vbi_near.specs.Recovery.{are_open, is_same, have_one, do_agree, stand_of, said_in};
-ghost use Rattle.vbi_near.specs.Recovery.{recovered_as, shown_in};
-ghost use Rattle.vbi_near.specs.Recovery.{is_asked, HasNear, IsSeen, last_two_rows, IsRecovered, IsKept, row_reading};
+ghost use Rattle.vbi_line.specs.OneReading.{reading_of};
+ghost use Rattle.vbi_near.specs.Candidates.{Candidates, row_of, has_swing, levelled_samples, HasNearIf, AreOf};
+ghost use Rattle.vbi_near.specs.Candidates.{AreOfBoth};
+ghost use Rattle.vbi_near.specs.Recovery.{Seen, own_of, is_open, are_open, stands_by, stands_of, said_by};
+ghost use Rattle.vbi_near.specs.Recovery.{recovered_as, is_asked, IsSeen, IsLine, IsOwn, IsRecovered, IsKept};
+ghost use Rattle.vbi_near.specs.Recovery.{row_at, row_reading, alone, shown_in};
 
-use crate::lines::{line_of, nearest_of_lines};
-use crate::near::Near;
-use vbi_line::{read_bytes_twice, read_packed, slice_bytes};
-use vbi_words::{Levels, Outcome, Reading, System, Word24, classify, may_stand};
-
-/// By how many columns the nearest word has to be ahead of any other: by so many times what white and black are off
-/// from each other.
-#[derive(Clone, Copy)]
-pub struct Margins {
-    /// A code that may stand on its line.
-    pub code: u32,
-    /// Any other word.
-    pub other: u32,
-}
-
-/// Those of one line.
-const LONE: Margins = Margins { code: 6, other: 8 };
-
-/// Those of one of two lines that don't agree.
-const APART: Margins = Margins {
-    code: 10,
-    other: 12,
+use crate::candidates::{
+    levelled_near_of_one, levelled_near_of_two, near_of_one, near_of_two, unit_of,
 };
-
-/// Those of two lines together.
-const BOTH: Margins = Margins { code: 6, other: 10 };
-
-/// How lines 17 and 18 stand to each other.
-#[derive(Clone, Copy)]
-pub enum Stand {
-    /// One of them, or both, need no nearest word.
-    Alone,
-    /// Their nearest words don't agree.
-    Apart,
-    /// They agree.
-    Together,
-}
+use crate::confirmed::{is_confirmed, said_alone};
+use crate::lines::{Nears, line_of};
+use crate::said::{first_said, said_by_pair};
+use vbi_line::{read_bytes_twice, read_packed, slice_bytes};
+use vbi_words::{Levels, Outcome, Reading, System, Word24};
 
 /// What a line is taken to show.
 #[derive(Clone, Copy)]
@@ -56,112 +36,46 @@ pub struct Recovered {
     pub pass: u8,
 }
 
-/// What there is of a line.
+/// A line as it was read, and its nearest words levelled.
 #[derive(Clone, Copy)]
-pub struct Seen {
+struct Line {
     /// Its reading.
-    pub reading: Reading,
-    /// Where the reading is of pass 2, the outcome of the line's own levels.
-    pub plain: Outcome,
-    /// Where the rule asks for it, the line's nearest word.
-    pub near: Near,
+    reading: Reading,
+    /// Where the rule asks for them, and the line swings as one with a word does, its nearest words levelled.
+    levelled: Option<Nears>,
 }
 
-/// Stands where no nearest word is asked for.
-const UNASKED: Near = Near {
-    word: None,
-    start: 0,
-    distance: 0,
-    rival: 0,
-    longer: 0,
-};
-
-/// Whether any other word is farther by so many columns.
-fn is_ahead(unit: u32, columns: u32, near: &Near) -> bool
-    ensures { result ≡ is_ahead unit columns near.now }
-{
-    u64::from(near.distance) + u64::from(columns) * u64::from(unit) <= u64::from(near.rival)
-}
-
-/// Whether the signal of so many lines goes on beyond the word.
-fn goes_on(unit: u32, lines: u32, near: &Near) -> bool
-    requires { lines ≤ 28 }
-    ensures { result ≡ goes_on unit lines near.now }
-{
-    u64::from(near.longer) + 4 * u64::from(lines) * u64::from(unit) < u64::from(near.distance)
-}
-
-/// The columns that this word needs on its line.
-fn columns_for(system: System, line: u32, margins: &Margins, word: Word24) -> u32
-    ensures { result ≡ columns_for system line margins.now word }
-{
-    if may_stand(system, line, classify(word)) {
-        margins.code
-    } else {
-        margins.other
-    }
-}
-
-/// The word that so many lines say, of which this is the nearest word.
-fn said(
+/// What a line of this reading is taken to show by its own levels.
+fn own(
     system: System,
-    unit: u32,
-    line: u32,
-    margins: &Margins,
-    lines: u32,
-    near: &Near,
-) -> Option<Word24>
-    requires { lines ≤ 28 }
-    ensures { result ≡ said_of system unit line margins.now lines near.now }
+    number: u32,
+    levels: Levels,
+    row: &[u8],
+    erased: &[bool],
+    line: &Line,
+) -> Recovered
+    requires row { length row.now ≡ line_bytes system }
+    requires erased { length erased.now ≡ width_of system }
+    requires line { IsLine system number levels (row_of row.now erased.now) line.now }
+    ensures { (seen : Seen) → IsSeen system number levels (row_of row.now erased.now) seen
+        → result ≡ own_of (levels.white - levels.black) seen }
 {
-    match near.word {
-        Some(word) => {
-            let columns = columns_for(system, line, margins, word);
-            if is_ahead(unit, columns, near) && !goes_on(unit, lines, near) {
-                Some(word)
-            } else {
-                None
-            }
-        }
-        None => None,
+    let read = Recovered {
+        outcome: line.reading.outcome,
+        pass: line.reading.pass,
+    };
+    let word = match line.reading.outcome {
+        Outcome::Word(word) => word,
+        _ => return read,
+    };
+    if line.reading.pass != 2
+        || is_confirmed(system, number, levels, row, erased, &line.levelled, word)
+    {
+        return read;
     }
-}
-
-/// Whether this word is said.
-fn is_said(word: Word24, said: Option<Word24>) -> bool
-    ensures { result ≡ is_said word said }
-{
-    match said {
-        Some(other) => word.value() == other.value(),
-        None => false,
-    }
-}
-
-/// Whether what a reading shows stays.
-fn stays(outcome: Outcome, pass: u8, said: Option<Word24>) -> bool
-    ensures { result ≡ stays outcome pass said }
-{
-    match outcome {
-        Outcome::Word(word) => pass != 2 || is_said(word, said),
-        _ => true,
-    }
-}
-
-/// What a line is taken to show by its own levels.
-fn own(system: System, unit: u32, line: u32, seen: &Seen) -> Recovered
-    ensures { result ≡ own_of system unit line seen.now }
-{
-    let said = said(system, unit, line, &LONE, 1, &seen.near);
-    if stays(seen.reading.outcome, seen.reading.pass, said) {
-        Recovered {
-            outcome: seen.reading.outcome,
-            pass: seen.reading.pass,
-        }
-    } else {
-        Recovered {
-            outcome: seen.plain,
-            pass: 0,
-        }
+    Recovered {
+        outcome: read_packed(&slice_bytes(row, system, levels), system),
+        pass: 0,
     }
 }
 
@@ -172,69 +86,6 @@ fn is_open(outcome: Outcome) -> bool
     match outcome {
         Outcome::Word(_) | Outcome::Blank => false,
         _ => true,
-    }
-}
-
-/// Whether both of lines 17 and 18 are open.
-fn are_open(system: System, unit: u32, second: &Seen, third: &Seen) -> bool
-    ensures { result ≡ are_open system unit second.now third.now }
-{
-    is_open(own(system, unit, 17, second).outcome) && is_open(own(system, unit, 18, third).outcome)
-}
-
-/// Whether both are the same word.
-fn is_same(word: Option<Word24>, other: Option<Word24>) -> bool
-    ensures { result ≡ is_same word other }
-{
-    match word {
-        Some(word) => is_said(word, other),
-        None => false,
-    }
-}
-
-/// Whether two lines have one word, by the nearest word of each and by that of both.
-fn have_one(unit: u32, second: &Near, third: &Near, both: &Near) -> bool
-    ensures { result ≡ have_one unit second.now third.now both.now }
-{
-    let sum = u64::from(second.distance) + u64::from(third.distance);
-    is_same(second.word, third.word) || u64::from(both.distance) <= sum + 10 * u64::from(unit)
-}
-
-/// Whether two lines agree: they have one word, and not each of them goes on beyond its own.
-fn do_agree(unit: u32, second: &Near, third: &Near, both: &Near) -> bool
-    ensures { result ≡ do_agree unit second.now third.now both.now }
-{
-    have_one(unit, second, third, both) && !(goes_on(unit, 1, second) && goes_on(unit, 1, third))
-}
-
-/// How lines 17 and 18 stand to each other.
-fn stand_of(system: System, unit: u32, second: &Seen, third: &Seen, both: &Near) -> Stand
-    ensures { result ≡ stand_of system unit second.now third.now both.now }
-{
-    if !are_open(system, unit, second, third) {
-        Stand::Alone
-    } else if do_agree(unit, &second.near, &third.near, both) {
-        Stand::Together
-    } else {
-        Stand::Apart
-    }
-}
-
-/// The word that an open line says by its nearest word, or by that of lines 17 and 18 together.
-fn said_in(
-    stand: Stand,
-    system: System,
-    unit: u32,
-    line: u32,
-    near: &Near,
-    both: &Near,
-) -> Option<Word24>
-    ensures { result ≡ said_in stand system unit line near.now both.now }
-{
-    match stand {
-        Stand::Alone => said(system, unit, line, &LONE, 1, near),
-        Stand::Apart => said(system, unit, line, &APART, 1, near),
-        Stand::Together => said(system, unit, line, &BOTH, 2, both),
     }
 }
 
@@ -251,19 +102,6 @@ fn recovered_as(own: Recovered, said: Option<Word24>) -> Recovered
     }
 }
 
-/// What a line shows.
-fn shown(stand: Stand, system: System, unit: u32, line: u32, seen: &Seen, both: &Near) -> Recovered
-    ensures value { result ≡ shown_in stand system unit line seen.now both.now }
-    ensures kept { IsKept seen.now.reading result }
-{
-    let own = own(system, unit, line, seen);
-    if is_open(own.outcome) {
-        recovered_as(own, said_in(stand, system, unit, line, &seen.near, both))
-    } else {
-        own
-    }
-}
-
 /// Whether the rule asks for the nearest word of a line that is read so.
 fn is_asked(outcome: Outcome, pass: u8) -> bool
     ensures { result ≡ is_asked outcome pass }
@@ -274,84 +112,202 @@ fn is_asked(outcome: Outcome, pass: u8) -> bool
     }
 }
 
-/// The outcome of a line's own levels behind a word of pass 2.
-fn plain(system: System, levels: Levels, row: &[u8], reading: &Reading) -> Outcome
-    requires { length row.now ≡ line_bytes system }
-    ensures { reading.now.pass ≡ 2 → result ≡ outcome_of system (row_levels levels row.now) }
-{
-    if reading.pass == 2 {
-        read_packed(&slice_bytes(row, system, levels), system)
-    } else {
-        reading.outcome
-    }
-}
-
-/// A line's nearest word, where it is asked for.
-fn near_if_asked(system: System, levels: Levels, row: &[u8], reading: &Reading) -> Near
-    requires { length row.now ≡ line_bytes system }
-    ensures { IsTrue (is_asked reading.now.outcome reading.now.pass) → HasNear system levels row.now 1 result }
+/// A line's nearest words levelled, where they are asked for.
+fn levelled_if_asked(
+    system: System,
+    number: u32,
+    levels: Levels,
+    row: &[u8],
+    erased: &[bool],
+    reading: &Reading,
+) -> Option<Nears>
+    requires row { length row.now ≡ line_bytes system }
+    requires erased { length erased.now ≡ width_of system }
+    ensures { IsTrue (is_asked reading.now.outcome reading.now.pass)
+        → HasNearIf system number levels (has_swing system levels (row_of row.now erased.now))
+        (levelled_samples system levels (row_of row.now erased.now) ∷ []) result }
 {
     if is_asked(reading.outcome, reading.pass) {
-        nearest_of_lines(system, levels, row, 1)
+        levelled_near_of_one(system, number, levels, row, erased)
     } else {
-        UNASKED
+        None
     }
 }
 
-/// What there is of a line.
-fn see(system: System, levels: Levels, row: &[u8]) -> Seen
-    requires { length row.now ≡ line_bytes system }
-    ensures { IsSeen system levels row.now result }
+/// A line as it is read, and its nearest words levelled.
+fn line_in(system: System, number: u32, levels: Levels, row: &[u8], erased: &[bool]) -> Line
+    requires row { length row.now ≡ line_bytes system }
+    requires erased { length erased.now ≡ width_of system }
+    ensures { IsLine system number levels (row_of row.now erased.now) result }
 {
     let reading = read_bytes_twice(row, system, levels);
-    Seen {
+    Line {
         reading,
-        plain: plain(system, levels, row, &reading),
-        near: near_if_asked(system, levels, row, &reading),
+        levelled: levelled_if_asked(system, number, levels, row, erased, &reading),
     }
 }
 
-/// The nearest word of lines 17 and 18 together, where both are open.
-fn near_if_open(system: System, levels: Levels, rows: &[u8], second: &Seen, third: &Seen) -> Near
-    requires { length rows.now ≡ 3 * line_bytes system }
-    ensures { IsTrue (are_open system (levels.white - levels.black) second.now third.now)
-        → HasNear system levels (last_two_rows system rows.now) 2 result }
+/// What a line shows that has no other beside it.
+fn shown_alone(
+    system: System,
+    number: u32,
+    levels: Levels,
+    row: &[u8],
+    erased: &[bool],
+    line: &Line,
+    own: Recovered,
+) -> Recovered
+    requires row { length row.now ≡ line_bytes system }
+    requires erased { length erased.now ≡ width_of system }
+    requires line { IsLine system number levels (row_of row.now erased.now) line.now }
+    requires own { IsOwn system number levels (row_of row.now erased.now) own }
+    ensures { (seen : Seen) (both : Candidates) → IsSeen system number levels (row_of row.now erased.now) seen
+        → result ≡ shown_in alone (levels.white - levels.black) seen both }
 {
-    if are_open(system, unit_of(levels), second, third) {
-        let size = system.line_bytes();
-        nearest_of_lines(system, levels, &rows[size..3 * size], 2)
+    if is_open(own.outcome) {
+        let said = said_alone(system, number, levels, row, erased, &line.levelled);
+        recovered_as(own, said)
     } else {
-        UNASKED
+        own
     }
 }
 
-/// How far white is from black.
-fn unit_of(levels: Levels) -> u32
-    ensures value { result ≡ levels.white - levels.black }
-    ensures range { result < 2 ^ 16 }
+/// The words that lines 17 and 18 say, both of which are open. They are searched as they are only where one of them
+/// says none levelled.
+fn said_by_both(
+    system: System,
+    levels: Levels,
+    row: &[u8],
+    erased: &[bool],
+    levelled: &Option<Nears>,
+    other: &[u8],
+    other_erased: &[bool],
+    other_levelled: &Option<Nears>,
+) -> (Option<Word24>, Option<Word24>)
+    requires row { length row.now ≡ line_bytes system }
+    requires erased { length erased.now ≡ width_of system }
+    requires levelled { HasNearIf system 17 levels
+        (has_swing system levels (row_of row.now erased.now))
+        (levelled_samples system levels (row_of row.now erased.now) ∷ []) levelled.now }
+    requires other { length other.now ≡ line_bytes system }
+    requires other_erased { length other_erased.now ≡ width_of system }
+    requires other_levelled { HasNearIf system 18 levels
+        (has_swing system levels (row_of other.now other_erased.now))
+        (levelled_samples system levels (row_of other.now other_erased.now) ∷ []) other_levelled.now }
+    ensures { (near again both : Candidates) → AreOf system 17 levels (row_of row.now erased.now) near
+        → AreOf system 18 levels (row_of other.now other_erased.now) again
+        → AreOfBoth system 17 levels (row_of row.now erased.now) (row_of other.now other_erased.now) both
+        → let stands = stands_by (levels.white - levels.black) near again both in
+        (result.0 ≡ said_by stands (levels.white - levels.black) near both)
+        × (result.1 ≡ said_by stands (levels.white - levels.black) again both) }
 {
-    u32::from(levels.white() - levels.black())
+    let unit = unit_of(levels);
+    let both = levelled_near_of_two(system, 17, levels, row, erased, other, other_erased);
+    let said = said_by_pair(unit, levelled, other_levelled, &both);
+    if said.0.is_some() && said.1.is_some() {
+        return said;
+    }
+    let near = Some(near_of_one(system, 17, levels, row, erased));
+    let other_near = Some(near_of_one(system, 18, levels, other, other_erased));
+    let both_near = Some(near_of_two(system, 17, levels, row, erased, other, other_erased));
+    let given = said_by_pair(unit, &near, &other_near, &both_near);
+    (first_said(said.0, given.0), first_said(said.1, given.1))
 }
 
-/// What lines 16, 17 and 18 of a field show, by the bytes of their rows, which lie one behind the other.
-pub fn recover_rows(system: System, levels: Levels, rows: &[u8]) -> [Recovered; 3]
-    requires { length rows.now ≡ 3 * line_bytes system }
-    ensures recovered { IsRecovered system levels rows.now result }
+/// The erased columns of a line of three, counted from 0.
+fn erased_of(system: System, erased: &[bool], line: usize) -> &[bool]
+    requires whole { length erased.now ≡ 3 * width_of system }
+    requires line { line < 3 }
+    ensures columns { result.now ≡ take (width_of system) (drop (width_of system * line) erased.now) }
+    ensures long { length result.now ≡ width_of system }
+{
+    let width = system.width();
+    &erased[width * line..width * line + width]
+}
+
+/// Whether both of two lines are open.
+fn are_both_open(outcome: Outcome, other: Outcome) -> bool
+    ensures { result ≡ is_open outcome && is_open other }
+{
+    is_open(outcome) && is_open(other)
+}
+
+/// What lines 17 and 18 show, by the bytes of all three rows.
+fn shown_pair(
+    system: System,
+    levels: Levels,
+    rows: &[u8],
+    erased: &[bool],
+) -> (Recovered, Recovered)
+    requires rows { length rows.now ≡ 3 * line_bytes system }
+    requires erased { length erased.now ≡ 3 * width_of system }
+    ensures { (second third : Seen) (both : Candidates)
+        → IsSeen system 17 levels (row_at system rows.now erased.now 1) second
+        → IsSeen system 18 levels (row_at system rows.now erased.now 2) third
+        → (IsTrue (are_open (levels.white - levels.black) second third)
+        → AreOfBoth system 17 levels (row_at system rows.now erased.now 1) (row_at system rows.now erased.now 2) both)
+        → let stands = stands_of (levels.white - levels.black) second third both in
+        (result.0 ≡ shown_in stands (levels.white - levels.black) second both)
+        × (result.1 ≡ shown_in stands (levels.white - levels.black) third both) }
+{
+    let second = line_of(system, rows, 1);
+    let third = line_of(system, rows, 2);
+    let second_erased = erased_of(system, erased, 1);
+    let third_erased = erased_of(system, erased, 2);
+    let near = line_in(system, 17, levels, second, second_erased);
+    let other = line_in(system, 18, levels, third, third_erased);
+    let own_near = own(system, 17, levels, second, second_erased, &near);
+    let own_other = own(system, 18, levels, third, third_erased, &other);
+    if are_both_open(own_near.outcome, own_other.outcome) {
+        let said = said_by_both(
+            system,
+            levels,
+            second,
+            second_erased,
+            &near.levelled,
+            third,
+            third_erased,
+            &other.levelled,
+        );
+        return (
+            recovered_as(own_near, said.0),
+            recovered_as(own_other, said.1),
+        );
+    }
+    (
+        shown_alone(system, 17, levels, second, second_erased, &near, own_near),
+        shown_alone(system, 18, levels, third, third_erased, &other, own_other),
+    )
+}
+
+/// What line 16 shows.
+fn shown_first(system: System, levels: Levels, rows: &[u8], erased: &[bool]) -> Recovered
+    requires rows { length rows.now ≡ 3 * line_bytes system }
+    requires erased { length erased.now ≡ 3 * width_of system }
+    ensures { (seen : Seen) (both : Candidates)
+        → IsSeen system 16 levels (row_at system rows.now erased.now 0) seen
+        → result ≡ shown_in alone (levels.white - levels.black) seen both }
+{
+    let row = line_of(system, rows, 0);
+    let row_erased = erased_of(system, erased, 0);
+    let line = line_in(system, 16, levels, row, row_erased);
+    let own = own(system, 16, levels, row, row_erased, &line);
+    shown_alone(system, 16, levels, row, row_erased, &line, own)
+}
+
+/// What lines 16, 17 and 18 of a field show, by the bytes of their rows, which lie one behind the other, as do the
+/// marks of their erased columns: those count for no nearest word.
+pub fn recover_rows(system: System, levels: Levels, rows: &[u8], erased: &[bool]) -> [Recovered; 3]
+    requires rows { length rows.now ≡ 3 * line_bytes system }
+    requires erased { length erased.now ≡ 3 * width_of system }
+    ensures recovered { IsRecovered system levels rows.now erased.now result }
 
     // A word of pass 1 is never touched, and a blank line stays blank.
     ensures kept { (first second third : Recovered) → result ≡ first ∷ second ∷ third ∷ []
         → IsKept (row_reading system levels rows.now 0) first × IsKept (row_reading system levels rows.now 1) second
         × IsKept (row_reading system levels rows.now 2) third }
 {
-    let unit = unit_of(levels);
-    let first = see(system, levels, line_of(system, rows, 0));
-    let second = see(system, levels, line_of(system, rows, 1));
-    let third = see(system, levels, line_of(system, rows, 2));
-    let both = near_if_open(system, levels, rows, &second, &third);
-    let stand = stand_of(system, unit, &second, &third, &both);
-    [
-        shown(Stand::Alone, system, unit, 16, &first, &both),
-        shown(stand, system, unit, 17, &second, &both),
-        shown(stand, system, unit, 18, &third, &both),
-    ]
+    let first = shown_first(system, levels, rows, erased);
+    let others = shown_pair(system, levels, rows, erased);
+    [first, others.0, others.1]
 }

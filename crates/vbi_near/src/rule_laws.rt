@@ -2,71 +2,144 @@
 //! holds each number of the rule.
 
 ghost use Rattle.std.specs.Prelude.{◌≡◌, ◌∷◌, [], Some, None};
-ghost use Rattle.vbi_words.specs.declared.system.System.TheVariants.{Ntsc, Pal};
 ghost use Rattle.vbi_words.specs.declared.outcome.Outcome.TheVariants.{Word, Blank, Change};
-ghost use Rattle.vbi_near.specs.Recovery.{said_of, recovered_of, lone_margins, apart_margins, both_margins};
-ghost use Rattle.vbi_near.specs.WorkedRules.{near_with, worn, smoothed, read_as, together_at, Shows};
+ghost use Rattle.vbi_near.specs.Said.{said_of, lone_margins, apart_margins, both_margins};
+ghost use Rattle.vbi_near.specs.Recovery.{recovered_of};
+ghost use Rattle.vbi_near.specs.WorkedRules.{near_with, cut_at, as_code, as_other, beside, as_given};
+ghost use Rattle.vbi_near.specs.WorkedRules.{levelled_as, worn_by, worn};
+ghost use Rattle.vbi_near.specs.WorkedRules.{smoothed_by, smoothed_at, smoothed, read_as, both_at, together_at, Shows};
 
 /// By how much a nearest word has to be ahead: the least of each kind is said, and one less isn't.
-#[tactic(auto, unfolding(vbi_words::specs::Codes::code_of))]
 pub fn worked_margins()
-    ensures code { (said_of Ntsc 100 17 lone_margins 1 (near_with 0xF12345 10600 10000) ≡ Some 0xF12345)
-        × (said_of Ntsc 100 17 lone_margins 1 (near_with 0xF12345 10599 10000) ≡ None) }
-    ensures other { (said_of Pal 100 17 lone_margins 1 (near_with 0xF1234A 10800 10000) ≡ Some 0xF1234A)
-        × (said_of Pal 100 17 lone_margins 1 (near_with 0xF1234A 10799 10000) ≡ None) }
-    ensures line { said_of Ntsc 100 16 lone_margins 1 (near_with 0xF12345 10799 10000) ≡ None }
-    ensures apart_code { (said_of Ntsc 100 18 apart_margins 1 (near_with 0xF12345 11000 10000) ≡ Some 0xF12345)
-        × (said_of Ntsc 100 18 apart_margins 1 (near_with 0xF12345 10999 10000) ≡ None) }
-    ensures apart_other { (said_of Pal 100 18 apart_margins 1 (near_with 0xF1234A 11200 10000) ≡ Some 0xF1234A)
-        × (said_of Pal 100 18 apart_margins 1 (near_with 0xF1234A 11199 10000) ≡ None) }
-    ensures both_code { (said_of Pal 100 17 both_margins 2 (near_with 0xF12345 10600 10000) ≡ Some 0xF12345)
-        × (said_of Pal 100 17 both_margins 2 (near_with 0xF12345 10599 10000) ≡ None) }
-    ensures both_other { (said_of Ntsc 100 17 both_margins 2 (near_with 0xF1234A 11000 10000) ≡ Some 0xF1234A)
-        × (said_of Ntsc 100 17 both_margins 2 (near_with 0xF1234A 10999 10000) ≡ None) }
-    ensures longer { (said_of Ntsc 100 17 lone_margins 1 (near_with 0xF12345 20000 9600) ≡ Some 0xF12345)
-        × (said_of Ntsc 100 17 lone_margins 1 (near_with 0xF12345 20000 9599) ≡ None) }
-    ensures longer_of_two { (said_of Ntsc 100 17 both_margins 2 (near_with 0xF12345 20000 9200) ≡ Some 0xF12345)
-        × (said_of Ntsc 100 17 both_margins 2 (near_with 0xF12345 20000 9199) ≡ None) }
+    ensures code { (said_of 100 lone_margins 1 (as_code (near_with 0xF12345 10600 10000)) ≡ Some 0xF12345)
+        × (said_of 100 lone_margins 1 (as_code (near_with 0xF12345 10599 10000)) ≡ None) }
+    ensures other { (said_of 100 lone_margins 1 (as_other (near_with 0xF1234A 10800 10000)) ≡ Some 0xF1234A)
+        × (said_of 100 lone_margins 1 (as_other (near_with 0xF1234A 10799 10000)) ≡ None) }
+    ensures line { said_of 100 lone_margins 1 (as_other (near_with 0xF12345 10799 10000)) ≡ None }
+    ensures close { (said_of 100 lone_margins 1 (beside 11000 11600) ≡ Some 0xF12345)
+        × (said_of 100 lone_margins 1 (beside 11000 11599) ≡ None)
+        × (said_of 100 lone_margins 1 (beside 11001 19999) ≡ None) }
+    ensures apart_code { (said_of 100 apart_margins 1 (as_code (near_with 0xF12345 11000 10000)) ≡ Some 0xF12345)
+        × (said_of 100 apart_margins 1 (as_code (near_with 0xF12345 10999 10000)) ≡ None) }
+    ensures apart_other { (said_of 100 apart_margins 1 (as_other (near_with 0xF1234A 11200 10000)) ≡ Some 0xF1234A)
+        × (said_of 100 apart_margins 1 (as_other (near_with 0xF1234A 11199 10000)) ≡ None) }
+    ensures both_code { (said_of 100 both_margins 2 (as_code (near_with 0xF12345 10800 10000)) ≡ Some 0xF12345)
+        × (said_of 100 both_margins 2 (as_code (near_with 0xF12345 10799 10000)) ≡ None) }
+    ensures both_other { (said_of 100 both_margins 2 (as_other (near_with 0xF1234A 11000 10000)) ≡ Some 0xF1234A)
+        × (said_of 100 both_margins 2 (as_other (near_with 0xF1234A 10999 10000)) ≡ None) }
+    ensures longer { (said_of 100 lone_margins 1 (as_code (near_with 0xF12345 20000 9600)) ≡ Some 0xF12345)
+        × (said_of 100 lone_margins 1 (as_code (near_with 0xF12345 20000 9599)) ≡ None) }
+    ensures longer_of_two { (said_of 100 both_margins 2 (as_code (near_with 0xF12345 20000 9200)) ≡ Some 0xF12345)
+        × (said_of 100 both_margins 2 (as_code (near_with 0xF12345 20000 9199)) ≡ None) }
+    ensures shorter { (said_of 100 lone_margins 1 (as_code (cut_at 9600)) ≡ Some 0xF12345)
+        × (said_of 100 lone_margins 1 (as_code (cut_at 9599)) ≡ None) }
+    ensures shorter_of_two { (said_of 100 both_margins 2 (as_code (cut_at 9200)) ≡ Some 0xF12345)
+        × (said_of 100 both_margins 2 (as_code (cut_at 9199)) ≡ None) }
 {}
 
 /// Fields written down, NTSC with white 100 above black: which words their lines show, and of which pass.
-#[tactic(auto, unfolding(vbi_words::specs::Codes::code_of))]
 pub fn worked_fields()
-    // The two agree up to 10 columns, or where their words are the same, and then say their word together, whatever
+    // The two agree up to 30 columns, or where their words are the same, and then say their word together, whatever
     // each of them says.
-    ensures together { Shows (recovered_of Ntsc 100 (read_as Blank 0) (worn (near_with 0xF12345 10100 10000))
-        (worn (near_with 0xF12346 12000 10000)) (together_at 21000 21600))
+    ensures together { Shows (recovered_of 100 (read_as Blank 0) (worn (as_code (near_with 0xF12345 10100 10000)))
+        (worn (as_code (near_with 0xF12346 12000 10000))) (together_at 23000 23800))
         (None ∷ Some 0xF12345 ∷ Some 0xF12345 ∷ []) (0 ∷ 3 ∷ 3 ∷ []) }
-    ensures same { Shows (recovered_of Ntsc 100 (read_as Blank 0) (worn (near_with 0xF12345 10100 10000))
-        (worn (near_with 0xF12345 10100 10000)) (together_at 90000 90600))
+    ensures same { Shows (recovered_of 100 (read_as Blank 0) (worn (as_code (near_with 0xF12345 10100 10000)))
+        (worn (as_code (near_with 0xF12345 10100 10000))) (together_at 90000 90800))
         (None ∷ Some 0xF12345 ∷ Some 0xF12345 ∷ []) (0 ∷ 3 ∷ 3 ∷ []) }
-    ensures no_more { Shows (recovered_of Ntsc 100 (read_as Blank 0) (worn (near_with 0xF12345 10900 10000))
-        (worn (near_with 0xF12346 12000 10000)) (together_at 21000 21599))
+    ensures no_more { Shows (recovered_of 100 (read_as Blank 0) (worn (as_code (near_with 0xF12345 10900 10000)))
+        (worn (as_code (near_with 0xF12346 12000 10000))) (together_at 23000 23799))
         (None ∷ None ∷ None ∷ []) (0 ∷ 0 ∷ 0 ∷ []) }
-    ensures apart { Shows (recovered_of Ntsc 100 (read_as Blank 0) (worn (near_with 0xF12345 10999 10000))
-        (worn (near_with 0xF12346 11000 10000)) (together_at 21001 29999))
+    ensures apart { Shows (recovered_of 100 (read_as Blank 0) (worn (as_code (near_with 0xF12345 10999 10000)))
+        (worn (as_code (near_with 0xF12346 11000 10000))) (together_at 23001 29999))
         (None ∷ None ∷ Some 0xF12346 ∷ []) (0 ∷ 0 ∷ 3 ∷ []) }
 
     // Where each of the two goes on beyond its nearest word, they don't agree; where one does, they may.
-    ensures go_on { Shows (recovered_of Ntsc 100 (read_as Blank 0) (worn (near_with 0xF12345 20000 9599))
-        (worn (near_with 0xF12345 20000 9599)) (together_at 20000 29999))
+    ensures go_on { Shows (recovered_of 100 (read_as Blank 0) (worn (as_code (near_with 0xF12345 20000 9599)))
+        (worn (as_code (near_with 0xF12345 20000 9599))) (together_at 20000 29999))
         (None ∷ None ∷ None ∷ []) (0 ∷ 0 ∷ 0 ∷ []) }
-    ensures goes_on { Shows (recovered_of Ntsc 100 (read_as Blank 0) (worn (near_with 0xF12345 20000 9599))
-        (worn (near_with 0xF12345 20000 9600)) (together_at 20000 29999))
+    ensures goes_on { Shows (recovered_of 100 (read_as Blank 0) (worn (as_code (near_with 0xF12345 20000 9599)))
+        (worn (as_code (near_with 0xF12345 20000 9600))) (together_at 20000 29999))
         (None ∷ Some 0xF12345 ∷ Some 0xF12345 ∷ []) (0 ∷ 3 ∷ 3 ∷ []) }
 
     // Beside a word that stays, a line is alone. A word of pass 2 stays where the line's nearest word says it.
-    ensures alone { Shows (recovered_of Ntsc 100 (worn (near_with 0x8AE000 10600 10000)) (read_as (Word 0xF12345) 1)
-        (worn (near_with 0xF12346 10600 10000)) (together_at 21000 29999))
+    ensures alone { Shows (recovered_of 100 (worn (as_code (near_with 0x8AE000 10600 10000)))
+        (read_as (Word 0xF12345) 1)
+        (worn (as_code (near_with 0xF12346 10600 10000))) (together_at 21000 29999))
         (Some 0x8AE000 ∷ Some 0xF12345 ∷ Some 0xF12346 ∷ []) (3 ∷ 1 ∷ 3 ∷ []) }
-    ensures stays { Shows (recovered_of Ntsc 100 (read_as (Word 0x8DC000) 1) (worn (near_with 0xF12345 10600 10000))
-        (smoothed 0xF12346 (near_with 0xF12346 10600 10000)) (together_at 21000 29999))
+    ensures stays { Shows (recovered_of 100 (read_as (Word 0x8DC000) 1)
+        (worn (as_code (near_with 0xF12345 10600 10000)))
+        (smoothed 0xF12346 (as_code (near_with 0xF12346 10600 10000))) (together_at 21000 29999))
         (Some 0x8DC000 ∷ Some 0xF12345 ∷ Some 0xF12346 ∷ []) (1 ∷ 3 ∷ 2 ∷ []) }
-    ensures falls { Shows (recovered_of Ntsc 100 (smoothed 0x8DC000 (near_with 0x8DC000 10599 10000))
-        (worn (near_with 0xF12345 10600 10000)) (smoothed 0xF12346 (near_with 0xF12346 10599 10000))
-        (together_at 21000 21600)) (None ∷ Some 0xF12345 ∷ Some 0xF12345 ∷ []) (0 ∷ 3 ∷ 3 ∷ []) }
-    ensures cause { recovered_of Ntsc 100 (smoothed 0x8DC000 (near_with 0x8DC000 10599 10000)) (read_as Blank 0)
+    ensures falls { Shows (recovered_of 100 (smoothed 0x8DC000 (as_code (near_with 0x8DC000 10599 10000)))
+        (worn (as_code (near_with 0xF12345 10600 10000))) (smoothed 0xF12346 (as_code (near_with 0xF12346 10599 10000)))
+        (together_at 23000 23800)) (None ∷ Some 0xF12345 ∷ Some 0xF12345 ∷ []) (0 ∷ 3 ∷ 3 ∷ []) }
+    ensures cause { recovered_of 100 (smoothed 0x8DC000 (as_code (near_with 0x8DC000 10599 10000))) (read_as Blank 0)
         (read_as (Word 0xF12345) 1) (together_at 0 0)
         ≡ record { outcome = Change 34; pass = 0 } ∷ record { outcome = Blank; pass = 0 }
         ∷ record { outcome = Word 0xF12345; pass = 1 } ∷ [] }
+{}
+
+/// Levelled lines are asked first, and lines as they are where these say nothing: each line of a field for itself, and
+/// lines 17 and 18 together where they agree by what is asked.
+pub fn worked_levels()
+    // Line 16 says the word of its levelled samples, line 17 that of its own, since the levelled ones have no margin.
+    ensures first { Shows (recovered_of 100
+        (worn_by (levelled_as (as_code (near_with 0x8AE000 10600 10000)) (as_code (near_with 0x8AE001 10600 10000))))
+        (worn_by (levelled_as (as_code (near_with 0xF12345 10599 10000)) (as_code (near_with 0xF12346 10600 10000))))
+        (read_as Blank 0) (as_given (both_at 0 0)))
+        (Some 0x8AE000 ∷ Some 0xF12346 ∷ None ∷ []) (3 ∷ 3 ∷ 0 ∷ []) }
+
+    // Lines 17 and 18 agree levelled, or, where they can't be levelled together, as they are.
+    ensures together { Shows (recovered_of 100 (read_as Blank 0)
+        (worn_by (levelled_as (as_code (near_with 0xF12345 10100 10000)) (as_code (near_with 0xF12346 10100 10000))))
+        (worn_by (levelled_as (as_code (near_with 0xF12345 10100 10000)) (as_code (near_with 0xF12346 10100 10000))))
+        (levelled_as (both_at 23000 23800) (both_at 90000 90000)))
+        (None ∷ Some 0xF12345 ∷ Some 0xF12345 ∷ []) (0 ∷ 3 ∷ 3 ∷ []) }
+    ensures unlike { Shows (recovered_of 100 (read_as Blank 0)
+        (worn_by (levelled_as (as_code (near_with 0xF12347 10999 10000)) (as_code (near_with 0xF12345 10100 10000))))
+        (worn_by (levelled_as (as_code (near_with 0xF12347 11000 10000)) (as_code (near_with 0xF12345 10100 10000))))
+        (as_given (both_at 23000 23800)))
+        (None ∷ Some 0xF12345 ∷ Some 0xF12347 ∷ []) (0 ∷ 3 ∷ 3 ∷ []) }
+    ensures apart { Shows (recovered_of 100 (read_as Blank 0)
+        (worn_by (levelled_as (as_code (near_with 0xF12345 10999 10000)) (as_code (near_with 0xF12347 11000 10000))))
+        (worn_by (levelled_as (as_code (near_with 0xF12346 11000 10000)) (as_code (near_with 0xF12348 11000 10000))))
+        (levelled_as (both_at 23001 29999) (both_at 23001 29999)))
+        (None ∷ Some 0xF12347 ∷ Some 0xF12346 ∷ []) (0 ∷ 3 ∷ 3 ∷ []) }
+
+    // A word of pass 2 stays where one of both says it first.
+    ensures stays { Shows (recovered_of 100
+        (smoothed_by 0x8DC000 (levelled_as (as_code (near_with 0x8DC000 10600 10000))
+        (as_code (near_with 0x8DC001 10600 10000))))
+        (smoothed_by 0xF12345 (levelled_as (as_code (near_with 0xF12345 10599 10000))
+        (as_code (near_with 0xF12345 10600 10000))))
+        (read_as (Word 0xF12345) 1) (as_given (both_at 0 0)))
+        (Some 0x8DC000 ∷ Some 0xF12345 ∷ Some 0xF12345 ∷ []) (2 ∷ 2 ∷ 1 ∷ []) }
+{}
+
+/// A word of pass 2 that its line doesn't say stays where the line, on somewhat longer or shorter cells, is nearer to
+/// it by eight columns than to any other word.
+pub fn worked_stretched()
+    // Beside another nearest word at 10,000: 9,200 is near enough, 9,201 isn't.
+    ensures beside_another { Shows (recovered_of 100
+        (smoothed_at 9200 0x8DC000 (as_given (as_code (near_with 0x8AE000 10100 10000))))
+        (smoothed_at 9201 0x8DC000 (as_given (as_code (near_with 0x8AE000 10100 10000))))
+        (read_as Blank 0) (together_at 0 0))
+        (Some 0x8DC000 ∷ None ∷ None ∷ []) (2 ∷ 0 ∷ 0 ∷ []) }
+
+    // Where it is the nearest word, its rival counts: at 10,599, too near for a code to be said.
+    ensures beside_its_rival { Shows (recovered_of 100
+        (smoothed_at 9799 0x8DC000 (as_given (as_code (near_with 0x8DC000 10599 10000))))
+        (smoothed_at 9800 0x8DC000 (as_given (as_code (near_with 0x8DC000 10599 10000))))
+        (read_as Blank 0) (together_at 0 0))
+        (Some 0x8DC000 ∷ None ∷ None ∷ []) (2 ∷ 0 ∷ 0 ∷ []) }
+
+    // Another word may be nearer levelled: the line as it is counts.
+    ensures beside_as_it_is { Shows (recovered_of 100
+        (smoothed_at 9200 0x8DC000 (levelled_as (as_code (near_with 0x8DC000 10599 10000))
+        (as_code (near_with 0x8AE000 10100 10000))))
+        (smoothed_at 9201 0x8DC000 (levelled_as (as_code (near_with 0x8DC000 10599 10000))
+        (as_code (near_with 0x8AE000 10100 10000))))
+        (read_as Blank 0) (as_given (both_at 0 0)))
+        (Some 0x8DC000 ∷ None ∷ None ∷ []) (2 ∷ 0 ∷ 0 ∷ []) }
 {}

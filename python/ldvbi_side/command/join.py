@@ -7,7 +7,7 @@ import sys
 from typing import Any, Callable, Dict, Iterator, List, Tuple
 
 from ..draw.marks import SKIPPED, fields_text
-from ..join.captures import capture_of
+from ..join.captures import TOGETHER, capture_of
 from ..join.joined import join
 from ..judge.readings import Answer
 from ..outside import printable
@@ -17,8 +17,9 @@ from .statuses import statuses_text
 from .summary import listed, named
 
 DESCRIPTION = """Joins two or more captures of one side by their numbers. It says which numbers they have together,
-which of these each one lacks and who has them, which all lack, and where two of them disagree about a number. Captures
-that can't be of one disc are refused. """ + statuses_text("join")
+which of these each one lacks and who has them, which all lack, and where two of them disagree about a number. A number
+that none of several TBC files reads is read together, if their lines say it as one pile. Captures that can't be of one
+disc are refused. """ + statuses_text("join")
 TAKEN_COLUMNS = ("number", "source", "field", "frame", "how")
 RANGE_COLUMNS = ("first", "last", "source", "first field", "last field")
 
@@ -98,6 +99,9 @@ def joined_text(joined: Answer) -> Iterator[str]:
         "%s %s" % (named(unit, one["first"], one["last"]), one["why"]) for one in missing))
     if joined["leftOut"]:
         yield "%s: %d" % (SKIPPED, _count(joined["leftOut"]))
+    piled = [one[0] for one in joined["taken"] if one[4] == TOGETHER]
+    if piled:
+        yield "read together: " + listed(len(piled), (named(unit, number, number) for number in piled))
     found = joined["disagreements"]
     yield "disagreements: " + listed(len(found), (_disagreement_text(one, unit) for one in found))
 

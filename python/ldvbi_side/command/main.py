@@ -16,7 +16,7 @@ from ..draw.plot import plot_command
 from ..outside import NAME, bytes_of_document, drop_standard_output, flush, flush_or_drop, printable, say
 from ..seek import seek, text_of
 from ..judge.readings import Answer
-from ..side import Side, side_of_document, side_of_stream
+from ..side import Side, side_of_document, side_of_stream, stream_of_tbc
 from .compare import compare, comparison_text
 from .faults import SETTINGS, STANDARD_INPUT, fault_text, naming, no_metadata, refuse_folder
 from .into import Into
@@ -83,7 +83,7 @@ def _stream(options, metadata):
     for note in settings.notes:
         say("%s: %s" % (options.side, note))
     with naming(options.side):
-        return Stream(options.side, settings.system, settings.black, settings.white, not options.no_recover)
+        return stream_of_tbc(options.side, settings, metadata, not options.no_recover)
 
 
 def _print_document(path, stream):
@@ -116,13 +116,19 @@ def _add_fields(side, name, metadata, is_all):
     count, side.expected = len(side.readings), metadata.fields
     if metadata.fields is not None and metadata.fields != count:
         rest = " and %d bytes" % side.cut.bytes if side.cut else ""
-        unused = ", so its isFirstField isn't used" if metadata.first else ""
         say("%s: %d fields%s, %s says %d%s: another system, or another file's metadata?" % (
-            name, count, rest, metadata.path, metadata.fields, unused))
+            name, count, rest, metadata.path, metadata.fields, _unused(metadata, side.samples is not None)))
         return
     side.first = metadata.first
     if is_all and side.first is None:
         say("%s has no isFirstField of each field" % metadata.path)
+
+
+def _unused(metadata, is_recovered):
+    """What a message says isn't used of the metadata."""
+    names = ["isFirstField"] * bool(metadata.first) + ["dropOuts"] * bool(is_recovered and metadata.dropouts)
+    return ", so its %s %s used" % (" and ".join(names), "isn't" if names == ["isFirstField"] else "aren't") \
+        if names else ""
 
 
 def _print_table(columns, rows, file=None):

@@ -36,7 +36,8 @@ def parser_of_side(program: str) -> argparse.ArgumentParser:
     parser.add_argument("--meta", metavar="FILE", help="take system and levels of a TBC file from this .tbc.json or "
                         ".tbc.db of ld-decode, and not from the one beside the file. Levels with decimals are rounded "
                         "to the nearest whole number. The count of fields in it is compared with the side. Its "
-                        "isFirstField shows single lost fields, of a document as well")
+                        "isFirstField shows single lost fields, of a document as well; columns in its dropOuts count "
+                        "for no recovered word")
     _add_settings(parser)
     parser.add_argument("--no-recover", action="store_true", help="leave out the words that are recovered from worn "
                         "lines of a TBC file, those of pass 3")

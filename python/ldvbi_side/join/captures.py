@@ -2,9 +2,9 @@
 
 import bisect
 import itertools
-from typing import Any, Dict, List, NamedTuple, Set, Tuple
+from typing import Any, Dict, List, NamedTuple, Optional, Set, Tuple
 
-from ldvbi import Kind
+from ldvbi import Kind, Stream
 from ldvbi.codes import LINES, code_of
 from ..judge.ends import ordinal_of
 from ..judge.paces import RATES, Unit
@@ -14,7 +14,7 @@ from ..side import Side
 NEARBY = 25  # fields before and behind one, in which its bad lines are counted
 NUMBERS = (Kind.picture, Kind.time, Kind.clv_picture)
 DUE = "unread"  # the answer's name of what is due and isn't read: of a list, and of a reason
-READ, NEAR, NEIGHBOURS = "read", "near", "neighbours"
+READ, NEAR, TOGETHER, NEIGHBOURS = "read", "near", "together", "neighbours"
 
 
 class Place(NamedTuple):
@@ -35,12 +35,14 @@ class Place(NamedTuple):
 
 class Capture(NamedTuple):
     """A capture under its name. `places` are in the order of its fields; `first` has the first place of each number.
-    `said` has for each kind of code, by its name, what stands beside which number."""
+    `said` has for each kind of code, by its name, what stands beside which number. `samples` is the stream from which
+    words were recovered; None where it isn't at hand."""
     name: str
     answer: Answer
     places: List[Place]
     first: Dict[int, Place]
     said: Dict[str, Dict[int, Any]]
+    samples: Optional[Stream]
 
     def kind(self) -> Tuple[str, str]:
         """What its numbers count, and its system."""
@@ -70,7 +72,7 @@ def capture_of(side: Side, name: str) -> Capture:
     for place in places:
         first.setdefault(place.number, place)
     return Capture(name, side.answer, places, first, {
-        "chapter": _chapters(side.answer, first), "programme status": _status(side, first)})
+        "chapter": _chapters(side.answer, first), "programme status": _status(side, first)}, side.samples)
 
 
 # ---- Places

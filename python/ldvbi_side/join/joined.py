@@ -5,9 +5,10 @@ from typing import Any, Callable, Dict, Iterable, List, Set, Tuple
 from ..judge.answer import frame_of
 from ..judge.paces import Unit
 from ..judge.readings import Answer
-from .captures import DUE, Capture
+from .captures import DUE, TOGETHER, Capture
 from .disagreements import Disagreement, Part, disagreements_of, disputed_in
 from .others import refuse_other_discs
+from .piles import read_together
 from .taken import Taken, follows, stretches_of, taken_of
 
 VERSION = 1  # of the answer's form
@@ -20,7 +21,8 @@ def join(captures: List[Capture]) -> Answer:
     """What these captures have together. A ValueError where two of them can't be of one disc."""
     refuse_other_discs(captures)
     unit, found = captures[0].unit(), disagreements_of(captures)
-    taken = taken_of(captures, disputed_in(found))
+    disputed = disputed_in(found)
+    taken, piled = taken_of(captures, disputed), read_together(captures, disputed)
     together = together_of(captures)
     left_out = captures[0].numbers_of(together["leftOut"])
     return {
@@ -28,8 +30,8 @@ def join(captures: List[Capture]) -> Answer:
         "unit": unit.name, "captures": [_of_capture(one) for one in captures], **together,
         "lacks": [one for capture in captures for one in _lacks(capture, captures, taken, left_out)],
         "disagreements": [_disagreement(one, unit) for one in found],
-        "taken": [[unit.text_of(one.number), one.capture.name, one.place.field, _frame(one), one.place.how]
-                  for one in taken],
+        "taken": [[unit.text_of(one.number), one.capture.name, one.place.field, _frame(one),
+                   TOGETHER if one.number in piled else one.place.how] for one in taken],
         "ranges": [_range(one, unit) for one in stretches_of(taken, left_out)]}
 
 

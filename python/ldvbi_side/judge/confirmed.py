@@ -30,12 +30,16 @@ def with_confirmed(places: Places, nearest_word: Optional[NearestWord]) -> Place
 
 
 def _is_nearest(number: int, field: int, unit: Unit, nearest_word: NearestWord) -> bool:
-    """Whether the nearest word of a line, or of lines 17 and 18 together, says this number: of a time the second and
-    the picture, as line 16 has them."""
+    """Whether the nearest word of a line, or of lines 17 and 18 together, says this number."""
+    words = (nearest_word(field, first, last) for first, last in _PILES[unit.name])
+    return any(says(word, number, unit) for word in words if word)
+
+
+def says(word: int, number: int, unit: Unit) -> bool:
+    """Whether a word says this number: of a time the second and the picture, as line 16 has them."""
     wanted: Tuple[Kind, Any] = Kind.picture, number
     if unit.name == "time":
         seconds, part = divmod(number, unit.rate)
         wanted = Kind.clv_picture, (seconds % 60, part)
-    words = (nearest_word(field, first, last) for first, last in _PILES[unit.name])
-    codes = (classify(word) for word in words if word)
-    return any((code.kind, value_of(code)) == wanted for code in codes)
+    code = classify(word)
+    return (code.kind, value_of(code)) == wanted

@@ -3,7 +3,7 @@
 //! The caller owes what that header says: a pointer points to as many bytes, or readings, as the length beside it says,
 //! or to one value; only where the length is 0 it may be null.
 #![allow(clippy::missing_safety_doc)]
-use crate::c::{self, LdvbiCode, LdvbiFieldReadings, LdvbiNear, LdvbiReading, LdvbiSought};
+use crate::c::{self, LdvbiCode, LdvbiErased, LdvbiFieldReadings, LdvbiNear, LdvbiReading, LdvbiSought};
 use crate::side::{Number, Sightings};
 use std::mem::size_of;
 use std::slice::{from_raw_parts, from_raw_parts_mut};
@@ -139,6 +139,54 @@ pub unsafe extern "C" fn ldvbi_recover_fields(
     count: usize,
 ) -> u32 {
     c::ldvbi_recover_fields(system, black, white, values(samples, length), room(out, count))
+}
+
+#[no_mangle]
+pub unsafe extern "C" fn ldvbi_recover_rows_without(
+    system: u32,
+    black: u32,
+    white: u32,
+    samples: *const u8,
+    length: usize,
+    erased: *const LdvbiErased,
+    erased_count: usize,
+    out: *mut LdvbiFieldReadings,
+) -> u32 {
+    let (samples, erased) = (values(samples, length), values(erased, erased_count));
+    c::ldvbi_recover_rows_without(system, black, white, samples, erased, &mut *out)
+}
+
+#[no_mangle]
+pub unsafe extern "C" fn ldvbi_recover_pile(
+    system: u32,
+    black: u32,
+    white: u32,
+    line: u32,
+    known: u32,
+    samples: *const u8,
+    length: usize,
+    erased: *const LdvbiErased,
+    erased_count: usize,
+    out: *mut u32,
+) -> u32 {
+    let (samples, erased) = (values(samples, length), values(erased, erased_count));
+    c::ldvbi_recover_pile(system, black, white, line, known, samples, erased, &mut *out)
+}
+
+#[no_mangle]
+pub unsafe extern "C" fn ldvbi_recover_fields_without(
+    system: u32,
+    black: u32,
+    white: u32,
+    samples: *const u8,
+    length: usize,
+    erased: *const LdvbiErased,
+    erased_count: usize,
+    out: *mut LdvbiFieldReadings,
+    count: usize,
+) -> u32 {
+    let (samples, erased) = (values(samples, length), values(erased, erased_count));
+    c::ldvbi_recover_fields_without(system, black, white, samples, erased, room(out, count))
 }
 
 #[no_mangle]

@@ -1,8 +1,9 @@
-use Rattle.std.proofs.Common.{◌≡◌, ◌≢◌, ℕ, suc, zero, ◌+◌, ◌≤◌, ◌<◌, List, [], ◌∷◌, slice_set, Some, refl}
+use Rattle.std.proofs.Common.{◌≡◌, ◌≢◌, ℕ, suc, zero, ◌+◌, ◌≤◌, ◌<◌, List, [], ◌∷◌, slice_set, Some, refl, Bool}
 use Rattle.std.proofs.Common.{ap, subst, sym, ◌∙◌, inl, inr, arith}
 use Rattle.std.proofs.Math.Nat.{eq-or-lt_of_le}
 use Rattle.std.specs.List.{slice_get}
 use Rattle.vbi_c.specs.declared.fields.LdvbiFieldReadings.{LdvbiFieldReadings}
+use Rattle.vbi_c.specs.Erased.{erased_of}
 use Rattle.vbi_c.specs.Fields.{field_in}
 use Rattle.vbi_c.specs.Recovering.{AreRecovered, code_bytes}
 use Rattle.vbi_c.proofs.recovering.recover_all.Goals as goal
@@ -41,7 +42,15 @@ loop-i-preserved c =
     let field : List ℕ = field_in setup.system c.args.stream.now c.loop-i.i in
     let rows : c.code_bytes.result.now ≡ code_bytes setup.system field
     = c.code_bytes.ensures.rows ∙ ap (code_bytes setup.system) c.field_in-field.ensures.field in
-    each_set (λ (k : ℕ) (readings : LdvbiFieldReadings). AreRecovered setup
-    (code_bytes setup.system (field_in setup.system c.args.stream.now k)) readings)
-    c.loop-i.readings c.loop-i.i c.recover_three.result c.loop-i.invariant
-    (subst (λ (bytes : List ℕ). AreRecovered setup bytes c.recover_three.result) rows c.recover_three.ensures)
+    let marks_of = erased_of c.args.erased.now setup.system in
+    let here : AreRecovered setup (code_bytes setup.system field) (marks_of c.loop-i.i) c.recover_three.result
+    = subst (λ (bytes : List ℕ). AreRecovered setup bytes (marks_of c.loop-i.i) c.recover_three.result) rows
+    (subst (λ (marks : List Bool). AreRecovered setup c.code_bytes.result.now marks c.recover_three.result)
+    c.mark_field-place.ensures.marks c.recover_three.ensures) in
+    record {
+      recovered = each_set (λ (k : ℕ) (readings : LdvbiFieldReadings). AreRecovered setup
+          (code_bytes setup.system (field_in setup.system c.args.stream.now k)) (marks_of k) readings)
+          c.loop-i.readings c.loop-i.i c.recover_three.result c.loop-i.invariant.recovered here;
+      inside = c.mark_field-place.ensures.place;
+      begins = c.mark_field-place.ensures.begins;
+    }

@@ -18,4 +18,5 @@ returns c = record {
   samples = refl;
   distance = refl;
   erased = refl;
+  at_most = refl;
 }

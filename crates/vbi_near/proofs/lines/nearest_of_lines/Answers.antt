@@ -49,3 +49,10 @@ returns-clause-nearest c =
     c.nearest.ensures.nearest c.args.levels (lines_of c.args.system c.args.lines.now c.args.count)
     (subst (λ (n : ℕ). IsPile c.args.system c.args.levels (lines_of c.args.system c.args.lines.now n)
     (shades c.loop-line.darks c.loop-line.lights)) e c.loop-line.invariant.pile)
+
+pub returns-clause-first : goal.returns-clause-first
+returns-clause-first c =
+    let e : c.loop-line.line ≡ c.args.count = omega (arith, c.loop-line-test.false, c.loop-line.auto.line-end) in
+    c.nearest.ensures.first c.args.levels (lines_of c.args.system c.args.lines.now c.args.count)
+    (subst (λ (n : ℕ). IsPile c.args.system c.args.levels (lines_of c.args.system c.args.lines.now n)
+    (shades c.loop-line.darks c.loop-line.lights)) e c.loop-line.invariant.pile)

@@ -4,16 +4,23 @@ use Rattle.vbi_words.specs.Levels.{Slicing}
 use Rattle.vbi_near.specs.Distances.{Samples, Shades, shades, IsPile}
 use Rattle.vbi_near.specs.Sums.{span}
 use Rattle.vbi_near.specs.Best.{IsChosen}
-use Rattle.vbi_near.specs.Nearest.{IsNearest}
+use Rattle.vbi_near.specs.Nearest.{IsNearest, IsFirst}
 use Rattle.vbi_near.proofs.Distances.{both_are}
 use Rattle.vbi_near.proofs.Rising.{row_sums}
-use Rattle.vbi_near.proofs.Chosen.{nearest_is, start-few}
+use Rattle.vbi_near.proofs.Chosen.{nearest_is, first_is, start-few}
 use Rattle.vbi_near.proofs.OneCellMore.{longer_is}
-use Rattle.vbi_near.proofs.Piles.{nearest-same, longer-same}
+use Rattle.vbi_near.proofs.Piles.{nearest-same, first-same, longer-same}
+use Rattle.vbi_near.proofs.ShorterRows.{shorter_is, shorter-same}
 use Rattle.vbi_near.proofs.near.nearest.Goals as goal
 
 pub longer_distance-longer-requires-clause-sums : goal.longer_distance-longer-requires-clause-sums
 longer_distance-longer-requires-clause-sums c =
+    row_sums c.args.system c.args.darks.now c.args.lights.now c.sum_up.new.sums c.sum_up-2.new.sums c.requires.few.0
+    c.requires.few.1 c.sum_up.ensures.sums c.sum_up-2.ensures.sums c.requires.dark c.requires.light
+    c.sum_up.ensures.length c.sum_up-2.ensures.length
+
+pub shorter_distance-shorter-requires-clause-sums : goal.shorter_distance-shorter-requires-clause-sums
+shorter_distance-shorter-requires-clause-sums c =
     row_sums c.args.system c.args.darks.now c.args.lights.now c.sum_up.new.sums c.sum_up-2.new.sums c.requires.few.0
     c.requires.few.1 c.sum_up.ensures.sums c.sum_up-2.ensures.sums c.requires.dark c.requires.light
     c.sum_up.ensures.length c.sum_up-2.ensures.length
@@ -32,12 +39,37 @@ nearest_to c slicing lines pile =
     nearest-same c.args.system slicing lines costs c.or_none.result pile (nearest_is costs sums c.args.system
     (both_are c.args.darks.now c.args.lights.now c.sum_up.new.sums c.sum_up-2.new.sums width
     c.sum_up.ensures.sums c.sum_up-2.ensures.sums c.requires.dark c.requires.light)
-    c.nearest_word-found.result c.nearest_word-found.ensures.found c.longer_distance-longer.result c.or_none.result
-    (subst (λ (x : ℕ). IsChosen c.nearest_word-found.result c.longer_distance-longer.result x c.or_none.result) blank
+    c.nearest_word-found.result c.nearest_word-found.ensures.found c.longer_distance-longer.result
+    c.shorter_distance-shorter.result c.or_none.result
+    (subst (λ (x : ℕ). IsChosen c.nearest_word-found.result c.longer_distance-longer.result
+    c.shorter_distance-shorter.result x c.or_none.result) blank
+    c.or_none.ensures))
+
+first_to : (c : goal.After-or_none) (slicing : Slicing) (lines : List Samples)
+    → IsPile c.args.system slicing lines (shades c.args.darks.now c.args.lights.now)
+    → IsFirst c.args.system slicing lines c.or_none.result
+first_to c slicing lines pile =
+    let costs : Shades = shades c.args.darks.now c.args.lights.now in
+    let sums : Shades = shades c.sum_up.new.sums c.sum_up-2.new.sums in
+    let width : ℕ = width_of c.args.system in
+    let e : width - 0 ≡ width = omega arith in
+    let blank : c.between-blank.result ≡ span sums false 0 width
+    = c.between-blank.ensures.value ∙ ap (λ (w : ℕ). span sums false 0 (w - 0)) c.width.ensures
+    ∙ ap (span sums false 0) e in
+    first-same c.args.system slicing lines costs c.or_none.result pile (first_is costs sums c.args.system
+    (both_are c.args.darks.now c.args.lights.now c.sum_up.new.sums c.sum_up-2.new.sums width
+    c.sum_up.ensures.sums c.sum_up-2.ensures.sums c.requires.dark c.requires.light)
+    c.nearest_word-found.result c.nearest_word-found.ensures.found c.longer_distance-longer.result
+    c.shorter_distance-shorter.result c.or_none.result
+    (subst (λ (x : ℕ). IsChosen c.nearest_word-found.result c.longer_distance-longer.result
+    c.shorter_distance-shorter.result x c.or_none.result) blank
     c.or_none.ensures))
 
 pub returns-clause-nearest : goal.returns-clause-nearest
 returns-clause-nearest c = nearest_to c
+
+pub returns-clause-first : goal.returns-clause-first
+returns-clause-first c = first_to c
 
 pub returns-clause-longer : goal.returns-clause-longer
 returns-clause-longer c slicing lines pile =
@@ -51,8 +83,22 @@ returns-clause-longer c slicing lines pile =
     longer-same c.args.system slicing lines costs c.or_none.result pile is.place (longer_is costs sums c.args.system
     (both_are c.args.darks.now c.args.lights.now c.sum_up.new.sums c.sum_up-2.new.sums width
     c.sum_up.ensures.sums c.sum_up-2.ensures.sums c.requires.dark c.requires.light) rises
-    c.nearest_word-found.result c.nearest_word-found.ensures.found c.longer_distance-longer.result
-    c.longer_distance-longer.ensures c.or_none.result c.between-blank.result c.or_none.ensures)
+    c.nearest_word-found.result c.nearest_word-found.ensures.found.before c.nearest_word-found.ensures.found.exact
+    c.longer_distance-longer.result c.longer_distance-longer.ensures c.or_none.result
+    c.shorter_distance-shorter.result c.between-blank.result c.or_none.ensures)
+
+pub returns-clause-shorter : goal.returns-clause-shorter
+returns-clause-shorter c slicing lines pile =
+    let costs : Shades = shades c.args.darks.now c.args.lights.now in
+    let sums : Shades = shades c.sum_up.new.sums c.sum_up-2.new.sums in
+    let width : ℕ = width_of c.args.system in
+    let is = nearest_to c slicing lines pile in
+    shorter-same c.args.system slicing lines costs c.or_none.result pile is.place (shorter_is costs sums c.args.system
+    (both_are c.args.darks.now c.args.lights.now c.sum_up.new.sums c.sum_up-2.new.sums width
+    c.sum_up.ensures.sums c.sum_up-2.ensures.sums c.requires.dark c.requires.light)
+    c.nearest_word-found.result c.nearest_word-found.ensures.found.before c.nearest_word-found.ensures.found.exact
+    c.shorter_distance-shorter.result c.shorter_distance-shorter.ensures c.or_none.result
+    c.longer_distance-longer.result c.between-blank.result c.or_none.ensures)
 
 pub returns-clause-start : goal.returns-clause-start
 returns-clause-start c =
@@ -60,4 +106,4 @@ returns-clause-start c =
     (both_are c.args.darks.now c.args.lights.now c.sum_up.new.sums c.sum_up-2.new.sums (width_of c.args.system)
     c.sum_up.ensures.sums c.sum_up-2.ensures.sums c.requires.dark c.requires.light)
     c.nearest_word-found.result c.nearest_word-found.ensures.found c.longer_distance-longer.result
-    c.between-blank.result c.or_none.result c.or_none.ensures
+    c.shorter_distance-shorter.result c.between-blank.result c.or_none.result c.or_none.ensures

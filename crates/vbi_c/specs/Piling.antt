@@ -1,0 +1,68 @@
+-- The word that lines say together, as C sees it.
+use Rattle.std.specs.Prelude.{◌≡◌, ◌&&◌, ◌==◌, ℕ, ◌/◌, ◌*◌, Bool, nat_le, if◌then◌else◌, List, length, map, unwrap_or}
+use Rattle.std.specs.Prelude.{Result, Ok, Err, Option, ◌<◌, take, drop}
+use Rattle.std.specs.List.{list_all, range_with_len}
+use Rattle.vbi_words.specs.Geometry.{line_bytes, line_at, width_of}
+use Rattle.vbi_words.specs.declared.system.System as words
+use Rattle.vbi_near.specs.Candidates.{Row, row_of}
+use Rattle.vbi_near.specs.Piled.{IsSaidTogether}
+use Rattle.vbi_c.specs.declared.erased.LdvbiErased.{LdvbiErased}
+use Rattle.vbi_c.specs.declared.setup.Setup.{Setup}
+use Rattle.vbi_c.specs.declared.status.Refusal.{Refusal}
+use Rattle.vbi_c.specs.declared.status.Refusal.TheVariants.{Erased, Line, Known}
+use Rattle.vbi_c.specs.Erased.{is_code_line, is_taken, line_marks}
+use Rattle.vbi_c.specs.Setups.{lines_setup}
+use Rattle.vbi_c.specs.Statuses.{in_turn}
+
+-- ---- what is refused
+
+-- how many lines so many bytes are
+abbrev pub count_in : words.System → ℕ → ℕ
+count_in system bytes = bytes / line_bytes system
+
+-- a list is taken where so many lines of one number are handed over: its entries are of these
+abbrev pub is_list_of : ℕ → ℕ → List LdvbiErased → Bool
+is_list_of line count list = is_taken count list && list_all (λ entry. entry.line == line) list
+
+-- the setup of a call that was found right, of a line with code words
+abbrev pub with_line : ℕ → Result Setup Refusal → Result Setup Refusal
+with_line line asked = in_turn asked (λ setup. if is_code_line line then Ok setup else Err Line)
+
+-- of which it is said whether dropouts are known: 0 or 1
+abbrev pub with_known : ℕ → Result Setup Refusal → Result Setup Refusal
+with_known known asked = in_turn asked (λ setup. if nat_le known 1 then Ok setup else Err Known)
+
+-- of which the list is taken
+abbrev pub with_list : ℕ → ℕ → List LdvbiErased → Result Setup Refusal → Result Setup Refusal
+with_list line bytes list asked = in_turn asked (λ setup.
+    if is_list_of line (count_in setup.system bytes) list then Ok setup else Err Erased)
+
+-- the setup of a call with lines of one number
+abbrev pub pile_setup : ℕ → ℕ → ℕ → ℕ → ℕ → ℕ → List LdvbiErased → Result Setup Refusal
+pile_setup system black white line known bytes list =
+    with_list line bytes list (with_known known (with_line line (lines_setup system black white bytes)))
+
+-- ---- what is answered
+
+-- the line of this place, of which the columns are erased that an entry of its place names
+abbrev pub row_erased : words.System → ℕ → List ℕ → List LdvbiErased → ℕ → Row
+row_erased system line bytes list place =
+    row_of (line_at system bytes 0 place) (line_marks list system place line)
+
+-- all of them
+abbrev pub rows_erased : words.System → ℕ → List ℕ → List LdvbiErased → List Row
+rows_erased system line bytes list =
+    map (row_erased system line bytes list) (range_with_len 0 (count_in system (length bytes)))
+
+-- this is the word that they say together, or 0
+abbrev pub IsWordOf : Setup → ℕ → ℕ → List ℕ → List LdvbiErased → ℕ → Type 0
+IsWordOf setup line known bytes list answer = (said : Option ℕ)
+    × IsSaidTogether setup.system line setup.levels (known == 1) (rows_erased setup.system line bytes list) said
+    × (answer ≡ unwrap_or said 0)
+
+-- ---- as it is found
+
+-- the marks of the first lines lie one line behind the other
+abbrev pub HasMarks : words.System → ℕ → List LdvbiErased → ℕ → List Bool → Type 0
+HasMarks system line list count marks = (place : ℕ) → place < count
+    → take (width_of system) (drop (width_of system * place) marks) ≡ line_marks list system place line

@@ -1,0 +1,181 @@
+//! The word that lines say together which all have one word, or none.
+
+ghost use Rattle.std.specs.Prelude.{◌≡◌, ◌≢◌, ◌*◌, ◌≤◌, ◌+◌, ◌-◌, ◌/◌, ◌==◌, length, take, drop, IfOk, IsTrue};
+ghost use Rattle.std.specs.List.{list_all};
+ghost use Rattle.vbi_words.specs.Geometry.{line_bytes, width_of};
+ghost use Rattle.vbi_c.specs.Erased.{is_code_line, is_taken};
+ghost use Rattle.vbi_c.specs.Piling.{is_list_of, with_line, with_known, with_list, pile_setup, IsWordOf, HasMarks};
+ghost use Rattle.vbi_c.specs.Statuses.{status_of};
+
+use crate::erased::{FIRST_LINE, LAST_LINE, LdvbiErased, is_taken, mark_field};
+use crate::setup::{MOST_LINES, Setup, lines_setup};
+use crate::status::{DONE, Refusal};
+use vbi_near::recover_pile;
+use vbi_words::System;
+
+/// The samples of the longest line, that of PAL.
+const WIDEST: usize = 1135;
+
+/// Whether each entry is of a line of this number.
+fn are_of_line(line: u32, list: &[LdvbiErased]) -> bool
+    ensures { result ≡ list_all (λ entry. entry.line == line) list.now }
+{
+    list.iter().all(|entry| entry.line == line)
+}
+
+/// Whether a list is taken where so many lines of one number are handed over.
+fn is_list_of(line: u32, count: usize, list: &[LdvbiErased]) -> bool
+    ensures { result ≡ is_list_of line count list.now }
+{
+    is_taken(count, list) && are_of_line(line, list)
+}
+
+/// The setup of a call that was found right, of a line with code words, or why the call is refused.
+fn with_line(line: u32, asked: Result<Setup, Refusal>) -> Result<Setup, Refusal>
+    ensures { result ≡ with_line line asked }
+{
+    let setup = asked?;
+    if line < FIRST_LINE || line > LAST_LINE {
+        return Err(Refusal::Line);
+    }
+    Ok(setup)
+}
+
+/// The same, of which it is said whether dropouts are known.
+fn with_known(known: u32, asked: Result<Setup, Refusal>) -> Result<Setup, Refusal>
+    ensures { result ≡ with_known known asked }
+{
+    let setup = asked?;
+    if known > 1 {
+        return Err(Refusal::Known);
+    }
+    Ok(setup)
+}
+
+/// The same, of which the list is taken.
+fn with_list(
+    line: u32,
+    length: usize,
+    list: &[LdvbiErased],
+    asked: Result<Setup, Refusal>,
+) -> Result<Setup, Refusal>
+    ensures { result ≡ with_list line length list.now asked }
+{
+    let setup = asked?;
+    if !is_list_of(line, length / setup.system.line_bytes(), list) {
+        return Err(Refusal::Erased);
+    }
+    Ok(setup)
+}
+
+/// The setup of a call with lines of one number, or why the call is refused.
+fn pile_setup(
+    system: u32,
+    black: u32,
+    white: u32,
+    line: u32,
+    known: u32,
+    length: usize,
+    list: &[LdvbiErased],
+) -> Result<Setup, Refusal>
+    ensures setup { result ≡ pile_setup system black white line known length list.now }
+    ensures lines { IfOk result (λ setup. (length ≡ length / line_bytes setup.system * line_bytes setup.system)
+        × (length / line_bytes setup.system ≤ 28)) }
+    ensures line { IfOk result (λ setup. IsTrue (is_code_line line)) }
+    ensures list { IfOk result (λ setup. IsTrue (is_taken (length / line_bytes setup.system) list.now)) }
+{
+    let lines = lines_setup(system, black, white, length);
+    with_list(
+        line,
+        length,
+        list,
+        with_known(known, with_line(line, lines)),
+    )
+}
+
+/// Writes the marks of a line from this place on.
+fn put_marks(marks: &mut [bool], at: usize, line: &[bool])
+    requires { at + length line.now ≤ length marks.old }
+    ensures here { take (length line.now) (drop at marks.new) ≡ line.now }
+    ensures before { take at marks.new ≡ take at marks.old }
+    ensures long { length marks.new ≡ length marks.old }
+{
+    marks[at..at + line.len()].copy_from_slice(line);
+}
+
+/// The erased columns of one line of three.
+fn line_in(system: System, line: u32, all: &[bool]) -> &[bool]
+    requires long { length all.now ≡ 3 * width_of system }
+    requires line { IsTrue (is_code_line line) }
+    ensures marks { result.now ≡ take (width_of system) (drop (width_of system * (line - 16)) all.now) }
+    ensures long { length result.now ≡ width_of system }
+{
+    let width = system.width();
+    let row = width * (line - FIRST_LINE) as usize;
+    &all[row..row + width]
+}
+
+/// Marks the erased columns of so many lines of this number, one line behind the other.
+fn mark_lines(system: System, line: u32, list: &[LdvbiErased], count: usize, marks: &mut [bool])
+    requires few { count ≤ 28 }
+    requires long { length marks.old ≡ count * width_of system }
+    requires line { IsTrue (is_code_line line) }
+    requires taken { IsTrue (is_taken count list.now) }
+    ensures marks { HasMarks system line list.now count marks.new }
+    ensures long { length marks.new ≡ length marks.old }
+{
+    let width = system.width();
+    let mut widest = [false; 3 * WIDEST];
+    let all = &mut widest[..3 * width];
+    let mut place = 0;
+    for i in 0..count {
+        place = mark_field(system, list, place, i, all);
+        put_marks(marks, width * i, line_in(system, line, all));
+    }
+}
+
+/// The word that lines of a call that was found right say together, or 0.
+fn word_of(setup: &Setup, line: u32, known: u32, bytes: &[u8], erased: &[LdvbiErased]) -> u32
+    requires lines { (length bytes.now ≡ length bytes.now / line_bytes setup.now.system * line_bytes setup.now.system)
+        × (length bytes.now / line_bytes setup.now.system ≤ 28) }
+    requires line { IsTrue (is_code_line line) }
+    requires list { IsTrue (is_taken (length bytes.now / line_bytes setup.now.system) erased.now) }
+    ensures { IsWordOf setup.now line known bytes.now erased.now result }
+{
+    let system = setup.system;
+    let count = bytes.len() / system.line_bytes();
+    let mut most = [false; MOST_LINES * WIDEST];
+    let marks = &mut most[..count * system.width()];
+    mark_lines(system, line, erased, count, marks);
+    match recover_pile(system, line, setup.levels, known == 1, bytes, marks, count) {
+        Some(word) => word.value(),
+        None => 0,
+    }
+}
+
+/// The word that 1 to 28 lines of one number say together, which all have one word, or none; 0 where they say none. In
+/// the list `field` is the place of the line among them.
+#[unsafe(no_mangle)]
+pub extern "C" fn ldvbi_recover_pile(
+    system: u32,
+    black: u32,
+    white: u32,
+    line: u32,
+    known: u32,
+    bytes: &[u8],
+    erased: &[LdvbiErased],
+    word: &mut u32,
+) -> u32
+    ensures status { result ≡ status_of (pile_setup system black white line known (length bytes.now) erased.now) }
+    ensures recovers { IfOk (pile_setup system black white line known (length bytes.now) erased.now) (λ setup.
+        IsWordOf setup line known bytes.now erased.now word.new) }
+    ensures unwritten { result ≢ 0 → word.new ≡ word.old }
+{
+    match pile_setup(system, black, white, line, known, bytes.len(), erased) {
+        Ok(setup) => {
+            *word = word_of(&setup, line, known, bytes, erased);
+            DONE
+        }
+        Err(refusal) => refusal.status(),
+    }
+}

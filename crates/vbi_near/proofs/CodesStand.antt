@@ -1,0 +1,319 @@
+-- The table of a line's codes has the words whose code may stand on the line.
+use Rattle.std.proofs.Common.{◌≡◌, ℕ, zero, suc, ◌≤◌, ◌<◌, false, List, [], ◌∷◌, ◌⊎◌, inl, inr}
+use Rattle.std.proofs.Common.{refl, sym, ap, ◌∙◌, subst, arith, lit<}
+use Rattle.std.specs.Prelude.{IsTrue, ◌↔◌}
+use Rattle.std.proofs.lemmas.Bool.{cases_lt, cases_eq, ltb-true, lt-ltb, true≢false}
+use Rattle.vbi_words.specs.declared.system.System.{System}
+use Rattle.vbi_words.specs.declared.system.System.TheVariants.{Ntsc, Pal}
+use Rattle.vbi_words.specs.declared.code.Code.{Code}
+use Rattle.vbi_words.specs.declared.code.Code.TheVariants.{Picture, Chapter, Time, ClvPicture, CxOn, CxOff}
+use Rattle.vbi_words.specs.declared.code.Code.TheVariants.{Users, LeadIn, LeadOut, PictureStop, ClvMark, Other}
+use Rattle.vbi_words.specs.Words.{IsWord}
+use Rattle.vbi_words.specs.Codes.{digit_of, IsBetween, Pattern, patterns_of, HasPattern, HasCodeOf, IsCode, code_of}
+use Rattle.vbi_words.specs.Codes.{may_stand, last_two, picture_of, chapter_of, seconds_of, last_three}
+use Rattle.vbi_words.specs.Codes.{pictures_in_second}
+use Rattle.vbi_words.proofs.OneCode.{code_of_is, only_code_of}
+use Rattle.vbi_near.specs.LineCodes.{IsOneOf, codes_of, codes_of_16, codes_of_17}
+
+-- ---- six digits
+
+-- a digit is from one to another
+abbrev Fits : ℕ → ℕ → ℕ → ℕ → Type 0
+Fits least greatest w place = (digit_of least place ≤ digit_of w place) × (digit_of w place ≤ digit_of greatest place)
+
+-- by the digits at each place
+between : (least greatest w : ℕ) → Fits least greatest w 1 → Fits least greatest w 2 → Fits least greatest w 3
+    → Fits least greatest w 4 → Fits least greatest w 5 → Fits least greatest w 6 → IsBetween least greatest w
+between least greatest w a b c d e f zero low high = absurd (omega arith)
+between least greatest w a b c d e f (suc zero) low high = a
+between least greatest w a b c d e f (suc (suc zero)) low high = b
+between least greatest w a b c d e f (suc (suc (suc zero))) low high = c
+between least greatest w a b c d e f (suc (suc (suc (suc zero)))) low high = d
+between least greatest w a b c d e f (suc (suc (suc (suc (suc zero))))) low high = e
+between least greatest w a b c d e f (suc (suc (suc (suc (suc (suc zero)))))) low high = f
+between least greatest w a b c d e f (suc (suc (suc (suc (suc (suc (suc place))))))) low high = absurd (omega arith)
+
+-- ---- the pattern of a word's code
+
+-- the word matches the first of the patterns, which has this code, or the second, and so on; or the code is no class's
+abbrev Matched : ℕ → List Pattern → Code → Type 0
+Matched word [] code = code ≡ Other
+Matched word (pattern ∷ patterns) code = (HasPattern word pattern × (code ≡ pattern.code)) ⊎ Matched word patterns code
+
+-- a pattern that the word matches is the first, or the second, and so on
+matched : (word : ℕ) (patterns : List Pattern) (code : Code) → HasCodeOf patterns word code
+    → Matched word patterns code
+matched word [] code (i, p, l, here, x) = absurd (omega arith)
+matched word (r ∷ patterns) code (zero, p, l, here, (x, e)) =
+    inl (subst (HasPattern word) (sym here) x, e ∙ ap (λ (t : Pattern). t.code) (sym here))
+matched word (r ∷ patterns) code (suc i, p, l, here, x) =
+    inr (matched word patterns code (i, p, omega arith, here, x))
+
+-- a code of no class
+unmatched : (word : ℕ) (patterns : List Pattern) (code : Code) → code ≡ Other → Matched word patterns code
+unmatched word [] code e = e
+unmatched word (r ∷ patterns) code e = inr (unmatched word patterns code e)
+
+-- the code of a word
+code-matched : (word : ℕ) → Matched word (patterns_of word) (code_of word)
+code-matched word = go (code_of_is word)
+  where
+    go : IsCode word (code_of word) → Matched word (patterns_of word) (code_of word)
+    go (inl x) = matched word (patterns_of word) (code_of word) x
+    go (inr (none, e)) = unmatched word (patterns_of word) (code_of word) e
+
+-- ---- what may stand is in the table
+
+-- a code may stand where the one that it is may
+may : (system : System) (line : ℕ) (code of : Code) → code ≡ of → IsTrue (may_stand system line code)
+    → IsTrue (may_stand system line of)
+may system line code of e stands = subst (λ (c : Code). IsTrue (may_stand system line c)) e stands
+
+-- a code may not stand where the one that it is may not
+barred : (system : System) (line : ℕ) (code of : Code) → code ≡ of → may_stand system line of ≡ false
+    → IsTrue (may_stand system line code) → ⊥
+barred system line code of e denied stands = true≢false (sym (may system line code of e stands) ∙ denied)
+
+-- the same may stand on line 18 as on line 17
+same_18 : (system : System) (code : Code) → may_stand system 18 code ≡ may_stand system 17 code
+same_18 system LeadIn = refl
+same_18 system LeadOut = refl
+same_18 system (Picture n) = refl
+same_18 system (Chapter n) = refl
+same_18 system (Time h m) = refl
+same_18 system ClvMark = refl
+same_18 system PictureStop = refl
+same_18 system (ClvPicture s p) = refl
+same_18 system (CxOn n) = refl
+same_18 system (CxOff n) = refl
+same_18 system (Users d n) = refl
+same_18 system Other = refl
+
+-- ---- ranges that are narrower than a pattern
+
+-- x has a word's digits place by place: the last two make the number
+module _ (w : ℕ) where
+  -- times of an hour's 60 minutes
+  time-in : IsBetween 0xF0DD00 0xF9DD99 w → last_two w < 60 → IsBetween 0xF0DD00 0xF9DD59 w
+  time-in x few =
+      between 0xF0DD00 0xF9DD59 w (x 1 (omega arith) (omega arith)) (x 2 (omega arith) (omega arith))
+      (x 3 (omega arith) (omega arith)) (x 4 (omega arith) (omega arith))
+      ((x 5 (omega arith) (omega arith)).0, omega (arith, few))
+      (x 6 (omega arith) (omega arith))
+
+  time-of : IsBetween 0xF0DD00 0xF9DD59 w → IsBetween 0xF0DD00 0xF9DD99 w × (last_two w < 60)
+  time-of x = (
+    between 0xF0DD00 0xF9DD99 w (x 1 (omega arith) (omega arith)) (x 2 (omega arith) (omega arith))
+        (x 3 (omega arith) (omega arith)) (x 4 (omega arith) (omega arith))
+        ((x 5 (omega arith) (omega arith)).0, omega (arith, (x 5 (omega arith) (omega arith)).1))
+        (x 6 (omega arith) (omega arith)),
+    omega (arith, (x 5 (omega arith) (omega arith)).1, (x 6 (omega arith) (omega arith)).1),
+  )
+
+  -- CLV pictures of a second's 30
+  clv-in_30 : IsBetween 0x8AE000 0x8FE999 w → last_two w < 30 → IsBetween 0x8AE000 0x8FE929 w
+  clv-in_30 x few =
+      between 0x8AE000 0x8FE929 w (x 1 (omega arith) (omega arith)) (x 2 (omega arith) (omega arith))
+      (x 3 (omega arith) (omega arith)) (x 4 (omega arith) (omega arith))
+      ((x 5 (omega arith) (omega arith)).0, omega (arith, few))
+      (x 6 (omega arith) (omega arith))
+
+  clv-of_30 : IsBetween 0x8AE000 0x8FE929 w → IsBetween 0x8AE000 0x8FE999 w × (last_two w < 30)
+  clv-of_30 x = (
+    between 0x8AE000 0x8FE999 w (x 1 (omega arith) (omega arith)) (x 2 (omega arith) (omega arith))
+        (x 3 (omega arith) (omega arith)) (x 4 (omega arith) (omega arith))
+        ((x 5 (omega arith) (omega arith)).0, omega (arith, (x 5 (omega arith) (omega arith)).1))
+        (x 6 (omega arith) (omega arith)),
+    omega (arith, (x 5 (omega arith) (omega arith)).1, (x 6 (omega arith) (omega arith)).1),
+  )
+
+  -- the first 20 of a second's 25
+  clv-in_20 : IsBetween 0x8AE000 0x8FE999 w → last_two w < 20 → IsBetween 0x8AE000 0x8FE919 w
+  clv-in_20 x few =
+      between 0x8AE000 0x8FE919 w (x 1 (omega arith) (omega arith)) (x 2 (omega arith) (omega arith))
+      (x 3 (omega arith) (omega arith)) (x 4 (omega arith) (omega arith))
+      ((x 5 (omega arith) (omega arith)).0, omega (arith, few))
+      (x 6 (omega arith) (omega arith))
+
+  clv-of_20 : IsBetween 0x8AE000 0x8FE919 w → IsBetween 0x8AE000 0x8FE999 w × (last_two w < 25)
+  clv-of_20 x = (
+    between 0x8AE000 0x8FE999 w (x 1 (omega arith) (omega arith)) (x 2 (omega arith) (omega arith))
+        (x 3 (omega arith) (omega arith)) (x 4 (omega arith) (omega arith))
+        ((x 5 (omega arith) (omega arith)).0, omega (arith, (x 5 (omega arith) (omega arith)).1))
+        (x 6 (omega arith) (omega arith)),
+    omega (arith, (x 5 (omega arith) (omega arith)).1, (x 6 (omega arith) (omega arith)).1),
+  )
+
+  -- the others of a second's 25
+  clv-in_25 : IsBetween 0x8AE000 0x8FE999 w → 20 ≤ last_two w → last_two w < 25 → IsBetween 0x8AE020 0x8FE924 w
+  clv-in_25 x many few =
+      between 0x8AE020 0x8FE924 w (x 1 (omega arith) (omega arith)) (x 2 (omega arith) (omega arith))
+      (x 3 (omega arith) (omega arith)) (x 4 (omega arith) (omega arith))
+      (omega (arith, many, (x 6 (omega arith) (omega arith)).1), omega (arith, few))
+      ((x 6 (omega arith) (omega arith)).0, omega (arith, many, few, (x 6 (omega arith) (omega arith)).1))
+
+  clv-of_25 : IsBetween 0x8AE020 0x8FE924 w → IsBetween 0x8AE000 0x8FE999 w × (last_two w < 25)
+  clv-of_25 x = (
+    between 0x8AE000 0x8FE999 w (x 1 (omega arith) (omega arith)) (x 2 (omega arith) (omega arith))
+        (x 3 (omega arith) (omega arith)) (x 4 (omega arith) (omega arith))
+        (omega (arith, (x 5 (omega arith) (omega arith)).0), omega (arith, (x 5 (omega arith) (omega arith)).1))
+        ((x 6 (omega arith) (omega arith)).0, omega (arith, (x 6 (omega arith) (omega arith)).1)),
+    omega (arith, (x 5 (omega arith) (omega arith)).1, (x 6 (omega arith) (omega arith)).1),
+  )
+
+-- ---- the words of a line
+
+module _ (system : System) (w : ℕ) (is : IsWord w) where
+  -- what may stand on line 17 is in its table
+  in_17 : (code : Code) → Matched w (patterns_of w) code → IsTrue (may_stand system 17 code) → IsOneOf codes_of_17 w
+  in_17 code (inl (x, e)) stands = inl (is, x)
+  in_17 code (inr (inl (x, e))) stands = inr (inl (is, x))
+  in_17 code (inr (inr (inl (x, e)))) stands = inr (inr (inl (is, x)))
+  in_17 code (inr (inr (inr (inl (x, e))))) stands = inr (inr (inr (inl (is, x))))
+  in_17 code (inr (inr (inr (inr (inl (x, e)))))) stands = inr (inr (inr (inr (inl (is, x)))))
+  in_17 code (inr (inr (inr (inr (inr (inl (x, e))))))) stands = inr (inr (inr (inr (inr (inl (is, x))))))
+  in_17 code (inr (inr (inr (inr (inr (inr (inl (x, e)))))))) stands =
+      let few = ltb-true (last_two w) 60 (may system 17 code (Time (digit_of w 2) (last_two w)) e stands) in
+      inr (inr (inr (inr (inr (inr (inl (is, time-in w x few)))))))
+  in_17 code (inr (inr (inr (inr (inr (inr (inr (inl (x, e))))))))) stands =
+      absurd (barred system 17 code (ClvPicture (seconds_of w) (last_two w)) e refl stands)
+  in_17 code (inr (inr (inr (inr (inr (inr (inr (inr (inl (x, e)))))))))) stands =
+      absurd (barred system 17 code (CxOn (last_three w)) e refl stands)
+  in_17 code (inr (inr (inr (inr (inr (inr (inr (inr (inr (inl (x, e))))))))))) stands =
+      absurd (barred system 17 code (CxOff (last_three w)) e refl stands)
+  in_17 code (inr (inr (inr (inr (inr (inr (inr (inr (inr (inr (inl (x, e)))))))))))) stands =
+      absurd (barred system 17 code (Users (digit_of w 2) (last_three w)) e refl stands)
+  in_17 code (inr (inr (inr (inr (inr (inr (inr (inr (inr (inr (inr e))))))))))) stands =
+      absurd (barred system 17 code Other e refl stands)
+
+  -- a CLV picture, and other codes of line 16, in the table of each system
+  clv_16 : (system : System) → IsBetween 0x8AE000 0x8FE999 w → last_two w < pictures_in_second system
+      → IsOneOf (codes_of_16 system) w
+  clv_16 Ntsc x few = inr (inl (is, clv-in_30 w x few))
+  clv_16 Pal x few = go (cases_lt (last_two w) 20)
+    where
+      go : (last_two w < 20) ⊎ (20 ≤ last_two w) → IsOneOf (codes_of_16 Pal) w
+      go (inl less) = inr (inl (is, clv-in_20 w x less))
+      go (inr more) = inr (inr (inl (is, clv-in_25 w x more few)))
+
+  stop_16 : (system : System) → IsBetween 0x82CFFF 0x82CFFF w → IsOneOf (codes_of_16 system) w
+  stop_16 Ntsc x = inl (is, x)
+  stop_16 Pal x = inl (is, x)
+
+  cx_on_16 : (system : System) → IsBetween 0x8DC000 0x8DCFFF w → IsOneOf (codes_of_16 system) w
+  cx_on_16 Ntsc x = inr (inr (inl (is, x)))
+  cx_on_16 Pal x = inr (inr (inr (inl (is, x))))
+
+  cx_off_16 : (system : System) → IsBetween 0x8BA000 0x8BAFFF w → IsOneOf (codes_of_16 system) w
+  cx_off_16 Ntsc x = inr (inr (inr (inl (is, x))))
+  cx_off_16 Pal x = inr (inr (inr (inr (inl (is, x)))))
+
+  users_16 : (system : System) → IsBetween 0x80D000 0x87DFFF w → IsOneOf (codes_of_16 system) w
+  users_16 Ntsc x = inr (inr (inr (inr (inl (is, x)))))
+  users_16 Pal x = inr (inr (inr (inr (inr (inl (is, x))))))
+
+  -- what may stand on line 16 is in its table
+  in_16 : (code : Code) → Matched w (patterns_of w) code → IsTrue (may_stand system 16 code)
+      → IsOneOf (codes_of_16 system) w
+  in_16 code (inl (x, e)) stands =
+      absurd (barred system 16 code LeadIn e refl stands)
+  in_16 code (inr (inl (x, e))) stands =
+      absurd (barred system 16 code LeadOut e refl stands)
+  in_16 code (inr (inr (inl (x, e)))) stands =
+      absurd (barred system 16 code (Picture (picture_of w)) e refl stands)
+  in_16 code (inr (inr (inr (inl (x, e))))) stands = stop_16 system x
+  in_16 code (inr (inr (inr (inr (inl (x, e)))))) stands =
+      absurd (barred system 16 code (Chapter (chapter_of w)) e refl stands)
+  in_16 code (inr (inr (inr (inr (inr (inl (x, e))))))) stands =
+      absurd (barred system 16 code ClvMark e refl stands)
+  in_16 code (inr (inr (inr (inr (inr (inr (inl (x, e)))))))) stands =
+      absurd (barred system 16 code (Time (digit_of w 2) (last_two w)) e refl stands)
+  in_16 code (inr (inr (inr (inr (inr (inr (inr (inl (x, e))))))))) stands =
+      clv_16 system x (ltb-true (last_two w) (pictures_in_second system)
+      (may system 16 code (ClvPicture (seconds_of w) (last_two w)) e stands))
+  in_16 code (inr (inr (inr (inr (inr (inr (inr (inr (inl (x, e)))))))))) stands = cx_on_16 system x
+  in_16 code (inr (inr (inr (inr (inr (inr (inr (inr (inr (inl (x, e))))))))))) stands = cx_off_16 system x
+  in_16 code (inr (inr (inr (inr (inr (inr (inr (inr (inr (inr (inl (x, e)))))))))))) stands = users_16 system x
+  in_16 code (inr (inr (inr (inr (inr (inr (inr (inr (inr (inr (inr e))))))))))) stands =
+      absurd (barred system 16 code Other e refl stands)
+
+  -- the code of a word that matches a pattern
+  abbrev Has : Code → Type 0
+  Has code = HasCodeOf (patterns_of w) w code
+
+  -- by its pattern's code
+  by : (line : ℕ) (code : Code) → Has code → IsTrue (may_stand system line code)
+      → IsTrue (may_stand system line (code_of w))
+  by line code has stands = may system line code (code_of w) (only_code_of w code (inl has)) stands
+
+  -- what is in the table of line 17 may stand there
+  of_17 : IsOneOf codes_of_17 w → IsTrue (may_stand system 17 (code_of w))
+  of_17 (inl (word, x)) = by 17 LeadIn (0, _, lit< tt, refl, (x, refl)) refl
+  of_17 (inr (inl (word, x))) = by 17 LeadOut (1, _, lit< tt, refl, (x, refl)) refl
+  of_17 (inr (inr (inl (word, x)))) = by 17 (Picture (picture_of w)) (2, _, lit< tt, refl, (x, refl)) refl
+  of_17 (inr (inr (inr (inl (word, x))))) = by 17 PictureStop (3, _, lit< tt, refl, (x, refl)) refl
+  of_17 (inr (inr (inr (inr (inl (word, x)))))) = by 17 (Chapter (chapter_of w)) (4, _, lit< tt, refl, (x, refl)) refl
+  of_17 (inr (inr (inr (inr (inr (inl (word, x))))))) = by 17 ClvMark (5, _, lit< tt, refl, (x, refl)) refl
+  of_17 (inr (inr (inr (inr (inr (inr (inl (word, x)))))))) =
+      let y = time-of w x in
+      by 17 (Time (digit_of w 2) (last_two w)) (6, _, lit< tt, refl, (y.0, refl)) (lt-ltb (last_two w) 60 y.1)
+  of_17 (inr (inr (inr (inr (inr (inr (inr none))))))) = absurd none
+
+  -- the codes of line 16 may stand there
+  of_clv : IsBetween 0x8AE000 0x8FE999 w → last_two w < pictures_in_second system
+      → IsTrue (may_stand system 16 (code_of w))
+  of_clv x few =
+      by 16 (ClvPicture (seconds_of w) (last_two w)) (7, _, lit< tt, refl, (x, refl))
+      (lt-ltb (last_two w) (pictures_in_second system) few)
+
+  of_stop : IsBetween 0x82CFFF 0x82CFFF w → IsTrue (may_stand system 16 (code_of w))
+  of_stop x = by 16 PictureStop (3, _, lit< tt, refl, (x, refl)) refl
+
+  of_cx_on : IsBetween 0x8DC000 0x8DCFFF w → IsTrue (may_stand system 16 (code_of w))
+  of_cx_on x = by 16 (CxOn (last_three w)) (8, _, lit< tt, refl, (x, refl)) refl
+
+  of_cx_off : IsBetween 0x8BA000 0x8BAFFF w → IsTrue (may_stand system 16 (code_of w))
+  of_cx_off x = by 16 (CxOff (last_three w)) (9, _, lit< tt, refl, (x, refl)) refl
+
+  of_users : IsBetween 0x80D000 0x87DFFF w → IsTrue (may_stand system 16 (code_of w))
+  of_users x = by 16 (Users (digit_of w 2) (last_three w)) (10, _, lit< tt, refl, (x, refl)) refl
+
+-- what is in the table of line 16 may stand there
+of_16 : (system : System) (w : ℕ) → IsWord w → IsOneOf (codes_of_16 system) w
+    → IsTrue (may_stand system 16 (code_of w))
+of_16 Ntsc w is (inl (word, x)) = of_stop Ntsc w is x
+of_16 Ntsc w is (inr (inl (word, x))) = let y = clv-of_30 w x in of_clv Ntsc w is y.0 y.1
+of_16 Ntsc w is (inr (inr (inl (word, x)))) = of_cx_on Ntsc w is x
+of_16 Ntsc w is (inr (inr (inr (inl (word, x))))) = of_cx_off Ntsc w is x
+of_16 Ntsc w is (inr (inr (inr (inr (inl (word, x)))))) = of_users Ntsc w is x
+of_16 Ntsc w is (inr (inr (inr (inr (inr none))))) = absurd none
+of_16 Pal w is (inl (word, x)) = of_stop Pal w is x
+of_16 Pal w is (inr (inl (word, x))) = let y = clv-of_20 w x in of_clv Pal w is y.0 y.1
+of_16 Pal w is (inr (inr (inl (word, x)))) = let y = clv-of_25 w x in of_clv Pal w is y.0 y.1
+of_16 Pal w is (inr (inr (inr (inl (word, x))))) = of_cx_on Pal w is x
+of_16 Pal w is (inr (inr (inr (inr (inl (word, x)))))) = of_cx_off Pal w is x
+of_16 Pal w is (inr (inr (inr (inr (inr (inl (word, x))))))) = of_users Pal w is x
+of_16 Pal w is (inr (inr (inr (inr (inr (inr none)))))) = absurd none
+
+-- the table of a line has a word if its code may stand there, and no other
+abbrev Stands : System → ℕ → ℕ → Type 0
+Stands system word line = IsOneOf (codes_of system line) word ↔ IsTrue (may_stand system line (code_of word))
+
+-- on each of the three lines
+pub codes_stand : (system : System) (line word : ℕ) → 16 ≤ line → line ≤ 18 → IsWord word
+    → (IsOneOf (codes_of system line) word ↔ IsTrue (may_stand system line (code_of word)))
+codes_stand system line word low high is = go (cases_eq line 16) (cases_eq line 17)
+  where
+    go : (line ≡ 16) ⊎ (line ≡ 16 → ⊥) → (line ≡ 17) ⊎ (line ≡ 17 → ⊥)
+        → (IsOneOf (codes_of system line) word ↔ IsTrue (may_stand system line (code_of word)))
+    go (inl e) any = subst (Stands system word) (sym e)
+        (of_16 system word is, in_16 system word is (code_of word) (code-matched word))
+    go (inr not) (inl e) = subst (Stands system word) (sym e)
+        (of_17 system word is, in_17 system word is (code_of word) (code-matched word))
+    go (inr not) (inr nor) =
+        let e : line ≡ 18 = omega arith in
+        subst (Stands system word) (sym e) (
+          λ one. same_18 system (code_of word) ∙ of_17 system word is one,
+          λ stands. in_17 system word is (code_of word) (code-matched word)
+              (sym (same_18 system (code_of word)) ∙ stands),
+        )

@@ -1,0 +1,49 @@
+-- A line that has a word of pass 1, or is blank, is shown as it was read.
+use Rattle.std.proofs.Common.{◌≡◌, ℕ, Bool, true, false, refl, sym, ap, ◌∙◌, subst, arith}
+use Rattle.std.specs.Prelude.{if◌then◌else◌}
+use Rattle.vbi_words.specs.declared.outcome.Outcome.{Outcome}
+use Rattle.vbi_words.specs.declared.outcome.Outcome.TheVariants.{Word, Blank, Unfinished, Change, Hold}
+use Rattle.vbi_words.specs.declared.outcome.Reading.{Reading}
+use Rattle.vbi_near.specs.declared.recovery.Recovered.{Recovered}
+use Rattle.vbi_near.specs.Candidates.{Candidates}
+use Rattle.vbi_near.specs.Recovery.{Seen, Stands, IsSureBy, own_by, own_of, is_open, is_confirmed, shown_in, said_by}
+use Rattle.vbi_near.specs.Recovery.{recovered_as}
+use Rattle.vbi_near.proofs.OneSeen.{word_own}
+
+-- by its own levels it shows what was read
+sure-own : (o : Outcome) (pass : ℕ) (plain : Outcome) (confirms : ℕ → Bool) → IsSureBy o pass
+    → own_by plain o pass confirms ≡ record { outcome = o; pass = pass }
+sure-own (Word w) pass plain confirms one = word_own plain w pass confirms (λ two. omega (arith, one, two))
+sure-own Blank pass plain confirms one = refl
+sure-own Unfinished pass plain confirms one = absurd one
+sure-own (Change c) pass plain confirms one = absurd one
+sure-own (Hold c) pass plain confirms one = absurd one
+
+-- it isn't open
+sure-closed : (o : Outcome) (pass : ℕ) → IsSureBy o pass → is_open o ≡ false
+sure-closed (Word w) pass one = refl
+sure-closed Blank pass one = refl
+sure-closed Unfinished pass one = absurd one
+sure-closed (Change c) pass one = absurd one
+sure-closed (Hold c) pass one = absurd one
+
+-- the other is taken where it doesn't hold
+when-not : (b : Bool) (x y : Recovered) → b ≡ false → (if b then x else y) ≡ y
+when-not true x y closed = cc
+when-not false x y closed = refl
+
+-- however it stands to another, it is shown as it was read
+pub sure-shown : (stands : Stands) (unit : ℕ) (seen : Seen) (both : Candidates) (reading : Reading)
+    → seen.reading ≡ reading → IsSureBy reading.outcome reading.pass
+    → shown_in stands unit seen both ≡ record { outcome = reading.outcome; pass = reading.pass }
+sure-shown stands unit seen both reading e sure =
+    let was : IsSureBy seen.reading.outcome seen.reading.pass =
+    subst (λ (r : Reading). IsSureBy r.outcome r.pass) (sym e) sure in
+    let own = sure-own seen.reading.outcome seen.reading.pass seen.plain
+    (is_confirmed unit seen.near seen.stretched) was in
+    let closed : is_open (own_of unit seen).outcome ≡ false =
+    ap (λ (o : Recovered). is_open o.outcome) own ∙ sure-closed seen.reading.outcome seen.reading.pass was in
+    when-not (is_open (own_of unit seen).outcome)
+    (recovered_as (own_of unit seen) (said_by stands unit seen.near both)) (own_of unit seen) closed
+    ∙ own
+    ∙ (λ j. record { outcome = (e j).outcome; pass = (e j).pass })

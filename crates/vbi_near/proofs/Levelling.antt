@@ -1,0 +1,297 @@
+-- Levelled lines: sums of samples, and lines that are written sample by sample.
+use Rattle.std.proofs.Common.{◌≡◌, ℕ, suc, zero, ◌≤◌, ◌<◌, ◌+◌, ◌-◌, ◌*◌, ◌/◌, List, [], ◌∷◌, Bool, true, false}
+use Rattle.std.proofs.Common.{cond, length}
+use Rattle.std.proofs.Common.{◌⊎◌, inl, inr, get_or, set, take, drop, map, arith, ap, sym, ◌∙◌, refl, get_or-set_same}
+use Rattle.std.proofs.Common.{get_or-set_other}
+use Rattle.std.specs.List.{sum, range_with_len}
+use Rattle.std.specs.Prelude.{nat_le, min}
+use Rattle.std.proofs.lemmas.Bool.{cases_lt, le-leb, lt-leb}
+use Rattle.std.proofs.Math.Nat.{one-le-mul}
+use Rattle.std.proofs.lemmas.List.{ext_get_or, take-take, drop-take}
+use Rattle.std.proofs.lemmas.List.FromFn.{fill_by_all, sum_by-map-range_with_len_more}
+use Rattle.std.proofs.lemmas.List.Sums.{sum_by-take-drop, sum_by_more}
+use Rattle.vbi_words.specs.declared.system.System.{System}
+use Rattle.vbi_words.specs.declared.system.System.TheVariants.{Ntsc, Pal}
+use Rattle.vbi_words.specs.Geometry.{width_of}
+use Rattle.vbi_words.specs.Levels.{Slicing, samples_of}
+use Rattle.vbi_line.proofs.Slicing.{sample_of, length-samples_of}
+use Rattle.vbi_line.specs.Line.{sample_at}
+use Rattle.vbi_near.specs.Levelled.{window_of, first_of, end_of, window_start, window_sum, sum_from, off_mean, off_in}
+use Rattle.vbi_near.specs.Levelled.{middle_of, levelled_sample, filled, AreSampleSums}
+use Rattle.vbi_near.specs.Distances.{unit_of}
+use Rattle.vbi_near.proofs.Inverse.{quotient-above, quotient-below}
+
+-- ---- sums of samples
+
+-- the sums up to a column
+abbrev pub SumsTo : List ℕ → List ℕ → ℕ → Type 0
+SumsTo samples sums i = (k : ℕ) → k ≤ i → get_or sums k 0 ≡ sum (take k samples)
+
+-- one sum more
+pub sums_more : (samples sums : List ℕ) (i v : ℕ) → i < length samples → i + 1 < length sums
+    → v ≡ get_or sums i 0 + get_or samples i 0 → SumsTo samples sums i → SumsTo samples (set sums (i + 1) v) (i + 1)
+sums_more samples sums i v inside room is before k le = go (cases_lt k (i + 1))
+  where
+    go : (k < i + 1) ⊎ (i + 1 ≤ k) → get_or (set sums (i + 1) v) k 0 ≡ sum (take k samples)
+    go (inl below) =
+        get_or-set_other sums (i + 1) k v 0 (λ e. omega arith) ∙ before k (omega arith)
+    go (inr above) =
+        let e : k ≡ i + 1 = omega arith in
+        let last : get_or sums i 0 ≡ sum (take i samples) = before i (omega arith) in
+        let more : sum (take (i + 1) samples) ≡ sum (take i samples) + get_or samples i 0
+        = sum_by_more (λ (x : ℕ). x) samples i 0 inside in
+        ap (λ (j : ℕ). get_or (set sums (i + 1) v) j 0) e
+        ∙ get_or-set_same sums (i + 1) v 0 room
+        ∙ omega (arith, last, more, is)
+        ∙ ap (λ (j : ℕ). sum (take j samples)) (sym e)
+
+-- what stands before a column and the next ones sum up to what stands before the last of them
+sum-split : (samples : List ℕ) (i n : ℕ)
+    → sum (take i samples) + sum_from samples i n ≡ sum (take (i + n) samples)
+sum-split samples i n =
+    let all = take (i + n) samples in
+    let front : sum (take i all) ≡ sum (take i samples)
+    = ap (λ (l : List ℕ). sum l) (take-take i (i + n) samples (omega arith)) in
+    let back : sum (drop i all) ≡ sum_from samples i n
+    = ap (λ (l : List ℕ). sum l) (drop-take i n samples) in
+    let both : sum (take i all) + sum (drop i all) ≡ sum all = sum_by-take-drop (λ (x : ℕ). x) all i in
+    omega (arith, front, back, both)
+
+-- the sum of some columns, by two sums
+pub between_sums : (samples sums : List ℕ) (i n : ℕ) → AreSampleSums samples sums → i + n ≤ length samples
+    → get_or sums i 0 + sum_from samples i n ≡ get_or sums (i + n) 0
+between_sums samples sums i n are inside =
+    let low = are.each i (omega arith) in
+    let high = are.each (i + n) inside in
+    omega (arith, low, high, sum-split samples i n)
+
+-- a window lies within the line
+pub window_inside : (system : System) (column : ℕ)
+    → window_start system column + window_of system ≤ width_of system
+window_inside Ntsc column = omega arith
+window_inside Pal column = omega arith
+
+-- the sum of a window, by the sums at its ends
+pub window_by_sums : (system : System) (samples sums : List ℕ) (column start n : ℕ) → length samples ≡ width_of system
+    → AreSampleSums samples sums → start ≡ window_start system column → n ≡ window_of system
+    → get_or sums start 0 + window_sum system samples column ≡ get_or sums (start + n) 0
+window_by_sums system samples sums column start n long are s w =
+    let i = window_start system column in
+    let inside : i + window_of system ≤ length samples = omega (arith, long, window_inside system column) in
+    let end : start + n ≡ i + window_of system = omega (arith, s, w) in
+    ap (λ (k : ℕ). get_or sums k 0 + window_sum system samples column) s
+    ∙ between_sums samples sums i (window_of system) are inside
+    ∙ ap (λ (k : ℕ). get_or sums k 0) (sym end)
+
+-- the windows of the first columns are one, as are those of the last ones
+pub window_before : (system : System) (column : ℕ) → column < first_of system + window_of system / 2
+    → window_start system column ≡ window_start system 0
+window_before Ntsc column less = omega (arith, less)
+window_before Pal column less = omega (arith, less)
+
+pub window_behind : (system : System) (column : ℕ)
+    → end_of system - window_of system + window_of system / 2 ≤ column
+    → window_start system column ≡ window_start system (end_of system - window_of system + window_of system / 2)
+window_behind Ntsc column more = omega (arith, more)
+window_behind Pal column more = omega (arith, more)
+
+-- the others begin half a window before their columns
+pub window_amid : (system : System) (column : ℕ) → first_of system + window_of system / 2 ≤ column
+    → column < end_of system - window_of system + window_of system / 2
+    → window_start system column ≡ column - window_of system / 2
+window_amid Ntsc column more less = omega (arith, more, less)
+window_amid Pal column more less = omega (arith, more, less)
+
+-- the columns whose windows begin before them lie within the line
+pub ordered_windows : (system : System)
+    → (first_of system + window_of system / 2 ≤ width_of system)
+    × (end_of system - window_of system + window_of system / 2 ≤ width_of system)
+ordered_windows Ntsc = (omega arith, omega arith)
+ordered_windows Pal = (omega arith, omega arith)
+
+-- the sum of such a window, by the sums at its ends
+pub amid_by_sums : (system : System) (samples sums : List ℕ) (column wide : ℕ) → length samples ≡ width_of system
+    → AreSampleSums samples sums → wide ≡ window_of system → first_of system + window_of system / 2 ≤ column
+    → column < end_of system - window_of system + window_of system / 2
+    → (column - wide / 2 + wide < length sums)
+    × (get_or sums (column - wide / 2) 0 + window_sum system samples column
+    ≡ get_or sums (column - wide / 2 + wide) 0)
+amid_by_sums system samples sums column wide long are w more less =
+    let start : column - wide / 2 ≡ window_start system column
+    = ap (λ (n : ℕ). column - n / 2) w ∙ sym (window_amid system column more less) in (
+      omega (arith, start, w, window_inside system column, long, are.room),
+      window_by_sums system samples sums column (column - wide / 2) wide long are start w,
+    )
+
+-- so many columns have the sums of their windows
+abbrev pub WindowsTo : System → List ℕ → List ℕ → ℕ → Type 0
+WindowsTo system samples windows i = (k : ℕ) → k < i → get_or windows k 0 ≡ window_sum system samples k
+
+-- one window more
+pub windows_more : (system : System) (samples windows : List ℕ) (i v : ℕ) → i < length windows
+    → v ≡ window_sum system samples i → WindowsTo system samples windows i
+    → WindowsTo system samples (set windows i v) (i + 1)
+windows_more system samples windows i v inside is before k less = go (cases_lt k i)
+  where
+    go : (k < i) ⊎ (i ≤ k) → get_or (set windows i v) k 0 ≡ window_sum system samples k
+    go (inl below) = get_or-set_other windows i k v 0 (λ e. omega arith) ∙ before k below
+    go (inr above) =
+        let e : k ≡ i = omega arith in
+        ap (λ (j : ℕ). get_or (set windows i v) j 0) e ∙ get_or-set_same windows i v 0 inside ∙ is
+        ∙ ap (window_sum system samples) (sym e)
+
+pub inside : (system : System) → end_of system ≤ width_of system
+inside Ntsc = omega arith
+inside Pal = omega arith
+
+pub ordered : (system : System) → first_of system ≤ end_of system
+ordered Ntsc = omega arith
+ordered Pal = omega arith
+
+-- one column more is off its mean
+pub off_more : (system : System) (samples : List ℕ) (column : ℕ) → first_of system ≤ column
+    → off_in system samples (column + 1 - first_of system)
+    ≡ off_in system samples (column - first_of system) + off_mean system samples column
+off_more system samples column low =
+    let f : ℕ → ℕ = off_mean system samples in
+    let first = first_of system in
+    let n = column - first in
+    let e : column + 1 - first ≡ n + 1 = omega arith in
+    ap (off_in system samples) e
+    ∙ sum_by-map-range_with_len_more (λ (x : ℕ). x) f first n column (omega arith)
+
+-- ---- lines written sample by sample
+
+-- the samples before a column are those of a function
+abbrev pub WrittenTo : (ℕ → ℕ) → List ℕ → ℕ → Type 0
+WrittenTo f bytes i = (k : ℕ) → k < i → sample_at bytes k ≡ f k
+
+-- one sample more
+pub written_more : (f : ℕ → ℕ) (old new : List ℕ) (i : ℕ) → sample_at new i ≡ f i
+    → ((k : ℕ) → (k ≡ i → ⊥) → sample_at new k ≡ sample_at old k) → WrittenTo f old i → WrittenTo f new (i + 1)
+written_more f old new i here others before k less = go (cases_lt k i)
+  where
+    go : (k < i) ⊎ (i ≤ k) → sample_at new k ≡ f k
+    go (inl below) = others k (λ e. omega arith) ∙ before k below
+    go (inr above) =
+        let e : k ≡ i = omega arith in
+        ap (sample_at new) e ∙ here ∙ ap f (sym e)
+
+read_each : (f : ℕ → ℕ) (bytes : List ℕ) (n : ℕ) → length bytes ≡ 2 * n → WrittenTo f bytes n
+    → (k : ℕ) → k < n → get_or (samples_of bytes) k 0 ≡ f k
+read_each f bytes n long all k less = sample_of bytes k (omega arith) ∙ all k less
+
+-- all samples
+pub written_all : (f : ℕ → ℕ) (bytes : List ℕ) (n : ℕ) → length bytes ≡ 2 * n → WrittenTo f bytes n
+    → samples_of bytes ≡ map f (range_with_len 0 n)
+written_all f bytes n long all =
+    fill_by_all f (samples_of bytes) n 0 (length-samples_of bytes n long) (read_each f bytes n long all)
+
+-- ---- erased columns
+
+-- a sample, or half way between black and white
+abbrev pub filled_at : Slicing → List Bool → List ℕ → ℕ → ℕ
+filled_at slicing erased row k = cond (get_or erased k false) (middle_of slicing) (sample_at row k)
+
+-- the samples before a column are filled, the others as they were
+pub record FilledTo (slicing : Slicing) (erased : List Bool) (row out : List ℕ) (i : ℕ) : Type 0 where
+  pub below : WrittenTo (filled_at slicing erased row) out i
+  pub behind : (k : ℕ) → i ≤ k → sample_at out k ≡ sample_at row k
+
+-- a column more that isn't erased
+pub filled_kept : (slicing : Slicing) (erased : List Bool) (row out : List ℕ) (i : ℕ) → get_or erased i false ≡ false
+    → FilledTo slicing erased row out i → FilledTo slicing erased row out (i + 1)
+filled_kept slicing erased row out i unmarked is = record {
+  below = written_more (filled_at slicing erased row) out out i
+      (is.behind i (omega arith) ∙ ap (λ (b : Bool). cond b (middle_of slicing) (sample_at row i)) (sym unmarked))
+      (λ k other. refl) is.below;
+  behind = λ k le. is.behind k (omega arith);
+}
+
+-- a column more that is
+pub filled_more : (slicing : Slicing) (erased : List Bool) (row old new : List ℕ) (i : ℕ)
+    → get_or erased i false ≡ true → sample_at new i ≡ middle_of slicing
+    → ((k : ℕ) → (k ≡ i → ⊥) → sample_at new k ≡ sample_at old k) → FilledTo slicing erased row old i
+    → FilledTo slicing erased row new (i + 1)
+filled_more slicing erased row old new i marked here others is = record {
+  below = written_more (filled_at slicing erased row) old new i
+      (here ∙ ap (λ (b : Bool). cond b (middle_of slicing) (sample_at row i)) (sym marked)) others is.below;
+  behind = λ k le. others k (λ e. omega arith) ∙ is.behind k (omega arith);
+}
+
+length-filled : (slicing : Slicing) (erased : List Bool) (samples : List ℕ) → length erased ≡ length samples
+    → length (filled slicing erased samples) ≡ length samples
+length-filled slicing [] [] e = refl
+length-filled slicing [] (s ∷ samples) e = absurd (omega arith)
+length-filled slicing (b ∷ erased) [] e = absurd (omega arith)
+length-filled slicing (true ∷ erased) (s ∷ samples) e =
+    omega (arith, length-filled slicing erased samples (omega arith))
+length-filled slicing (false ∷ erased) (s ∷ samples) e =
+    omega (arith, length-filled slicing erased samples (omega arith))
+
+filled-read : (slicing : Slicing) (erased : List Bool) (samples : List ℕ) (k : ℕ) → k < length erased
+    → k < length samples
+    → get_or (filled slicing erased samples) k 0
+    ≡ cond (get_or erased k false) (middle_of slicing) (get_or samples k 0)
+filled-read slicing [] samples k l m = absurd (omega arith)
+filled-read slicing (b ∷ erased) [] k l m = absurd (omega arith)
+filled-read slicing (true ∷ erased) (s ∷ samples) zero l m = refl
+filled-read slicing (false ∷ erased) (s ∷ samples) zero l m = refl
+filled-read slicing (true ∷ erased) (s ∷ samples) (suc k) l m =
+    filled-read slicing erased samples k (omega arith) (omega arith)
+filled-read slicing (false ∷ erased) (s ∷ samples) (suc k) l m =
+    filled-read slicing erased samples k (omega arith) (omega arith)
+
+pub filled_all : (slicing : Slicing) (erased : List Bool) (row out : List ℕ) → length row ≡ 2 * length erased
+    → length out ≡ 2 * length erased → WrittenTo (filled_at slicing erased row) out (length erased)
+    → samples_of out ≡ filled slicing erased (samples_of row)
+filled_all slicing erased row out room as_long all =
+    let many = length-samples_of row (length erased) room in
+    let outs = length-samples_of out (length erased) as_long in
+    let fills = length-filled slicing erased (samples_of row) (sym many) in
+    ext_get_or 0 (samples_of out) (filled slicing erased (samples_of row)) (omega (arith, many, outs, fills)) (λ k less.
+    let inside : k < length erased = omega (arith, outs) in
+    let there : sample_at row k ≡ get_or (samples_of row) k 0 = sym (sample_of row k (omega arith)) in
+    read_each (filled_at slicing erased row) out (length erased) as_long all k inside
+    ∙ ap (λ (s : ℕ). cond (get_or erased k false) (middle_of slicing) s) there
+    ∙ sym (filled-read slicing erased (samples_of row) k inside (omega (arith, many))))
+
+-- ---- levelled samples
+
+-- one quotient for samples above the mean and below it
+pub one_quotient : (slicing : Slicing) (scale own mean : ℕ) → 0 < scale → slicing.black < slicing.white
+    → middle_of slicing ≤ 65535
+    → min ((middle_of slicing * scale + own * unit_of slicing - mean * unit_of slicing) / scale) 65535
+    ≡ levelled_sample slicing scale own mean
+unfolding levelled_sample
+one_quotient slicing scale own mean some order few = go (cases_lt own mean)
+  where
+    u : ℕ
+    u = unit_of slicing
+
+    m : ℕ
+    m = middle_of slicing
+
+    go : (own < mean) ⊎ (mean ≤ own)
+        → min ((m * scale + own * u - mean * u) / scale) 65535 ≡ levelled_sample slicing scale own mean
+    go (inr low) =
+        let e : nat_le mean own ≡ true = le-leb mean own low in
+        let d : ℕ = own - mean in
+        let whole : mean + d ≡ own = omega arith in
+        let split : mean * u + d * u ≡ own * u = omega arith ∙ ap (λ (n : ℕ). n * u) whole in
+        let same : m * scale + own * u - mean * u ≡ m * scale + d * u = omega (arith, split) in
+        let is : (m * scale + own * u - mean * u) / scale ≡ m + d * u / scale
+        = ap (λ (n : ℕ). n / scale) same ∙ quotient-above m (d * u) scale some in
+        rw e (omega (arith, is))
+    go (inl high) =
+        let e : nat_le mean own ≡ false = lt-leb mean own high in
+        let d : ℕ = mean - own in
+        let whole : own + d ≡ mean = omega arith in
+        let split : own * u + d * u ≡ mean * u = omega arith ∙ ap (λ (n : ℕ). n * u) whole in
+        let gap : 1 ≤ d = omega arith in
+        let unit : 1 ≤ u = omega arith in
+        let product : 1 ≤ d * u = one-le-mul gap unit in
+        let same : m * scale + own * u - mean * u ≡ m * scale - d * u = omega (arith, split) in
+        let is : (m * scale + own * u - mean * u) / scale ≡ m - (d * u + (scale - 1)) / scale
+        = ap (λ (n : ℕ). n / scale) same ∙ quotient-below m (d * u) scale some product in
+        rw e (omega (arith, is, few))

@@ -1,0 +1,133 @@
+-- What was looked at, and what needs no look.
+use Rattle.std.proofs.Common.{◌≡◌, ℕ, zero, suc, ◌≤◌, ◌<◌, ◌^◌, List, [], ◌∷◌, false}
+use Rattle.std.proofs.Common.{◌⊎◌, inl, inr, refl, arith, ap, sym, subst}
+use Rattle.std.proofs.lemmas.Bool.{cases_lt}
+use Rattle.vbi_words.specs.declared.system.System.{System}
+use Rattle.vbi_words.specs.Geometry.{width_of}
+use Rattle.vbi_words.specs.Words.{IsWord}
+use Rattle.vbi_near.specs.declared.found.Found.{Found}
+use Rattle.vbi_near.specs.Pictures.{starts}
+use Rattle.vbi_near.specs.Distances.{Shades}
+use Rattle.vbi_near.specs.Sums.{span}
+use Rattle.vbi_near.specs.LineCodes.{Range, IsOneOf}
+use Rattle.vbi_near.specs.Leads.{Look, look, at_start, IsSeen, with_ranges, looks_before, all_codes, code_cost}
+use Rattle.vbi_near.specs.Leads.{IsLead}
+use Rattle.vbi_near.specs.Nearest.{IsBefore}
+use Rattle.vbi_near.proofs.Merged.{lead-passed, lead-same, turned}
+
+-- none alone
+pub none-lead : (sums : Shades) (system : System) (blank : ℕ) → blank ≡ span sums false 0 (width_of system)
+    → blank < 2 ^ 31 → IsLead (code_cost sums system) (IsSeen []) (record {
+      word = 0;
+      start = 0;
+      distance = blank;
+      rival = 4294967295;
+    })
+none-lead sums system blank e few = record {
+  there = (refl, refl);
+  exact = sym e;
+  order = omega (arith, few);
+  least = λ s w there.
+      let same : code_cost sums system s w ≡ code_cost sums system s 0 = ap (code_cost sums system s) there.1 in
+      omega (arith, e, same);
+  rival = λ s w there differs. absurd (differs there.1);
+  first = λ s w there same. inr (sym there.0, omega arith);
+  other = inl (omega arith);
+}
+
+-- ---- ranges at one start
+
+pub passed-ranges : (cost : ℕ → ℕ → ℕ) (looks : List Look) (at : ℕ) (ranges : List Range) (lead : Found)
+    → ((w : ℕ) → IsWord w → lead.rival ≤ cost at w)
+    → ((w : ℕ) → IsWord w → cost at w ≡ lead.distance → IsBefore lead.start lead.word at w)
+    → IsLead cost (IsSeen looks) lead
+    → IsLead cost (IsSeen (with_ranges looks at ranges)) lead
+passed-ranges cost looks at [] lead far after is = is
+passed-ranges cost looks at (words ∷ ranges) lead far after is =
+    passed-ranges cost (look at words ∷ looks) at ranges lead far after
+    (turned cost (IsSeen looks) (at_start at words) lead
+    (lead-passed cost (IsSeen looks) (at_start at words) lead
+    (λ s w there. omega (arith, far w there.1.0, ap (λ (k : ℕ). cost k w) there.0))
+    (λ s w there. subst (λ (k : ℕ). cost k w ≡ lead.distance → IsBefore lead.start lead.word k w) (sym there.0)
+    (after w there.1.0)) is))
+
+to-ranges : (looks : List Look) (at : ℕ) (ranges : List Range) (s w : ℕ) → IsSeen (with_ranges looks at ranges) s w
+    → IsSeen looks s w ⊎ ((s ≡ at) × IsOneOf ranges w)
+to-ranges looks at [] s w there = inl there
+to-ranges looks at (words ∷ ranges) s w there = go (to-ranges (look at words ∷ looks) at ranges s w there)
+  where
+    go : IsSeen (look at words ∷ looks) s w ⊎ ((s ≡ at) × IsOneOf ranges w)
+        → IsSeen looks s w ⊎ ((s ≡ at) × IsOneOf (words ∷ ranges) w)
+    go (inl (inl here)) = inr (here.0, inl here.1)
+    go (inl (inr before)) = inl before
+    go (inr (e, one)) = inr (e, inr one)
+
+from-ranges : (looks : List Look) (at : ℕ) (ranges : List Range) (s w : ℕ)
+    → IsSeen looks s w ⊎ ((s ≡ at) × IsOneOf ranges w) → IsSeen (with_ranges looks at ranges) s w
+from-ranges looks at [] s w (inl there) = there
+from-ranges looks at [] s w (inr (e, none)) = absurd none
+from-ranges looks at (words ∷ ranges) s w (inl there) =
+    from-ranges (look at words ∷ looks) at ranges s w (inl (inr there))
+from-ranges looks at (words ∷ ranges) s w (inr (e, inl one)) =
+    from-ranges (look at words ∷ looks) at ranges s w (inl (inl (e, one)))
+from-ranges looks at (words ∷ ranges) s w (inr (e, inr one)) =
+    from-ranges (look at words ∷ looks) at ranges s w (inr (e, one))
+
+-- ---- all starts
+
+abbrev Before : List Range → ℕ → ℕ → ℕ → ℕ → Type 0
+Before ranges first n s w = ((s ≡ 0) × (w ≡ 0)) ⊎ (((s < n) ⊎ (s ≡ first)) × IsOneOf ranges w)
+
+later : (ranges : List Range) (first n s w : ℕ) → Before ranges first n s w → Before ranges first (suc n) s w
+later ranges first n s w (inl none) = inl none
+later ranges first n s w (inr (inl less, one)) = inr (inl (omega arith), one)
+later ranges first n s w (inr (inr e, one)) = inr (inr e, one)
+
+to-before : (ranges : List Range) (first n s w : ℕ) → IsSeen (looks_before ranges first n) s w
+    → Before ranges first n s w
+to-before ranges first zero s w there = go (to-ranges [] first ranges s w there)
+  where
+    go : IsSeen [] s w ⊎ ((s ≡ first) × IsOneOf ranges w) → Before ranges first zero s w
+    go (inl none) = inl none
+    go (inr (e, one)) = inr (inr e, one)
+to-before ranges first (suc n) s w there =
+    go (λ before. to-before ranges first n s w before) (to-ranges (looks_before ranges first n) n ranges s w there)
+  where
+    go : (IsSeen (looks_before ranges first n) s w → Before ranges first n s w)
+        → IsSeen (looks_before ranges first n) s w ⊎ ((s ≡ n) × IsOneOf ranges w) → Before ranges first (suc n) s w
+    go known (inl before) = later ranges first n s w (known before)
+    go known (inr (e, one)) = inr (inl (omega arith), one)
+
+from-before : (ranges : List Range) (first n s w : ℕ) → Before ranges first n s w
+    → IsSeen (looks_before ranges first n) s w
+from-before ranges first zero s w (inl none) = from-ranges [] first ranges s w (inl none)
+from-before ranges first zero s w (inr (inl less, one)) = absurd (omega arith)
+from-before ranges first zero s w (inr (inr e, one)) = from-ranges [] first ranges s w (inr (e, one))
+from-before ranges first (suc n) s w (inl none) =
+    from-ranges (looks_before ranges first n) n ranges s w (inl (from-before ranges first n s w (inl none)))
+from-before ranges first (suc n) s w (inr (inr e, one)) =
+    from-ranges (looks_before ranges first n) n ranges s w (inl (from-before ranges first n s w (inr (inr e, one))))
+from-before ranges first (suc n) s w (inr (inl less, one)) =
+    go (λ l. from-before ranges first n s w (inr (inl l, one))) (cases_lt s n)
+  where
+    go : ((s < n) → IsSeen (looks_before ranges first n) s w) → (s < n) ⊎ (n ≤ s)
+        → IsSeen (looks_before ranges first (suc n)) s w
+    go before (inl l) = from-ranges (looks_before ranges first n) n ranges s w (inl (before l))
+    go before (inr le) = from-ranges (looks_before ranges first n) n ranges s w (inr (omega arith, one))
+
+pub all-looks : (cost : ℕ → ℕ → ℕ) (ranges : List Range) (system : System) (first : ℕ) (lead : Found)
+    → first < starts system → IsLead cost (IsSeen (looks_before ranges first (starts system))) lead
+    → IsLead cost (all_codes ranges system) lead
+all-looks cost ranges system first lead inside is =
+    lead-same cost (IsSeen (looks_before ranges first (starts system))) (all_codes ranges system) lead
+    (λ s w there. to s w (to-before ranges first (starts system) s w there))
+    (λ s w there. from-before ranges first (starts system) s w (from s w there)) is
+  where
+    to : (s w : ℕ) → Before ranges first (starts system) s w → all_codes ranges system s w
+    to s w (inl none) = inl none
+    to s w (inr (inl less, one)) = inr (less, one)
+    to s w (inr (inr e, one)) = inr (omega (arith, e, inside), one)
+
+    from : (s w : ℕ) → all_codes ranges system s w → Before ranges first (starts system) s w
+    from s w (inl none) = inl none
+    from s w (inr (less, one)) = inr (inl less, one)

@@ -1,0 +1,232 @@
+-- The nearer of two leads.
+use Rattle.std.proofs.Common.{subst, ap, Bool, true, false, cond, eqb}
+use Rattle.std.proofs.lemmas.Bool.Decides.{eqb_tells}
+use Rattle.std.proofs.Common.{◌≡◌, ◌≢◌, ℕ, ◌≤◌, ◌<◌, ◌^◌, min}
+use Rattle.std.proofs.Common.{◌⊎◌, inl, inr, arith, sym, ◌∙◌}
+use Rattle.std.proofs.Math.Nat.{min-le_left, min-le_right}
+use Rattle.vbi_near.specs.declared.found.Found.{Found}
+use Rattle.vbi_near.specs.Nearest.{IsBefore}
+use Rattle.vbi_near.specs.Leads.{Places, IsLead, IsAhead}
+use Rattle.vbi_near.proofs.BestBits.{min_is}
+
+-- what comes before something comes before what that comes before
+before-before : (s v t w r x : ℕ) → IsBefore s v t w → IsBefore t w r x → IsBefore s v r x
+before-before s v t w r x (inl less) (inl more) = inl (omega arith)
+before-before s v t w r x (inl less) (inr (e, le)) = inl (omega (arith, e))
+before-before s v t w r x (inr (e, le)) (inl more) = inl (omega (arith, e))
+before-before s v t w r x (inr (e, le)) (inr (f, ge)) = inr (e ∙ f, omega arith)
+
+-- these or those
+abbrev pub either : Places → Places → Places
+either seen more start word = seen start word ⊎ more start word
+
+-- the nearer lead, whose rival is the nearer of its own and of another word that the other knows
+module _ (cost : ℕ → ℕ → ℕ) (seen more : Places) (near far : Found) (is : IsLead cost seen near)
+    (are : IsLead cost more far) (leads : IsAhead near far) (behind : ℕ)
+    (by : ((far.word ≡ near.word) × (behind ≡ far.rival)) ⊎ ((far.word ≢ near.word) × (behind ≡ far.distance))) where
+  abbrev pub merged : Found
+  merged = record {
+    word = near.word;
+    start = near.start;
+    distance = near.distance;
+    rival = min near.rival behind;
+  }
+
+  order : near.distance ≤ far.distance
+  order = go leads
+    where
+      go : IsAhead near far → near.distance ≤ far.distance
+      go (inl less) = omega arith
+      go (inr (e, before)) = omega (arith, e)
+
+  -- what the other knows and is as near comes behind
+  earliest : (s w : ℕ) → more s w → cost s w ≡ near.distance → IsBefore near.start near.word s w
+  earliest s w there same = go leads
+    where
+      go : IsAhead near far → IsBefore near.start near.word s w
+      go (inl less) = absurd (omega (arith, are.least s w there, same))
+      go (inr (e, before)) =
+          before-before near.start near.word far.start far.word s w before (are.first s w there (same ∙ e))
+
+  l : min near.rival behind ≤ near.rival
+  l = min-le_left near.rival behind
+
+  r : min near.rival behind ≤ behind
+  r = min-le_right near.rival behind
+
+  far-order : far.distance ≤ behind
+  far-order = go by
+    where
+      go : ((far.word ≡ near.word) × (behind ≡ far.rival)) ⊎ ((far.word ≢ near.word) × (behind ≡ far.distance))
+          → far.distance ≤ behind
+      go (inl (same, e)) = omega (arith, e, are.order)
+      go (inr (differs, e)) = omega (arith, e)
+
+  ahead : (s w : ℕ) → more s w → w ≢ near.word → behind ≤ cost s w
+  ahead s w there other = go by
+    where
+      go : ((far.word ≡ near.word) × (behind ≡ far.rival)) ⊎ ((far.word ≢ near.word) × (behind ≡ far.distance))
+          → behind ≤ cost s w
+      go (inl (same, e)) = omega (arith, e, are.rival s w there (λ same_word. other (same_word ∙ same)))
+      go (inr (differs, e)) = omega (arith, e, are.least s w there)
+
+  AreOther : Type 0
+  AreOther = (2 ^ 31 ≤ merged.rival)
+      ⊎ ((s : ℕ) × (w : ℕ) × either seen more s w × (w ≢ near.word) × (cost s w ≡ merged.rival))
+
+  by_near : min near.rival behind ≡ near.rival
+      → (2 ^ 31 ≤ near.rival) ⊎ ((s : ℕ) × (w : ℕ) × seen s w × (w ≢ near.word) × (cost s w ≡ near.rival)) → AreOther
+  unfolding AreOther
+  by_near e (inl wide) = inl (omega (arith, e, wide))
+  by_near e (inr (s, w, there, differs, costs)) = inr (s, w, inl there, differs, costs ∙ sym e)
+
+  by_far : min near.rival behind ≡ behind → ((far.word ≡ near.word) × (behind ≡ far.rival))
+      ⊎ ((far.word ≢ near.word) × (behind ≡ far.distance))
+      → (2 ^ 31 ≤ far.rival) ⊎ ((s : ℕ) × (w : ℕ) × more s w × (w ≢ far.word) × (cost s w ≡ far.rival)) → AreOther
+  unfolding AreOther
+  by_far e (inl (same, b)) (inl wide) = inl (omega (arith, e, b, wide))
+  by_far e (inl (same, b)) (inr (s, w, there, differs, costs)) =
+      inr (s, w, inr there, λ f. differs (f ∙ sym same), costs ∙ sym b ∙ sym e)
+  by_far e (inr (differs, b)) other =
+      inr (far.start, far.word, inr are.there, differs, are.exact ∙ sym b ∙ sym e)
+
+  another : AreOther
+  another = go (min_is near.rival behind)
+    where
+      go : ((min near.rival behind ≡ near.rival) × (near.rival ≤ behind))
+          ⊎ ((min near.rival behind ≡ behind) × (behind < near.rival)) → AreOther
+      go (inl (e, le)) = by_near e is.other
+      go (inr (e, less)) = by_far e by are.other
+
+  pub merged_is : IsLead cost (either seen more) merged
+  unfolding AreOther
+  merged_is = record {
+    there = inl is.there;
+    exact = is.exact;
+    order = least-of (min_is near.rival behind);
+    least = λ s w there. least s w there;
+    rival = λ s w there differs. rival s w there differs;
+    first = first;
+    other = another;
+  }
+    where
+      least-of : ((min near.rival behind ≡ near.rival) × (near.rival ≤ behind))
+          ⊎ ((min near.rival behind ≡ behind) × (behind < near.rival)) → near.distance ≤ min near.rival behind
+      least-of (inl (e, le)) = omega (arith, e, is.order)
+      least-of (inr (e, less)) = omega (arith, e, order, far-order)
+
+      least : (s w : ℕ) → either seen more s w → near.distance ≤ cost s w
+      least s w (inl there) = is.least s w there
+      least s w (inr there) = omega (arith, order, are.least s w there)
+
+      rival : (s w : ℕ) → either seen more s w → w ≢ near.word → min near.rival behind ≤ cost s w
+      rival s w (inl there) differs = omega (arith, is.rival s w there differs, l)
+      rival s w (inr there) differs = omega (arith, ahead s w there differs, r)
+
+      first : (s w : ℕ) → either seen more s w → cost s w ≡ near.distance → IsBefore near.start near.word s w
+      first s w (inl there) same = is.first s w there same
+      first s w (inr there) same = earliest s w there same
+
+-- the same of places that are looked at in any order
+pub lead-same : (cost : ℕ → ℕ → ℕ) (seen more : Places) (lead : Found) → ((s w : ℕ) → seen s w → more s w)
+    → ((s w : ℕ) → more s w → seen s w) → IsLead cost seen lead → IsLead cost more lead
+lead-same cost seen more lead to from is = record {
+  there = to lead.start lead.word is.there;
+  exact = is.exact;
+  order = is.order;
+  least = λ s w there. is.least s w (from s w there);
+  rival = λ s w there differs. is.rival s w (from s w there) differs;
+  first = λ s w there same. is.first s w (from s w there) same;
+  other = go is.other;
+}
+  where
+    go : (2 ^ 31 ≤ lead.rival) ⊎ ((s : ℕ) × (w : ℕ) × seen s w × (w ≢ lead.word) × (cost s w ≡ lead.rival))
+        → (2 ^ 31 ≤ lead.rival) ⊎ ((s : ℕ) × (w : ℕ) × more s w × (w ≢ lead.word) × (cost s w ≡ lead.rival))
+    go (inl wide) = inl wide
+    go (inr (s, w, there, differs, e)) = inr (s, w, to s w there, differs, e)
+
+-- places none of which is nearer than the rival, or comes first, need no look
+pub lead-passed : (cost : ℕ → ℕ → ℕ) (seen more : Places) (lead : Found)
+    → ((s w : ℕ) → more s w → lead.rival ≤ cost s w)
+    → ((s w : ℕ) → more s w → cost s w ≡ lead.distance → IsBefore lead.start lead.word s w) → IsLead cost seen lead
+    → IsLead cost (either seen more) lead
+lead-passed cost seen more lead far after is = record {
+  there = inl is.there;
+  exact = is.exact;
+  order = is.order;
+  least = least;
+  rival = rival;
+  first = first;
+  other = go is.other;
+}
+  where
+    least : (s w : ℕ) → either seen more s w → lead.distance ≤ cost s w
+    least s w (inl there) = is.least s w there
+    least s w (inr there) = omega (arith, is.order, far s w there)
+
+    rival : (s w : ℕ) → either seen more s w → w ≢ lead.word → lead.rival ≤ cost s w
+    rival s w (inl there) differs = is.rival s w there differs
+    rival s w (inr there) differs = far s w there
+
+    first : (s w : ℕ) → either seen more s w → cost s w ≡ lead.distance → IsBefore lead.start lead.word s w
+    first s w (inl there) same = is.first s w there same
+    first s w (inr there) same = after s w there same
+
+    go : (2 ^ 31 ≤ lead.rival) ⊎ ((s : ℕ) × (w : ℕ) × seen s w × (w ≢ lead.word) × (cost s w ≡ lead.rival))
+        → (2 ^ 31 ≤ lead.rival)
+        ⊎ ((s : ℕ) × (w : ℕ) × either seen more s w × (w ≢ lead.word) × (cost s w ≡ lead.rival))
+    go (inl wide) = inl wide
+    go (inr (s, w, there, differs, e)) = inr (s, w, inl there, differs, e)
+
+-- these or those, the other way round
+pub turned : (cost : ℕ → ℕ → ℕ) (seen more : Places) (lead : Found) → IsLead cost (either seen more) lead
+    → IsLead cost (either more seen) lead
+turned cost seen more lead is = lead-same cost (either seen more) (either more seen) lead to from is
+  where
+    to : (s w : ℕ) → either seen more s w → either more seen s w
+    to s w (inl x) = inr x
+    to s w (inr x) = inl x
+
+    from : (s w : ℕ) → either more seen s w → either seen more s w
+    from s w (inl x) = inr x
+    from s w (inr x) = inl x
+
+-- the same lead, by its fields
+pub lead-by : (cost : ℕ → ℕ → ℕ) (seen : Places) (word start distance rival : ℕ) (lead : Found)
+    → IsLead cost seen (record { word = word; start = start; distance = distance; rival = rival })
+    → lead.word ≡ word → lead.start ≡ start → lead.distance ≡ distance → lead.rival ≡ rival → IsLead cost seen lead
+lead-by cost seen word start distance rival lead is w s d e =
+    subst (λ (x : ℕ). IsLead cost seen (record {
+      word = x;
+      start = lead.start;
+      distance = lead.distance;
+      rival = lead.rival;
+    })) (sym w) (subst (λ (x : ℕ). IsLead cost seen (record {
+      word = word;
+      start = x;
+      distance = lead.distance;
+      rival = lead.rival;
+    })) (sym s) (subst (λ (x : ℕ). IsLead cost seen (record {
+      word = word;
+      start = start;
+      distance = x;
+      rival = lead.rival;
+    })) (sym d) (subst (λ (x : ℕ). IsLead cost seen (record {
+      word = word;
+      start = start;
+      distance = distance;
+      rival = x;
+    })) (sym e) is)))
+
+-- what the other's rival is
+pub behind-by : (near far : Found) → ((far.word ≡ near.word)
+    × (cond (eqb far.word near.word) far.rival far.distance ≡ far.rival))
+    ⊎ ((far.word ≢ near.word) × (cond (eqb far.word near.word) far.rival far.distance ≡ far.distance))
+behind-by near far = go (eqb_tells far.word near.word)
+  where
+    go : ((eqb far.word near.word ≡ true) × (far.word ≡ near.word))
+        ⊎ ((eqb far.word near.word ≡ false) × (far.word ≢ near.word))
+        → ((far.word ≡ near.word) × (cond (eqb far.word near.word) far.rival far.distance ≡ far.rival))
+        ⊎ ((far.word ≢ near.word) × (cond (eqb far.word near.word) far.rival far.distance ≡ far.distance))
+    go (inl (t, same)) = inl (same, ap (λ (b : Bool). cond b far.rival far.distance) t)
+    go (inr (f, differs)) = inr (differs, ap (λ (b : Bool). cond b far.rival far.distance) f)

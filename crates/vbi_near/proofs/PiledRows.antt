@@ -1,0 +1,122 @@
+-- Lines one by one: the next of them, and the swing of each where all may be levelled together.
+use Rattle.std.proofs.Common.{◌≡◌, ℕ, suc, zero, ◌+◌, ◌<◌, List, [], ◌∷◌, ◌++◌, length, map, get_or, Bool, true}
+use Rattle.std.proofs.Common.{false, ap, sym, ◌∙◌, refl, subst, arith, zero-add}
+use Rattle.std.proofs.Common.{◌≤◌, take, replicate}
+use Rattle.std.specs.Prelude.{◌&&◌, ◌*◌, nat_le, Option, Some}
+use Rattle.std.proofs.lemmas.List.{length-take-le, length-replicate}
+use Rattle.vbi_words.specs.declared.system.System.TheVariants.{Ntsc, Pal}
+use Rattle.vbi_words.specs.Geometry.{line_bytes}
+use Rattle.vbi_near.specs.declared.said.Margins.{Margins}
+use Rattle.vbi_near.specs.Said.{said_if, first_said}
+use Rattle.std.specs.List.{list_all, range_with_len}
+use Rattle.std.proofs.lemmas.List.FromFn.{map-range_with_len_more, length-map-range_with_len, get_or-map-range_with_len}
+use Rattle.vbi_words.specs.declared.system.System.{System}
+use Rattle.vbi_words.specs.Levels.{Slicing}
+use Rattle.vbi_near.specs.Distances.{unit_of}
+use Rattle.vbi_near.specs.Candidates.{Row, Candidates, swing_in, has_swing, are_alike_by}
+use Rattle.vbi_near.specs.Levelled.{is_swing}
+use Rattle.vbi_near.specs.Piled.{row_in, rows_in, are_all_alike, pile_margins, said_together}
+
+-- ---- the next line
+
+-- what a function makes of one more row stands behind what it makes of the others
+map-next : {X : Type 0} (f : Row → X) (rows : List Row) (row : Row)
+    → map f (rows ++ row ∷ []) ≡ map f rows ++ f row ∷ []
+map-next f [] row = refl
+map-next f (first ∷ rows) row = ap (λ rest. f first ∷ rest) (map-next f rows row)
+
+-- the same of lines by their bytes
+pub rows-next : {X : Type 0} (f : Row → X) (system : System) (lines : List ℕ) (erased : List Bool) (n : ℕ)
+    → map f (rows_in system lines erased (n + 1))
+    ≡ map f (rows_in system lines erased n) ++ f (row_in system lines erased n) ∷ []
+rows-next f system lines erased n =
+    ap (map f) (map-range_with_len_more (row_in system lines erased) 0 n n (zero-add n))
+    ∙ map-next f (rows_in system lines erased n) (row_in system lines erased n)
+
+-- ---- each line's swing
+
+-- both of two tests hold
+both : (a b : Bool) → (a && b) ≡ true → (a ≡ true) × (b ≡ true)
+both true true e = (refl, refl)
+both true false e = cc
+both false b e = cc
+
+-- what holds of all items holds of each
+each_of_all : (test : ℕ → Bool) (list : List ℕ) (i d : ℕ) → list_all test list ≡ true → i < length list
+    → test (get_or list i d) ≡ true
+each_of_all test [] i d all inside = absurd (omega arith)
+each_of_all test (x ∷ list) zero d all inside = (both (test x) (list_all test list) all).0
+each_of_all test (x ∷ list) (suc i) d all inside =
+    each_of_all test list i d (both (test x) (list_all test list) all).1 (omega arith)
+
+-- a function of what another makes of numbers is one function of the numbers
+map-map : {X : Type 0} (f : Row → X) (g : ℕ → Row) (list : List ℕ) → map f (map g list) ≡ map (λ i. f (g i)) list
+map-map f g [] = refl
+map-map f g (x ∷ list) = ap (λ rest. f (g x) ∷ rest) (map-map f g list)
+
+-- a swing that is like itself is one of a line with a word
+swings-itself : (unit swing : ℕ) → are_alike_by unit swing swing ≡ true → is_swing unit swing ≡ true
+swings-itself unit swing alike =
+    (both (is_swing unit swing) (is_swing unit swing) (both (is_swing unit swing && is_swing unit swing)
+    (nat_le swing (2 * swing)) (both (is_swing unit swing && is_swing unit swing && nat_le swing (2 * swing))
+    (nat_le swing (2 * swing)) alike).0).0).0
+
+-- where all may be levelled together, each may
+pub each-swings : (system : System) (slicing : Slicing) (lines : List ℕ) (erased : List Bool) (n : ℕ)
+    → are_all_alike system slicing (rows_in system lines erased n) ≡ true
+    → (i : ℕ) → i < n → has_swing system slicing (row_in system lines erased i) ≡ true
+each-swings system slicing lines erased n alike i inside = subst (λ (s : ℕ). is_swing (unit_of slicing) s ≡ true) here
+    (swings-itself (unit_of slicing) (get_or swings i 0)
+    (each_of_all (are_alike_by (unit_of slicing) (get_or swings i 0)) swings i 0
+    (each_of_all (λ (swing : ℕ). list_all (are_alike_by (unit_of slicing) swing) swings) swings i 0 alike room) room))
+  where
+    swing-of : ℕ → ℕ
+    swing-of k = swing_in system slicing (row_in system lines erased k)
+
+    swings : List ℕ
+    swings = map (swing_in system slicing) (rows_in system lines erased n)
+
+    same : swings ≡ map swing-of (range_with_len 0 n)
+    same = map-map (swing_in system slicing) (row_in system lines erased) (range_with_len 0 n)
+
+    here : get_or swings i 0 ≡ swing-of i
+    here = ap (λ (list : List ℕ). get_or list i 0) same
+        ∙ get_or-map-range_with_len swing-of 0 n i i 0 inside (zero-add i)
+
+    room : i < length swings
+    room = omega (arith, inside, ap (λ (list : List ℕ). length list) same, length-map-range_with_len swing-of 0 n)
+
+-- ---- their bytes
+
+-- no line has more bytes than one of PAL
+bytes-few : (system : System) → line_bytes system ≤ 2270
+bytes-few Ntsc = omega arith
+bytes-few Pal = omega arith
+
+-- the first bytes of a buffer that any line fits into are as many as a line's
+pub bytes-long : (system : System) (n : ℕ) → n ≡ line_bytes system
+    → length {A = ℕ} (take n (replicate 2270 0)) ≡ line_bytes system
+bytes-long system n e =
+    length-take-le n (replicate 2270 0)
+    (omega (arith, e, bytes-few system, length-replicate {A = ℕ} 2270 0)) ∙ e
+
+-- ---- what they say
+
+-- what the first and the second of two tries say, by the steps in which it is found
+pub said-by : (unit u lines n : ℕ) (known : Bool) (margins : Margins) (near : Candidates)
+    (first second said : Option ℕ) → u ≡ unit → margins ≡ pile_margins known → n ≡ lines
+    → first ≡ said_if u margins n near.levelled → second ≡ said_if u margins n (Some near.given)
+    → said ≡ first_said first second → said ≡ said_together unit known lines near
+said-by unit u lines n known margins near first second said of_unit of_margins of_lines is_first is_second is =
+    is
+    ∙ ap (λ (word : Option ℕ). first_said word second) is_first
+    ∙ ap (λ (word : Option ℕ). first_said (said_if u margins n near.levelled) word) is_second
+    ∙ ap (λ (v : ℕ). first_said (said_if v margins n near.levelled) (said_if v margins n (Some near.given))) of_unit
+    ∙ ap (λ (m : Margins). first_said (said_if unit m n near.levelled) (said_if unit m n (Some near.given))) of_margins
+    ∙ ap (λ (k : ℕ). first_said (said_if unit (pile_margins known) k near.levelled)
+    (said_if unit (pile_margins known) k (Some near.given))) of_lines
+
+-- lines are as many as are counted
+pub rows-many : (system : System) (lines : List ℕ) (erased : List Bool) (n : ℕ)
+    → length (rows_in system lines erased n) ≡ n
+rows-many system lines erased n = length-map-range_with_len (row_in system lines erased) 0 n

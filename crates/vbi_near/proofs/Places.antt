@@ -1,0 +1,26 @@
+-- The six places of a word's digits.
+use Rattle.std.proofs.Common.{◌≡◌, ℕ, zero, suc, ◌≤◌, ◌<◌, ◌+◌, ◌*◌, ◌^◌, arith, ap, ◌∙◌, add-one, pow-suc}
+use Rattle.std.proofs.Common.{get_or, take}
+use Rattle.std.proofs.Math.ListN.{replicate}
+use Rattle.std.proofs.lemmas.List.{get_or-take, get_or-replicate}
+use Rattle.vbi_near.specs.LineCodes.{AtEachPlace}
+
+pub at-place : (P : ℕ → Type 0) → AtEachPlace P → (place : ℕ) → place < 6 → P place
+at-place P all zero l = all.0
+at-place P all (suc zero) l = all.1
+at-place P all (suc (suc zero)) l = all.2
+at-place P all (suc (suc (suc zero))) l = all.3
+at-place P all (suc (suc (suc (suc zero)))) l = all.4
+at-place P all (suc (suc (suc (suc (suc zero))))) l = all.5
+at-place P all (suc (suc (suc (suc (suc (suc place)))))) l = absurd (omega arith)
+
+pub few-digits : (place : ℕ) → place < 6 → 16 ^ place ≤ 1048576
+few-digits place l = at-place (λ (k : ℕ). 16 ^ k ≤ 1048576)
+    (omega arith, omega arith, omega arith, omega arith, omega arith, omega arith) place l
+
+pub next-power : (place : ℕ) → 16 ^ (place + 1) ≡ 16 ^ place * 16
+next-power place = ap (λ (k : ℕ). 16 ^ k) (add-one place) ∙ pow-suc 16 place
+
+-- the first numbers of a list of one number
+pub filled : (count n a k : ℕ) → k < count → k < n → get_or (take count (replicate n a)) k 0 ≡ a
+filled count n a k l m = get_or-take count (replicate n a) k 0 l ∙ get_or-replicate n k a 0 m

@@ -1,0 +1,67 @@
+-- What words cost, by their digits.
+use Rattle.std.proofs.Common.{◌≡◌, ℕ, zero, suc, ◌<◌, ◌+◌, ◌-◌, ◌*◌, ◌/◌, ◌%◌, Bool, false, List, get_or}
+use Rattle.std.proofs.Common.{arith, ap, ◌∙◌, eqb, refl}
+use Rattle.vbi_words.specs.declared.system.System.{System}
+use Rattle.vbi_words.specs.Geometry.{width_of}
+use Rattle.vbi_words.specs.Words.{IsWord}
+use Rattle.vbi_near.specs.Pictures.{word_length}
+use Rattle.vbi_near.specs.Distances.{Shades}
+use Rattle.vbi_near.specs.Sums.{span}
+use Rattle.vbi_near.specs.Costs.{cell_cost, bits_cost, place_cost}
+use Rattle.vbi_near.specs.Leads.{bit_in, digit_cost, digits_cost, IsDigitCost, ArePriced, code_cost}
+
+-- four bits more
+four-more : (cost : ℕ → Bool → ℕ) (m w : ℕ)
+    → bits_cost cost (suc (suc (suc (suc m)))) w ≡ bits_cost cost m (w / 16) + digit_cost cost m (w % 16)
+unfolding bits_cost
+four-more cost m w =
+    let q : w / 2 / 2 / 2 / 2 ≡ w / 16 = omega arith in
+    let a : w / 2 / 2 / 2 % 2 ≡ w % 16 / 8 % 2 = omega arith in
+    let b : w / 2 / 2 % 2 ≡ w % 16 / 4 % 2 = omega arith in
+    let d : w / 2 % 2 ≡ w % 16 / 2 % 2 = omega arith in
+    let e : w % 2 ≡ w % 16 / 1 % 2 = omega arith in
+    let m1 : suc m ≡ m + 1 = omega arith in
+    let m2 : suc (suc m) ≡ m + 2 = omega arith in
+    let m3 : suc (suc (suc m)) ≡ m + 3 = omega arith in
+    let start = ap (bits_cost cost m) q in
+    let first = ap (λ (k : ℕ). cost m (eqb k 1)) a in
+    let second = ap (λ (k : ℕ). cost (suc m) (eqb k 1)) b ∙ ap (λ (k : ℕ). cost k (bit_in (w % 16) 4)) m1 in
+    let third = ap (λ (k : ℕ). cost (suc (suc m)) (eqb k 1)) d ∙ ap (λ (k : ℕ). cost k (bit_in (w % 16) 2)) m2 in
+    let last = ap (λ (k : ℕ). cost (suc (suc (suc m))) (eqb k 1)) e ∙ ap (λ (k : ℕ). cost k (bit_in (w % 16) 1)) m3 in
+    omega (arith, start, first, second, third, last)
+
+by-digits : (cost : ℕ → Bool → ℕ) (table : ℕ → ℕ → ℕ) (base n w : ℕ)
+    → ((k d : ℕ) → k < n → d < 16 → table k d ≡ digit_cost cost (4 * k) d)
+    → digits_cost table base n w ≡ base + bits_cost cost (4 * n) w
+unfolding digits_cost bits_cost
+by-digits cost table base zero w same = omega arith
+by-digits cost table base (suc n) w same =
+    let e : 4 * suc n ≡ suc (suc (suc (suc (4 * n)))) = omega arith in
+    let all : bits_cost cost (4 * suc n) w ≡ bits_cost cost (suc (suc (suc (suc (4 * n))))) w
+    = ap (λ (k : ℕ). bits_cost cost k w) e in
+    let rest = by-digits cost table base n (w / 16) (λ k d l m. same k d (omega arith) m) in
+    let here = same n (w % 16) (omega arith) (omega arith) in
+    omega (arith, all, four-more cost (4 * n) w, rest, here)
+
+pub code-word : (sums : Shades) (system : System) (start w : ℕ) → IsWord w
+    → code_cost sums system start w ≡ place_cost sums system start w
+code-word sums system start zero word = absurd (omega (arith, word.0))
+code-word sums system start (suc w) word = refl
+
+pub priced : (sums : Shades) (system : System) (start base : ℕ) (digits : List ℕ)
+    → base ≡ span sums false 0 start
+    + span sums false (start + word_length system) (width_of system - (start + word_length system))
+    → ((i : ℕ) → i < 96 → IsDigitCost (cell_cost sums system start) i (get_or digits i 0))
+    → ArePriced (code_cost sums system) base start digits
+unfolding place_cost
+priced sums system start base digits e are w word =
+    let table : ℕ → ℕ → ℕ = λ place digit. get_or digits (16 * place + digit) 0 in
+    let cost : ℕ → Bool → ℕ = cell_cost sums system start in
+    let same : (k d : ℕ) → k < 6 → d < 16 → table k d ≡ digit_cost cost (4 * k) d
+    = λ k d l m.
+    let p : (16 * k + d) / 16 ≡ k = omega arith in
+    let q : (16 * k + d) % 16 ≡ d = omega arith in
+    (are (16 * k + d) (omega arith)).0 ∙ ap (λ (j : ℕ). digit_cost cost (4 * j) ((16 * k + d) % 16)) p
+    ∙ ap (digit_cost cost (4 * k)) q in
+    let all = by-digits cost table base 6 w same in
+    omega (arith, code-word sums system start w word, all, e)

@@ -1,0 +1,392 @@
+-- There is a first nearest word of any lines, and a first nearest code.
+use Rattle.std.proofs.Common.{◌≡◌, ◌≢◌, ℕ, zero, suc, ◌+◌, ◌-◌, ◌*◌, ◌/◌, ◌%◌, ◌≤◌, ◌<◌, ◌⊎◌, inl, inr, Bool}
+use Rattle.std.proofs.Common.{true, false}
+use Rattle.std.proofs.Common.{List, [], ◌∷◌, refl, sym, ap, ◌∙◌, subst, arith}
+use Rattle.std.specs.Prelude.{Option, Some, None, ◌==◌, if◌then◌else◌}
+use Rattle.std.proofs.lemmas.Bool.{cases_eq, cases_lt}
+use Rattle.vbi_words.specs.declared.system.System.{System}
+use Rattle.vbi_words.specs.declared.system.System.TheVariants.{Ntsc, Pal}
+use Rattle.vbi_words.specs.Geometry.{width_of}
+use Rattle.vbi_words.specs.Levels.{Slicing}
+use Rattle.vbi_words.specs.Words.{IsWord}
+use Rattle.vbi_words.specs.Codes.{digit_of, IsBetween}
+use Rattle.vbi_near.specs.declared.near.Near.{Near}
+use Rattle.vbi_near.specs.LineCodes.{Range, IsIn, IsOneOf, codes_of, codes_of_16, codes_of_17, IsCodePlace}
+use Rattle.vbi_near.specs.Pictures.{IsPlace, drawn_as, starts, word_length}
+use Rattle.vbi_near.specs.Distances.{Samples, unit_of, distance_of}
+use Rattle.vbi_near.specs.Nearest.{IsNearestBy, IsFirstBy, IsNearest, IsFirst, Precedes, far_from}
+use Rattle.vbi_near.specs.Nearest.{IsNearestCode, IsFirstCode}
+use Rattle.vbi_near.specs.Longer.{GoesOn, HasLonger, IsLonger, IsLeastLonger, cell_length, begun_earlier, ended_later}
+use Rattle.vbi_near.specs.Shorter.{begun_later, ended_earlier, row_of_halves, IsCutShort, IsLeastShorter, HasShorter}
+use Rattle.vbi_near.specs.Shorter.{IsShorter}
+use Rattle.vbi_near.proofs.Certain.{same_or_not}
+use Rattle.vbi_near.proofs.Chosen.{some_none, none_some}
+use Rattle.vbi_near.proofs.ChosenCode.{code-place}
+use Rattle.vbi_near.proofs.Columns.{word-fits}
+use Rattle.vbi_near.proofs.Least.{Least, found, IsTold, both_told, either_told, at_most_told, all_told}
+
+-- ---- places by number, in their order
+
+-- the word of the place with this number, its start, and the number of a place
+word_at : ℕ → Option ℕ
+word_at zero = None
+word_at (suc m) = Some (8388608 + m % 8388608)
+
+start_at : ℕ → ℕ
+start_at zero = 0
+start_at (suc m) = m / 8388608
+
+number_of : Option ℕ → ℕ → ℕ
+number_of None start = 0
+number_of (Some word) start = suc (start * 8388608 + (word - 8388608))
+
+module _ (system : System) where
+  last : ℕ
+  last = starts system * 8388608
+
+  is_place : (k : ℕ) → k ≤ last → IsPlace system (word_at k) (start_at k)
+  unfolding word_at start_at last
+  is_place zero le = refl
+  is_place (suc m) le =
+      ((omega arith, omega arith), let l : m / 8388608 < starts system = omega arith in omega (arith, word-fits system))
+
+  record Numbered (word : Option ℕ) (start : ℕ) : Type 0 where
+    pub within : number_of word start ≤ last
+    pub word_is : word_at (number_of word start) ≡ word
+    pub start_is : start_at (number_of word start) ≡ start
+
+  numbered : (word : Option ℕ) (start : ℕ) → IsPlace system word start → Numbered word start
+  unfolding word_at start_at number_of last
+  numbered None start place = record { within = omega arith; word_is = refl; start_is = sym place }
+  numbered (Some w) start ((low, high), room) = record {
+    within = let l : start < starts system = omega arith in omega arith;
+    word_is = ap Some (omega arith);
+    start_is = omega arith;
+  }
+
+  precedes : (word other : Option ℕ) (start at : ℕ) → IsPlace system word start → IsPlace system other at
+      → number_of word start ≤ number_of other at → Precedes word start other at
+  unfolding number_of
+  precedes None other start at here there le = tt
+  precedes (Some w) None start at here there le = absurd (omega arith)
+  precedes (Some w) (Some v) start at ((low, high), room) ((low', high'), room') le = go (cases_lt start at)
+    where
+      go : (start < at) ⊎ (at ≤ start) → (start < at) ⊎ ((start ≡ at) × (w ≤ v))
+      go (inl less) = inl less
+      go (inr more) = inr (omega arith, omega arith)
+
+-- a place's number, again
+renumbered : (k : ℕ) → number_of (word_at k) (start_at k) ≡ k
+unfolding word_at start_at number_of
+renumbered zero = refl
+renumbered (suc m) = ap suc (omega arith)
+
+other_word : (a b : Option ℕ) → IsTold (a ≢ b)
+other_word a b = go (same_or_not a b)
+  where
+    go : (a ≡ b) ⊎ (a ≢ b) → IsTold (a ≢ b)
+    go (inl e) = inr (λ differs. differs e)
+    go (inr differs) = inl differs
+
+-- the first of the nearest of some places, of which none is one, and a word at the first column
+module _ (system : System) (IsThere : Option ℕ → ℕ → Type 0)
+    (fits : (word : Option ℕ) (start : ℕ) → IsThere word start → IsPlace system word start)
+    (told : (word : Option ℕ) (start : ℕ) → IsTold (IsThere word start)) (none : IsThere None 0) (word : ℕ)
+    (one : IsThere (Some word) 0) (far : Option ℕ → ℕ → ℕ) where
+  cost : ℕ → ℕ
+  cost k = far (word_at k) (start_at k)
+
+  -- the place of this number is there
+  abbrev Has : ℕ → Type 0
+  Has k = IsThere (word_at k) (start_at k)
+
+  -- and is one of another word
+  abbrev HasOther : Option ℕ → ℕ → Type 0
+  HasOther other k = Has k × (word_at k ≢ other)
+
+  cost-of : (word : Option ℕ) (start : ℕ) → IsThere word start → cost (number_of word start) ≡ far word start
+  unfolding cost
+  cost-of word start place =
+      let n = numbered system word start (fits word start place) in λ j. far (n.word_is j) (n.start_is j)
+
+  has : (word : Option ℕ) (start : ℕ) → IsThere word start → Has (number_of word start)
+  has word start place =
+      let n = numbered system word start (fits word start place) in
+      subst (λ (s : ℕ). IsThere (word_at (number_of word start)) s) (sym n.start_is)
+      (subst (λ (w : Option ℕ). IsThere w start) (sym n.word_is) place)
+
+  best : Least cost Has (last system)
+  unfolding word_at start_at
+  best = found cost Has (λ k. told (word_at k) (start_at k)) (last system) 0 (omega arith) none
+
+  others : (other : Option ℕ) (k : ℕ) → IsTold (HasOther other k)
+  others other k =
+      both_told (Has k) (word_at k ≢ other) (told (word_at k) (start_at k)) (other_word (word_at k) other)
+
+  another : (other : Option ℕ) → Least cost (HasOther other) (last system)
+  another None =
+      let n = numbered system (Some word) 0 (fits (Some word) 0 one) in
+      found cost (HasOther None) (others None) (last system) (number_of (Some word) 0) n.within
+      (has (Some word) 0 one, λ e. some_none word (sym n.word_is ∙ e))
+  another (Some w) =
+      let n = numbered system None 0 (fits None 0 none) in
+      found cost (HasOther (Some w)) (others (Some w)) (last system) (number_of None 0) n.within
+      (has None 0 none, λ e. none_some w (sym n.word_is ∙ e))
+
+  -- the first nearest word, with any numbers as `longer` and `shorter`
+  near_with : ℕ → ℕ → Near
+  near_with longer shorter = record {
+    word = word_at best.at;
+    start = start_at best.at;
+    distance = cost best.at;
+    rival = cost (another (word_at best.at)).at;
+    longer = longer;
+    shorter = shorter;
+  }
+
+  near_is : (longer shorter : ℕ) → IsNearestBy IsThere far (near_with longer shorter)
+  unfolding near_with cost
+  near_is longer shorter = record {
+    place = best.holds;
+    exact = refl;
+    least = λ word start place.
+        let n = numbered system word start (fits word start place) in
+        omega (
+          arith,
+          best.least (number_of word start) n.within (has word start place),
+          cost-of word start place,
+        );
+    rival = λ word start place differs.
+        let n = numbered system word start (fits word start place) in
+        let r = another (word_at best.at) in
+        omega (
+          arith,
+          r.least (number_of word start) n.within (has word start place, λ e. differs (sym n.word_is ∙ e)),
+          cost-of word start place,
+        );
+    other = let r = another (word_at best.at) in (word_at r.at, start_at r.at, r.holds.0, r.holds.1, refl);
+  }
+
+  first_near : (longer shorter : ℕ) → IsFirstBy IsThere far (near_with longer shorter)
+  unfolding near_with
+  first_near longer shorter = record {
+    first = λ word start place same.
+        let n = numbered system word start (fits word start place) in
+        let le : best.at ≤ number_of word start =
+        best.first (number_of word start) n.within (has word start place) (cost-of word start place ∙ same) in
+        precedes system (word_at best.at) word (start_at best.at) start
+        (fits (word_at best.at) (start_at best.at) best.holds) (fits word start place)
+        (omega (arith, le, renumbered best.at));
+  }
+
+-- ---- with one cell more
+
+cells_fit : (system : System) → word_length system + 2 * cell_length system ≤ width_of system
+cells_fit Ntsc = omega arith
+cells_fit Pal = omega arith
+
+module _ (system : System) (far : List Bool → ℕ) (word start : ℕ) (room : start + word_length system ≤ width_of system)
+  where
+    levels_at : ℕ → List Bool
+    levels_at zero = begun_earlier system word start true
+    levels_at (suc zero) = begun_earlier system word start false
+    levels_at (suc (suc zero)) = ended_later system word start true
+    levels_at (suc (suc (suc k))) = ended_later system word start false
+
+    abbrev HasRoom : ℕ → Type 0
+    HasRoom zero = cell_length system ≤ start
+    HasRoom (suc zero) = cell_length system ≤ start
+    HasRoom (suc (suc k)) = start + word_length system + cell_length system ≤ width_of system
+
+    order : (a b : ℕ) → (a ≤ b) ⊎ (a ≤ b → ⊥)
+    order a b = go (cases_lt b a)
+      where
+        go : (b < a) ⊎ (a ≤ b) → (a ≤ b) ⊎ (a ≤ b → ⊥)
+        go (inl less) = inr (λ le. omega arith)
+        go (inr le) = inl le
+
+    has_room : (k : ℕ) → HasRoom k ⊎ (HasRoom k → ⊥)
+    has_room zero = order (cell_length system) start
+    has_room (suc zero) = order (cell_length system) start
+    has_room (suc (suc k)) = order (start + word_length system + cell_length system) (width_of system)
+
+    goes_on : (k : ℕ) → HasRoom k → GoesOn system word start (levels_at k)
+    unfolding levels_at
+    goes_on zero fits = (true, inl (fits, refl))
+    goes_on (suc zero) fits = (false, inl (fits, refl))
+    goes_on (suc (suc zero)) fits = (true, inr (fits, refl))
+    goes_on (suc (suc (suc k))) fits = (false, inr (fits, refl))
+
+    some_cell : Least (λ k. far (levels_at k)) HasRoom 3
+    some_cell = go (cases_lt start (cell_length system))
+      where
+        go : (start < cell_length system) ⊎ (cell_length system ≤ start) → Least (λ k. far (levels_at k)) HasRoom 3
+        go (inl less) =
+            found (λ k. far (levels_at k)) HasRoom has_room 3 2 (omega arith) (omega (arith, less, cells_fit system))
+        go (inr le) = found (λ k. far (levels_at k)) HasRoom has_room 3 0 (omega arith) le
+
+    some_longer : (longer : ℕ) × IsLeastLonger system far word start longer
+    unfolding levels_at
+    some_longer =
+        let l = some_cell in
+        (far (levels_at l.at), record { least = least; one = (levels_at l.at, goes_on l.at l.holds, refl) })
+      where
+        least : (levels : List Bool) → GoesOn system word start levels → far (levels_at some_cell.at) ≤ far levels
+        least levels (true, inl (fits, e)) = omega (arith, some_cell.least 0 (omega arith) fits, ap far e)
+        least levels (false, inl (fits, e)) = omega (arith, some_cell.least 1 (omega arith) fits, ap far e)
+        least levels (true, inr (fits, e)) = omega (arith, some_cell.least 2 (omega arith) fits, ap far e)
+        least levels (false, inr (fits, e)) = omega (arith, some_cell.least 3 (omega arith) fits, ap far e)
+
+longer_of : (system : System) (far : List Bool → ℕ) (word : Option ℕ) (start distance : ℕ) → IsPlace system word start
+    → (longer : ℕ) × ((near : Near) → near.word ≡ word → near.start ≡ start → near.distance ≡ distance
+    → near.longer ≡ longer → HasLonger system far word near)
+longer_of system far None start distance place = (distance, λ near w s d l. l ∙ sym d)
+longer_of system far (Some w) start distance (word, room) =
+    let l = some_longer system far w start room in (
+      l.0,
+      λ near e s d longer. subst (λ (k : ℕ). IsLeastLonger system far w k near.longer) (sym s)
+          (subst (λ (k : ℕ). IsLeastLonger system far w start k) (sym longer) l.1),
+    )
+
+-- ---- with fewer cells
+
+module _ (system : System) (far : List Bool → ℕ) (word start : ℕ) where
+  cut_at : ℕ → List Bool
+  cut_at zero = row_of_halves system start (begun_later word 2)
+  cut_at (suc zero) = row_of_halves system start (begun_later word 4)
+  cut_at (suc (suc zero)) = row_of_halves system start (ended_earlier word 2)
+  cut_at (suc (suc (suc k))) = row_of_halves system start (ended_earlier word 4)
+
+  is_cut : (k : ℕ) → IsCutShort system word start (cut_at k)
+  unfolding cut_at
+  is_cut zero = inl refl
+  is_cut (suc zero) = inr (inl refl)
+  is_cut (suc (suc zero)) = inr (inr (inl refl))
+  is_cut (suc (suc (suc k))) = inr (inr (inr refl))
+
+  some_cut : Least (λ k. far (cut_at k)) (λ k. Unit {0}) 3
+  some_cut = found (λ k. far (cut_at k)) (λ k. Unit {0}) (λ k. inl tt) 3 0 (omega arith) tt
+
+  some_shorter : (shorter : ℕ) × IsLeastShorter system far word start shorter
+  unfolding cut_at
+  some_shorter =
+      (far (cut_at some_cut.at), record { least = least; one = (cut_at some_cut.at, is_cut some_cut.at, refl) })
+    where
+      least : (levels : List Bool) → IsCutShort system word start levels → far (cut_at some_cut.at) ≤ far levels
+      least levels (inl e) = omega (arith, some_cut.least 0 (omega arith) tt, ap far e)
+      least levels (inr (inl e)) = omega (arith, some_cut.least 1 (omega arith) tt, ap far e)
+      least levels (inr (inr (inl e))) = omega (arith, some_cut.least 2 (omega arith) tt, ap far e)
+      least levels (inr (inr (inr e))) = omega (arith, some_cut.least 3 (omega arith) tt, ap far e)
+
+shorter_of : (system : System) (far : List Bool → ℕ) (word : Option ℕ) (start distance : ℕ)
+    → (shorter : ℕ) × ((near : Near) → near.word ≡ word → near.start ≡ start → near.distance ≡ distance
+    → near.shorter ≡ shorter → HasShorter system far word near)
+shorter_of system far None start distance = (distance, λ near w s d l. l ∙ sym d)
+shorter_of system far (Some w) start distance =
+    let l = some_shorter system far w start in (
+      l.0,
+      λ near e s d shorter. subst (λ (k : ℕ). IsLeastShorter system far w k near.shorter) (sym s)
+          (subst (λ (k : ℕ). IsLeastShorter system far w start k) (sym shorter) l.1),
+    )
+
+-- the first of the nearest at these places, with the least longer and the least shorter distance
+pub some_near_by : (system : System) (IsThere : Option ℕ → ℕ → Type 0)
+    → ((word : Option ℕ) (start : ℕ) → IsThere word start → IsPlace system word start)
+    → ((word : Option ℕ) (start : ℕ) → IsTold (IsThere word start)) → IsThere None 0 → (word : ℕ)
+    → IsThere (Some word) 0 → (far : Option ℕ → ℕ → ℕ) (longer_far : List Bool → ℕ)
+    → (near : Near) × IsNearestBy IsThere far near × IsFirstBy IsThere far near
+    × HasLonger system longer_far near.word near × HasShorter system longer_far near.word near
+unfolding near_with
+some_near_by system IsThere fits told none word one far longer_far =
+    let b = best system IsThere fits told none word one far in
+    let w : Option ℕ = word_at b.at in
+    let s : ℕ = start_at b.at in
+    let l = longer_of system longer_far w s (cost system IsThere fits told none word one far b.at) (fits w s b.holds) in
+    let m = shorter_of system longer_far w s (cost system IsThere fits told none word one far b.at) in
+    let near : Near = near_with system IsThere fits told none word one far l.0 m.0 in (
+      near,
+      near_is system IsThere fits told none word one far l.0 m.0,
+      first_near system IsThere fits told none word one far l.0 m.0,
+      l.1 near refl refl refl refl,
+      m.1 near refl refl refl refl,
+    )
+
+-- ---- places
+
+-- which words there are, and at which places they and codes stand, can be told
+word_told : (w : ℕ) → IsTold (IsWord w)
+word_told w = both_told _ _ (at_most_told 8388608 w) (at_most_told (suc w) 16777216)
+
+place_told : (system : System) (word : Option ℕ) (start : ℕ) → IsTold (IsPlace system word start)
+place_told system None start = cases_eq start 0
+place_told system (Some w) start =
+    both_told (IsWord w) (start + word_length system ≤ width_of system) (word_told w)
+    (at_most_told (start + word_length system) (width_of system))
+
+-- a digit is in the range of those at its place from 0
+abbrev Fits : ℕ → ℕ → ℕ → ℕ → Type 0
+Fits least greatest w k =
+    (digit_of least (suc k) ≤ digit_of w (suc k)) × (digit_of w (suc k) ≤ digit_of greatest (suc k))
+
+between_told : (least greatest w : ℕ) → IsTold (IsBetween least greatest w)
+between_told least greatest w =
+    go (all_told (Fits least greatest w) (λ k. both_told (digit_of least (suc k) ≤ digit_of w (suc k))
+    (digit_of w (suc k) ≤ digit_of greatest (suc k)) (at_most_told (digit_of least (suc k)) (digit_of w (suc k)))
+    (at_most_told (digit_of w (suc k)) (digit_of greatest (suc k)))) 6)
+  where
+    at : ((k : ℕ) → k < 6 → Fits least greatest w k) → IsBetween least greatest w
+    at all zero low high = absurd (omega arith)
+    at all (suc k) low high = all k (omega arith)
+
+    go : IsTold ((k : ℕ) → k < 6 → Fits least greatest w k) → IsTold (IsBetween least greatest w)
+    go (inl all) = inl (at all)
+    go (inr not) = inr (λ is. not (λ k l. is (suc k) (omega arith) (omega arith)))
+
+one_told : (ranges : List Range) (w : ℕ) → IsTold (IsOneOf ranges w)
+one_told [] w = inr (λ none. none)
+one_told (words ∷ ranges) w =
+    either_told (IsIn words w) (IsOneOf ranges w)
+    (both_told (IsWord w) (IsBetween words.least words.greatest w) (word_told w)
+    (between_told words.least words.greatest w)) (one_told ranges w)
+
+code_told : (ranges : List Range) (system : System) (word : Option ℕ) (start : ℕ)
+    → IsTold (IsCodePlace ranges system word start)
+code_told ranges system None start = cases_eq start 0
+code_told ranges system (Some w) start =
+    both_told (IsOneOf ranges w) (start + word_length system ≤ width_of system) (one_told ranges w)
+    (at_most_told (start + word_length system) (width_of system))
+
+-- picture stop, which may stand on each line
+stop_between : IsBetween 0x82CFFF 0x82CFFF 0x82CFFF
+stop_between place low high = (omega arith, omega arith)
+
+-- it is in each table
+stop_stands : (system : System) (line : ℕ) → IsOneOf (codes_of system line) 0x82CFFF
+stop_stands system line = go (line == 16) refl
+  where
+    go : (b : Bool) → (line == 16) ≡ b → IsOneOf (if b then codes_of_16 system else codes_of_17) 0x82CFFF
+    go true e = on_16 system
+      where
+        on_16 : (system : System) → IsOneOf (codes_of_16 system) 0x82CFFF
+        on_16 Ntsc = inl ((omega arith, omega arith), stop_between)
+        on_16 Pal = inl ((omega arith, omega arith), stop_between)
+    go false e = inr (inr (inr (inl ((omega arith, omega arith), stop_between))))
+
+-- ---- of all words, and of the codes that may stand on a line
+
+pub some_near : (system : System) (slicing : Slicing) (lines : List Samples)
+    → (near : Near) × IsNearest system slicing lines near × IsFirst system slicing lines near
+    × IsLonger system slicing lines near × IsShorter system slicing lines near
+some_near system slicing lines =
+    some_near_by system (IsPlace system) (λ word start place. place) (place_told system) refl 8388608
+    ((omega arith, omega arith), omega (arith, word-fits system)) (far_from system slicing lines)
+    (λ levels. distance_of (unit_of slicing) lines (drawn_as slicing levels))
+
+pub some_near_code : (system : System) (line : ℕ) (slicing : Slicing) (lines : List Samples)
+    → (near : Near) × IsNearestCode system line slicing lines near × IsFirstCode system line slicing lines near
+    × IsLonger system slicing lines near × IsShorter system slicing lines near
+some_near_code system line slicing lines =
+    some_near_by system (IsCodePlace (codes_of system line) system) (code-place (codes_of system line) system)
+    (code_told (codes_of system line) system) refl 0x82CFFF
+    (stop_stands system line, omega (arith, word-fits system)) (far_from system slicing lines)
+    (λ levels. distance_of (unit_of slicing) lines (drawn_as slicing levels))

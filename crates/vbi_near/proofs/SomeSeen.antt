@@ -1,0 +1,154 @@
+-- Any lines have nearest words, levelled and as they are, and a distance of a stretched word; and there is something of
+-- any line.
+use Rattle.std.proofs.Common.{◌≡◌, ℕ, ◌+◌, ◌≤◌, Bool, true, false, List, [], ◌∷◌, refl, ap, subst, arith, min}
+use Rattle.std.specs.Prelude.{Option, Some, None}
+use Rattle.vbi_words.specs.declared.system.System.{System}
+use Rattle.vbi_words.specs.declared.system.System.TheVariants.{Ntsc, Pal}
+use Rattle.vbi_words.specs.declared.outcome.Outcome.{Outcome}
+use Rattle.vbi_words.specs.declared.outcome.Outcome.TheVariants.{Word}
+use Rattle.vbi_words.specs.Geometry.{width_of}
+use Rattle.vbi_words.specs.Levels.{Slicing, row_levels}
+use Rattle.vbi_line.specs.OneReading.{reading_of, outcome_of}
+use Rattle.vbi_near.specs.declared.lines.Nears.{Nears}
+use Rattle.vbi_near.specs.Pictures.{drawn_as}
+use Rattle.vbi_near.specs.Distances.{Samples, unit_of, distance_of}
+use Rattle.vbi_near.specs.Stretched.{stretched_length, stretched_picture, IsLeastAt, IsAtRate, IsRateBefore}
+use Rattle.vbi_near.specs.Stretched.{IsStretchedPlace, IsStretched}
+use Rattle.vbi_near.specs.Candidates.{HasNear, Row, Candidates, HasNearIf, AreOf, AreOfBoth, given_samples}
+use Rattle.vbi_near.specs.Candidates.{levelled_samples, has_swing, are_alike}
+use Rattle.vbi_near.specs.Recovery.{Seen, IsSeen}
+use Rattle.vbi_near.proofs.SomeNear.{some_near, some_near_code}
+use Rattle.vbi_near.proofs.Least.{found, at_most_told}
+use Rattle.vbi_near.proofs.LeastAt.{same-least, first-rate, rate-more}
+
+-- ---- nearest words
+
+-- any lines have a nearest word, and a nearest of the codes that may stand on a line
+pub some_nears : (system : System) (number : ℕ) (slicing : Slicing) (lines : List Samples)
+    → (near : Nears) × HasNear system number slicing lines near
+some_nears system number slicing lines =
+    let w = some_near system slicing lines in
+    let c = some_near_code system number slicing lines in (
+      record { word = w.0; code = c.0 },
+      record {
+        nearest = w.1;
+        first = w.2;
+        longer = w.3;
+        shorter = w.4;
+        code = c.1;
+        code_first = c.2;
+        code_longer = c.3;
+        code_shorter = c.4;
+      },
+    )
+
+-- lines that may have none have nearest words, or none
+pub some_near_if : (system : System) (number : ℕ) (slicing : Slicing) (can : Bool) (lines : List Samples)
+    → (near : Option Nears) × HasNearIf system number slicing can lines near
+some_near_if system number slicing true lines =
+    let n = some_nears system number slicing lines in (Some n.0, (refl, n.1))
+some_near_if system number slicing false lines = (None, refl)
+
+-- any line has candidates
+pub some_candidates : (system : System) (number : ℕ) (slicing : Slicing) (row : Row)
+    → (near : Candidates) × AreOf system number slicing row near
+some_candidates system number slicing row =
+    let levelled = some_near_if system number slicing (has_swing system slicing row)
+    (levelled_samples system slicing row ∷ []) in
+    let given = some_nears system number slicing (given_samples row ∷ []) in
+    (record { levelled = levelled.0; given = given.0 }, record { levelled = levelled.1; given = given.1 })
+
+-- any two lines together have candidates
+pub some_of_both : (system : System) (number : ℕ) (slicing : Slicing) (row other : Row)
+    → (near : Candidates) × AreOfBoth system number slicing row other near
+some_of_both system number slicing row other =
+    let levelled = some_near_if system number slicing (are_alike system slicing row other)
+    (levelled_samples system slicing row ∷ levelled_samples system slicing other ∷ []) in
+    let given = some_nears system number slicing (given_samples row ∷ given_samples other ∷ []) in
+    (record { levelled = levelled.0; given = given.0 }, record { levelled = levelled.1; given = given.1 })
+
+-- ---- words on longer or shorter cells
+
+-- a word of each rate fits from the first column on
+rate_fits : (system : System) (rate : ℕ) → rate ≤ 102 → 0 + stretched_length system rate ≤ width_of system
+rate_fits Ntsc rate le = omega arith
+rate_fits Pal rate le = omega arith
+
+-- there is a least distance at this rate
+some_at_rate : (system : System) (far : ℕ → ℕ → ℕ) (rate : ℕ) → rate ≤ 102
+    → (distance : ℕ) × IsLeastAt (IsAtRate system rate) far distance
+some_at_rate system far rate le =
+    let l = found (far rate) (λ s. s + stretched_length system rate ≤ width_of system)
+    (λ s. at_most_told (s + stretched_length system rate) (width_of system)) (width_of system) 0 (omega arith)
+    (rate_fits system rate le) in (
+      far rate l.at,
+      record {
+        least = λ r s there.
+            let room : s + stretched_length system rate ≤ width_of system =
+            subst (λ (k : ℕ). s + stretched_length system k ≤ width_of system) there.0 there.1 in
+            omega (arith, l.least s (omega (arith, room)) room, ap (λ (k : ℕ). far k s) there.0);
+        one = (rate, l.at, (refl, l.holds), refl);
+      },
+    )
+
+-- there is a least distance at all rates
+some_at : (system : System) (far : ℕ → ℕ → ℕ) → (distance : ℕ) × IsLeastAt (IsStretchedPlace system) far distance
+some_at system far =
+    let a = some_at_rate system far 98 (omega arith) in
+    let b = some_at_rate system far 99 (omega arith) in
+    let c = some_at_rate system far 100 (omega arith) in
+    let d = some_at_rate system far 101 (omega arith) in
+    let e = some_at_rate system far 102 (omega arith) in
+    let one = first-rate system far a.0 a.1 in
+    let two = rate-more system far 99 a.0 b.0 (omega arith) one b.1 in
+    let three = rate-more system far 100 (min a.0 b.0) c.0 (omega arith) two c.1 in
+    let four = rate-more system far 101 (min (min a.0 b.0) c.0) d.0 (omega arith) three d.1 in
+    let five = rate-more system far 102 (min (min (min a.0 b.0) c.0) d.0) e.0 (omega arith) four e.1 in
+    let least : ℕ = min (min (min (min a.0 b.0) c.0) d.0) e.0 in (
+      least,
+      same-least (IsRateBefore system 103) (IsStretchedPlace system) far least
+          (λ r s there. (there.0, omega (arith, there.1), there.2))
+          (λ r s there. (there.0, omega (arith, there.1), there.2)) five,
+    )
+
+-- any lines have a distance of a word on longer or shorter cells
+pub some_stretched : (system : System) (slicing : Slicing) (lines : List Samples) (word : ℕ)
+    → (distance : ℕ) × IsStretched system slicing lines word distance
+some_stretched system slicing lines word =
+    some_at system
+    (λ rate start. distance_of (unit_of slicing) lines (drawn_as slicing (stretched_picture system rate word start)))
+
+-- ---- lines
+
+-- the word that an outcome shows, and 0 where it shows none
+abbrev shown_word : Outcome → ℕ
+shown_word (Word word) = word
+shown_word outcome = 0
+
+-- there is a distance of the word that an outcome shows, if it shows one
+stretched_if : (system : System) (slicing : Slicing) (lines : List Samples) (outcome : Outcome)
+    → (distance : ℕ) × ((word : ℕ) → outcome ≡ Word word → IsStretched system slicing lines word distance)
+stretched_if system slicing lines outcome =
+    let s = some_stretched system slicing lines (shown_word outcome) in
+    (s.0, λ word e. subst (λ (w : ℕ). IsStretched system slicing lines w s.0) (ap shown_word e) s.1)
+
+-- there is something of each line
+pub some_seen : (system : System) (number : ℕ) (slicing : Slicing) (row : Row)
+    → (seen : Seen) × IsSeen system number slicing row seen
+some_seen system number slicing row =
+    let reading = reading_of system (row_levels slicing row.bytes) in
+    let near = some_candidates system number slicing row in
+    let stretched = stretched_if system slicing (given_samples row ∷ []) reading.outcome in (
+      record {
+        reading = reading;
+        plain = outcome_of system (row_levels slicing row.bytes);
+        near = near.0;
+        stretched = stretched.0;
+      },
+      record {
+        reading = refl;
+        plain = λ two. refl;
+        near = λ asked. near.1;
+        stretched = λ word e two. stretched.1 word e;
+      },
+    )

@@ -1,0 +1,147 @@
+-- Words drawn on cells of other lengths: their columns, and what they cost.
+use Rattle.std.proofs.Common.{◌≡◌, ℕ, suc, ◌≤◌, ◌<◌, ◌+◌, ◌-◌, ◌*◌, List, [], ◌∷◌, Bool, false, length, take, get_or}
+use Rattle.std.proofs.Common.{arith, ap, ◌∙◌, refl, set, get_or-set_other}
+use Rattle.std.proofs.Math.Nat.{add-mul}
+use Rattle.std.proofs.Math.ListN.{replicate}
+use Rattle.std.proofs.lemmas.List.{length-replicate, length-take-le, take_all, take_more}
+use Rattle.vbi_words.specs.declared.system.System.{System}
+use Rattle.vbi_words.specs.declared.system.System.TheVariants.{Ntsc, Pal}
+use Rattle.vbi_words.specs.Geometry.{start_of, width_of}
+use Rattle.vbi_words.specs.Drawn.{boundary}
+use Rattle.vbi_words.specs.Words.{halves_of}
+use Rattle.vbi_near.specs.Distances.{Shades}
+use Rattle.vbi_near.specs.Sums.{span, total_in}
+use Rattle.vbi_near.specs.Stretched.{stretched_offset, stretched_half, halves_cost}
+use Rattle.vbi_near.specs.Stretched.{stretched_cost, stretched_length, stretched_word_cost, stretched_row_cost}
+use Rattle.vbi_near.proofs.CellsAt.{set-more}
+use Rattle.vbi_near.proofs.CutShort.{many-halves}
+use Rattle.vbi_near.proofs.Halves.{halves_cost-append, rises-by}
+
+-- ---- columns
+
+-- one half cell more begins no earlier
+pub offset-rises : (system : System) (rate j : ℕ)
+    → stretched_offset system rate j ≤ stretched_offset system rate (suc j)
+offset-rises Ntsc rate j =
+    let e : suc j * 315 ≡ j * 315 + 315 = omega arith in
+    let more : suc j * 315 * rate ≡ j * 315 * rate + 315 * rate
+    = ap (λ (n : ℕ). n * rate) e ∙ add-mul (j * 315) 315 rate in
+    omega (arith, more)
+offset-rises Pal rate j =
+    let e : suc j * 709379 ≡ j * 709379 + 709379 = omega arith in
+    let more : suc j * 709379 * rate ≡ j * 709379 * rate + 709379 * rate
+    = ap (λ (n : ℕ). n * rate) e ∙ add-mul (j * 709379) 709379 rate in
+    omega (arith, more)
+
+pub offset-first : (system : System) (rate : ℕ) → stretched_offset system rate 0 ≡ 0
+offset-first Ntsc rate = omega arith
+offset-first Pal rate = omega arith
+
+pub offset-next : (system : System) (rate j : ℕ)
+    → stretched_offset system rate j + stretched_half system rate j ≡ stretched_offset system rate (suc j)
+offset-next system rate j = omega (arith, offset-rises system rate j)
+
+pub offset-more : (system : System) (rate j : ℕ) → stretched_offset system rate j ≤ stretched_offset system rate (j + 1)
+offset-more system rate j =
+    let e : suc j ≡ j + 1 = omega arith in
+    omega (arith, offset-rises system rate j, ap (stretched_offset system rate) e)
+
+pub offset-up : (system : System) (rate j k : ℕ) → j ≤ k
+    → stretched_offset system rate j ≤ stretched_offset system rate k
+offset-up system rate j k le =
+    let e : j + (k - j) ≡ k = omega arith in
+    omega (
+      arith,
+      rises-by (stretched_offset system rate) (stretched_half system rate) (offset-next system rate) j (k - j),
+      ap (stretched_offset system rate) e,
+    )
+
+-- there are 302 starts at most
+few-starts : (system : System) (rate : ℕ) → 98 ≤ rate → width_of system + 1 ≤ stretched_length system rate + 302
+few-starts Ntsc rate le = omega arith
+few-starts Pal rate le = omega arith
+
+pub starts-long : (system : System) (rate width length_of : ℕ) → 98 ≤ rate → width ≡ width_of system
+    → length_of ≡ stretched_length system rate
+    → length {A = ℕ} (take (width - length_of + 1) (replicate 302 0)) ≡ width - length_of + 1
+starts-long system rate width length_of le w l =
+    length-take-le {A = ℕ} (width - length_of + 1) (replicate 302 0)
+    (omega (arith, w, l, few-starts system rate le, length-replicate {A = ℕ} 302 0))
+
+-- at 100 hundredths they are those of a drawn word
+pub offset-whole : (system : System) (j : ℕ) → start_of system + stretched_offset system 100 j ≡ boundary system j
+offset-whole Ntsc j = omega arith
+offset-whole Pal j = omega arith
+
+-- ---- what they cost
+
+pub none-yet : (cost : ℕ → Bool → ℕ) (halves : List Bool) → halves_cost cost 0 (take 0 halves) ≡ 0
+unfolding halves_cost
+none-yet cost halves = refl
+
+-- one half cell more
+pub cost-more : (cost : ℕ → Bool → ℕ) (halves : List Bool) (n : ℕ) → n < length halves
+    → halves_cost cost 0 (take (n + 1) halves) ≡ halves_cost cost 0 (take n halves) + cost n (get_or halves n false)
+unfolding halves_cost
+cost-more cost halves n l =
+    let long : 0 + length (take n halves) ≡ n = omega (arith, length-take-le n halves (omega arith)) in
+    let last : List Bool = get_or halves n false ∷ [] in
+    let moved : halves_cost cost (0 + length (take n halves)) last ≡ halves_cost cost n last
+    = ap (λ (k : ℕ). halves_cost cost k last) long in
+    let one : halves_cost cost n last ≡ cost n (get_or halves n false) + 0 = refl in
+    omega (
+      arith,
+      ap (halves_cost cost 0) (take_more halves n false l),
+      halves_cost-append cost 0 (take n halves) last,
+      moved,
+      one,
+    )
+
+pub half-read : (sums : Shades) (system : System) (rate start j : ℕ) (level : Bool) (begin end : ℕ)
+    → begin ≡ stretched_offset system rate j → end ≡ stretched_offset system rate (j + 1)
+    → span sums level (start + begin) (end - begin) ≡ stretched_cost sums system rate start j level
+half-read sums system rate start j level begin end b e =
+    let next : j + 1 ≡ suc j = omega arith in
+    let n : end - begin ≡ stretched_half system rate j
+    = omega (arith, b, e, ap (stretched_offset system rate) next, offset-rises system rate j) in
+    ap (span sums level (start + begin)) n
+    ∙ ap (λ (k : ℕ). span sums level (start + k) (stretched_half system rate j)) b
+
+-- costs to which so much was added below i
+pub record IsPaid (sums : List ℕ) (begin end : ℕ) (old new : List ℕ) (i : ℕ) : Type 0 where
+  pub below : (k : ℕ) → k < i → get_or new k 0 ≡ get_or old k 0 + total_in sums (k + begin) (end - begin)
+  pub few : (k : ℕ) → k < i → get_or new k 0 ≤ 1834980 * (k + end)
+  pub behind : (k : ℕ) → i ≤ k → get_or new k 0 ≡ get_or old k 0
+
+pub paid-more : (sums : List ℕ) (begin end : ℕ) (old new : List ℕ) (i more : ℕ) → i < length new → begin ≤ end
+    → get_or old i 0 ≤ 1834980 * (i + begin) → more ≡ total_in sums (i + begin) (end - begin)
+    → more ≤ 1834980 * (end - begin) → IsPaid sums begin end old new i
+    → IsPaid sums begin end old (set new i (get_or new i 0 + more)) (i + 1)
+paid-more sums begin end old new i more inside order low exact few is =
+    let here : get_or new i 0 ≡ get_or old i 0 = is.behind i (omega arith) in record {
+      below = set-more (λ (j x : ℕ). x ≡ get_or old j 0 + total_in sums (j + begin) (end - begin)) new i
+          (get_or new i 0 + more) inside is.below (omega (arith, here, exact));
+      few = set-more (λ (j x : ℕ). x ≤ 1834980 * (j + end)) new i (get_or new i 0 + more) inside is.few
+          (omega (arith, here, few, low));
+      behind = λ k le. get_or-set_other new i k (get_or new i 0 + more) 0 (λ e. omega arith)
+          ∙ is.behind k (omega arith);
+    }
+
+-- all of a word's
+pub all-halves : (cost : ℕ → Bool → ℕ) (w n : ℕ) → n ≡ 48
+    → halves_cost cost 0 (take n (halves_of w)) ≡ halves_cost cost 0 (halves_of w)
+all-halves cost w n e =
+    ap (halves_cost cost 0) (take_all n (halves_of w) (omega (arith, many-halves w, e)))
+
+-- what a word costs, and what is low behind it
+pub row-read : (sums : Shades) (system : System) (w rate start cost begin width tail : ℕ)
+    → cost ≡ stretched_word_cost sums system w rate start → begin ≡ start + stretched_length system rate
+    → width ≡ width_of system → tail ≡ span sums false begin (width - begin)
+    → cost + tail ≡ stretched_row_cost sums system w rate start
+row-read sums system w rate start cost begin width tail c b wide t =
+    let moved : span sums false begin (width - begin)
+    ≡ span sums false (start + stretched_length system rate)
+    (width_of system - (start + stretched_length system rate))
+    = ap (λ (n : ℕ). span sums false begin (n - begin)) wide
+    ∙ ap (λ (k : ℕ). span sums false k (width_of system - k)) b in
+    omega (arith, c, t, moved)

@@ -1,0 +1,96 @@
+-- How much a line swings at most, so that what is divided by it fits.
+use Rattle.std.proofs.Common.{◌≡◌, ℕ, suc, zero, ◌≤◌, ◌<◌, ◌+◌, ◌*◌, ◌/◌, ◌^◌, List, length, get_or, take, drop}
+use Rattle.std.proofs.Common.{arith, sym, subst}
+use Rattle.std.specs.List.{All, sum}
+use Rattle.std.proofs.lemmas.List.{get_or_default, length-take}
+use Rattle.std.proofs.lemmas.List.Elements.{All-take, All-drop}
+use Rattle.std.proofs.lemmas.List.Sums.{sum_by-le}
+use Rattle.std.proofs.lemmas.List.FromFn.{sum_by-map-range_with_len_more}
+use Rattle.std.proofs.Math.Nat.{div-le_of_le-mul}
+use Rattle.vbi_words.specs.declared.system.System.{System}
+use Rattle.vbi_words.specs.declared.system.System.TheVariants.{Ntsc, Pal}
+use Rattle.vbi_words.specs.Geometry.{width_of}
+use Rattle.vbi_words.specs.Levels.{samples_of}
+use Rattle.vbi_line.proofs.Slicing.{sample_of, length-samples_of}
+use Rattle.vbi_near.specs.Levelled.{window_of, first_of, end_of, columns_of, window_start, window_sum, off_mean, off_in}
+use Rattle.vbi_near.specs.Levelled.{swing_of}
+
+-- samples of 16 bits
+abbrev pub AreShort : List ℕ → Type 0
+AreShort samples = All (λ x. x ≤ 65535) samples
+
+-- those of a line are
+pub short_bytes : (bytes : List ℕ) (n : ℕ) → length bytes ≡ 2 * n → ((k : ℕ) → get_or bytes k 0 < 256)
+    → AreShort (samples_of bytes)
+short_bytes bytes n long few k d less =
+    let inside : 2 * k + 1 < length bytes = omega (arith, length-samples_of bytes n long) in
+    let here : get_or (samples_of bytes) k 0 ≤ 65535
+    = omega (arith, sample_of bytes k inside, few (2 * k), few (2 * k + 1)) in
+    subst (λ (x : ℕ). x ≤ 65535) (sym (get_or_default (samples_of bytes) k d 0 less)) here
+
+-- so many of them sum up to no more
+few-sum : (samples : List ℕ) (start n : ℕ) → AreShort samples → sum (take n (drop start samples)) ≤ 65535 * n
+few-sum samples start n short =
+    let part = take n (drop start samples) in
+    let few = sum_by-le (λ (x : ℕ). x) 65535 part
+    (All-take (λ x. x ≤ 65535) n (drop start samples) (All-drop (λ x. x ≤ 65535) start samples short)) in
+    omega (arith, few, length-take n (drop start samples))
+
+-- a column is no farther from the mean of its window
+few-off : (system : System) (samples : List ℕ) (column : ℕ) → AreShort samples → column < length samples
+    → off_mean system samples column ≤ 13959168
+few-off Ntsc samples column short less =
+    omega (arith, few-sum samples (window_start Ntsc column) 172 short, short column 0 less)
+few-off Pal samples column short less =
+    omega (arith, few-sum samples (window_start Pal column) 213 short, short column 0 less)
+
+-- nor are so many columns
+few-offs : (system : System) (samples : List ℕ) (n : ℕ) → AreShort samples → first_of system + n ≤ length samples
+    → off_in system samples n ≤ 13959168 * n
+few-offs system samples zero short room = omega arith
+few-offs system samples (suc n) short room =
+    let column : ℕ = first_of system + n in
+    let more = sum_by-map-range_with_len_more (λ (x : ℕ). x) (off_mean system samples) (first_of system) n column
+    (omega arith) in
+    let e : n + 1 ≡ suc n = omega arith in
+    let all = subst (λ (k : ℕ). off_in system samples k ≡ off_in system samples n + off_mean system samples column) e
+    more in
+    omega (
+      arith,
+      all,
+      few-offs system samples n short (omega arith),
+      few-off system samples column short (omega arith),
+    )
+
+-- twice as far, by the columns of a window of NTSC and their number
+by-ntsc : (off n : ℕ) → off ≤ 13959168 * n → 2 * off / (172 * n) ≤ 262144
+by-ntsc off n few = div-le_of_le-mul (172 * n) (omega (arith, few))
+
+-- and of PAL
+by-pal : (off n : ℕ) → off ≤ 13959168 * n → 2 * off / (213 * n) ≤ 262144
+by-pal off n few = div-le_of_le-mul (213 * n) (omega (arith, few))
+
+-- the columns of words lie within the line
+room : (system : System) (n : ℕ) → n ≡ width_of system → first_of system + columns_of system ≤ n
+room Ntsc n e = omega (arith, e)
+room Pal n e = omega (arith, e)
+
+-- so the swing is less than 2 ^ 19
+few-swing : (system : System) (samples : List ℕ) → AreShort samples → length samples ≡ width_of system
+    → swing_of system samples ≤ 262144
+unfolding swing_of
+few-swing Ntsc samples short long =
+    by-ntsc (off_in Ntsc samples (columns_of Ntsc)) (columns_of Ntsc)
+    (few-offs Ntsc samples (columns_of Ntsc) short (room Ntsc (length samples) long))
+few-swing Pal samples short long =
+    by-pal (off_in Pal samples (columns_of Pal)) (columns_of Pal)
+    (few-offs Pal samples (columns_of Pal) short (room Pal (length samples) long))
+
+-- so the swing times the columns of a window fits into 32 bits
+pub scale_fits : (system : System) (samples : List ℕ) (window swing : ℕ) → AreShort samples
+    → length samples ≡ width_of system → window ≡ window_of system → swing ≡ swing_of system samples
+    → window * swing < 2 ^ 32
+scale_fits Ntsc samples window swing short long w s =
+    subst (λ (n : ℕ). n * swing < 2 ^ 32) (sym w) (omega (arith, s, few-swing Ntsc samples short long))
+scale_fits Pal samples window swing short long w s =
+    subst (λ (n : ℕ). n * swing < 2 ^ 32) (sym w) (omega (arith, s, few-swing Pal samples short long))

@@ -1,0 +1,22 @@
+use Rattle.std.proofs.Common.{[], ◌∷◌, arith}
+use Rattle.vbi_near.specs.Distances.{known_but}
+use Rattle.vbi_words.specs.Levels.{samples_of}
+use Rattle.vbi_near.proofs.Counting.{zeros-long, pile-empty, few-empty}
+use Rattle.vbi_near.proofs.candidates.stretched_of_one.Goals as goal
+
+pub add_line-requires-clause-dark : goal.add_line-requires-clause-dark
+add_line-requires-clause-dark c k = omega (arith, few-empty c.width.result 1135 k)
+
+pub add_line-requires-clause-light : goal.add_line-requires-clause-light
+add_line-requires-clause-light c k = omega (arith, few-empty c.width-2.result 1135 k)
+
+pub stretched_distance-requires-clause-few : goal.stretched_distance-requires-clause-few
+stretched_distance-requires-clause-few c =
+    let few = c.add_line.ensures.few 0 (few-empty c.width.result 1135, few-empty c.width-2.result 1135) in
+    (λ k. omega (arith, few.0 k), λ k. omega (arith, few.1 k))
+
+pub returns : goal.returns
+returns c =
+    c.stretched_distance.ensures c.args.levels (known_but c.args.erased.now (samples_of c.args.row.now) ∷ [])
+    (c.add_line.ensures.pile c.args.system [] (zeros-long c.args.system c.width.result c.width.ensures)
+    (pile-empty c.args.system c.args.levels c.width.result c.width-2.result 1135))

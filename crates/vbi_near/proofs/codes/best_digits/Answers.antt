@@ -1,0 +1,48 @@
+use Rattle.std.proofs.Common.{◌≡◌, ℕ, ◌*◌, ◌≤◌, arith, sym, ◌∙◌, subst, add-one}
+use Rattle.vbi_near.specs.LineCodes.{digit_at}
+use Rattle.vbi_near.specs.Leads.{AreBest}
+use Rattle.vbi_near.proofs.BestDigits.{first-digits}
+use Rattle.vbi_near.proofs.Places.{at-place, few-digits, next-power}
+use Rattle.vbi_near.proofs.CellsAt.{cut-read}
+use Rattle.vbi_near.proofs.codes.best_digits.Goals as goal
+
+pub loop-place-init : goal.loop-place-init
+loop-place-init c = record {
+  best = λ cost same. first-digits cost c.args.base (digit_at c.args.least) (digit_at c.args.greatest);
+  word = omega arith;
+  distance = omega (arith, c.requires.base);
+}
+
+pub with_digit-best-requires-clause-order : goal.with_digit-best-requires-clause-order
+with_digit-best-requires-clause-order c =
+    omega (
+      arith,
+      c.place_of-from.ensures.value,
+      c.place_of-to.ensures.value,
+      at-place (λ (k : ℕ). digit_at c.args.least k ≤ digit_at c.args.greatest k) c.requires.order.1 c.loop-place.place
+          c.loop-place-test.true,
+    )
+
+pub with_digit-best-requires-clause-word : goal.with_digit-best-requires-clause-word
+with_digit-best-requires-clause-word c =
+    omega (arith, c.loop-place.invariant.word, few-digits c.loop-place.place c.loop-place-test.true)
+
+pub loop-place-preserved : goal.loop-place-preserved
+loop-place-preserved c =
+    let p : ℕ = c.loop-place.place in
+    record {
+      best = λ cost same.
+          subst (λ (k : ℕ). AreBest cost c.args.base (digit_at c.args.least) (digit_at c.args.greatest) k
+          c.with_digit-best.result) (sym (add-one p))
+          (c.with_digit-best.ensures.best cost c.args.base (digit_at c.args.least) (digit_at c.args.greatest) p
+          (c.loop-place.invariant.best cost same) (sym c.place_of-from.ensures.value) (sym c.place_of-to.ensures.value)
+          (λ value l. cut-read c.args.digits.now (16 * p) 16 value l ∙ same p value c.loop-place-test.true l));
+      word = omega (arith, c.with_digit-best.ensures.word, c.loop-place.invariant.word, next-power p);
+      distance = omega (arith, c.with_digit-best.ensures.distance, c.loop-place.invariant.distance);
+    }
+
+pub returns-clause-best : goal.returns-clause-best
+returns-clause-best c cost same =
+    let e : c.loop-place.place ≡ 6 = omega (arith, c.loop-place-test.false, c.loop-place.auto.place-end) in
+    subst (λ (k : ℕ). AreBest cost c.args.base (digit_at c.args.least) (digit_at c.args.greatest) k c.loop-place.best) e
+    (c.loop-place.invariant.best cost same)

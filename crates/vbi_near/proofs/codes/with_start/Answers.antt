@@ -1,0 +1,25 @@
+use Rattle.std.proofs.Common.{◌≡◌, ℕ, ◌+◌, ◌-◌, ◌∙◌, ap, arith, false}
+use Rattle.vbi_words.specs.Geometry.{width_of}
+use Rattle.vbi_near.specs.Pictures.{word_length}
+use Rattle.vbi_near.specs.Distances.{Shades, shades}
+use Rattle.vbi_near.specs.Sums.{span}
+use Rattle.vbi_near.specs.Leads.{code_cost}
+use Rattle.vbi_near.proofs.Priced.{priced}
+use Rattle.vbi_near.proofs.codes.with_start.Goals as goal
+
+pub returns-clause-lead : goal.returns-clause-lead
+returns-clause-lead c looks is =
+    let sums : Shades = shades c.args.dark.now c.args.light.now in
+    let start : ℕ = c.args.start in
+    let end : ℕ = c.column-end.result in
+    let after : ℕ = start + word_length c.args.system in
+    let last : end ≡ after = c.column-end.ensures.value ∙ omega arith in
+    let lead : c.between.result ≡ span sums false 0 start
+    = c.between.ensures.value ∙ ap (span sums false 0) (omega arith) in
+    let tail : c.between-2.result ≡ span sums false after (width_of c.args.system - after)
+    = c.between-2.ensures.value ∙ ap (λ (w : ℕ). span sums false end (w - end)) c.width.ensures
+    ∙ ap (λ (k : ℕ). span sums false k (width_of c.args.system - k)) last in
+    c.with_codes.ensures.lead (code_cost sums c.args.system) looks
+    (priced sums c.args.system start (c.between.result + c.between-2.result) c.loop-place.digits
+    (omega (arith, lead, tail))
+    (λ i l. c.loop-place.invariant.below i (omega (arith, l, c.loop-place-test.false)))) is

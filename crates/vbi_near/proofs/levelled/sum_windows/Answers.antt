@@ -1,0 +1,92 @@
+use Rattle.std.proofs.Common.{◌≡◌, ℕ, ◌+◌, ◌-◌, ◌/◌, ◌≤◌, ◌<◌, ap, ◌∙◌, sym, arith}
+use Rattle.vbi_words.specs.Levels.{samples_of}
+use Rattle.vbi_near.specs.Levelled.{window_of, first_of, end_of, sum_from, window_sum}
+use Rattle.vbi_near.proofs.Counting.{line-samples}
+use Rattle.vbi_near.proofs.Levelling.{windows_more, window_before, window_behind, amid_by_sums, ordered_windows}
+use Rattle.vbi_near.proofs.levelled.sum_windows.Goals as goal
+
+pub loop-column-preserved : goal.loop-column-preserved
+loop-column-preserved c =
+    let system = c.args.system in
+    let samples = samples_of c.args.row.now in
+    let column = c.loop-column.column in
+    let wide : c.window-wide.result ≡ window_of system = c.window-wide.ensures in
+    let less : column < first_of system + window_of system / 2
+    = omega (arith, c.loop-column-test.true, c.first.ensures, wide) in
+    let is : c.window_sum-before.result ≡ window_sum system samples column
+    = c.window_sum-before.ensures
+    ∙ ap (λ (start : ℕ). sum_from samples start (window_of system)) (sym (window_before system column less)) in
+    record {
+      windows = windows_more system samples c.loop-column.windows column c.window_sum-before.result
+          (omega (arith, less, c.loop-column.auto.windows, c.requires.room, ordered_windows system)) is
+          c.loop-column.invariant.windows;
+    }
+
+pub bounds-sums-column : goal.bounds-sums-column
+bounds-sums-column c =
+    let system = c.args.system in
+    (amid_by_sums system (samples_of c.args.row.now) c.args.sums.now c.loop-column-2.column c.window-wide.result
+    (line-samples system c.args.row.now c.requires.row) c.requires.sums c.window-wide.ensures
+    (omega (arith, c.loop-column-2.auto.column, c.first.ensures, c.window-wide.ensures))
+    (omega (arith, c.loop-column-2-test.true, c.end.ensures, c.window-wide.ensures))).0
+
+pub bounds-sums-column-in-loop-column-2 : goal.bounds-sums-column-in-loop-column-2
+bounds-sums-column-in-loop-column-2 c =
+    let system = c.args.system in
+    let both = amid_by_sums system (samples_of c.args.row.now) c.args.sums.now c.loop-column-2.column
+    c.window-wide.result
+    (line-samples system c.args.row.now c.requires.row) c.requires.sums c.window-wide.ensures
+    (omega (arith, c.loop-column-2.auto.column, c.first.ensures, c.window-wide.ensures))
+    (omega (arith, c.loop-column-2-test.true, c.end.ensures, c.window-wide.ensures)) in
+    omega (arith, both.0)
+
+pub overflow_sub-windows-in-loop-column-2-2 : goal.overflow_sub-windows-in-loop-column-2-2
+overflow_sub-windows-in-loop-column-2-2 c =
+    let system = c.args.system in
+    let both = amid_by_sums system (samples_of c.args.row.now) c.args.sums.now c.loop-column-2.column
+    c.window-wide.result
+    (line-samples system c.args.row.now c.requires.row) c.requires.sums c.window-wide.ensures
+    (omega (arith, c.loop-column-2.auto.column, c.first.ensures, c.window-wide.ensures))
+    (omega (arith, c.loop-column-2-test.true, c.end.ensures, c.window-wide.ensures)) in
+    omega (arith, both.1)
+
+pub loop-column-2-preserved : goal.loop-column-2-preserved
+loop-column-2-preserved c =
+    let system = c.args.system in
+    let samples = samples_of c.args.row.now in
+    let column = c.loop-column-2.column in
+    let less : column < end_of system - window_of system + window_of system / 2
+    = omega (arith, c.loop-column-2-test.true, c.end.ensures, c.window-wide.ensures) in
+    let both = amid_by_sums system samples c.args.sums.now column c.window-wide.result
+    (line-samples system c.args.row.now c.requires.row) c.requires.sums c.window-wide.ensures
+    (omega (arith, c.loop-column-2.auto.column, c.first.ensures, c.window-wide.ensures)) less in
+    record {
+      windows = windows_more system samples c.loop-column-2.windows column _
+          (omega (arith, less, c.loop-column-2.auto.windows, c.requires.room, ordered_windows system))
+          (omega (arith, both.1)) c.loop-column-2.invariant.windows;
+    }
+
+pub loop-column-3-preserved : goal.loop-column-3-preserved
+loop-column-3-preserved c =
+    let system = c.args.system in
+    let samples = samples_of c.args.row.now in
+    let column = c.loop-column-3.column in
+    let to : c.end.result - c.window-wide.result + c.window-wide.result / 2
+    ≡ end_of system - window_of system + window_of system / 2
+    = omega (arith, c.end.ensures, c.window-wide.ensures) in
+    let more : end_of system - window_of system + window_of system / 2 ≤ column
+    = omega (arith, c.loop-column-3.auto.column, to) in
+    let is : c.window_sum-behind.result ≡ window_sum system samples column
+    = c.window_sum-behind.ensures ∙ ap (window_sum system samples) to
+    ∙ ap (λ (start : ℕ). sum_from samples start (window_of system)) (sym (window_behind system column more)) in
+    record {
+      windows = windows_more system samples c.loop-column-3.windows column c.window_sum-behind.result
+          (omega (
+            arith,
+            c.loop-column-3-test.true,
+            c.loop-column-3.auto.windows,
+            c.requires.room,
+            c.loop-column-3.auto.column-end,
+          )) is
+          c.loop-column-3.invariant.windows;
+    }

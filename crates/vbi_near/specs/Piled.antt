@@ -1,0 +1,58 @@
+-- The word that lines say together which all have one word, or none: by their nearest words levelled, if they may be
+-- levelled together, and where these say none, by those of the lines as they are.
+use Rattle.std.specs.Prelude.{◌≡◌, ℕ, ◌*◌, Bool, if◌then◌else◌, List, length, map, take, drop, Option, Some}
+use Rattle.std.specs.List.{list_all, range_with_len}
+use Rattle.vbi_words.specs.declared.system.System.{System}
+use Rattle.vbi_words.specs.Geometry.{width_of, line_at}
+use Rattle.vbi_words.specs.Levels.{Slicing}
+use Rattle.vbi_near.specs.declared.said.Margins.{Margins}
+use Rattle.vbi_near.specs.Distances.{unit_of}
+use Rattle.vbi_near.specs.Said.{said_if, first_said}
+use Rattle.vbi_near.specs.Candidates.{Row, row_of, given_samples, levelled_samples, swing_in, are_alike_by}
+use Rattle.vbi_near.specs.Candidates.{Candidates, HasNear, HasNearIf}
+
+-- ---- the rule
+
+-- the columns by which the nearest word has to be ahead: a code that may stand on the lines by fewer than another word,
+-- where it is known which columns are erased
+abbrev pub pile_margins : Bool → Margins
+pile_margins known = record { code = if known then 6 else 10; other = 10 }
+
+-- lines that swing so may be levelled together: each two of them may
+abbrev pub swing_alike : ℕ → List ℕ → Bool
+swing_alike unit swings = list_all (λ swing. list_all (are_alike_by unit swing) swings) swings
+
+abbrev pub are_all_alike : System → Slicing → List Row → Bool
+are_all_alike system slicing rows = swing_alike (unit_of slicing) (map (swing_in system slicing) rows)
+
+-- the word that so many lines say together
+abbrev pub said_together : ℕ → Bool → ℕ → Candidates → Option ℕ
+said_together unit known lines near =
+    first_said (said_if unit (pile_margins known) lines near.levelled)
+    (said_if unit (pile_margins known) lines (Some near.given))
+
+-- ---- from lines
+
+-- the candidates of lines that have one word
+pub record AreOfAll (system : System) (number : ℕ) (slicing : Slicing) (rows : List Row) (candidates : Candidates)
+    : Type 0 where
+  pub levelled : HasNearIf system number slicing (are_all_alike system slicing rows)
+      (map (levelled_samples system slicing) rows) candidates.levelled
+  pub given : HasNear system number slicing (map given_samples rows) candidates.given
+
+-- what these lines say together: there are such nearest words with which the rule says it
+abbrev pub IsSaidTogether : System → ℕ → Slicing → Bool → List Row → Option ℕ → Type 0
+IsSaidTogether system number slicing known rows said = (near : Candidates)
+    × AreOfAll system number slicing rows near
+    × (said ≡ said_together (unit_of slicing) known (length rows) near)
+
+-- ---- from bytes
+
+-- a line of some that lie one behind the other, as do the marks of their erased columns, counted from 0
+abbrev pub row_in : System → List ℕ → List Bool → ℕ → Row
+row_in system lines erased i =
+    row_of (line_at system lines 0 i) (take (width_of system) (drop (width_of system * i) erased))
+
+-- the first so many of them
+abbrev pub rows_in : System → List ℕ → List Bool → ℕ → List Row
+rows_in system lines erased count = map (row_in system lines erased) (range_with_len 0 count)

@@ -1,0 +1,110 @@
+-- What the nearest word of some lines says, if it is so far ahead of any other that noise and dropouts hardly bring it
+-- about; and whether lines 17 and 18 say one word together.
+--
+-- All that is compared are sums of how far samples are off. A margin of so many columns is as much as white and black
+-- are off from each other in so many columns: `unit` is that of one column.
+use Rattle.std.specs.Prelude.{ℕ, ◌+◌, ◌*◌, ◌==◌, ◌&&◌, ◌||◌, Bool, false, not, is_some, nat_le, nat_lt}
+use Rattle.std.specs.Prelude.{Option, Some, None, if◌then◌else◌}
+use Rattle.vbi_near.specs.declared.near.Near.{Near}
+use Rattle.vbi_near.specs.declared.lines.Nears.{Nears}
+use Rattle.vbi_near.specs.declared.said.Margins.{Margins}
+use Rattle.vbi_near.specs.declared.said.Stand.{Stand}
+use Rattle.vbi_near.specs.declared.said.Stand.TheVariants.{Alone, Apart, Together}
+
+-- ---- what one or two lines say
+
+-- the columns by which the nearest word of one line has to be ahead: a code that may stand on the line by fewer than
+-- another word
+abbrev pub lone_margins : Margins
+lone_margins = record { code = 6; other = 8 }
+
+-- of one of two lines whose nearest words don't agree: at least one of them is badly worn, or they have two words
+abbrev pub apart_margins : Margins
+apart_margins = record { code = 10; other = 12 }
+
+-- of two lines together
+abbrev pub both_margins : Margins
+both_margins = record { code = 8; other = 10 }
+
+-- any other word is farther by so many columns at least
+abbrev pub is_ahead : ℕ → ℕ → Near → Bool
+is_ahead unit columns near = nat_le (near.distance + columns * unit) near.rival
+
+-- the signal goes on beyond the word: with one more cell the drawn row is nearer by more than four columns in each line
+abbrev pub goes_on : ℕ → ℕ → Near → Bool
+goes_on unit lines near = nat_lt (near.longer + 4 * lines * unit) near.distance
+
+-- the signal has fewer cells than the word: with its first or its last one or two cells black the drawn row is nearer
+-- by more than four columns in each line
+abbrev pub is_cut : ℕ → ℕ → Near → Bool
+is_cut unit lines near = nat_lt (near.shorter + 4 * lines * unit) near.distance
+
+-- any other word is so far behind, and the signal begins and ends with this one
+abbrev pub is_clear : ℕ → ℕ → ℕ → Near → Bool
+is_clear unit columns lines near =
+    is_ahead unit columns near && not (goes_on unit lines near) && not (is_cut unit lines near)
+
+-- no word is nearer than the nearest code by more than ten columns
+abbrev pub is_close : ℕ → Nears → Bool
+is_close unit near = nat_le near.code.distance (near.word.distance + 10 * unit)
+
+-- the word that so many lines say: the nearest code that may stand on them, if it is so far ahead of any other code and
+-- of none, and no word is much nearer; else the nearest word, if it is so far ahead of any other
+abbrev pub said_of : ℕ → Margins → ℕ → Nears → Option ℕ
+said_of unit margins lines near =
+    if is_some near.code.word && is_close unit near && is_clear unit margins.code lines near.code
+    then near.code.word
+    else (if is_clear unit margins.other lines near.word then near.word.word else None)
+
+-- what is said by what there may not be
+abbrev pub said_if : ℕ → Margins → ℕ → Option Nears → Option ℕ
+said_if unit margins lines None = None
+said_if unit margins lines (Some near) = said_of unit margins lines near
+
+-- the word of the first that says one
+abbrev pub first_said : Option ℕ → Option ℕ → Option ℕ
+first_said None other = other
+first_said (Some word) other = Some word
+
+-- this word is said
+abbrev pub is_said : ℕ → Option ℕ → Bool
+is_said word None = false
+is_said word (Some said) = word == said
+
+-- ---- lines 17 and 18
+
+-- both are the same word
+abbrev pub is_same : Option ℕ → Option ℕ → Bool
+is_same None other = false
+is_same (Some word) other = is_said word other
+
+-- two lines have one word, by that of each and that of both: it is the same, or their common one is at most 30 columns
+-- farther from the two than the nearest of each is from its own line
+abbrev pub is_one : ℕ → Near → Near → Near → Bool
+is_one unit second third both =
+    is_same second.word third.word || nat_le both.distance (second.distance + third.distance + 30 * unit)
+
+-- by their nearest words, or by their nearest codes
+abbrev pub have_one : ℕ → Nears → Nears → Nears → Bool
+have_one unit second third both =
+    is_one unit second.word third.word both.word || is_one unit second.code third.code both.code
+
+-- then they agree, unless each of them goes on beyond its nearest word, as two sines do
+abbrev pub do_agree : ℕ → Nears → Nears → Nears → Bool
+do_agree unit second third both =
+    have_one unit second third both && not (goes_on unit 1 second.word && goes_on unit 1 third.word)
+
+-- nor do they where the one or the other has no nearest word, or both together
+abbrev pub may_agree : ℕ → Option Nears → Option Nears → Option Nears → Bool
+may_agree unit (Some second) (Some third) (Some both) = do_agree unit second third both
+may_agree unit second third both = false
+
+-- how two open lines stand to each other
+abbrev pub stand_of : ℕ → Option Nears → Option Nears → Option Nears → Stand
+stand_of unit second third both = if may_agree unit second third both then Together else Apart
+
+-- the word that an open line says by its nearest word, or by that of lines 17 and 18 together
+abbrev pub said_in : Stand → ℕ → Option Nears → Option Nears → Option ℕ
+said_in Alone unit near both = said_if unit lone_margins 1 near
+said_in Apart unit near both = said_if unit apart_margins 1 near
+said_in Together unit near both = said_if unit both_margins 2 both

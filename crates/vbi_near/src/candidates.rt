@@ -1,0 +1,191 @@
+//! The words that lines may have: those that are nearest to their samples, as they are and levelled.
+
+ghost use Rattle.std.specs.Prelude.{◌≡◌, ◌∷◌, [], ◌-◌, ◌^◌, ◌<◌, length, IsTrue};
+ghost use Rattle.vbi_words.specs.Geometry.{line_bytes, width_of};
+ghost use Rattle.vbi_words.specs.Levels.{samples_of};
+ghost use Rattle.vbi_near.specs.Distances.{known_but};
+ghost use Rattle.vbi_near.specs.Levelled.{levelled};
+ghost use Rattle.vbi_near.specs.Stretched.{IsStretched};
+ghost use Rattle.vbi_near.specs.Candidates.{HasNear, HasNearIf, row_of, filled_samples, swing_in, has_swing};
+ghost use Rattle.vbi_near.specs.Candidates.{are_alike, are_alike_by, levelled_samples};
+
+use crate::levelled::{fill, is_swing, level, sum_samples, swing};
+use crate::lines::{Nears, nears_of};
+use crate::near::WIDEST;
+use crate::pile::add_line;
+use crate::stretched::stretched_distance;
+use vbi_words::{Levels, System, Word24};
+
+/// How far white is from black.
+pub(crate) fn unit_of(levels: Levels) -> u32
+    ensures value { result ≡ levels.white - levels.black }
+    ensures range { result < 2 ^ 16 }
+{
+    u32::from(levels.white() - levels.black())
+}
+
+/// The nearest ones of one line, by its bytes and which of its columns are erased.
+pub(crate) fn near_of_one(
+    system: System,
+    number: u32,
+    levels: Levels,
+    row: &[u8],
+    erased: &[bool],
+) -> Nears
+    requires row { length row.now ≡ line_bytes system }
+    requires erased { length erased.now ≡ width_of system }
+    ensures { HasNear system number levels (known_but erased.now (samples_of row.now) ∷ []) result }
+{
+    let mut all_darks = [0; WIDEST];
+    let mut all_lights = [0; WIDEST];
+    let darks = &mut all_darks[..system.width()];
+    let lights = &mut all_lights[..system.width()];
+    add_line(levels, row, erased, darks, lights);
+    nears_of(system, number, darks, lights)
+}
+
+/// The nearest ones of two lines that have one word.
+pub(crate) fn near_of_two(
+    system: System,
+    number: u32,
+    levels: Levels,
+    row: &[u8],
+    erased: &[bool],
+    other: &[u8],
+    other_erased: &[bool],
+) -> Nears
+    requires row { length row.now ≡ line_bytes system }
+    requires erased { length erased.now ≡ width_of system }
+    requires other { length other.now ≡ line_bytes system }
+    requires other_erased { length other_erased.now ≡ width_of system }
+    ensures { HasNear system number levels (known_but erased.now (samples_of row.now)
+        ∷ known_but other_erased.now (samples_of other.now) ∷ []) result }
+{
+    let mut all_darks = [0; WIDEST];
+    let mut all_lights = [0; WIDEST];
+    let darks = &mut all_darks[..system.width()];
+    let lights = &mut all_lights[..system.width()];
+    add_line(levels, row, erased, darks, lights);
+    add_line(levels, other, other_erased, darks, lights);
+    nears_of(system, number, darks, lights)
+}
+
+/// How far a line is from the nearest row of this word on cells that are somewhat longer or shorter.
+pub(crate) fn stretched_of_one(
+    system: System,
+    levels: Levels,
+    row: &[u8],
+    erased: &[bool],
+    word: Word24,
+) -> u32
+    requires row { length row.now ≡ line_bytes system }
+    requires erased { length erased.now ≡ width_of system }
+    ensures { IsStretched system levels (known_but erased.now (samples_of row.now) ∷ []) word result }
+{
+    let mut all_darks = [0; WIDEST];
+    let mut all_lights = [0; WIDEST];
+    let darks = &mut all_darks[..system.width()];
+    let lights = &mut all_lights[..system.width()];
+    add_line(levels, row, erased, darks, lights);
+    stretched_distance(darks, lights, system, word)
+}
+
+/// Levels a line, if it swings as one with a word does, and answers its swing.
+pub(crate) fn level_row(
+    system: System,
+    levels: Levels,
+    row: &[u8],
+    erased: &[bool],
+    out: &mut [u8],
+) -> u32
+    requires row { length row.now ≡ line_bytes system }
+    requires erased { length erased.now ≡ width_of system }
+    requires out { length out.old ≡ line_bytes system }
+    ensures swing { result ≡ swing_in system levels (row_of row.now erased.now) }
+    ensures levelled { IsTrue (has_swing system levels (row_of row.now erased.now))
+        → samples_of out.new ≡ levelled system levels (filled_samples levels (row_of row.now erased.now)) }
+{
+    let mut buffer = [0; 2 * WIDEST];
+    let whole = &mut buffer[..row.len()];
+    fill(levels, row, erased, whole);
+    let mut sums = [0; WIDEST + 1];
+    sum_samples(system, whole, &mut sums);
+    let swing = swing(system, whole, &sums);
+    if is_swing(unit_of(levels), swing) {
+        level(system, levels, whole, &sums, swing, out);
+    }
+    swing
+}
+
+/// The nearest ones of one line levelled, if it swings as one with a word does.
+pub(crate) fn levelled_near_of_one(
+    system: System,
+    number: u32,
+    levels: Levels,
+    row: &[u8],
+    erased: &[bool],
+) -> Option<Nears>
+    requires row { length row.now ≡ line_bytes system }
+    requires erased { length erased.now ≡ width_of system }
+    ensures { HasNearIf system number levels (has_swing system levels (row_of row.now erased.now))
+        (levelled_samples system levels (row_of row.now erased.now) ∷ []) result }
+{
+    let mut buffer = [0; 2 * WIDEST];
+    let levelled = &mut buffer[..row.len()];
+    let swing = level_row(system, levels, row, erased, levelled);
+    if is_swing(unit_of(levels), swing) {
+        Some(near_of_one(system, number, levels, levelled, erased))
+    } else {
+        None
+    }
+}
+
+/// Whether two lines that swing so may be levelled together: neither swings more than twice as much as the other.
+pub(crate) fn are_alike(unit: u32, swing: u32, other: u32) -> bool
+    ensures { result ≡ are_alike_by unit swing other }
+{
+    is_swing(unit, swing)
+        && is_swing(unit, other)
+        && u64::from(swing) <= 2 * u64::from(other)
+        && u64::from(other) <= 2 * u64::from(swing)
+}
+
+/// The nearest ones of two lines levelled, if both swing alike.
+pub(crate) fn levelled_near_of_two(
+    system: System,
+    number: u32,
+    levels: Levels,
+    row: &[u8],
+    erased: &[bool],
+    other: &[u8],
+    other_erased: &[bool],
+) -> Option<Nears>
+    requires row { length row.now ≡ line_bytes system }
+    requires erased { length erased.now ≡ width_of system }
+    requires other { length other.now ≡ line_bytes system }
+    requires other_erased { length other_erased.now ≡ width_of system }
+    ensures { HasNearIf system number levels
+        (are_alike system levels (row_of row.now erased.now) (row_of other.now other_erased.now))
+        (levelled_samples system levels (row_of row.now erased.now)
+        ∷ levelled_samples system levels (row_of other.now other_erased.now) ∷ []) result }
+{
+    let mut buffer = [0; 2 * WIDEST];
+    let mut other_buffer = [0; 2 * WIDEST];
+    let levelled = &mut buffer[..row.len()];
+    let other_levelled = &mut other_buffer[..other.len()];
+    let swing = level_row(system, levels, row, erased, levelled);
+    let other_swing = level_row(system, levels, other, other_erased, other_levelled);
+    if are_alike(unit_of(levels), swing, other_swing) {
+        Some(near_of_two(
+            system,
+            number,
+            levels,
+            levelled,
+            erased,
+            other_levelled,
+            other_erased,
+        ))
+    } else {
+        None
+    }
+}

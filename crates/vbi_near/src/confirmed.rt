@@ -1,0 +1,108 @@
+//! The word that a line says by itself, and which words of pass 2 its nearest words confirm.
+//!
+//! A search takes some microseconds, so one is made only where its answer counts: a line as it is is searched only
+//! where the levelled one says no word. The contracts say that a call answers as the definitions do by whatever nearest
+//! words the line has, of which there is one each.
+
+ghost use Rattle.std.specs.Prelude.{◌≡◌, ℕ, ◌-◌, ◌∷◌, [], length};
+ghost use Rattle.vbi_words.specs.Geometry.{line_bytes, width_of};
+ghost use Rattle.vbi_words.specs.Levels.{samples_of};
+ghost use Rattle.vbi_near.specs.Distances.{known_but};
+ghost use Rattle.vbi_near.specs.Stretched.{IsStretched};
+ghost use Rattle.vbi_near.specs.Candidates.{Candidates, candidates, row_of, has_swing, levelled_samples, HasNearIf};
+ghost use Rattle.vbi_near.specs.Candidates.{AreOf};
+ghost use Rattle.vbi_near.specs.Recovery.{said_alone, other_than, is_stretched, is_confirmed};
+
+use crate::candidates::{near_of_one, stretched_of_one, unit_of};
+use crate::lines::Nears;
+use crate::near::Near;
+use crate::said::{first_said, is_said, said_by_one};
+use vbi_words::{Levels, System, Word24};
+
+/// The word that a line says by itself. It is searched as it is only where it says none levelled.
+pub(crate) fn said_alone(
+    system: System,
+    number: u32,
+    levels: Levels,
+    row: &[u8],
+    erased: &[bool],
+    levelled: &Option<Nears>,
+) -> Option<Word24>
+    requires row { length row.now ≡ line_bytes system }
+    requires erased { length erased.now ≡ width_of system }
+    requires levelled { HasNearIf system number levels (has_swing system levels (row_of row.now erased.now))
+        (levelled_samples system levels (row_of row.now erased.now) ∷ []) levelled.now }
+    ensures { (near : Candidates) → AreOf system number levels (row_of row.now erased.now) near
+        → result ≡ said_alone (levels.white - levels.black) near }
+{
+    let unit = unit_of(levels);
+    let said = said_by_one(unit, *levelled);
+    if said.is_some() {
+        return said;
+    }
+    let given = near_of_one(system, number, levels, row, erased);
+    first_said(said, said_by_one(unit, Some(given)))
+}
+
+/// How far a line is from the nearest row of any other word than this, or of none.
+fn other_than(word: Word24, near: &Near) -> u32
+    ensures { result ≡ other_than word near.now }
+{
+    if is_said(word, near.word) {
+        near.rival
+    } else {
+        near.distance
+    }
+}
+
+/// Whether a word on somewhat longer or shorter cells is ahead of any other word by eight columns.
+fn is_stretched(unit: u32, stretched: u32, word: Word24, near: &Near) -> bool
+    ensures { result ≡ is_stretched unit stretched word near.now }
+{
+    u64::from(stretched) + 8 * u64::from(unit) <= u64::from(other_than(word, near))
+}
+
+/// Whether a word of pass 2 is confirmed by the nearest words of its line.
+fn is_confirmed_by(
+    unit: u32,
+    levelled: &Option<Nears>,
+    given: &Nears,
+    stretched: u32,
+    word: Word24,
+) -> bool
+    ensures { result ≡ is_confirmed unit (candidates levelled.now given.now) stretched word }
+{
+    let said = first_said(
+        said_by_one(unit, *levelled),
+        said_by_one(unit, Some(*given)),
+    );
+    is_said(word, said) || is_stretched(unit, stretched, word, &given.word)
+}
+
+/// Whether a word of pass 2 is confirmed: the line says it by itself, or it is ahead on somewhat longer or shorter
+/// cells.
+pub(crate) fn is_confirmed(
+    system: System,
+    number: u32,
+    levels: Levels,
+    row: &[u8],
+    erased: &[bool],
+    levelled: &Option<Nears>,
+    word: Word24,
+) -> bool
+    requires row { length row.now ≡ line_bytes system }
+    requires erased { length erased.now ≡ width_of system }
+    requires levelled { HasNearIf system number levels (has_swing system levels (row_of row.now erased.now))
+        (levelled_samples system levels (row_of row.now erased.now) ∷ []) levelled.now }
+    ensures { (near : Candidates) (stretched : ℕ) → AreOf system number levels (row_of row.now erased.now) near
+        → IsStretched system levels (known_but erased.now (samples_of row.now) ∷ []) word stretched
+        → result ≡ is_confirmed (levels.white - levels.black) near stretched word }
+{
+    let unit = unit_of(levels);
+    if is_said(word, said_by_one(unit, *levelled)) {
+        return true;
+    }
+    let given = near_of_one(system, number, levels, row, erased);
+    let stretched = stretched_of_one(system, levels, row, erased, word);
+    is_confirmed_by(unit, levelled, &given, stretched, word)
+}

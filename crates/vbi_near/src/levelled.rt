@@ -1,0 +1,255 @@
+//! Lines whose running mean is taken off, and whose swing is made that of white and black.
+
+ghost use Rattle.std.specs.Prelude.{◌≡◌, ◌≢◌, ℕ, ◌+◌, ◌*◌, ◌/◌, ◌^◌, ◌≤◌, ◌<◌, min, length, slice_index, IsTrue};
+ghost use Rattle.std.specs.Prelude.{IsFalse};
+ghost use Rattle.vbi_words.specs.Geometry.{width_of, line_bytes};
+ghost use Rattle.vbi_words.specs.Levels.{samples_of};
+ghost use Rattle.vbi_line.specs.Line.{sample_at};
+ghost use Rattle.vbi_near.specs.Levelled.{window_of, first_of, end_of, window_start, window_sum, swing_of, is_swing};
+ghost use Rattle.vbi_near.specs.Levelled.{middle_of, levelled_sample, levelled, filled, AreSampleSums, AreWindows};
+
+use crate::near::WIDEST;
+use vbi_words::{Levels, System};
+
+/// How many sums the longest line has: one before each sample, and that of all.
+pub(crate) const SUMS: usize = 1136;
+
+/// The columns of the running mean.
+fn window(system: System) -> u32
+    ensures { result ≡ window_of system }
+{
+    match system {
+        System::Ntsc => 172,
+        System::Pal => 213,
+    }
+}
+
+/// The first of the columns that a drawn word and the black about it can have.
+fn first(system: System) -> usize
+    ensures { result ≡ first_of system }
+{
+    match system {
+        System::Ntsc => 143,
+        System::Pal => 180,
+    }
+}
+
+/// The column behind the last of them.
+fn end(system: System) -> usize
+    ensures { result ≡ end_of system }
+{
+    match system {
+        System::Ntsc => 844,
+        System::Pal => 1049,
+    }
+}
+
+/// The first column of the window of a column.
+#[inline(always)]
+fn window_start(system: System, column: usize) -> usize
+    ensures { result ≡ window_start system column }
+{
+    let width = window(system) as usize;
+    column
+        .saturating_sub(width / 2)
+        .max(first(system))
+        .min(end(system) - width)
+}
+
+/// A line's sample in a column.
+// Of two bytes of a slice a compiler makes one read.
+#[inline(always)]
+fn sample(line: &[u8], column: usize) -> u16
+    requires { 2 * column + 1 < length line.now }
+    ensures { result ≡ sample_at line.now column }
+{
+    let pair = &line[2 * column..2 * column + 2];
+    u16::from(pair[0]) + 256 * u16::from(pair[1])
+}
+
+/// Writes a line's sample in a column.
+#[inline(always)]
+fn put(line: &mut [u8], column: usize, sample: u16)
+    requires { 2 * column + 1 < length line.old }
+    ensures here { sample_at line.new column ≡ sample }
+    ensures others { (k : ℕ) → k ≢ column → sample_at line.new k ≡ sample_at line.old k }
+    ensures long { length line.new ≡ length line.old }
+{
+    line[2 * column] = (sample % 256) as u8;
+    line[2 * column + 1] = (sample / 256) as u8;
+}
+
+/// Half way between black and white.
+fn middle(levels: Levels) -> u16
+    ensures { result ≡ middle_of levels }
+{
+    levels.black() + (levels.white() - levels.black()) / 2
+}
+
+/// Writes a line's samples, but half way between black and white where a column is erased.
+pub(crate) fn fill(levels: Levels, row: &[u8], erased: &[bool], out: &mut [u8])
+    requires row { length row.now ≡ 2 * length erased.now }
+    requires out { length out.old ≡ 2 * length erased.now }
+    ensures filled { samples_of out.new ≡ filled levels erased.now (samples_of row.now) }
+    ensures long { length out.new ≡ length out.old }
+{
+    let middle = middle(levels);
+    out.copy_from_slice(row);
+    for column in 0..erased.len() {
+        if erased[column] {
+            put(out, column, middle);
+        }
+    }
+}
+
+/// Sums up a line's samples: `sums` has for each column the sum of those before it.
+pub(crate) fn sum_samples(system: System, row: &[u8], sums: &mut [u32])
+    requires row { length row.now ≡ line_bytes system }
+    requires room { length sums.old ≡ 1136 }
+    ensures sums { AreSampleSums (samples_of row.now) sums.new }
+    ensures long { length sums.new ≡ length sums.old }
+{
+    let mut sum = 0;
+    sums[0] = sum;
+    for column in 0..system.width() {
+        sum += u32::from(sample(row, column));
+        sums[column + 1] = sum;
+    }
+}
+
+/// The sum of the window of a column.
+#[inline(always)]
+fn window_sum(system: System, row: &[u8], sums: &[u32], column: usize) -> u32
+    requires row { length row.now ≡ line_bytes system }
+    requires sums { AreSampleSums (samples_of row.now) sums.now }
+    ensures { result ≡ window_sum system (samples_of row.now) column }
+{
+    let start = window_start(system, column);
+    sums[start + window(system) as usize] - sums[start]
+}
+
+/// A sample times the columns of a window.
+#[inline(always)]
+fn own(system: System, row: &[u8], column: usize) -> u32
+    requires row { length row.now ≡ line_bytes system }
+    requires column { column < width_of system }
+    ensures { result ≡ window_of system * slice_index (samples_of row.now) column }
+{
+    window(system) * u32::from(sample(row, column))
+}
+
+/// Writes for each column the sum of its window.
+// First the windows begin where the first one does, then half a window before their columns, at last where the last one
+// does: a loop for each, of which a compiler makes vectors.
+fn sum_windows(system: System, row: &[u8], sums: &[u32], windows: &mut [u32])
+    requires row { length row.now ≡ line_bytes system }
+    requires sums { AreSampleSums (samples_of row.now) sums.now }
+    requires room { length windows.old ≡ width_of system }
+    ensures windows { AreWindows system (samples_of row.now) windows.new }
+    ensures long { length windows.new ≡ length windows.old }
+{
+    let wide = window(system) as usize;
+    let half = wide / 2;
+    let from = first(system) + half;
+    let to = end(system) - wide + half;
+    let before = window_sum(system, row, sums, 0);
+    let behind = window_sum(system, row, sums, to);
+    for column in 0..from {
+        windows[column] = before;
+    }
+    for column in from..to {
+        windows[column] = sums[column - half + wide] - sums[column - half];
+    }
+    for column in to..system.width() {
+        windows[column] = behind;
+    }
+}
+
+/// How far a line's high samples are from its low ones.
+pub(crate) fn swing(system: System, row: &[u8], sums: &[u32]) -> u32
+    requires row { length row.now ≡ line_bytes system }
+    requires sums { AreSampleSums (samples_of row.now) sums.now }
+    ensures { result ≡ swing_of system (samples_of row.now) }
+{
+    let mut buffer = [0; WIDEST];
+    let windows = &mut buffer[..system.width()];
+    sum_windows(system, row, sums, windows);
+    let mut off = 0;
+    for column in first(system)..end(system) {
+        off += u64::from(own(system, row, column).abs_diff(windows[column]));
+    }
+    let columns = (end(system) - first(system)) as u64;
+    (2 * off / (u64::from(window(system)) * columns)) as u32
+}
+
+/// Whether a line of this swing is levelled.
+pub(crate) fn is_swing(unit: u32, swing: u32) -> bool
+    ensures { result ≡ is_swing unit swing }
+{
+    let tenths = 10 * u64::from(swing);
+    3 * u64::from(unit) <= tenths && tenths <= 16 * u64::from(unit)
+}
+
+/// What is divided once, so that no column needs a division.
+const WHOLE: u64 = 281_474_976_710_656;
+
+/// A quotient, or 65,535 if that is less, by what `WHOLE` is divided by the divisor.
+// A product with the inverse is the quotient, or too small by one. Divisions would take most of the time of a line.
+#[inline(always)]
+fn quotient(dividend: u64, divisor: u64, inverse: u64) -> u64
+    requires some { 0 < divisor }
+    requires divisor { divisor < 2 ^ 32 }
+    requires inverse { inverse ≡ 2 ^ 48 / divisor }
+    ensures { result ≡ min (dividend / divisor) 65535 }
+{
+    let cut = dividend.min(65535 * divisor);
+    let near = cut * inverse / WHOLE;
+    if (near + 1) * divisor <= cut {
+        near + 1
+    } else {
+        near
+    }
+}
+
+/// A sample, levelled by the mean of its window, both times the columns of the window.
+// One quotient for samples above the mean and below it: with noise a branch would be guessed wrong half the time.
+#[inline(always)]
+fn levelled_sample(levels: Levels, scale: u64, inverse: u64, own: u32, mean: u32) -> u16
+    requires some { 0 < scale }
+    requires range { scale < 2 ^ 32 }
+    requires inverse { inverse ≡ 2 ^ 48 / scale }
+    ensures { result ≡ levelled_sample levels scale own mean }
+{
+    let unit = u64::from(levels.white() - levels.black());
+    let high = u64::from(middle(levels)) * scale + u64::from(own) * unit;
+    quotient(high.saturating_sub(u64::from(mean) * unit), scale, inverse) as u16
+}
+
+/// Writes the levelled line of this swing.
+pub(crate) fn level(
+    system: System,
+    levels: Levels,
+    row: &[u8],
+    sums: &[u32],
+    swing: u32,
+    out: &mut [u8],
+)
+    requires row { length row.now ≡ line_bytes system }
+    requires sums { AreSampleSums (samples_of row.now) sums.now }
+    requires swing { swing ≡ swing_of system (samples_of row.now) }
+    requires some { 0 < swing }
+    requires out { length out.old ≡ line_bytes system }
+    ensures levelled { samples_of out.new ≡ levelled system levels (samples_of row.now) }
+    ensures long { length out.new ≡ length out.old }
+{
+    let scale = u64::from(window(system)) * u64::from(swing);
+    let inverse = WHOLE / scale;
+    let mut buffer = [0; WIDEST];
+    let windows = &mut buffer[..system.width()];
+    sum_windows(system, row, sums, windows);
+    for column in 0..system.width() {
+        let own = own(system, row, column);
+        let sample = levelled_sample(levels, scale, inverse, own, windows[column]);
+        put(out, column, sample);
+    }
+}

@@ -1,0 +1,225 @@
+//! What the nearest words of lines say: by how much they have to be ahead, and whether lines 17 and 18 agree.
+
+ghost use Rattle.std.specs.Prelude.{◌≡◌, ◌≤◌};
+ghost use Rattle.vbi_near.specs.Said.{is_ahead, goes_on, is_cut, is_clear, is_close, said_of, said_if};
+ghost use Rattle.vbi_near.specs.Said.{first_said, is_said};
+ghost use Rattle.vbi_near.specs.Said.{is_same, is_one, have_one, do_agree, may_agree, stand_of, said_in, lone_margins};
+
+use crate::lines::Nears;
+use crate::near::Near;
+use vbi_words::Word24;
+
+/// By how many columns the nearest word has to be ahead of any other: by so many times what white and black are off
+/// from each other.
+#[derive(Clone, Copy)]
+pub struct Margins {
+    /// A code that may stand on its line.
+    pub code: u32,
+    /// Any other word.
+    pub other: u32,
+}
+
+/// Those of one line.
+const LONE: Margins = Margins { code: 6, other: 8 };
+
+/// Those of one of two lines that don't agree.
+const APART: Margins = Margins {
+    code: 10,
+    other: 12,
+};
+
+/// Those of two lines together.
+const BOTH: Margins = Margins { code: 8, other: 10 };
+
+/// How lines 17 and 18 stand to each other.
+#[derive(Clone, Copy)]
+pub enum Stand {
+    /// One of them, or both, need no nearest word.
+    Alone,
+    /// Their nearest words don't agree.
+    Apart,
+    /// They agree.
+    Together,
+}
+
+/// Whether any other word is farther by so many columns.
+fn is_ahead(unit: u32, columns: u32, near: &Near) -> bool
+    ensures { result ≡ is_ahead unit columns near.now }
+{
+    u64::from(near.distance) + u64::from(columns) * u64::from(unit) <= u64::from(near.rival)
+}
+
+/// Whether the signal of so many lines goes on beyond the word.
+fn goes_on(unit: u32, lines: u32, near: &Near) -> bool
+    requires { lines ≤ 28 }
+    ensures { result ≡ goes_on unit lines near.now }
+{
+    u64::from(near.longer) + 4 * u64::from(lines) * u64::from(unit) < u64::from(near.distance)
+}
+
+/// Whether the signal of so many lines has fewer cells than the word.
+fn is_cut(unit: u32, lines: u32, near: &Near) -> bool
+    requires { lines ≤ 28 }
+    ensures { result ≡ is_cut unit lines near.now }
+{
+    u64::from(near.shorter) + 4 * u64::from(lines) * u64::from(unit) < u64::from(near.distance)
+}
+
+/// Whether the signal of so many lines begins and ends with the word, and any other is farther by so many columns.
+fn is_clear(unit: u32, columns: u32, lines: u32, near: &Near) -> bool
+    requires { lines ≤ 28 }
+    ensures { result ≡ is_clear unit columns lines near.now }
+{
+    is_ahead(unit, columns, near) && !goes_on(unit, lines, near) && !is_cut(unit, lines, near)
+}
+
+/// Whether no word is nearer than the nearest code by more than ten columns.
+fn is_close(unit: u32, near: &Nears) -> bool
+    ensures { result ≡ is_close unit near.now }
+{
+    u64::from(near.code.distance) <= u64::from(near.word.distance) + 10 * u64::from(unit)
+}
+
+/// The word that so many lines say, of which these are the nearest word and the nearest code.
+fn said_of(unit: u32, margins: &Margins, lines: u32, near: &Nears) -> Option<Word24>
+    requires { lines ≤ 28 }
+    ensures { result ≡ said_of unit margins.now lines near.now }
+{
+    if near.code.word.is_some()
+        && is_close(unit, near)
+        && is_clear(unit, margins.code, lines, &near.code)
+    {
+        near.code.word
+    } else if is_clear(unit, margins.other, lines, &near.word) {
+        near.word.word
+    } else {
+        None
+    }
+}
+
+/// The word that so many lines say, if they have a nearest word and a nearest code.
+pub(crate) fn said_if(
+    unit: u32,
+    margins: &Margins,
+    lines: u32,
+    near: Option<Nears>,
+) -> Option<Word24>
+    requires { lines ≤ 28 }
+    ensures { result ≡ said_if unit margins.now lines near }
+{
+    match near {
+        Some(near) => said_of(unit, margins, lines, &near),
+        None => None,
+    }
+}
+
+/// The word that one line says for itself.
+pub(crate) fn said_by_one(unit: u32, near: Option<Nears>) -> Option<Word24>
+    ensures { result ≡ said_if unit lone_margins 1 near }
+{
+    said_if(unit, &LONE, 1, near)
+}
+
+/// The word of the first that says one.
+pub(crate) fn first_said(first: Option<Word24>, other: Option<Word24>) -> Option<Word24>
+    ensures { result ≡ first_said first other }
+{
+    match first {
+        Some(word) => Some(word),
+        None => other,
+    }
+}
+
+/// Whether this word is said.
+pub(crate) fn is_said(word: Word24, said: Option<Word24>) -> bool
+    ensures { result ≡ is_said word said }
+{
+    match said {
+        Some(other) => word.value() == other.value(),
+        None => false,
+    }
+}
+
+/// Whether both are the same word.
+fn is_same(word: Option<Word24>, other: Option<Word24>) -> bool
+    ensures { result ≡ is_same word other }
+{
+    match word {
+        Some(word) => is_said(word, other),
+        None => false,
+    }
+}
+
+/// Whether two lines have one word, by that of each and that of both: it is the same, or the common one is little
+/// farther.
+fn is_one(unit: u32, second: &Near, third: &Near, both: &Near) -> bool
+    ensures { result ≡ is_one unit second.now third.now both.now }
+{
+    let sum = u64::from(second.distance) + u64::from(third.distance);
+    is_same(second.word, third.word) || u64::from(both.distance) <= sum + 30 * u64::from(unit)
+}
+
+/// Whether two lines have one word, by the nearest word of each and by that of both.
+fn have_one(unit: u32, second: &Nears, third: &Nears, both: &Nears) -> bool
+    ensures { result ≡ have_one unit second.now third.now both.now }
+{
+    is_one(unit, &second.word, &third.word, &both.word)
+        || is_one(unit, &second.code, &third.code, &both.code)
+}
+
+/// Whether two lines agree: they have one word, and not each of them goes on beyond its own.
+fn do_agree(unit: u32, second: &Nears, third: &Nears, both: &Nears) -> bool
+    ensures { result ≡ do_agree unit second.now third.now both.now }
+{
+    have_one(unit, second, third, both)
+        && !(goes_on(unit, 1, &second.word) && goes_on(unit, 1, &third.word))
+}
+
+/// Whether two lines agree, where each has a nearest word, and both together.
+fn may_agree(unit: u32, second: Option<Nears>, third: Option<Nears>, both: Option<Nears>) -> bool
+    ensures { result ≡ may_agree unit second third both }
+{
+    match (second, third, both) {
+        (Some(second), Some(third), Some(both)) => do_agree(unit, &second, &third, &both),
+        _ => false,
+    }
+}
+
+/// How two open lines stand to each other.
+fn stand_of(unit: u32, second: Option<Nears>, third: Option<Nears>, both: Option<Nears>) -> Stand
+    ensures { result ≡ stand_of unit second third both }
+{
+    if may_agree(unit, second, third, both) {
+        Stand::Together
+    } else {
+        Stand::Apart
+    }
+}
+
+/// The word that an open line says by its nearest word, or by that of lines 17 and 18 together.
+fn said_in(stand: Stand, unit: u32, near: Option<Nears>, both: Option<Nears>) -> Option<Word24>
+    ensures { result ≡ said_in stand unit near both }
+{
+    match stand {
+        Stand::Alone => said_if(unit, &LONE, 1, near),
+        Stand::Apart => said_if(unit, &APART, 1, near),
+        Stand::Together => said_if(unit, &BOTH, 2, both),
+    }
+}
+
+/// The words that two open lines say by their nearest words and by those of both together.
+pub(crate) fn said_by_pair(
+    unit: u32,
+    second: &Option<Nears>,
+    third: &Option<Nears>,
+    both: &Option<Nears>,
+) -> (Option<Word24>, Option<Word24>)
+    ensures second { result.0 ≡ said_in (stand_of unit second.now third.now both.now) unit second.now both.now }
+    ensures third { result.1 ≡ said_in (stand_of unit second.now third.now both.now) unit third.now both.now }
+{
+    let stand = stand_of(unit, *second, *third, *both);
+    (
+        said_in(stand, unit, *second, *both),
+        said_in(stand, unit, *third, *both),
+    )
+}

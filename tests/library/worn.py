@@ -1,0 +1,226 @@
+"""Hands worn lines to the library whose words and distances are counted on paper, and compares what is recovered: alone
+and in a stream, levelled, and with erased columns. Lines and lists end where no page follows.
+
+usage: worn.py"""
+
+import struct
+from array import array
+
+from border import Guarded, call, expect, finish
+from lines import ANSWER, BLANK, FIELDS, NEAR, NTSC, PAL, READING, SAMPLES, TELEVISIONS, answered_of, drawn, edges_of
+
+LIST = Guarded(4096)
+
+# ---- Columns of one cell are turned over, so that no levels show a word
+
+# Words, how many of the 28 columns of a cell of NTSC (29 of some) are turned over on lines 16, 17 and 18, and the
+# passes in which they are recovered, 0 where they aren't, or another word that is recovered. Of the 35 or 36 columns of
+# PAL it is three more. So 9 leave a word ahead of the one with this bit turned by 10 or 11 columns, 8 by 12 or 13, and
+# so on to 12 by 4 or 5.
+WORN = (
+    ((0x8DC0A1, 0xF12345, 0xF12345), (0, 0, 0), (1, 1, 1)),
+    # one line: a code that may stand on it, as the one with this bit turned may, or not
+    ((0x85D0A1, 0, 0), (11, 0, 0), (3, 0, 0)), ((0x85D0A1, 0, 0), (12, 0, 0), (0, 0, 0)),
+    ((0xF12345, 0, 0), (10, 0, 0), (3, 0, 0)), ((0xF12345, 0, 0), (11, 0, 0), (0, 0, 0)),
+    ((0x8DC0A1, 0xF12345, 0), (0, 11, 0), (1, 3, 0)), ((0, 0xF12345, 0xF54321), (0, 0, 11), (0, 1, 3)),
+    # a code, where no other has this bit turned: 89C0A1 is nearer by 7 or 8 columns, or by 11 or 12
+    ((0x8DC0A1, 0, 0), (18, 0, 0), (3, 0, 0)), ((0x8DC0A1, 0, 0), (20, 0, 0), (0x89C0A1, 0, 0)),
+    # lines 17 and 18 of one word, where neither alone is enough
+    ((0, 0xF12345, 0xF12345), (0, 13, 13), (0, 3, 3)), ((0x85D0A1, 0xF1234A, 0xF1234A), (12, 12, 12), (0, 3, 3)),
+    # of two words
+    ((0, 0xF12345, 0xF54321), (0, 9, 10), (0, 3, 0)), ((0, 0xF54321, 0xF1234A), (0, 10, 8), (0, 0, 3)),
+    ((0, 0xF1234A, 0xF54321), (0, 9, 9), (0, 0, 3)), ((0, 0xF12345, 0xF16345), (0, 8, 8), (0, 3, 3)))
+
+# Lines 17 and 18 that begin in one column. The word of line 18 is 12 or 13 columns farther from line 17 than its own,
+# so that both have it. Words that differ in the last cell alone are 28 columns apart, so that none of the two is said,
+# or 35 in PAL: that is more than 30, and these are two words, as are those that differ in two cells.
+EVEN = (((0, 0xF12345, 0xF16345), (0, 8, 8), (0, 0xF16345, 3)), ((0, 0xF12345, 0xF12346), (0, 9, 9), (0, 3, 3)))
+LAST_CELL = {tv: ((0, 0xF12345, 0xF12344), (0, 9, 9), (0, of_pass, of_pass)) for tv, of_pass in ((NTSC, 0), (PAL, 3))}
+
+
+def begun(tv, row, late=1):
+    """The last of the three lines begins so many columns late."""
+    return tv._replace(start=tv.start + (row == 2) * late * tv.over)
+
+
+def turned_over(tv, row, columns):
+    """The columns of a line that are turned over, half of them in the middle of either half cell."""
+    edges = edges_of(tv)
+    return [edges[2 * (5 + 4 * row) + place % 2] + 4 + place // 2
+            for place in range(columns and columns + (3 if tv.system == PAL.system else 0))]
+
+
+def worn(tv, word, row, columns):
+    """A line of a word."""
+    line = drawn(tv, word)
+    for column in turned_over(tv, row, columns):
+        line[column] = tv.black + tv.white - line[column]
+    return line
+
+
+def worn_rows(tv, words, turned, late=1):
+    """Lines 16, 17 and 18."""
+    return sum((worn(begun(tv, row, late), word, row, columns)
+                for row, (word, columns) in enumerate(zip(words, turned))), array("H"))
+
+
+def are_recovered(tv, fields, packed):
+    for (words, turned, shown), row in zip(fields, range(0, len(packed), 24)):
+        for word, wanted, (cause, *found) in zip(words, shown, READING.iter_unpack(packed[row:row + 24])):
+            of_pass, word = (wanted, word) if wanted <= 3 else (3, wanted)
+            is_right = found == ([of_pass, 0, word] if of_pass else [0, found[1], 0])
+            is_right = is_right and (cause == 0, cause == BLANK) == (of_pass > 0, word == 0)
+            expect(is_right, tv.system, words, turned, "is read as", cause, *found)
+
+
+def rows_are_recovered(tv, row, rows):
+    are_recovered(tv, [row], answered_of("recover_rows", tv, rows, 24))
+
+
+def test_worn(tv):
+    """Each row alone, and each three that follow each other as the fields of a stream."""
+    for row in WORN:
+        rows_are_recovered(tv, row, worn_rows(tv, *row[:2]))
+    for row in (*EVEN, LAST_CELL[tv]):
+        rows_are_recovered(tv, row, worn_rows(tv, *row[:2], 0))
+    for first in range(0, len(WORN), FIELDS):
+        fields = WORN[first:first + FIELDS]
+        are_recovered(tv, fields, answered_of("recover_fields", tv, stream_of(tv, fields), 24 * FIELDS, FIELDS))
+
+
+def stream_of(tv, fields):
+    """Fields with these lines, between others."""
+    before, behind = (array("H", b"\xAA" * 2 * tv.samples * lines) for lines in (15, tv.lines - 18))
+    return sum((before + worn_rows(tv, *row[:2]) + behind for row in fields), array("H"))
+
+
+# ---- Words that are cut short, and that go on
+
+# Columns of a word's first high half cell that are black, and columns that are high where a one behind the word would
+# have its half cell: up to so many the signal is that of the word. Of a half cell of 14 columns 9 are 4 more than those
+# that are left, and 10 are 6 more; of one of 18 that are 11 and 12.
+ENDS = ((NTSC, 14, 9), (PAL, 18, 11))
+
+
+def test_ends(tv, half, most):
+    edges = edges_of(tv)
+    for columns in (most, most + 1):
+        row = (0, 0xF12345, 0), columns, (0, 3 * (columns == most), 0)
+        for first, level in ((edges[1], tv.black), (edges[48] + edges[1] - edges[0], tv.white)):
+            line = drawn(tv, 0xF12345)
+            expect(edges[2] - edges[1] == half, tv.system, "has another half cell")
+            line[first:first + columns] = array("H", [level]) * columns
+            rows_are_recovered(tv, row, drawn(tv, 0) + line + drawn(tv, 0))
+
+
+# ---- Levelled lines
+
+# Lines 17 and 18 that are drawn between other levels than those they are read by, in hundredths of the way from black
+# to white; how many columns are turned over, and the passes. All of such a line is higher than half way, or all is
+# lower, and then it is blank. So it is recovered by its levelled samples alone: by those as they are other words are as
+# near, within a few columns. Lines are levelled if they swing by 30 to 160 hundredths, and two together if neither
+# swings more than twice as much as the other.
+LEVELLED = (
+    (((90, 140), None), 0, (3, 0)), ((None, (90, 140)), 0, (0, 3)), (((-40, 10), None), 0, (0, 0)),
+    (((90, 122), None), 0, (3, 0)), (((90, 118), None), 0, (0, 0)),
+    (((52, 207), None), 0, (3, 0)), (((52, 217), None), 0, (0, 0)),
+    (((75, 115), (75, 153)), 13, (3, 3)), (((75, 115), (75, 157)), 13, (0, 0)),
+    (((75, 153), (75, 115)), 13, (3, 3)), (((75, 157), (75, 115)), 13, (0, 0)))
+
+
+def test_levelled(tv):
+    tv = tv._replace(black=8000, white=28000)
+    for levels, turned, passes in LEVELLED:
+        lines, words = [drawn(tv, 0)], [0]
+        for row, between in enumerate(levels, 1):
+            low, high = (8000 + 200 * level for level in between or (0, 0))
+            lines.append(worn(tv._replace(black=low, white=high), 0xF12345 * bool(between), row, turned))
+            words.append(0xF12345 * (high > 18000))
+        rows_are_recovered(tv, (words, levels, (0, *passes)), sum(lines, array("H")))
+
+
+def test_levelled_first(tv):
+    """A word drawn between 90 and 230 hundredths, and black about it. To the samples as they are a column at 230 is as
+    far from black as from white, and one at 90 is nearer to white by eight tenths. So the nearest word has the other
+    value in each cell but the first, and any other word is farther by eight tenths of a half cell of 14 columns, or
+    more: that would be enough. But the levelled line says the word that was drawn."""
+    tv, words = tv._replace(black=8000, white=28000), (0, 0xF12345, 0)
+    line, edges = drawn(tv._replace(black=26000, white=54000), words[1]), edges_of(tv)
+    line[:edges[0]], line[edges[-1]:] = (array("H", [tv.black]) * (end - begin)
+                                         for begin, end in ((0, edges[0]), (edges[-1], tv.samples)))
+    found, start, *_ = NEAR.unpack(answered_of("nearest", tv, line, NEAR.size))
+    expect((found, start) == (0x8EDCBA, edges[0]), tv.system, "as it is the line is nearest to", hex(found))
+    rows_are_recovered(tv, (words, "90 to 230", (0, 3, 0)), drawn(tv, 0) + line + drawn(tv, 0))
+
+
+# ---- Erased columns
+
+# Words, and how many columns are turned over, as above: 14 of 28 or 29, or 17 of 35 or 36, leave two words as near, or
+# all but; the passes in which the lines are recovered; and for which line which columns are erased: those that are
+# turned over on this row, one by one ("turned"), or of a line that is longer ("beyond"); or in one piece the whole cell
+# in which they lie ("cell"), or all from there on ("rest"). Without the columns that are turned over, 14 or more of the
+# cell leave the word ahead by as many; without the cell two words are as near.
+ERASED = (
+    ((0x85D0A1, 0, 0), (14, 0, 0), (0, 0, 0), ()),
+    ((0x85D0A1, 0, 0), (14, 0, 0), (3, 0, 0), ((16, 0, "turned"), )),
+    ((0x85D0A1, 0, 0), (14, 0, 0), (0, 0, 0), ((17, 0, "turned"), (18, 0, "turned"))),
+    ((0x8DC0A1, 0xF12345, 0), (0, 14, 0), (1, 0, 0), ((16, 1, "turned"), (18, 1, "turned"))),
+    ((0x8DC0A1, 0xF12345, 0), (0, 14, 0), (1, 3, 0), ((17, 1, "turned"), )),
+    ((0x8DC0A1, 0xF12345, 0), (0, 14, 0), (1, 0, 0), ((16, 1, "beyond"), (17, 1, "beyond"))),
+    ((0, 0xF12345, 0xF54321), (0, 0, 14), (0, 1, 3), ((18, 2, "turned"), )),
+    ((0, 0xF12345, 0xF54321), (0, 0, 14), (0, 1, 0), ((17, 2, "beyond"), )),
+    ((0x85D0A1, 0xF12345, 0xF54321), (14, 0, 14), (3, 1, 3), ((16, 0, "turned"), (17, 1, "rest"), (18, 2, "turned"))),
+    ((0x85D0A1, 0xF12345, 0), (8, 8, 0), (3, 3, 0), ()),
+    ((0x85D0A1, 0xF12345, 0), (8, 8, 0), (0, 3, 0), ((16, 0, "cell"), )),
+    ((0x85D0A1, 0xF12345, 0), (8, 8, 0), (3, 0, 0), ((17, 1, "rest"), )))
+
+
+def erased_of(tv, field, turned, erased):
+    """The list of what is erased in a field."""
+    entries = []
+    for line, row, which in erased:
+        cell = edges_of(begun(tv, row))[2 * (5 + 4 * row):][:3:2]
+        columns = sorted(turned_over(begun(tv, row), row, turned[row]))
+        pieces = {"turned": [(column, column) for column in columns], "cell": [(cell[0], cell[1] - 1)],
+                  "beyond": [(column + tv.samples, column + tv.samples) for column in columns],
+                  "rest": [(cell[0], 2 ** 32 - 1)]}[which]
+        entries += [(field, line, *piece) for piece in pieces]
+    return entries
+
+
+def answered_without(tv, name, samples, entries, *count):
+    """What is written with these entries, which end where no page follows."""
+    packed = b"".join(struct.pack("<4I", *entry) for entry in entries)
+    erased = (LIST.put(packed) if entries else None), len(entries)
+    answer = ANSWER.put(b"\xAA" * 24 * (count or (1, ))[0])
+    status = call(name)(*tv[:3], SAMPLES.put(samples.tobytes()), 2 * len(samples), *erased, answer, *count)
+    expect(status == 0, name, tv.system, entries, "has the status", status)
+    return ANSWER.get(24 * (count or (1, ))[0])
+
+
+def test_erased(tv):
+    """Each row alone, and each three as the fields of a stream."""
+    for row in ERASED:
+        entries = erased_of(tv, 0, row[1], row[3])
+        packed = answered_without(tv, "recover_rows_without", worn_rows(tv, *row[:2]), entries)
+        are_recovered(tv, [row[:3]], packed)
+    for first in range(0, len(ERASED), FIELDS):
+        fields = ERASED[first:first + FIELDS]
+        entries = sum((erased_of(tv, field, row[1], row[3]) for field, row in enumerate(fields)), [])
+        packed = answered_without(tv, "recover_fields_without", stream_of(tv, fields), entries, FIELDS)
+        are_recovered(tv, [row[:3] for row in fields], packed)
+
+
+def main():
+    for row in ENDS:
+        test_ends(*row)
+    for tv in TELEVISIONS:
+        test_worn(tv)
+        test_levelled(tv)
+        test_levelled_first(tv)
+        test_erased(tv)
+    finish()
+
+
+if __name__ == "__main__":
+    main()

@@ -1,0 +1,224 @@
+"""Numbers that none of several captures reads, and that their lines say as one pile: worn lines, whose distances are
+counted on paper, and noisy ones."""
+
+import itertools
+import random
+import struct
+
+import ldvbi
+from calls import Calls
+from cases import InFolder
+from discs import times
+from ldvbi.readings import Levels
+from ldvbi_side.join.captures import capture_of
+from ldvbi_side.join.joined import join
+from ldvbi_side.join.piles import _levelled
+from ldvbi_side.side import side_of_tbc
+from streams import NTSC, PAL, worn_line, write_stream
+from test_worn import noisy
+
+# Of each system more than half of the columns of a cell, of which the word with this bit turned is nearer, by a column
+# or two: too few to say it
+HALF = {"NTSC": 15, "PAL": 18}
+PICTURES = range(1, 21)
+NOISY = (3, 5, 7, 9, 11, 13, 15, 17, 19)
+
+
+def picture(number):
+    return 0xF00000 + int(str(number), 16)
+
+
+def worn(word, setup, *cells):
+    """A drawn line, of each of these cells so many columns are turned over."""
+    drawn = ldvbi.draw_line(word, *setup)
+    lines = [worn_line(word, setup, *cell) for cell in cells]
+    return b"".join(next((line[at:at + 2] for line in lines if line[at:at + 2] != drawn[at:at + 2]), drawn[at:at + 2])
+                    for at in range(0, len(drawn), 2))
+
+
+def half_worn(number, setup, cell):
+    """A line of a picture that doesn't say it alone. From cell 5 on a bit that is turned makes another picture of it,
+    unless its digit isn't 0."""
+    return worn(picture(number), setup, (cell, HALF[setup[0]]))
+
+
+class Captures(InFolder):
+    def capture(self, name, setup, lines, dropouts=None, numbers=PICTURES):
+        """A capture of pictures, with the number in the first field of each. `lines` has lines 17 and 18 of some."""
+        fields = []
+        for number in numbers:
+            fields += [[0, *lines.get(number, [picture(number)] * 2)], [0, 0, 0]]
+        return self.capture_of_fields(name, setup, fields, dropouts)
+
+    def capture_of_fields(self, name, setup, fields, dropouts=None):
+        path = self.named(name + ".tbc")
+        write_stream(path, setup, fields)
+        side = side_of_tbc(path, ldvbi.System[setup[0]], *setup[1:], dropouts=dropouts)
+        self.addCleanup(side.samples.close)
+        return capture_of(side, name)
+
+    @staticmethod
+    def how(*captures):
+        """How the numbers are known that these captures have together, where they aren't simply read."""
+        return {number: how for number, _, _, _, how in join(list(captures))["taken"] if how != "read"}
+
+
+class Worn(Captures):
+    def each_elsewhere(self, setup, count, number=5):
+        """Captures of which each has another cell of a picture worn."""
+        return [self.capture(str(cell), setup, {number: [half_worn(number, setup, cell), 0]})
+                for cell in range(5, 5 + count)]
+
+    def test_each_is_worn_elsewhere(self):
+        """In two captures another word is nearer by two columns in one, and farther by a cell in the other."""
+        for setup in (NTSC, PAL):
+            captures = self.each_elsewhere(setup, 4)
+            for one in captures:
+                self.assertEqual([place.how for place in one.places if place.number == 5], ["neighbours"])
+            for some in (*itertools.combinations(captures, 2), captures):
+                self.assertEqual(self.how(*some), {5: "together"})
+
+    def test_more_than_a_pile_has(self):
+        """The first 28 lines are asked, and not those that say another number behind them."""
+        def captures(number):
+            return [self.capture("%d.%d" % (number, cell), NTSC, {5: [half_worn(number, NTSC, cell), worn(
+                picture(number), NTSC, (1, 1), (cell, 15))]}) for cell in range(5, 19)]
+        ones, others = captures(5), captures(8)
+        self.assertEqual(self.how(*ones, *others), {5: "together"})
+        self.assertEqual(self.how(*others, *ones), {5: "neighbours"})
+
+    def test_whose_lines_are_asked(self):
+        """Those of two captures or more in which the number is due, and nowhere read, and which aren't blank."""
+        a, b = self.each_elsewhere(NTSC, 2)
+        blank = self.capture("blank", NTSC, {5: [0, 0]})
+        clean = self.capture("clean", NTSC, {})
+        lost = self.capture_of_fields("lost", NTSC, [[0, *2 * [picture(number) * part]] for number in PICTURES
+                                                     if number != 5 for part in (1, 0)])
+        self.assertEqual(self.how(a, b, blank, lost), {5: "together"})
+        for others in ([blank], [blank, blank], [lost]):
+            self.assertEqual(self.how(a, *others)[5], "neighbours")
+        self.assertEqual(self.how(blank, blank), {5: "neighbours"})
+        self.assertEqual(self.how(a, b, clean), {})
+        near = self.capture("near", NTSC, {5: [worn(picture(5), NTSC, (9, 12)), 0]})
+        self.assertEqual(self.how(a, near, b), {5: "near"})
+
+    def test_one_capture_that_has_a_field_twice(self):
+        """It isn't asked alone: here the first 20 pictures are played twice, and picture 5 is worn elsewhere each
+        time."""
+        fields = [[0, *2 * [picture(number) * part]] for number in PICTURES for part in (1, 0)]
+        twice = 2 * fields
+        twice[8], twice[48] = ([0, half_worn(5, NTSC, cell), 0] for cell in (5, 6))
+        other = self.capture_of_fields("other", NTSC, fields[:6])
+        self.assertEqual(self.how(self.capture_of_fields("twice", NTSC, twice), other), {5: "neighbours"})
+
+    def test_another_number(self):
+        """It isn't due, whatever the lines say."""
+        ones = [self.capture(str(cell), NTSC, {12: [half_worn(13, NTSC, cell), 0]}) for cell in (5, 6)]
+        self.assertEqual(self.how(*ones), {12: "neighbours"})
+
+    def test_words_of_pass_1(self):
+        """One that says another number is enough, whatever the other lines say."""
+        half = [half_worn(5, NTSC, cell) for cell in (5, 6, 7)]
+        for first, second, how in ((0, 0, "together"), (0, picture(79999), "neighbours"),
+                                   (picture(79999), picture(79998), "neighbours"),
+                                   (picture(79999), picture(79999), "neighbours")):
+            ones = [self.capture(str(place), NTSC, {5: [line, half[place]]})
+                    for place, line in enumerate((first, second, 0))]
+            self.assertEqual(self.how(*ones), {5: how}, (first, second))
+
+    def test_a_copy_of_a_capture(self):
+        """In one capture the word with a bit of cell 9 turned is nearer by a column, in the other one it is farther by
+        9. These are 8, and with a copy of that 17: it says nothing more. Where dropouts are known in all, somewhere, 6
+        are enough."""
+        for dropouts, how in ((None, "neighbours"), ([(39, 18, 0, 5)], "together")):
+            one = self.capture("a", NTSC, {5: [worn(picture(5), NTSC, (9, 15)), 0]}, dropouts)
+            other, copy, unknown = (
+                self.capture(name, NTSC, {5: [worn(picture(5), NTSC, (5, 14), (9, 10)), 0]}, known)
+                for name, known in (("b", dropouts), ("c", dropouts), ("d", None)))
+            self.assertEqual(self.how(one, other), {5: how})
+            self.assertEqual(self.how(one, other, copy), {5: how})
+            self.assertEqual(self.how(one, unknown), {5: "neighbours"})
+
+    def test_a_detour(self):
+        """Its fields aren't asked: there the other capture has other numbers."""
+        one = self.capture("a", NTSC, {160: [half_worn(160, NTSC, 5), 0]}, None,
+                           (*range(1, 51), *range(151, 171), *range(71, 101)))
+        other = self.capture("b", NTSC, {160: [half_worn(160, NTSC, 6), 0]}, None, range(121, 181))
+        whole = self.capture("c", NTSC, {}, None, range(1, 101))
+        self.assertEqual(self.how(one, other), {160: "together"})
+        self.assertEqual(self.how(one, other, whole), {160: "neighbours"})
+
+    def test_times(self):
+        """A time stands on line 16 of its first field."""
+        rows = [[0 if word == "-" else int(word, 16) for word in row.split(" ")] for row in times(range(20))]
+        ones = []
+        for cell in (13, 14):
+            fields = [list(row) for row in rows]
+            fields[8][0] = worn(rows[8][0], PAL, (cell, HALF["PAL"]))
+            ones.append(self.capture_of_fields(str(cell), PAL, fields))
+        self.assertEqual(self.how(*ones), {"0:00:00.04": "together"})
+
+
+class Dropouts(Captures):
+    def test_at_the_same_place_in_all(self):
+        """Cell 9 is that of another word in all captures: without its columns neither is nearer. With them another
+        number is said, which isn't due."""
+        def captures(dropouts):
+            return [self.capture(str(cell), NTSC, {5: [worn(0xF04005, NTSC, (cell, 15)), 0]}, dropouts)
+                    for cell in (5, 6, 7)]
+        self.assertEqual(self.how(*captures([(8, 17, 407, 436)])), {5: "neighbours"})
+        self.assertEqual(self.how(*captures(None)), {5: "neighbours"})
+
+    def test_their_columns_count_for_nothing(self):
+        """In cell 9 another word is nearer by a column in each capture. Without three that are wrong it is farther by
+        two, and by six in three captures."""
+        def captures(dropouts):
+            return [self.capture(str(cell), NTSC, {5: [worn(picture(5), NTSC, (9, 15), (cell, 15)), 0]}, dropouts)
+                    for cell in (5, 12, 19)]
+        self.assertEqual(self.how(*captures([(8, 17, 411, 413)])), {5: "together"})
+        for dropouts in ([(8, 17, 411, 411)], [(8, 18, 411, 413)], [(9, 17, 411, 413)], None):
+            self.assertEqual(self.how(*captures(dropouts)), {5: "neighbours"}, dropouts)
+
+
+class OtherLevels(Captures):
+    def test_samples(self):
+        samples = struct.pack("<6H", 20000, 40000, 30000, 20001, 0, 65535)
+        self.assertEqual(struct.unpack("<6H", _levelled(samples, Levels(20000, 40000), Levels(10000, 60000))),
+                         (10000, 60000, 35000, 10003, 0, 65535))
+        self.assertEqual(struct.unpack("<6H", _levelled(samples, Levels(10000, 60000), Levels(20000, 40000))),
+                         (24000, 32000, 28000, 24000, 16000, 42214))
+        self.assertIs(_levelled(samples, Levels(10000, 60000), Levels(10000, 60000)), samples)
+
+    def test_captures(self):
+        """Whose levels have nothing in common; whichever is the first."""
+        for some in itertools.permutations((("NTSC", 1000, 9000), ("NTSC", 30000, 60000), NTSC)):
+            ones = [self.capture(str(cell), setup, {5: [half_worn(5, setup, cell), 0]})
+                    for cell, setup in enumerate(some, 5)]
+            self.assertEqual(self.how(*ones), {5: "together"}, some)
+
+
+class Noise(Captures):
+    def test_noise_of_more_than_twice_the_way_from_black_to_white(self):
+        """No more than two of these nine numbers are found in any capture, and most in all together: each where it
+        is."""
+        rng = random.Random(1)
+        ones = [self.capture(str(place), NTSC, {
+            number: [noisy(rng, picture(number), NTSC, 2.2) for _ in (17, 18)] for number in NOISY})
+            for place in range(4)]
+        found = join(ones)
+        self.assertEqual([row[0] for row in found["taken"]], list(PICTURES))
+        self.assertEqual([row[2] for row in found["taken"]], [2 * number - 1 for number in PICTURES])
+        self.assertLessEqual(max(sum(place.how == "near" for place in one.places) for one in ones), 2)
+        self.assertGreater(list(self.how(*ones).values()).count("together"), len(NOISY) // 2)
+
+
+class Command(Calls, Captures):
+    def test_what_is_printed(self):
+        for cell in (5, 6):
+            self.capture(str(cell), NTSC, {number: [half_worn(number, NTSC, cell), 0] for number in (5, 12)})
+            self.metadata("%d.tbc.json" % cell)
+        words = "join 5.tbc 6.tbc"
+        self.assertIn(b"\nread together: 2 (picture 5, picture 12)\n", self.printed(words))
+        rows = self.printed(words + " --csv").decode().split("\n")
+        self.assertEqual([row for row in rows if not row.endswith(",read")][1:-1], [
+            "5,5.tbc,9,5,together", "12,5.tbc,23,12,together"])
