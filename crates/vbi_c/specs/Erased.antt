@@ -4,6 +4,7 @@ use Rattle.std.specs.Prelude.{◌++◌, ◌<◌, ◌≤◌, take, drop, map, rep
 use Rattle.std.specs.List.{list_any, list_all, range_with_len}
 use Rattle.vbi_words.specs.declared.system.System as words
 use Rattle.vbi_words.specs.Geometry.{width_of}
+pub use Rattle.vbi_near.specs.Recovery.{none_erased}
 use Rattle.vbi_c.specs.declared.erased.LdvbiErased.{LdvbiErased}
 use Rattle.vbi_c.specs.declared.setup.Setup.{Setup}
 use Rattle.vbi_c.specs.declared.status.Refusal.{Refusal}
@@ -55,10 +56,6 @@ line_marks list system field line =
 unfoldable pub erased_of : List LdvbiErased → words.System → ℕ → List Bool
 erased_of list system field =
     line_marks list system field 16 ++ line_marks list system field 17 ++ line_marks list system field 18
-
--- no column of three lines is erased
-abbrev pub none_erased : words.System → List Bool
-none_erased system = replicate (3 * width_of system) false
 
 -- ---- from field to field
 

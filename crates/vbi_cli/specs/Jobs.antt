@@ -1,10 +1,10 @@
 -- What a job does: what metadata and options settle, what each command does with it, and the job's answer; and the
 -- statuses that the program ends with.
 use Rattle.std.specs.Prelude.{◌≡◌, ◌⊎◌, ℕ, List, Option, Some, None, Result, Ok, Err, IfOk, ⊤, is_some, if◌then◌else◌}
-use Rattle.std.specs.Prelude.{codes}
+use Rattle.std.specs.Prelude.{codes, Bool, true, false}
 use Rattle.vbi_field.specs.ConfigView.{line_bytes, System, ConfigView}
 use Rattle.vbi_words.specs.declared.outcome.Outcome.{Outcome}
-use Rattle.vbi_field.specs.Texts.{document, report}
+use Rattle.vbi_field.specs.Texts.{document, recovered_document, report, recovered_report}
 use Rattle.vbi_field.specs.Ran.{Counts, Ran}
 use Rattle.vbi_field.specs.declared.summary.Summary.{Summary}
 use Rattle.vbi_field.specs.declared.summary.RunFault.{RunFault}
@@ -103,8 +103,12 @@ module _ (c : ConfigView) (input0 input output0 output : Option (List ℕ)) (n :
   -- what a command did, over devices that counted n since
   abbrev pub Did : Verb → Result Ended AppFault → Type 0
   Did Line answer = DidRun input0 input output0 output n (line.Answers c input) (IsAnsweredBy c.system) answer
-  Did Extract answer = DidRun input0 input output0 output n (ExtractsWords c input) IsEndedBy answer
-  Did Show answer = DidRun input0 input output0 output n (extracts.Extracts report c input) IsEndedBy answer
+  Did (Extract false) answer = DidRun input0 input output0 output n (ExtractsWords c input) IsEndedBy answer
+  Did (Extract true) answer =
+      DidRun input0 input output0 output n (extracts.Extracts recovered_document c input) IsEndedBy answer
+  Did (Show false) answer = DidRun input0 input output0 output n (extracts.Extracts report c input) IsEndedBy answer
+  Did (Show true) answer =
+      DidRun input0 input output0 output n (extracts.Extracts recovered_report c input) IsEndedBy answer
   Did Draw answer = DidRun input0 input output0 output n (draws.Draws c input) IsDrawnBy answer
 
 -- ---- the job
@@ -125,29 +129,29 @@ module _ {R : Type 0} where
   -- the reader with the counts of its failed calls
   abbrev pub counted_of : Source R → outlets.Counted R
   counted_of (source.Line i) = lines.counted_of i
-  counted_of (source.Extract i) = lines.counted_of i
-  counted_of (source.Show i) = lines.counted_of i
+  counted_of (source.Extract i recover) = lines.counted_of i
+  counted_of (source.Show i recover) = lines.counted_of i
   counted_of (source.Draw i) = rows.counted_of i
 
   -- the command
   abbrev pub verb_of : Source R → Verb
   verb_of (source.Line i) = Line
-  verb_of (source.Extract i) = Extract
-  verb_of (source.Show i) = Show
+  verb_of (source.Extract i recover) = Extract recover
+  verb_of (source.Show i recover) = Show recover
   verb_of (source.Draw i) = Draw
 
   -- the reader has not been called; what is read by lines is read by those of this system
   abbrev pub IsFresh : Source R → System → Type 0
   IsFresh (source.Line i) system = lines.IsFresh i system
-  IsFresh (source.Extract i) system = lines.IsFresh i system
-  IsFresh (source.Show i) system = lines.IsFresh i system
+  IsFresh (source.Extract i recover) system = lines.IsFresh i system
+  IsFresh (source.Show i recover) system = lines.IsFresh i system
   IsFresh (source.Draw i) system = rows.IsFresh i
 
 -- what a fresh source and a fresh outlet counted since
 abbrev pub counts_of : {R W : Type 0} → Source R → Outlet W → Counts
 counts_of (source.Line i) o = extracts.counts_of i o
-counts_of (source.Extract i) o = extracts.counts_of i o
-counts_of (source.Show i) o = extracts.counts_of i o
+counts_of (source.Extract i recover) o = extracts.counts_of i o
+counts_of (source.Show i recover) o = extracts.counts_of i o
 counts_of (source.Draw i) o = draws.counts_of i o
 
 -- what a command did with its fresh source and a fresh outlet, of which the first of two is that before, by its answer
@@ -169,9 +173,16 @@ input_remaining file standard (Standard s) = standard s
 -- the word that asks for a command
 abbrev pub word_of : Verb → List ℕ
 word_of Line = codes "line"
-word_of Extract = codes "extract"
-word_of Show = codes "show"
+word_of (Extract recover) = codes "extract"
+word_of (Show recover) = codes "show"
 word_of Draw = codes "draw"
+
+-- recovered words are asked for
+abbrev pub recovers : Verb → Bool
+recovers Line = false
+recovers (Extract recover) = recover
+recovers (Show recover) = recover
+recovers Draw = false
 
 -- where the command line gives no job: 2 where it is refused, 0 where help is asked for, 1 where memory runs out
 abbrev pub words_status : WordsFault → ℕ

@@ -2,10 +2,10 @@
 
 ghost use Rattle.std.specs.Prelude.{◌≡◌, None, IfOk, OnErr};
 ghost use Rattle.vbi_words.specs.Geometry.{name_of, system_named};
-ghost use Rattle.vbi_cli.specs.Jobs.{words_status, word_of};
+ghost use Rattle.vbi_cli.specs.Jobs.{words_status, word_of, recovers};
 ghost use Rattle.vbi_cli.specs.declared.command_line.Verb as verbs;
 
-use crate::commands::program;
+use crate::commands::{RECOVER, can_recover, program};
 use clap::ArgMatches;
 use clap::error::ErrorKind;
 use std::alloc::{AllocError, AllocFailed, Global};
@@ -19,9 +19,15 @@ pub enum Verb {
     /// Print the word of one line.
     Line,
     /// Write the words of each field as a document.
-    Extract,
+    Extract {
+        /// With the words that are recovered from worn lines.
+        recover: bool,
+    },
     /// Print the words of each field and what they mean.
-    Show,
+    Show {
+        /// With the words that are recovered from worn lines.
+        recover: bool,
+    },
     /// Write fields drawn from rows of words.
     Draw,
 }
@@ -116,23 +122,28 @@ fn job_of(alloc: Global, name: &str, options: &ArgMatches<'_>) -> Result<Job, Wo
     let meta = owned(alloc, options.get_str("meta"))?;
     let input = owned(alloc, options.get_str("input").filter(|path| *path != "-"))?;
     Ok(Job {
-        verb: verb_named(name),
+        verb: verb_named(name, asks_recovery(name, options)),
         overrides,
         meta,
         input,
     })
 }
 
-/// The command of one of the four names; `clap` has refused every other.
-fn verb_named(name: &str) -> Verb
-    ensures { (verb : verbs.Verb) → name.now ≡ word_of verb → result ≡ verb }
+/// The command of one of the four names, with recovered words or without; `clap` has refused every other name.
+fn verb_named(name: &str, recover: bool) -> Verb
+    ensures { (verb : verbs.Verb) → name.now ≡ word_of verb → recover ≡ recovers verb → result ≡ verb }
 {
     match name {
         "line" => Verb::Line,
-        "extract" => Verb::Extract,
-        "show" => Verb::Show,
+        "extract" => Verb::Extract { recover },
+        "show" => Verb::Show { recover },
         _ => Verb::Draw,
     }
+}
+
+/// Whether recovered words are asked for. Rust's own `clap` panics where a command is asked for a flag that it hasn't.
+fn asks_recovery(name: &str, options: &ArgMatches<'_>) -> bool {
+    can_recover(name) && options.get_flag(RECOVER)
 }
 
 /// The system of this name. `clap` has refused each name that isn't among the possible values; should one of these name

@@ -15,10 +15,12 @@ const ABOUT: &str =
 const DETAILS: &str =
     "Reads the 24-bit biphase code words (IEC 60857 and IEC 60856) that lines 16, 17 and 18 of each\n\
         field of a LaserDisc carry, from video in ld-decode's TBC format: picture numbers, chapters, times,\n\
-        picture stops. System and levels come from the capture's metadata or from options.";
+        picture stops. System and levels come from the capture's metadata or from options. The metadata of\n\
+        disc.tbc is disc.tbc.json, if that is there and --meta names no other file.";
 
 const EXAMPLES: &str = "Examples:\n\
-        \x20 ldvbi extract --meta disc.tbc.json disc.tbc > disc.vbi.json\n\
+        \x20 ldvbi extract disc.tbc > disc.vbi.json\n\
+        \x20 ldvbi extract --recover --meta disc.tbc.json < disc.tbc > disc.vbi.json\n\
         \x20 ldvbi show --system PAL --black 16384 --white 54016 disc.tbc\n\
         \x20 echo '82CFFF F12345 F12345' | ldvbi draw --system NTSC --black 16384 --white 51200 > test.tbc\n\n\
         Exit status:\n\
@@ -61,7 +63,7 @@ static COMMANDS: [CommandTexts; 4] = [
             read from the samples as they are or after short glitches were removed (vbiPass 1 or 2, else 0).",
         input: "The TBC stream; standard input where there is none, or for -",
         example: "Example:\n\
-            \x20 ldvbi extract --meta disc.tbc.json disc.tbc > disc.vbi.json\n\n\
+            \x20 ldvbi extract --recover disc.tbc > disc.vbi.json\n\n\
             Exit status:\n\
             \x20 0  done\n\
             \x20 1  a fault, named in one line on standard error\n\
@@ -76,7 +78,7 @@ static COMMANDS: [CommandTexts; 4] = [
             12345, chapter 07, time 1:09), or none and why.",
         input: "The TBC stream; standard input where there is none, or for -",
         example: "Example:\n\
-            \x20 ldvbi show --meta disc.tbc.json disc.tbc\n\n\
+            \x20 ldvbi show --recover disc.tbc\n\n\
             Exit status:\n\
             \x20 0  done\n\
             \x20 1  a fault, named in one line on standard error\n\
@@ -129,7 +131,9 @@ static OPTIONS: [OptionTexts; 5] = [
         taken: Taken::Path,
         help: "ld-decode's .tbc.json of the capture, for system and levels",
         details: "ld-decode's .tbc.json of the capture, whose videoParameters give system and levels.\n\
-            Levels with decimals are refused; docs/RECIPES.md has a command that rounds them",
+            Without it, and unless --system, --black and --white are all given, this is\n\
+            INPUT.json, if there is such a file. Levels with decimals are refused: give them\n\
+            with --black and --white",
     },
     OptionTexts {
         name: "system",
@@ -164,6 +168,14 @@ static OPTIONS: [OptionTexts; 5] = [
 
 static SYSTEMS: [&str; 2] = ["NTSC", "PAL"];
 
+/// The name of the flag that asks for recovered words.
+pub(crate) const RECOVER: &str = "recover";
+
+/// Whether the command of this name has that flag.
+pub(crate) fn can_recover(name: &str) -> bool {
+    name == "extract" || name == "show"
+}
+
 /// The program's command line: a command has to be given, and no option is shared by all.
 pub(crate) fn program<'a>(alloc: Global) -> Result<Command<'a>, AllocError>
     ensures { IfOk result (λ c. ((fields_of c).has_globals ≡ false)
@@ -187,7 +199,7 @@ fn titled<'a>(alloc: Global) -> Command<'a>
         .after_help(EXAMPLES)
 }
 
-/// One command with its options, which are the same in all of them.
+/// One command with its options, which are the same in all of them but for one flag.
 fn command<'a>(alloc: Global, texts: &CommandTexts) -> Result<Command<'a>, AllocError>
     ensures { IfOk result (λ c. (fields_of c).has_globals ≡ false) }
 {
@@ -198,7 +210,38 @@ fn command<'a>(alloc: Global, texts: &CommandTexts) -> Result<Command<'a>, Alloc
     for option_texts in &OPTIONS {
         command = command.arg(option(alloc, option_texts))?;
     }
-    command.arg(input(alloc, texts.input))
+    with_recover(alloc, command, texts.name)?.arg(input(alloc, texts.input))
+}
+
+/// The command of this name, with its flag, if it has that.
+fn with_recover<'a>(
+    alloc: Global,
+    command: Command<'a>,
+    name: &str,
+) -> Result<Command<'a>, AllocError>
+    requires { (fields_of command).has_globals ≡ false }
+    ensures { IfOk result (λ c. (fields_of c).has_globals ≡ false) }
+{
+    if can_recover(name) {
+        command.arg(recover(alloc))
+    } else {
+        Ok(command)
+    }
+}
+
+/// The flag that asks for recovered words.
+fn recover<'a>(alloc: Global) -> Arg<'a>
+    ensures { result.global ≡ false }
+{
+    Arg::new(alloc, RECOVER)
+        .long(RECOVER)
+        .action(ArgAction::SetTrue)
+        .help("Recover words from worn lines")
+        .long_help(
+            "Recover words from worn lines: that whose drawing is nearest to the line's samples, if it\n\
+            is far enough ahead of all others. Of extract the document is of version 3, with vbiPass 3\n\
+            and vbiNear; show marks such words",
+        )
 }
 
 /// An option of a command.

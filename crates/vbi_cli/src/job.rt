@@ -1,6 +1,6 @@
 //! A job: settings from metadata and options, and then the command.
 
-ghost use Rattle.std.specs.Prelude.{◌≡◌, ◌≢◌, IfOk, IfErr, Err, option_map};
+ghost use Rattle.std.specs.Prelude.{◌≡◌, ◌≢◌, IfOk, IfErr, Err, false, option_map};
 ghost use Rattle.vbi_line.specs.Counted.{IsSameDevice};
 ghost use Rattle.vbi_line.specs.Intake as lines;
 ghost use Rattle.vbi_field.specs.Outlet as outlets;
@@ -16,7 +16,8 @@ use crate::one_line::{LineFault, run_line};
 use crate::source::Source;
 use std::alloc::Global;
 use std::io::{Read, Write};
-use vbi_field::{Config, DrawFault, Outlet, RunFault, Summary, draw, extract, show};
+use vbi_field::{Config, DrawFault, Outlet, RunFault, Summary, draw, extract, extract_recovered};
+use vbi_field::{show, show_recovered};
 use vbi_line::Intake;
 use vbi_meta::{MetaFault, read_meta, settings};
 use vbi_words::{Outcome, System};
@@ -102,8 +103,22 @@ pub fn do_command<R: Read, W: Write>(
             let outcome = run_line(config, intake, outlet);
             line_end(config.system(), outcome)
         }
-        Source::Extract(intake) => extract_job(config, intake, outlet),
-        Source::Show(intake) => end_of(show(config, intake, outlet)),
+        Source::Extract {
+            intake,
+            recover: false,
+        } => extract_job(config, intake, outlet),
+        Source::Extract {
+            intake,
+            recover: true,
+        } => end_of(extract_recovered(config, intake, outlet)),
+        Source::Show {
+            intake,
+            recover: false,
+        } => end_of(show(config, intake, outlet)),
+        Source::Show {
+            intake,
+            recover: true,
+        } => end_of(show_recovered(config, intake, outlet)),
         Source::Draw(rows) => {
             let fields = draw(config, rows, outlet);
             drawing_end(fields)
@@ -126,7 +141,7 @@ fn line_end(system: System, outcome: Result<Outcome, LineFault>) -> Result<Ended
     }
 }
 
-/// The command `extract`. It stands by itself, since its document is also known to be read back as the words that the
+/// The command `extract` without recovered words. It stands by itself, since its document is also known to be read back as the words that the
 /// lines show.
 fn extract_job<R: Read, W: Write>(
     config: &Config,
@@ -137,8 +152,8 @@ fn extract_job<R: Read, W: Write>(
     requires outlet { outlets.IsFresh outlet.old }
     ensures same_reader { IsSameDevice (lines.counted_of intake.old) (lines.counted_of intake.new) }
     ensures same_writer { IsSameDevice (outlets.counted_of outlet.old) (outlets.counted_of outlet.new) }
-    ensures did { Does R.remaining W.contents config.now (source.Extract intake.old) (source.Extract intake.new)
-        outlet.old outlet.new result }
+    ensures did { Does R.remaining W.contents config.now (source.Extract intake.old false)
+        (source.Extract intake.new false) outlet.old outlet.new result }
 {
     numbers(config);
     end_of(extract(config, intake, outlet))

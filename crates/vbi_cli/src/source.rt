@@ -16,10 +16,20 @@ use vbi_words::System;
 pub enum Source<'a, R> {
     /// `line`, with the line's samples.
     Line(Intake<'a, R>),
-    /// `extract`, with a stream's lines.
-    Extract(Intake<'a, R>),
-    /// `show`, with a stream's lines.
-    Show(Intake<'a, R>),
+    /// `extract`.
+    Extract {
+        /// A stream's lines.
+        intake: Intake<'a, R>,
+        /// With recovered words.
+        recover: bool,
+    },
+    /// `show`.
+    Show {
+        /// A stream's lines.
+        intake: Intake<'a, R>,
+        /// With recovered words.
+        recover: bool,
+    },
     /// `draw`, with its rows.
     Draw(RowIntake<'a, R>),
 }
@@ -34,8 +44,14 @@ impl<'a, R: Read> Source<'a, R> {
     {
         match verb {
             Verb::Line => Source::Line(Intake::new(reader, system)),
-            Verb::Extract => Source::Extract(Intake::new(reader, system)),
-            Verb::Show => Source::Show(Intake::new(reader, system)),
+            Verb::Extract { recover } => Source::Extract {
+                intake: Intake::new(reader, system),
+                recover,
+            },
+            Verb::Show { recover } => Source::Show {
+                intake: Intake::new(reader, system),
+                recover,
+            },
             Verb::Draw => Source::Draw(RowIntake::new(reader)),
         }
     }
@@ -46,9 +62,9 @@ impl<'a, R: Read> Source<'a, R> {
         ensures reader { result.now ≡ device_of (counted_of self.entry) }
     {
         match self {
-            Source::Line(intake) | Source::Extract(intake) | Source::Show(intake) => {
-                intake.into_reader()
-            }
+            Source::Line(intake)
+            | Source::Extract { intake, .. }
+            | Source::Show { intake, .. } => intake.into_reader(),
             Source::Draw(rows) => rows.into_reader(),
         }
     }

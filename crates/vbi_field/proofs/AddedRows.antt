@@ -4,7 +4,7 @@ use Rattle.std.specs.Prelude.{Option, Result, Err, Ok, IsErr}
 use Rattle.vbi_field.specs.ConfigView.{width_of, height_of, ConfigView}
 use Rattle.vbi_field.specs.Outlet.{written_of, Puts, Outlet}
 use Rattle.vbi_field.specs.Progress.{IsProgress, MovesOneRow, AddsRow, Progress}
-use Rattle.vbi_field.specs.Stream.{fields_of, readings_at, FieldReadings}
+use Rattle.vbi_field.specs.Stream.{fields_of, rows_at, FieldRows}
 use Rattle.vbi_field.specs.Feed.{selected}
 use Rattle.vbi_field.specs.Texts.{IsTextBetween, text_before_tail, joined_entry_of, Kind}
 use Rattle.vbi_field.specs.declared.summary.RunFault.{RunFault}
@@ -40,18 +40,18 @@ module _ (t : Kind) {W : Type 0} (contents : W → Option (List ℕ)) (o o' : Ou
     },
   )
 
-  module _ (fields : p'.fields ≡ p.fields + 1) (readings : FieldReadings)
-      (reads : readings ≡ readings_at c (z ++ b) p.fields)
-      (before : ℕ) (counts : before ≡ p.fields) (text : List ℕ) (is : text ≡ joined_entry_of t before readings) where
+  module _ (fields : p'.fields ≡ p.fields + 1) (rows : FieldRows)
+      (reads : rows ≡ rows_at c (z ++ b) p.fields)
+      (before : ℕ) (counts : before ≡ p.fields) (text : List ℕ) (is : text ≡ joined_entry_of t c before rows) where
     -- the entry of a field is due
     entry_due : IsTextBetween t c z (z ++ b) text
     entry_due =
         let first = fields_at c z p at in
         let longer = fields_at c (z ++ b) p' next ∙ fields ∙ ap (λ n. n + 1) (sym first) in
-        let entry : text ≡ joined_entry_of t (fields_of c z) (readings_at c (z ++ b) (fields_of c z)) =
-        is ∙ ap (joined_entry_of t before) reads
-        ∙ ap (λ n. joined_entry_of t n (readings_at c (z ++ b) p.fields)) (counts ∙ sym first)
-        ∙ ap (λ n. joined_entry_of t (fields_of c z) (readings_at c (z ++ b) n)) (sym first) in
+        let entry : text ≡ joined_entry_of t c (fields_of c z) (rows_at c (z ++ b) (fields_of c z)) =
+        is ∙ ap (joined_entry_of t c before) reads
+        ∙ ap (λ n. joined_entry_of t c n (rows_at c (z ++ b) p.fields)) (counts ∙ sym first)
+        ∙ ap (λ n. joined_entry_of t c (fields_of c z) (rows_at c (z ++ b) n)) (sym first) in
         ap (λ x. text_before_tail t c z ++ x) entry ∙ begun_next t c z b longer
 
     -- the entry was put whole

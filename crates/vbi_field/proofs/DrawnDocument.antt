@@ -8,7 +8,7 @@ use Rattle.std.proofs.Math.Nat.{zero-mul, suc-mul}
 use Rattle.vbi_field.specs.ConfigView.{field_bytes, System, ConfigView, Ntsc, Pal}
 use Rattle.vbi_field.specs.Draws.{draw_out, drawn_field_of, drawn_readings, drawn_text, no_words}
 use Rattle.vbi_field.specs.Stream.{fields_of, rest_of}
-use Rattle.vbi_field.specs.Texts.{whole_text, Kind}
+use Rattle.vbi_field.specs.Texts.{whole_text, ReadingKind, by}
 use Rattle.vbi_field.specs.WordRows.{AreRows, WordRow}
 use Rattle.vbi_field.proofs.DrawnLemmas.{length-drawn_field_of}
 use Rattle.vbi_field.proofs.DrawnReads.{drawn_field}
@@ -32,9 +32,9 @@ no_rest : (s : System) (n k : ℕ) → n ≡ k * field_bytes s → n % field_byt
 no_rest Ntsc n k e = omega arith
 no_rest Pal n k e = omega arith
 
-pub drawn_document : (t : Kind) (c : ConfigView) (text : List ℕ) (rows : List WordRow)
+pub drawn_document : (t : ReadingKind) (c : ConfigView) (text : List ℕ) (rows : List WordRow)
     → c.levels.black < c.levels.white
-    → AreRows text rows → whole_text t c (draw_out c rows) ≡ drawn_text t c rows
+    → AreRows text rows → whole_text (by t) c (draw_out c rows) ≡ drawn_text t c rows
 drawn_document t c text rows order are =
     let z = draw_out c rows in
     let whole : fields_of c z ≡ length rows = all_fields c.system _ _ (length-draw_out c rows) in

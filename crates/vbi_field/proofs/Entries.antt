@@ -1,14 +1,14 @@
 -- The text that is written after some whole fields.
 use Rattle.std.proofs.Common.{◌≡◌, ℕ, zero, suc, ◌+◌, ◌*◌, ◌≤◌, ◌<◌, List, [], ◌∷◌, ◌++◌, length, refl, sym}
 use Rattle.std.proofs.Common.{ap, ◌∙◌, arith, append_assoc, append-nil, add-zero, zero-add, add-one, cond}
-use Rattle.std.specs.Prelude.{◌==◌}
+use Rattle.std.specs.Prelude.{◌==◌, if◌then◌else◌, Bool, true, false}
 use Rattle.std.specs.List.{join_by, flat_map, range_with_len}
 use Rattle.std.proofs.lemmas.Grind.{flat_map-append}
 use Rattle.std.proofs.Math.Dec.{eqb-suc-zero}
 use Rattle.vbi_field.specs.ConfigView.{height_of, line_bytes, ConfigView}
-use Rattle.vbi_field.specs.Stream.{fields_of, readings_at}
+use Rattle.vbi_field.specs.Stream.{fields_of, rows_at}
 use Rattle.vbi_field.specs.Texts.{text_before_tail, joined_entry_of, Kind}
-use Rattle.vbi_field.proofs.Growing.{readings_at-more}
+use Rattle.vbi_field.proofs.Growing.{rows_at-more}
 
 -- one number more
 range-push : (a n : ℕ) → range_with_len a (suc n) ≡ range_with_len a n ++ (a + n) ∷ []
@@ -59,7 +59,7 @@ joined-same f g joint (suc n) same =
 
 -- the entry of field i of a stream, i from 0
 abbrev pub entry_of : Kind → ConfigView → List ℕ → ℕ → List ℕ
-entry_of t c z i = t.entry (i + 1) (readings_at c z i)
+entry_of t c z i = t.entry c (i + 1) (rows_at c z i)
 
 -- the head and the entries of the first n fields
 unfoldable pub stood : Kind → ConfigView → List ℕ → ℕ → List ℕ
@@ -71,12 +71,12 @@ stood-none t c z = append-nil (t.head c)
 
 -- one field more
 pub stood-more : (t : Kind) (c : ConfigView) (z : List ℕ) (n : ℕ)
-    → stood t c z (n + 1) ≡ stood t c z n ++ joined_entry_of t n (readings_at c z n)
+    → stood t c z (n + 1) ≡ stood t c z n ++ joined_entry_of t c n (rows_at c z n)
 unfolding stood
 stood-more t c z n =
     ap (λ l. t.head c ++ l) (joined-more (entry_of t c z) t.joint n)
     ∙ sym (append_assoc (t.head c) (join_by (entry_of t c z) t.joint (range_with_len 0 n))
-    (joined_entry_of t n (readings_at c z n)))
+    (joined_entry_of t c n (rows_at c z n)))
 
 -- the text of whole fields stays as the stream grows
 pub stood-stays : (t : Kind) (c : ConfigView) (z b : List ℕ) (n rows : ℕ) → n * height_of c.system ≤ rows
@@ -84,7 +84,7 @@ pub stood-stays : (t : Kind) (c : ConfigView) (z b : List ℕ) (n rows : ℕ) �
 unfolding stood
 stood-stays t c z b n rows le long =
     let same : (i : ℕ) → i < n → entry_of t c (z ++ b) i ≡ entry_of t c z i =
-    λ i lt. ap (t.entry (i + 1)) (readings_at-more c z b i rows (grind (arith, lt, le)) long) in
+    λ i lt. ap (t.entry c (i + 1)) (rows_at-more c z b i rows (grind (arith, lt, le)) long) in
     ap (λ l. t.head c ++ l) (joined-same (entry_of t c (z ++ b)) (entry_of t c z) t.joint n same)
 
 -- it is the text written for a stream with this number of whole fields
@@ -92,3 +92,8 @@ pub text_before_tail-stood : (t : Kind) (c : ConfigView) (z : List ℕ) (n : ℕ
     → text_before_tail t c z ≡ stood t c z n
 unfolding text_before_tail stood
 text_before_tail-stood t c z n e = ap (λ k. t.head c ++ join_by (entry_of t c z) t.joint (range_with_len 0 k)) e
+
+-- where entries aren't joined, nothing stands before one
+pub no_joint : (first : Bool) (entry : List ℕ) → (if first then [] else []) ++ entry ≡ entry
+no_joint true entry = refl
+no_joint false entry = refl

@@ -5,7 +5,7 @@ use Rattle.std.proofs.lemmas.List.{length-append}
 use Rattle.std.proofs.Math.Seq.{take-append-add}
 use Rattle.std.proofs.Math.Nat.{le_refl}
 use Rattle.vbi_field.specs.ConfigView.{height_of, ConfigView}
-use Rattle.vbi_field.specs.Stream.{fields_of, readings_at}
+use Rattle.vbi_field.specs.Stream.{fields_of, rows_at}
 use Rattle.vbi_field.specs.Texts.{IsTextBetween, text_before_tail, joined_entry_of, Kind}
 use Rattle.vbi_field.proofs.Counts.{whole_rows_fit, more_fields}
 use Rattle.vbi_field.proofs.Entries.{stood, stood-more, stood-stays, text_before_tail-stood}
@@ -25,11 +25,11 @@ module _ (t : Kind) (c : ConfigView) (z b : List ℕ) where
   -- one field more is
   pub begun_next : fields_of c (z ++ b) ≡ fields_of c z + 1
       → text_before_tail t c z
-      ++ joined_entry_of t (fields_of c z) (readings_at c (z ++ b) (fields_of c z)) ≡ text_before_tail t c (z ++ b)
+      ++ joined_entry_of t c (fields_of c z) (rows_at c (z ++ b) (fields_of c z)) ≡ text_before_tail t c (z ++ b)
   begun_next e =
       sym (text_before_tail-stood t c (z ++ b) (fields_of c z + 1) e
       ∙ stood-more t c (z ++ b) (fields_of c z)
-      ∙ ap (λ l. l ++ joined_entry_of t (fields_of c z) (readings_at c (z ++ b) (fields_of c z))) stays)
+      ∙ ap (λ l. l ++ joined_entry_of t c (fields_of c z) (rows_at c (z ++ b) (fields_of c z))) stays)
 
 -- the text of more fields begins with that of fewer
 stood-grows : (t : Kind) (c : ConfigView) (z : List ℕ) (n k : ℕ)
@@ -37,7 +37,7 @@ stood-grows : (t : Kind) (c : ConfigView) (z : List ℕ) (n k : ℕ)
 stood-grows t c z n zero = ([], append-nil (stood t c z n) ∙ ap (stood t c z) (sym (add-zero n)))
 stood-grows t c z n (suc k) =
     let before = stood-grows t c z n k in
-    let piece : List ℕ = joined_entry_of t (n + k) (readings_at c z (n + k)) in
+    let piece : List ℕ = joined_entry_of t c (n + k) (rows_at c z (n + k)) in
     let next : n + k + 1 ≡ n + suc k = omega arith in (
       before.0 ++ piece,
       sym (append_assoc (stood t c z n) before.0 piece)

@@ -8,7 +8,7 @@ use Rattle.std.proofs.lemmas.List.{length-append, length-drop, take-append-le, d
 use Rattle.std.proofs.Math.Seq.{drop_at}
 use Rattle.vbi_field.specs.ConfigView.{height_of, line_bytes, field_bytes, System, ConfigView}
 use Rattle.vbi_field.specs.Stream.{row_levels, reading_of, Reading, FieldReadings, reading_at, readings_at}
-use Rattle.vbi_field.specs.Stream.{reading_among, line_at}
+use Rattle.vbi_field.specs.Stream.{reading_among, line_at, rows_at}
 use Rattle.vbi_field.specs.declared.progress.PartialReadings.{PartialReadings}
 use Rattle.vbi_field.specs.Progress.{Progress, IsProgress, IsLineOf, IsKept, TakesReading, Advances, all_of}
 use Rattle.vbi_field.proofs.Counts.{sizes_of, times-next, bytes_before}
@@ -42,6 +42,19 @@ reading_at-more c z b i r le = ap (λ l. reading_of c.system (row_levels c.level
 inner : (s : System) (i r n : ℕ) → r ≤ 17 → (i + 1) * height_of s ≤ n
     → (i * height_of s + r + 1) * line_bytes s ≤ n * line_bytes s
 inner s i r n small le = grind arith
+
+-- the rows of a whole field stay
+pub rows_at-more : (c : ConfigView) (z b : List ℕ) (i n : ℕ)
+    → (i + 1) * height_of c.system ≤ n → n * line_bytes c.system ≤ length z
+    → rows_at c (z ++ b) i ≡ rows_at c z i
+rows_at-more c z b i n le long =
+    let at : (r : ℕ) → r ≤ 17 → (i * height_of c.system + r + 1) * line_bytes c.system ≤ length z =
+    λ r small. le_trans (inner c.system i r n small le) long in
+    λ j. record {
+      first = line_at-more c.system z b i 15 (at 15 (lit≤ tt)) j;
+      second = line_at-more c.system z b i 16 (at 16 (lit≤ tt)) j;
+      third = line_at-more c.system z b i 17 (at 17 (lit≤ tt)) j;
+    }
 
 -- the readings of a whole field stay
 pub readings_at-more : (c : ConfigView) (z b : List ℕ) (i n : ℕ)

@@ -12,13 +12,17 @@ pub mod FeedLoop
 pub mod FeedSteps
 pub mod FeedTexts
 pub mod Growing
+mod HeldRows
 pub mod OneDocument
+mod OneRecoveredDocument
+mod OneShown
 pub mod Pieces
 pub mod Positions
 pub mod PullEnds
 pub mod PullFaults
 pub mod PullRows
 pub mod Pulled
+mod PulledRows
 pub mod PutFieldSteps
 pub mod PutSteps
 pub mod RowSteps

@@ -3,31 +3,31 @@ use Rattle.std.proofs.Common.{◌≡◌, ℕ, ◌+◌, List, ◌++◌, ap, ◌�
 use Rattle.std.specs.Prelude.{◌↔◌}
 use Rattle.vbi_field.specs.Stream.{row_levels, line_at, fields_of, rest_of, readings_at, FieldReadings}
 use Rattle.vbi_line.proofs.OneReading.{is_reading, only_reading}
-use Rattle.vbi_field.specs.Texts.{FieldReads, IsWholeText, text_before_tail, whole_text, Kind}
+use Rattle.vbi_field.specs.Texts.{FieldReads, IsWholeText, text_before_tail, whole_text, ReadingKind, by}
 use Rattle.vbi_field.specs.ConfigView.{ConfigView}
 use Rattle.vbi_field.proofs.Entries.{entry_of, joined-same}
 
 -- a field has no other readings
-only_field : (c : ConfigView) (z : List ℕ) (i : ℕ) (r : FieldReadings) → FieldReads c z i r → r ≡ readings_at c z i
+pub only_field : (c : ConfigView) (z : List ℕ) (i : ℕ) (r : FieldReadings) → FieldReads c z i r → r ≡ readings_at c z i
 only_field c z i r h = λ j. record {
   first = only_reading c.system (row_levels c.levels (line_at c.system z i 15)) r.first h.first j;
   second = only_reading c.system (row_levels c.levels (line_at c.system z i 16)) r.second h.second j;
   third = only_reading c.system (row_levels c.levels (line_at c.system z i 17)) r.third h.third j;
 }
 
-is_field : (c : ConfigView) (z : List ℕ) (i : ℕ) → FieldReads c z i (readings_at c z i)
+pub is_field : (c : ConfigView) (z : List ℕ) (i : ℕ) → FieldReads c z i (readings_at c z i)
 is_field c z i = record { first = is_reading c.system _; second = is_reading c.system _; third = is_reading c.system _ }
 
-only_document : (t : Kind) (c : ConfigView) (z text : List ℕ) → IsWholeText t c z text → text ≡ whole_text t c z
+only_document : (t : ReadingKind) (c : ConfigView) (z text : List ℕ) → IsWholeText t c z text → text ≡ whole_text (by t) c z
 unfolding text_before_tail
 only_document t c z text (readings, each, e) =
     e ∙ ap (λ l. t.head c ++ l ++ t.tail (fields_of c z) (rest_of c z))
-    (joined-same (λ i. t.entry (i + 1) (readings i)) (entry_of t c z) t.joint (fields_of c z)
+    (joined-same (λ i. t.entry (i + 1) (readings i)) (entry_of (by t) c z) t.joint (fields_of c z)
     (λ i lt. ap (t.entry (i + 1)) (only_field c z i (readings i) (each i lt))))
 
-is_document : (t : Kind) (c : ConfigView) (z text : List ℕ) → text ≡ whole_text t c z → IsWholeText t c z text
+is_document : (t : ReadingKind) (c : ConfigView) (z text : List ℕ) → text ≡ whole_text (by t) c z → IsWholeText t c z text
 unfolding text_before_tail
 is_document t c z text e = (readings_at c z, λ i lt. is_field c z i, e)
 
-pub one_document : (t : Kind) (c : ConfigView) (z text : List ℕ) → IsWholeText t c z text ↔ (text ≡ whole_text t c z)
+pub one_document : (t : ReadingKind) (c : ConfigView) (z text : List ℕ) → IsWholeText t c z text ↔ (text ≡ whole_text (by t) c z)
 one_document t c z text = (only_document t c z text, is_document t c z text)

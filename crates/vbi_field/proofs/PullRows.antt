@@ -1,6 +1,6 @@
 -- A run that fetched a whole row more: what is due with the row was written, or its writer failed.
 use Rattle.std.proofs.Common.{◌≡◌, ℕ, ◌+◌, ◌*◌, ◌≤◌, ◌<◌, inl, inr, Bool, true, false, List, ◌++◌, length, take}
-use Rattle.std.proofs.Common.{drop, sym, ap, ◌∙◌, arith, subst, cond, zero-le, add-zero, append_assoc}
+use Rattle.std.proofs.Common.{drop, sym, ap, ◌∙◌, arith, subst, cond, zero-le, add-zero, append_assoc, refl}
 use Rattle.std.specs.Prelude.{Option, Result, Ok, Err, IsErrAnd, IsTrue, ◌↔◌}
 use Rattle.vbi_field.specs.Ran.{Summary, EndsInside, RunFault, Write, Consumes, Appends}
 use Rattle.std.proofs.KnownBytes.{Appends-trans, Consumes-trans}
@@ -109,7 +109,8 @@ module _ {t : Kind} {R W : Type 0} {remaining : R → Option (List ℕ)} {conten
         → outlets.Rises o o' p.fields p'.fields
         → AddsRow t contents c o o' g.z row.bytes p' (Ok tt) → NoError (outlets.counted_of o) (outlets.counted_of o')
         → IsSameDevice (outlets.counted_of o) (outlets.counted_of o')
-        → k + 1 ≤ c.max_fields * height_of c.system → Pulled t remaining contents c i0 o0 (k + 1) i' o' p'
+        → k + 1 ≤ c.max_fields * height_of c.system
+        → (after : Pulled t remaining contents c i0 o0 (k + 1) i' o' p') × (after.z ≡ g.z ++ row.bytes)
     step o' p' next rises (position, added) no_error same_writer limit =
         let z : List ℕ = g.z ++ row.bytes in
         let l = length-append g.z row.bytes in
@@ -124,32 +125,34 @@ module _ {t : Kind} {R W : Type 0} {remaining : R → Option (List ℕ)} {conten
         let m = ap length added.due in
         let n = length-append (text_before_tail t c g.z) added.text in
         let P : List ℕ → Type 0 = Appends (contents (device_of (outlets.counted_of o0)))
-        (contents (device_of (outlets.counted_of o'))) in
-        record {
-          z = z;
-          consumed = Consumes-trans _ _ _ g.z row.bytes g.consumed took.consumed;
-          fetched = omega (arith, took.fetched, g.fetched);
-          long = omega (arith, g.long);
-          reads = omega (arith, took.most, g.reads);
-          appended =
-              subst P added.due
-              (Appends-trans _ _ _ (text_before_tail t c g.z) added.text g.appended wrote.appended);
-          written = omega (arith, g.written);
-          small = omega (arith, g.small, rises.written);
-          writes = omega (arith, g.writes, rises.failures);
-          calm_reads = took.no_error ∙ g.calm_reads;
-          calm_writes = no_error ∙ g.calm_writes;
-          at = position;
-          rows = rows;
-          few = few_fields c.system p'.fields p'.row c.max_fields (omega arith);
-          system = line.system ∙ system;
-          held = line.held;
-          cursors = line.cursors;
-          looked = omega (arith, line.looked, kept.looked, g.looked);
-          looks = on.looks;
-          same_reader = took.same ∙ g.same_reader;
-          same_writer = same_writer ∙ g.same_writer;
-        }
+        (contents (device_of (outlets.counted_of o'))) in (
+          record {
+            z = z;
+            consumed = Consumes-trans _ _ _ g.z row.bytes g.consumed took.consumed;
+            fetched = omega (arith, took.fetched, g.fetched);
+            long = omega (arith, g.long);
+            reads = omega (arith, took.most, g.reads);
+            appended =
+                subst P added.due
+                (Appends-trans _ _ _ (text_before_tail t c g.z) added.text g.appended wrote.appended);
+            written = omega (arith, g.written);
+            small = omega (arith, g.small, rises.written);
+            writes = omega (arith, g.writes, rises.failures);
+            calm_reads = took.no_error ∙ g.calm_reads;
+            calm_writes = no_error ∙ g.calm_writes;
+            at = position;
+            rows = rows;
+            few = few_fields c.system p'.fields p'.row c.max_fields (omega arith);
+            system = line.system ∙ system;
+            held = line.held;
+            cursors = line.cursors;
+            looked = omega (arith, line.looked, kept.looked, g.looked);
+            looks = on.looks;
+            same_reader = took.same ∙ g.same_reader;
+            same_writer = same_writer ∙ g.same_writer;
+          },
+          refl,
+        )
 
     -- the entry of the field that the row ends was put in part
     pub entry_fault : (o' : Outlet W) (p' : Progress) → MovesOneRow c p p' → p'.row ≡ 0

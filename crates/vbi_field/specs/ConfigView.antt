@@ -15,7 +15,7 @@ most_rows = 313
 
 -- the most bytes of one text: a head, an entry or a tail
 abbrev pub longest_text : ℕ
-longest_text = 192
+longest_text = 448
 
 -- the most bytes of a row of words: three items of six digits, two spaces and a newline
 abbrev pub longest_row : ℕ

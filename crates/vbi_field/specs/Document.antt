@@ -11,13 +11,17 @@ abbrev pub value_of : Outcome → ℕ
 value_of (Word w) = w
 value_of _ = 0
 
--- one line: the version, the system, and the levels
-unfoldable pub head_of : ConfigView → List ℕ
-head_of c = codes "{\"version\":2,\"videoParameters\":{\"system\":\"" ++ name_of c.system
+-- the rest of the first line, behind the version: the system, and the levels
+unfoldable pub parameters_of : ConfigView → List ℕ
+parameters_of c = codes ",\"videoParameters\":{\"system\":\"" ++ name_of c.system
     ++ codes "\",\"fieldWidth\":" ++ decimal (width_of c.system)
     ++ codes ",\"fieldHeight\":" ++ decimal (height_of c.system)
     ++ codes ",\"black16bIre\":" ++ decimal c.levels.black
     ++ codes ",\"white16bIre\":" ++ decimal c.levels.white ++ codes "},\"fields\":[\n"
+
+-- one line: the version, the system, and the levels
+abbrev pub head_of : ConfigView → List ℕ
+head_of c = codes "{\"version\":2" ++ parameters_of c
 
 -- a text for each of a field's three lines, with commas between, behind what opens them and before what closes them
 unfoldable pub lines_of : List ℕ → (Reading → List ℕ) → List ℕ → FieldReadings → List ℕ

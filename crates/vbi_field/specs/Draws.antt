@@ -12,7 +12,7 @@ use Rattle.vbi_field.specs.declared.drawing.DrawFault.TheVariants.{Row, Read, Wr
 use Rattle.std.specs.List.{flat_map, range_with_len, join_by}
 use Rattle.vbi_words.specs.Drawn.{drawn_line_of, drawn_reading}
 use Rattle.vbi_words.specs.Words.{IsWordOrNone}
-use Rattle.vbi_field.specs.Texts.{Kind}
+use Rattle.vbi_field.specs.Texts.{ReadingKind}
 use Rattle.vbi_field.specs.declared.readings.FieldReadings.{FieldReadings}
 
 -- the word that a row of a field has: rows 15, 16 and 17, which are lines 16, 17 and 18, have the three items
@@ -51,7 +51,7 @@ no_words = record { first = None; second = None; third = None }
 
 -- the text of a stream that is drawn of these rows: an entry for each, with its words in the first pass and blanks, and
 -- no cut field
-abbrev pub drawn_text : Kind → ConfigView → List WordRow → List ℕ
+abbrev pub drawn_text : ReadingKind → ConfigView → List WordRow → List ℕ
 drawn_text t c rows =
     t.head c
     ++ join_by (λ i. t.entry (i + 1) (drawn_readings (slice_index_or rows i no_words))) t.joint

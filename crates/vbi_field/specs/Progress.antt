@@ -1,8 +1,9 @@
 -- How far a stream has come in whole rows, as the code keeps it.
 use Rattle.std.specs.Prelude.{◌≡◌, ◌≢◌, ℕ, ◌+◌, ◌*◌, ◌<◌, ◌≤◌, ◌⊎◌, List, ◌++◌, length, Option, Some, None}
-use Rattle.std.specs.Prelude.{Result, Ok, Err}
-use Rattle.vbi_field.specs.ConfigView.{height_of, line_bytes, ConfigView}
+use Rattle.std.specs.Prelude.{Result, Ok, Err, Bool, IsTrue}
+use Rattle.vbi_field.specs.ConfigView.{height_of, line_bytes, ConfigView, System}
 use Rattle.vbi_field.specs.Stream.{row_levels, Reading, FieldReadings, reading_among, readings_at, reading_of}
+use Rattle.vbi_field.specs.Stream.{rows_in, rows_at, line_at}
 pub use Rattle.vbi_field.specs.declared.progress.PartialReadings.{PartialReadings}
 pub use Rattle.vbi_field.specs.declared.progress.Progress.{Progress}
 use Rattle.vbi_field.specs.Texts.{Extends, ExtendsInPart, Kind, Outlet}
@@ -46,6 +47,32 @@ pub record TakesReading (row : ℕ) (reading : Option Reading) (was now : Partia
   pub first : IsKept 15 row reading was.first now.first
   pub second : IsKept 16 row reading was.second now.second
   pub third : IsKept 17 row reading was.third now.third
+
+-- ---- the bytes of rows that are kept
+
+-- of field i of z, of which so many rows are whole, those of rows 15, 16 and 17 are held
+pub record HoldsRows (c : ConfigView) (z : List ℕ) (i rows : ℕ) (held : List ℕ) : Type 0 where
+  pub first : 15 < rows → line_at c.system held 0 0 ≡ line_at c.system z i 15
+  pub second : 16 < rows → line_at c.system held 0 1 ≡ line_at c.system z i 16
+  pub third : 17 < rows → line_at c.system held 0 2 ≡ line_at c.system z i 17
+
+-- in the place of row r: the bytes, if they are of this row, and else what was there
+abbrev pub IsHeld : System → ℕ → ℕ → ℕ → List ℕ → List ℕ → List ℕ → Type 0
+IsHeld system r place row b was now =
+    (row ≡ r → line_at system now 0 place ≡ b)
+    × (row ≢ r → line_at system now 0 place ≡ line_at system was 0 place)
+
+-- a whole row is put in its place, if it has one
+pub record HoldsOn (system : System) (row : ℕ) (b was now : List ℕ) : Type 0 where
+  pub long : length now ≡ length was
+  pub first : IsHeld system 15 0 row b was now
+  pub second : IsHeld system 16 1 row b was now
+  pub third : IsHeld system 17 2 row b was now
+
+-- where rows are kept and this one is the last of its field, those of the field are held
+abbrev pub HoldsField : Bool → ConfigView → List ℕ → ℕ → ℕ → List ℕ → Type 0
+HoldsField keeps c z i row held =
+    IsTrue keeps → row + 1 ≡ height_of c.system → rows_in c.system held ≡ rows_at c z i
 
 -- one row further: inside the field, or at its end
 abbrev pub MovesOneRow : ConfigView → Progress → Progress → Type 0

@@ -1,7 +1,8 @@
--- The report of `show`: a head line, four lines a whole field, and a last line; lists of ASCII codes.
+-- The report of `show`, and that with recovered words: a head line, four lines a whole field, and a last line; lists of ASCII codes.
 use Rattle.std.specs.Prelude.{ℕ, ◌+◌, List, [], ◌∷◌, ◌++◌, ◌==◌, if◌then◌else◌, codes, decimal}
 use Rattle.vbi_field.specs.ConfigView.{System, name_of, width_of, height_of, Slicing}
 use Rattle.vbi_field.specs.CodeTexts.{Outcome, Word, hex_text_of, code_text_of, cause_text_of}
+use Rattle.vbi_words.specs.declared.outcome.Reading.{Reading}
 use Rattle.vbi_words.specs.declared.format.Format.{Format}
 use Rattle.vbi_words.specs.declared.format.Format.TheVariants.{Cav, Clv, Both, Neither}
 use Rattle.vbi_words.specs.Outcomes.{word_of}
@@ -28,15 +29,27 @@ unfoldable pub shown_of : Outcome → List ℕ
 shown_of (Word word) = hex_text_of word ++ codes " " ++ code_text_of (code_of word)
 shown_of outcome = codes "none " ++ cause_text_of outcome
 
--- the four lines of a whole field, from its number and its readings
-unfoldable pub report_entry_of : ℕ → FieldReadings → List ℕ
-report_entry_of number readings =
+-- the four lines of a whole field: its number, the format of its words, and the texts behind the numbers of its lines
+unfoldable pub field_lines_of : ℕ → FieldReadings → List ℕ → List ℕ → List ℕ → List ℕ
+field_lines_of number readings first second third =
     let words =
     word_of readings.first.outcome ∷ word_of readings.second.outcome ∷ word_of readings.third.outcome ∷ [] in
     codes "field " ++ decimal number ++ codes " " ++ format_text_of (format_of_lines words)
-    ++ codes "\n16 " ++ shown_of readings.first.outcome
-    ++ codes "\n17 " ++ shown_of readings.second.outcome
-    ++ codes "\n18 " ++ shown_of readings.third.outcome ++ codes "\n"
+    ++ codes "\n16 " ++ first ++ codes "\n17 " ++ second ++ codes "\n18 " ++ third ++ codes "\n"
+
+-- those of a field that is read so
+abbrev pub report_entry_of : ℕ → FieldReadings → List ℕ
+report_entry_of number readings = field_lines_of number readings (shown_of readings.first.outcome)
+    (shown_of readings.second.outcome) (shown_of readings.third.outcome)
+
+-- the text behind the number of a line, with a mark behind a word of pass 3
+unfoldable pub marked_of : Reading → List ℕ
+marked_of line = shown_of line.outcome ++ (if line.pass == 3 then codes " (recovered)" else [])
+
+-- the four lines of a field whose lines show this, with recovered words
+abbrev pub recovered_entry_of : ℕ → FieldReadings → List ℕ
+recovered_entry_of number lines =
+    field_lines_of number lines (marked_of lines.first) (marked_of lines.second) (marked_of lines.third)
 
 -- the last line, from the number of whole fields and the bytes of a field that was cut; 0 where none was
 unfoldable pub report_tail_of : ℕ → ℕ → List ℕ

@@ -3,7 +3,7 @@
 -- bytes.
 use Rattle.std.specs.Prelude.{ℕ, ◌+◌, ◌-◌, ◌*◌, ◌/◌, ◌%◌, ◌==◌, min, if◌then◌else◌, List, length, Option, Some, None}
 use Rattle.std.specs.Prelude.{drop, nat_lt}
-use Rattle.vbi_field.specs.ConfigView.{width_of, line_bytes, field_bytes, ConfigView}
+use Rattle.vbi_field.specs.ConfigView.{System, width_of, line_bytes, field_bytes, ConfigView}
 pub use Rattle.vbi_words.specs.Levels.{row_levels}
 pub use Rattle.vbi_words.specs.Geometry.{line_at}
 pub use Rattle.vbi_words.specs.declared.outcome.Reading.{Reading}
@@ -29,6 +29,36 @@ reading_at c z i r = reading_of c.system (row_levels c.levels (line_at c.system 
 -- the readings of field i: those of its rows 15, 16 and 17, which are lines 16, 17 and 18
 abbrev pub readings_at : ConfigView → List ℕ → ℕ → FieldReadings
 readings_at c z i = record { first = reading_at c z i 15; second = reading_at c z i 16; third = reading_at c z i 17 }
+
+-- the bytes of a field's rows 15, 16 and 17
+pub record FieldRows : Type 0 where
+  pub first : List ℕ
+  pub second : List ℕ
+  pub third : List ℕ
+
+-- those of field i
+abbrev pub rows_at : ConfigView → List ℕ → ℕ → FieldRows
+rows_at c z i = record {
+  first = line_at c.system z i 15;
+  second = line_at c.system z i 16;
+  third = line_at c.system z i 17;
+}
+
+-- the rows that lie one behind the other in these bytes
+abbrev pub rows_in : System → List ℕ → FieldRows
+rows_in system bytes = record {
+  first = line_at system bytes 0 0;
+  second = line_at system bytes 0 1;
+  third = line_at system bytes 0 2;
+}
+
+-- the readings of these rows; those of `rows_at` are `readings_at`
+abbrev pub readings_of : ConfigView → FieldRows → FieldReadings
+readings_of c rows = record {
+  first = reading_of c.system (row_levels c.levels rows.first);
+  second = reading_of c.system (row_levels c.levels rows.second);
+  third = reading_of c.system (row_levels c.levels rows.third);
+}
 
 -- how many samples are looked at: those of the rows 15, 16 and 17 that the stream has whole, once each
 abbrev pub looks_of : ConfigView → List ℕ → ℕ

@@ -4,33 +4,93 @@ use Rattle.std.specs.Prelude.{◌≡◌, ℕ, ◌+◌, ◌==◌, if◌then◌els
 use Rattle.std.specs.List.{join_by, range_with_len}
 use Rattle.vbi_field.specs.ConfigView.{ConfigView, System}
 pub use Rattle.vbi_field.specs.Outlet.{Wrote, WrotePart, Outlet}
-use Rattle.vbi_field.specs.Stream.{fields_of, rest_of, readings_at, FieldReadings, Reading, row_levels, line_at}
+use Rattle.vbi_field.specs.Stream.{fields_of, rest_of, readings_of, rows_at, FieldRows, FieldReadings, Reading}
+use Rattle.vbi_field.specs.Stream.{row_levels, line_at}
 use Rattle.vbi_words.specs.Readings.{IsReading}
 use Rattle.vbi_field.specs.Document.{head_of, record_of, tail_of}
-use Rattle.vbi_field.specs.Report.{report_head_of, report_entry_of, report_tail_of}
+use Rattle.vbi_field.specs.Shown.{AreShown, IsNearRow, as_readings, joined_rows}
+use Rattle.vbi_field.specs.Recovered.{recovered_head_of, recovered_record_of, recovered_of}
+use Rattle.vbi_field.specs.Recovered.{FieldRecovered, Recovered, Near}
+use Rattle.vbi_field.specs.Report.{report_head_of, report_entry_of, recovered_entry_of, report_tail_of}
 use Rattle.vbi_field.specs.CodeTexts.{Outcome, Word, Blank, Unfinished, Change, Hold}
 
--- A kind of text: its head; what joins two entries; the entry of a field, by its number from 1 and its readings; its
--- tail, by the number of whole fields and the bytes past them.
+-- A kind of text: its head; what joins two entries; the entry of a field, by its number from 1 and the bytes of its
+-- rows 15, 16 and 17; its tail, by the number of whole fields and the bytes past them.
 pub record Kind : Type 0 where
+  pub head : ConfigView → List ℕ
+  pub joint : List ℕ
+  pub entry : ConfigView → ℕ → FieldRows → List ℕ
+  pub tail : ℕ → ℕ → List ℕ
+
+-- A kind of text whose entries have nothing but the readings of these rows.
+pub record ReadingKind : Type 0 where
   pub head : ConfigView → List ℕ
   pub joint : List ℕ
   pub entry : ℕ → FieldReadings → List ℕ
   pub tail : ℕ → ℕ → List ℕ
 
+abbrev pub by : ReadingKind → Kind
+by t = record {
+  head = t.head;
+  joint = t.joint;
+  entry = λ c number rows. t.entry number (readings_of c rows);
+  tail = t.tail;
+}
+
+-- A kind of text whose entries have what these rows show with recovered words.
+pub record RecoveredKind : Type 0 where
+  pub head : ConfigView → List ℕ
+  pub joint : List ℕ
+  pub entry : ConfigView → ℕ → FieldRecovered → List ℕ
+  pub tail : ℕ → ℕ → List ℕ
+
+abbrev pub recovering : RecoveredKind → Kind
+recovering t = record {
+  head = t.head;
+  joint = t.joint;
+  entry = λ c number rows. t.entry c number (recovered_of c rows);
+  tail = t.tail;
+}
+
 -- the document of `extract`: records joined by a comma and a newline
+abbrev pub plain_document : ReadingKind
+plain_document = record { head = head_of; joint = codes ",\n"; entry = record_of; tail = tail_of }
+
 abbrev pub document : Kind
-document = record { head = head_of; joint = codes ",\n"; entry = record_of; tail = tail_of }
+document = by plain_document
+
+-- the document of `extract --recover`
+abbrev pub worn_document : RecoveredKind
+worn_document =
+    record { head = recovered_head_of; joint = codes ",\n"; entry = recovered_record_of; tail = tail_of }
+
+abbrev pub recovered_document : Kind
+recovered_document = recovering worn_document
 
 -- the report of `show`: there is nothing between two fields
-abbrev pub report : Kind
-report =
+abbrev pub plain_report : ReadingKind
+plain_report =
     record { head = λ c. report_head_of c.system c.levels; joint = []; entry = report_entry_of; tail = report_tail_of }
+
+abbrev pub report : Kind
+report = by plain_report
+
+-- the report of `show --recover`
+abbrev pub worn_report : RecoveredKind
+worn_report = record {
+  head = λ c. report_head_of c.system c.levels;
+  joint = [];
+  entry = λ c number field. recovered_entry_of number (as_readings field.shown);
+  tail = report_tail_of;
+}
+
+abbrev pub recovered_report : Kind
+recovered_report = recovering worn_report
 
 -- the head, and the entries of the whole fields in order, joined
 unfoldable pub text_before_tail : Kind → ConfigView → List ℕ → List ℕ
 text_before_tail t c z =
-    t.head c ++ join_by (λ i. t.entry (i + 1) (readings_at c z i)) t.joint (range_with_len 0 (fields_of c z))
+    t.head c ++ join_by (λ i. t.entry c (i + 1) (rows_at c z i)) t.joint (range_with_len 0 (fields_of c z))
 
 -- the whole text of a stream that ended
 abbrev pub whole_text : Kind → ConfigView → List ℕ → List ℕ
@@ -42,8 +102,12 @@ IsTextBetween t c z longer text = text_before_tail t c z ++ text ≡ text_before
 
 -- what is written for a field when it is whole, behind this number of fields: the joint, if there is an entry
 -- before, and the entry
-abbrev pub joined_entry_of : Kind → ℕ → FieldReadings → List ℕ
-joined_entry_of t before readings = (if before == 0 then [] else t.joint) ++ t.entry (before + 1) readings
+abbrev pub joined_entry_of : Kind → ConfigView → ℕ → FieldRows → List ℕ
+joined_entry_of t c before rows = (if before == 0 then [] else t.joint) ++ t.entry c (before + 1) rows
+
+-- the same by the readings
+abbrev pub joined_reading_of : ReadingKind → ℕ → FieldReadings → List ℕ
+joined_reading_of t before readings = (if before == 0 then [] else t.joint) ++ t.entry (before + 1) readings
 
 module _ (t : Kind) {W : Type 0} (contents : W → Option (List ℕ)) (c : ConfigView) (o o' : Outlet W) where
   -- the bytes by which the text of the longer stream is longer were written
@@ -72,7 +136,7 @@ pub record FieldReads (c : ConfigView) (z : List ℕ) (i : ℕ) (readings : Fiel
   pub third : RowReads c z i 17 readings.third
 
 -- text is the head, the entries of the whole fields by their readings, joined, and the tail
-abbrev pub IsWholeText : Kind → ConfigView → List ℕ → List ℕ → Type 0
+abbrev pub IsWholeText : ReadingKind → ConfigView → List ℕ → List ℕ → Type 0
 IsWholeText t c z text =
     (readings : ℕ → FieldReadings) × ((i : ℕ) → i < fields_of c z → FieldReads c z i (readings i))
     × (text ≡ t.head c ++ join_by (λ i. t.entry (i + 1) (readings i)) t.joint (range_with_len 0 (fields_of c z))
@@ -115,3 +179,28 @@ second_pass_field = of_lines (has_word 0x82CFFF 2) (has_word 0xF12345 1) (has_no
 -- a field whose lines 16 and 17 were each refused at a column
 abbrev pub refused_field : FieldReadings
 refused_field = of_lines (has_none (Change 34)) (has_none (Hold 909)) (has_word 0x8DC0A1 1)
+
+-- ---- with recovered words
+
+-- the three rows of field i show this
+abbrev pub FieldShows : ConfigView → List ℕ → ℕ → List Recovered → Type 0
+FieldShows c z i shown = AreShown c.system c.levels (joined_rows (rows_at c z i)) shown
+
+-- row r of field i has this nearest word
+abbrev pub RowIsNear : ConfigView → List ℕ → ℕ → ℕ → Near → Type 0
+RowIsNear c z i r near = IsNearRow c.system c.levels (line_at c.system z i r) near
+
+-- of field i its readings, what its rows show, and the nearest word of each
+pub record FieldRecovers (c : ConfigView) (z : List ℕ) (i : ℕ) (field : FieldRecovered) : Type 0 where
+  pub reads : FieldReads c z i field.readings
+  pub shown : FieldShows c z i field.shown
+  pub first : RowIsNear c z i 15 field.first
+  pub second : RowIsNear c z i 16 field.second
+  pub third : RowIsNear c z i 17 field.third
+
+-- text is the head, the entries of the whole fields by what their rows show, joined, and the tail
+abbrev pub IsRecoveredText : RecoveredKind → ConfigView → List ℕ → List ℕ → Type 0
+IsRecoveredText t c z text =
+    (fields : ℕ → FieldRecovered) × ((i : ℕ) → i < fields_of c z → FieldRecovers c z i (fields i))
+    × (text ≡ t.head c ++ join_by (λ i. t.entry c (i + 1) (fields i)) t.joint (range_with_len 0 (fields_of c z))
+    ++ t.tail (fields_of c z) (rest_of c z))

@@ -1,24 +1,25 @@
 //! The texts of the document.
 //!
 //! A stream has a head, an entry for each whole field and a tail, and each is made whole before it is written. `Kind`
-//! (texts.rt) has these three calls; the document is one kind, the report (report.rt) the other, and run.rt has one
-//! loop for both. The joint, a comma and a newline, stands before each entry but the first. So nothing has to be known
-//! of a field that may follow, and the record of a field is written as soon as its last byte came.
+//! (texts.rt) has these three calls. The document is one kind, the report (report.rt) another, each has a kind with
+//! recovered words beside it (recovered.rt), and run.rt has one loop for all. The joint, a comma and a newline, stands
+//! before each entry but the first. So nothing has to be known of a field that may follow, and the record of a field is
+//! written as soon as its last byte came.
 //!
 //! Each function here has one definition of `specs/Document.antt`, of which its text is proved to be an equal, byte for
 //! byte; the three words, causes and passes of a record are pieces with a function and a proof each.
 //!
-//! Texts are held in an `ArrayString`, as the program allocates nothing. Its size (192, and 18 to 72 for the pieces)
+//! Texts are held in an `ArrayString`, as the program allocates nothing. Its size (448, and 18 to 72 for the pieces)
 //! has room for the widest number of each type, so that no bound on columns or field numbers has to be proved; the
 //! check refuses a size that is too small.
 //!
 //! Who changes the document changes its definition, the proof of `document_words` in `vbi_meta` (a JSON reader finds
 //! the words in it), share/schema/ldvbi.schema.json, docs/FORMATS.md, and the two modules of the Python package that
 //! write and read it. `version` is raised where those who read the document so far can't any more.
-ghost use Rattle.std.specs.Prelude.{◌≡◌, ◌-◌, ◌^◌, ◌<◌, ◌++◌, codes, decimal};
+ghost use Rattle.std.specs.Prelude.{false, ◌≡◌, ◌-◌, ◌^◌, ◌<◌, ◌≤◌, ◌++◌, codes, decimal, length};
 ghost use Rattle.vbi_field.specs.CodeTexts.{cause_text_of};
-ghost use Rattle.vbi_field.specs.Document.{value_of, lines_of, head_of, tail_of};
-ghost use Rattle.vbi_field.specs.Texts.{document, joined_entry_of};
+ghost use Rattle.vbi_field.specs.Document.{value_of, lines_of, parameters_of, tail_of};
+ghost use Rattle.vbi_field.specs.Texts.{document, plain_document, joined_reading_of};
 
 use crate::cause_texts::cause_text;
 use crate::config::Config;
@@ -34,11 +35,20 @@ pub(crate) struct Document;
 impl Kind for Document {
     ghost kind = { document };
 
+    const KEEPS: bool = false;
+
+    ghost KEEPS = { false };
+
     fn head(config: &Config) -> ArrayString<TEXT_SIZE> {
-        head_text(config)
+        head_text("{\"version\":2", config)
     }
 
-    fn entry(before: u32, readings: &FieldReadings) -> ArrayString<TEXT_SIZE> {
+    fn entry(
+        _config: &Config,
+        before: u32,
+        readings: &FieldReadings,
+        _held: &[u8],
+    ) -> ArrayString<TEXT_SIZE> {
         record_text(before, readings)
     }
 
@@ -57,15 +67,15 @@ fn value(outcome: Outcome) -> u32
     }
 }
 
-/// The text before the first record.
-#[tactic(auto, unfolding(crate::specs::Document::head_of))]
-fn head_text(config: &Config) -> ArrayString<TEXT_SIZE>
-    ensures { result.bytes ≡ head_of config.now }
+/// The rest of the first line, behind the version: the system, and the levels.
+#[tactic(auto, unfolding(crate::specs::Document::parameters_of))]
+fn parameters_text(config: &Config) -> ArrayString<160>
+    ensures { result.bytes ≡ parameters_of config.now }
 {
     let system = config.system();
     let levels = config.levels();
     let mut text = ArrayString::new();
-    text.push_str("{\"version\":2,\"videoParameters\":{\"system\":\"");
+    text.push_str(",\"videoParameters\":{\"system\":\"");
     text.push_str(system.name());
     text.push_str("\",\"fieldWidth\":");
     push_number(&mut text, system.width() as u16);
@@ -79,9 +89,20 @@ fn head_text(config: &Config) -> ArrayString<TEXT_SIZE>
     text
 }
 
+/// The text before the first record, which begins with the version.
+pub(crate) fn head_text(version: &str, config: &Config) -> ArrayString<TEXT_SIZE>
+    requires { length version.now ≤ 20 }
+    ensures { result.bytes ≡ version.now ++ parameters_of config.now }
+{
+    let mut text = ArrayString::new();
+    text.push_str(version);
+    text.push_str(parameters_text(config).as_str());
+    text
+}
+
 /// The three words, each its number or 0.
 #[tactic(auto, unfolding(crate::specs::Document::lines_of))]
-fn data_text(readings: &FieldReadings) -> ArrayString<56>
+pub(crate) fn data_text(readings: &FieldReadings) -> ArrayString<56>
     ensures { result.bytes
         ≡ lines_of (codes ",\"vbi\":{\"vbiData\":[") (λ line. decimal (value_of line.outcome))
         (codes "]}") readings.now }
@@ -110,7 +131,7 @@ fn quoted_cause(outcome: Outcome) -> ArrayString<18>
 
 /// The three causes.
 #[tactic(auto, unfolding(crate::specs::Document::lines_of))]
-fn causes_text(readings: &FieldReadings) -> ArrayString<72>
+pub(crate) fn causes_text(readings: &FieldReadings) -> ArrayString<72>
     ensures { result.bytes
         ≡ lines_of (codes ",\"vbiCause\":[") (λ line. codes "\"" ++ cause_text_of line.outcome ++ codes "\"")
         (codes "]") readings.now }
@@ -128,7 +149,7 @@ fn causes_text(readings: &FieldReadings) -> ArrayString<72>
 
 /// The three passes.
 #[tactic(auto, unfolding(crate::specs::Document::lines_of))]
-fn passes_text(readings: &FieldReadings) -> ArrayString<24>
+pub(crate) fn passes_text(readings: &FieldReadings) -> ArrayString<24>
     ensures { result.bytes
         ≡ lines_of (codes ",\"vbiPass\":[") (λ line. decimal line.pass) (codes "]") readings.now }
 {
@@ -147,7 +168,7 @@ fn passes_text(readings: &FieldReadings) -> ArrayString<24>
 #[tactic(auto, unfolding(crate::specs::Document::record_of))]
 fn record_text(before: u32, readings: &FieldReadings) -> ArrayString<TEXT_SIZE>
     requires { before < 2 ^ 32 - 1 }
-    ensures { result.bytes ≡ joined_entry_of document before readings.now }
+    ensures { result.bytes ≡ joined_reading_of plain_document before readings.now }
 {
     let mut text = ArrayString::new();
     if before != 0 {
@@ -164,7 +185,7 @@ fn record_text(before: u32, readings: &FieldReadings) -> ArrayString<TEXT_SIZE>
 
 /// The text after the last record.
 #[tactic(auto, unfolding(crate::specs::Document::tail_of))]
-fn tail_text(fields: u32, rest: u32) -> ArrayString<TEXT_SIZE>
+pub(crate) fn tail_text(fields: u32, rest: u32) -> ArrayString<TEXT_SIZE>
     requires { fields < 2 ^ 32 - 1 }
     ensures { result.bytes ≡ tail_of fields rest }
 {

@@ -92,7 +92,7 @@ fn take_bytes<W: Write>(
     let count = copy_in(line, bytes);
     if line.is_full() {
         let reading = take_reading(line, config.levels(), progress.is_selected());
-        progress.add_row::<Document, W>(config, reading, outlet)?;
+        progress.add_row::<Document, W>(config, reading, &[], outlet)?;
     }
     Ok(count)
 }

@@ -6,7 +6,14 @@ ghost use Rattle.std.specs.List.{concat};
 ghost use Rattle.std.specs.Io.KnownBytes.{Consumes, IsAtEnd};
 ghost use Rattle.vbi_words.specs.Geometry.{width_of, field_bytes};
 ghost use Rattle.vbi_words.specs.declared.system.System.TheVariants.{Ntsc, Pal};
-ghost use Rattle.vbi_field.specs.Texts.{FieldReads, IsWholeText, text_before_tail, whole_text, Kind, document, report};
+ghost use Rattle.vbi_field.specs.Texts.{FieldReads, IsWholeText, text_before_tail, whole_text, Kind, ReadingKind, by};
+ghost use Rattle.vbi_field.specs.Texts.{document, report, plain_document, plain_report};
+ghost use Rattle.vbi_field.specs.Texts.{RecoveredKind, recovering, IsRecoveredText, recovered_document};
+ghost use Rattle.vbi_field.specs.Shown.{IsNearRow, near_of, AreShown, recovery_of};
+ghost use Rattle.vbi_near.specs.declared.near.Near.{Near};
+ghost use Rattle.vbi_near.specs.declared.recovery.Recovered.{Recovered};
+ghost use Rattle.vbi_words.specs.declared.system.System.{System};
+ghost use Rattle.vbi_words.specs.Levels.{Slicing};
 ghost use Rattle.vbi_field.specs.Texts.{plain_config, black_field, picture_field, time_field, second_pass_field};
 ghost use Rattle.vbi_field.specs.Texts.{refused_field};
 ghost use Rattle.vbi_field.specs.declared.outlet.Outlet.{Outlet};
@@ -27,7 +34,27 @@ use std::io::Write;
 /// A stream has one document and one report, fixed by the config and the bytes alone: those that its lines' readings
 /// give.
 pub fn one_document()
-    ensures { (t : Kind) (c : ConfigView) (z text : List ℕ) → (IsWholeText t c z text ↔ (text ≡ whole_text t c z)) }
+    ensures { (t : ReadingKind) (c : ConfigView) (z text : List ℕ)
+        → (IsWholeText t c z text ↔ (text ≡ whole_text (by t) c z)) }
+{}
+
+/// A stream has one document and one report with recovered words, fixed by the config and the bytes alone: those that
+/// the rule of recovery gives of its lines.
+pub fn one_recovered_document()
+    ensures { (t : RecoveredKind) (c : ConfigView) (z text : List ℕ)
+        → (IsRecoveredText t c z text ↔ (text ≡ whole_text (recovering t) c z)) }
+{}
+
+/// A row has one nearest word, that which the document with recovered words has of it.
+pub fn one_near_row()
+    ensures { (system : System) (slicing : Slicing) (row : List ℕ) (near : Near)
+        → (IsNearRow system slicing row near ↔ (near ≡ near_of system slicing row)) }
+{}
+
+/// Three rows show one thing, that which document and report with recovered words have of them.
+pub fn one_shown()
+    ensures { (system : System) (slicing : Slicing) (rows : List ℕ) (shown : List Recovered)
+        → (AreShown system slicing rows shown ↔ (shown ≡ recovery_of system slicing rows)) }
 {}
 
 /// A row stands for these words exactly where it is their three items with one space between two of them.
@@ -58,8 +85,8 @@ pub fn drawn_length()
 /// the first pass and blank where it has none, and no cut field.
 #[tactic(auto, using(crate::proofs::DrawnDocument::drawn_document))]
 pub fn drawn_document()
-    ensures { (t : Kind) (c : ConfigView) (text : List ℕ) (rows : List WordRow) → c.levels.black < c.levels.white
-        → AreRows text rows → whole_text t c (draw_out c rows) ≡ drawn_text t c rows }
+    ensures { (t : ReadingKind) (c : ConfigView) (text : List ℕ) (rows : List WordRow) → c.levels.black < c.levels.white
+        → AreRows text rows → whole_text (by t) c (draw_out c rows) ≡ drawn_text t c rows }
 {}
 
 /// The bytes fetched are the first of those that the reader had, and all of them where it is at its end.
@@ -119,15 +146,15 @@ pub fn worked_texts()
         × (document.head (plain_config Pal) ≡ codes "{\"version\":2,\"videoParameters\":{\"system\":"
         ++ codes "\"PAL\",\"fieldWidth\":1135,\"fieldHeight\":313"
         ++ codes ",\"black16bIre\":16384,\"white16bIre\":51200},\"fields\":[\n") }
-    ensures records { (document.entry 1 black_field ≡ codes "{\"seqNo\":1,\"vbi\":{\"vbiData\":[0,0,0]}"
+    ensures records { (plain_document.entry 1 black_field ≡ codes "{\"seqNo\":1,\"vbi\":{\"vbiData\":[0,0,0]}"
         ++ codes ",\"vbiCause\":[\"blank\",\"blank\",\"blank\"],\"vbiPass\":[0,0,0]}")
-        × (document.entry 1 picture_field ≡ codes "{\"seqNo\":1,\"vbi\":{\"vbiData\":[8572927,15803205,15803205]}"
+        × (plain_document.entry 1 picture_field ≡ codes "{\"seqNo\":1,\"vbi\":{\"vbiData\":[8572927,15803205,15803205]}"
         ++ codes ",\"vbiCause\":[\"word\",\"word\",\"word\"],\"vbiPass\":[1,1,1]}")
-        × (document.entry 20 time_field ≡ codes "{\"seqNo\":20,\"vbi\":{\"vbiData\":[9101330,8912895,15785216]}"
+        × (plain_document.entry 20 time_field ≡ codes "{\"seqNo\":20,\"vbi\":{\"vbiData\":[9101330,8912895,15785216]}"
         ++ codes ",\"vbiCause\":[\"word\",\"word\",\"word\"],\"vbiPass\":[1,1,1]}")
-        × (document.entry 1 second_pass_field ≡ codes "{\"seqNo\":1,\"vbi\":{\"vbiData\":[8572927,15803205,0]}"
+        × (plain_document.entry 1 second_pass_field ≡ codes "{\"seqNo\":1,\"vbi\":{\"vbiData\":[8572927,15803205,0]}"
         ++ codes ",\"vbiCause\":[\"word\",\"word\",\"unfinished\"],\"vbiPass\":[2,1,0]}")
-        × (document.entry 1000000 refused_field ≡ codes "{\"seqNo\":1000000,\"vbi\":{\"vbiData\":[0,0,9289889]}"
+        × (plain_document.entry 1000000 refused_field ≡ codes "{\"seqNo\":1000000,\"vbi\":{\"vbiData\":[0,0,9289889]}"
         ++ codes ",\"vbiCause\":[\"change 34\",\"hold 909\",\"word\"],\"vbiPass\":[0,0,1]}") }
     ensures tails { (document.tail 1 0 ≡ codes "\n],\"cutField\":null}\n")
         × (document.tail 0 478659 ≡ codes "\n],\"cutField\":{\"seqNo\":1,\"bytes\":478659}}\n") }
@@ -135,12 +162,12 @@ pub fn worked_texts()
         × (report.head (plain_config Pal) ≡ codes "system PAL 1135x313 black 16384 white 51200\n")
         × (report.tail 1 0 ≡ codes "fields 1 cut none\n")
         × (report.tail 0 478659 ≡ codes "fields 0 cut field 1 bytes 478659\n") }
-    ensures report_fields { (report.entry 1 black_field ≡ codes "field 1 neither\n16 none blank\n"
+    ensures report_fields { (plain_report.entry 1 black_field ≡ codes "field 1 neither\n16 none blank\n"
         ++ codes "17 none blank\n18 none blank\n")
-        × (report.entry 1 picture_field ≡ codes "field 1 cav\n16 82CFFF picture stop\n"
+        × (plain_report.entry 1 picture_field ≡ codes "field 1 cav\n16 82CFFF picture stop\n"
         ++ codes "17 F12345 picture 12345\n18 F12345 picture 12345\n")
-        × (report.entry 1 time_field ≡ codes "field 1 clv\n16 8AE012 clv picture 00 12\n"
+        × (plain_report.entry 1 time_field ≡ codes "field 1 clv\n16 8AE012 clv picture 00 12\n"
         ++ codes "17 87FFFF clv\n18 F0DD00 time 0:00\n")
-        × (report.entry 7 refused_field ≡ codes "field 7 neither\n16 none change 34\n17 none hold 909\n"
+        × (plain_report.entry 7 refused_field ≡ codes "field 7 neither\n16 none change 34\n17 none hold 909\n"
         ++ codes "18 8DC0A1 cx on 0A1\n") }
 {}

@@ -3,7 +3,7 @@
 //! A field's rows 15, 16 and 17 are its lines 16, 17 and 18, as rows are counted from 0. Of the other rows nothing is
 //! kept but their number. The three readings wait here until the field's last row is whole: a field that is cut has no
 //! record, so none may be written before.
-ghost use Rattle.std.specs.Prelude.{◌≡◌, ◌+◌, ◌*◌, ◌^◌, ◌↔◌, IsTrue, ◌<◌, ◌≤◌, List, ℕ, length, IfSome};
+ghost use Rattle.std.specs.Prelude.{◌≡◌, ◌++◌, ◌+◌, ◌*◌, ◌^◌, ◌↔◌, IsTrue, ◌<◌, ◌≤◌, List, ℕ, length, IfSome};
 ghost use Rattle.std.specs.Prelude.{Some, None, OnOk, OnErr, IfErr};
 ghost use Rattle.vbi_words.specs.Geometry.{height_of, line_bytes};
 ghost use Rattle.vbi_line.specs.Counted.{failures_of, NoError, HasCause, IsSameDevice};
@@ -73,7 +73,7 @@ pub(crate) struct Progress {
 }
 
 impl Progress {
-    ghost use Rattle.vbi_field.specs.Progress.{IsProgress, IsLineOf, MovesOneRow, Advances, AddsRow};
+    ghost use Rattle.vbi_field.specs.Progress.{HoldsField, IsProgress, IsLineOf, MovesOneRow, Advances, AddsRow};
 
     /// Before the first row.
     pub(crate) fn new() -> Self
@@ -131,10 +131,12 @@ impl Progress {
         &mut self,
         config: &Config,
         reading: Option<Reading>,
+        held: &[u8],
         outlet: &mut Outlet<W>,
     ) -> Result<(), RunFault>
         requires inside { self.old.row < height_of config.now.system }
         requires few { self.old.fields < most_fields }
+        requires held { IsTrue K.KEEPS → length held.now ≡ 3 * line_bytes config.now.system }
         requires written { written_of outlet.old ≤ 2 ^ 62 }
         requires failures { (failures_of (counted_of outlet.old)).all ≤ 2 ^ 62 }
         ensures same { IsSameDevice (counted_of outlet.old) (counted_of outlet.new) }
@@ -147,10 +149,14 @@ impl Progress {
         ensures fault { IfErr result (λ e. e ≡ RunFault.Write (written_of outlet.new)) }
         ensures adds { (z b : List ℕ) → IsProgress config.now z self.old
             → IsLineOf config.now b self.old.row reading
+            → HoldsField K.KEEPS config.now (z ++ b) self.old.fields self.old.row held.now
             → AddsRow K.kind W.contents config.now outlet.old outlet.new z b self.new result }
     {
         if let Some(readings) = self.advance(config, reading) {
-            put(outlet, K::entry(self.fields - 1, &readings).as_str())?;
+            put(
+                outlet,
+                K::entry(config, self.fields - 1, &readings, held).as_str(),
+            )?;
         }
         Ok(())
     }

@@ -1,18 +1,22 @@
-//! The texts of the report.
+//! The texts of the report, and of that with recovered words.
 
-ghost use Rattle.std.specs.Prelude.{◌≡◌, ◌+◌, ◌-◌, ◌≤◌, ◌<◌, ◌^◌, ◌++◌, length};
+ghost use Rattle.std.specs.Prelude.{true, false, ◌≡◌, ◌+◌, ◌*◌, ◌-◌, ◌≤◌, ◌<◌, ◌^◌, ◌++◌, length};
+ghost use Rattle.vbi_words.specs.Geometry.{line_bytes};
 ghost use Rattle.arrayvec.specs.ArrayString.{array_string_len};
-ghost use Rattle.vbi_field.specs.Texts.{report};
+ghost use Rattle.vbi_field.specs.Texts.{report, recovered_report, joined_entry_of};
+ghost use Rattle.vbi_field.specs.Stream.{rows_in, readings_of};
 ghost use Rattle.vbi_field.specs.Report.{report_head_of, report_entry_of, report_tail_of, shown_of, format_text_of};
+ghost use Rattle.vbi_field.specs.Report.{field_lines_of, marked_of, recovered_entry_of};
 
 use crate::cause_texts::cause_text;
 use crate::code_texts::{code_text, hex_text};
 use crate::config::Config;
 use crate::numbers::push_number;
 use crate::readings::FieldReadings;
+use crate::shown::shown_lines;
 use crate::texts::{Kind, TEXT_SIZE};
 use arrayvec::ArrayString;
-use vbi_words::{Format, Levels, Outcome, System, classify, format_of};
+use vbi_words::{Format, Levels, Outcome, Reading, System, classify, format_of};
 
 /// The report of `show`.
 pub(crate) struct Report;
@@ -20,12 +24,49 @@ pub(crate) struct Report;
 impl Kind for Report {
     ghost kind = { report };
 
+    const KEEPS: bool = false;
+
+    ghost KEEPS = { false };
+
     fn head(config: &Config) -> ArrayString<TEXT_SIZE> {
         report_head(config.system(), config.levels())
     }
 
-    fn entry(before: u32, readings: &FieldReadings) -> ArrayString<TEXT_SIZE> {
+    fn entry(
+        _config: &Config,
+        before: u32,
+        readings: &FieldReadings,
+        _held: &[u8],
+    ) -> ArrayString<TEXT_SIZE> {
         report_entry(before + 1, readings)
+    }
+
+    fn tail(fields: u32, rest: u32) -> ArrayString<TEXT_SIZE> {
+        report_tail(fields, rest)
+    }
+}
+
+/// The report of `show --recover`.
+pub(crate) struct RecoveredReport;
+
+impl Kind for RecoveredReport {
+    ghost kind = { recovered_report };
+
+    const KEEPS: bool = true;
+
+    ghost KEEPS = { true };
+
+    fn head(config: &Config) -> ArrayString<TEXT_SIZE> {
+        report_head(config.system(), config.levels())
+    }
+
+    fn entry(
+        config: &Config,
+        before: u32,
+        readings: &FieldReadings,
+        held: &[u8],
+    ) -> ArrayString<TEXT_SIZE> {
+        recovered_entry(before + 1, &shown_lines(config, readings, held))
     }
 
     fn tail(fields: u32, rest: u32) -> ArrayString<TEXT_SIZE> {
@@ -86,10 +127,33 @@ fn shown_text(outcome: Outcome) -> ArrayString<31>
     text
 }
 
-/// The four lines of the whole field of this number, counted from 1.
-#[tactic(auto, unfolding(crate::specs::Report::report_entry_of))]
-pub(crate) fn report_entry(number: u32, readings: &FieldReadings) -> ArrayString<TEXT_SIZE>
-    ensures { result.bytes ≡ report_entry_of number readings.now }
+/// The text behind the number of a line, with a mark behind a word of pass 3.
+#[tactic(auto, unfolding(crate::specs::Report::marked_of))]
+fn marked_text(line: &Reading) -> ArrayString<43>
+    ensures { result.bytes ≡ marked_of line.now }
+{
+    let mut text = ArrayString::new();
+    text.push_str(shown_text(line.outcome).as_str());
+    if line.pass == 3 {
+        text.push_str(" (recovered)");
+    }
+    text
+}
+
+/// The four lines of the whole field of this number, counted from 1, by its readings and the texts behind the numbers of
+/// its lines.
+#[tactic(auto, unfolding(crate::specs::Report::field_lines_of))]
+fn field_lines(
+    number: u32,
+    readings: &FieldReadings,
+    first: &str,
+    second: &str,
+    third: &str,
+) -> ArrayString<TEXT_SIZE>
+    requires first { length first.now ≤ 43 }
+    requires second { length second.now ≤ 43 }
+    requires third { length third.now ≤ 43 }
+    ensures { result.bytes ≡ field_lines_of number readings.now first.now second.now third.now }
 {
     let words = [
         readings.first.outcome.word(),
@@ -102,13 +166,39 @@ pub(crate) fn report_entry(number: u32, readings: &FieldReadings) -> ArrayString
     text.push_str(" ");
     text.push_str(format_name(format_of(&words)));
     text.push_str("\n16 ");
-    text.push_str(shown_text(readings.first.outcome).as_str());
+    text.push_str(first);
     text.push_str("\n17 ");
-    text.push_str(shown_text(readings.second.outcome).as_str());
+    text.push_str(second);
     text.push_str("\n18 ");
-    text.push_str(shown_text(readings.third.outcome).as_str());
+    text.push_str(third);
     text.push_str("\n");
     text
+}
+
+/// The four lines of a field that is read so.
+pub(crate) fn report_entry(number: u32, readings: &FieldReadings) -> ArrayString<TEXT_SIZE>
+    ensures { result.bytes ≡ report_entry_of number readings.now }
+{
+    field_lines(
+        number,
+        readings,
+        shown_text(readings.first.outcome).as_str(),
+        shown_text(readings.second.outcome).as_str(),
+        shown_text(readings.third.outcome).as_str(),
+    )
+}
+
+/// The four lines of a field whose lines show this, with recovered words.
+fn recovered_entry(number: u32, lines: &FieldReadings) -> ArrayString<TEXT_SIZE>
+    ensures { result.bytes ≡ recovered_entry_of number lines.now }
+{
+    field_lines(
+        number,
+        lines,
+        marked_text(&lines.first).as_str(),
+        marked_text(&lines.second).as_str(),
+        marked_text(&lines.third).as_str(),
+    )
 }
 
 /// The last line, from the number of whole fields and the bytes past them, which are those of a cut last field.

@@ -1,11 +1,16 @@
 //! The document and the report of a whole stream, pulled from a reader.
-ghost use Rattle.std.specs.Prelude.{◌≡◌, ◌+◌, ◌*◌, ◌^◌, ◌<◌, ◌≤◌, [], length, IfErr};
+//!
+//! `run` is the one loop, over the kind of text (`Kind`, texts.rt). A line is read into the intake's one array. The kinds
+//! with recovered words keep the bytes of rows 15, 16 and 17 besides, in room that their caller here has; the other two
+//! have no such room.
+ghost use Rattle.std.specs.Prelude.{◌≡◌, ◌+◌, ◌*◌, ◌^◌, ◌<◌, ◌≤◌, ◌++◌, [], length, take, drop, IsTrue, IfErr};
 ghost use Rattle.vbi_words.specs.Geometry.{height_of, line_bytes};
 ghost use Rattle.vbi_line.specs.Counted.{failures_of, IsSameDevice};
 ghost use Rattle.vbi_line.specs.Intake as intakes;
 ghost use Rattle.vbi_line.specs.Intake.{fetched_of, held_of, line_of, IsFresh};
 ghost use Rattle.vbi_field.specs.Extracts.{Runs, TakesLine};
-ghost use Rattle.vbi_field.specs.Texts.{document, report};
+ghost use Rattle.vbi_field.specs.Texts.{document, recovered_document, report, recovered_report};
+ghost use Rattle.vbi_field.specs.Progress.{HoldsOn};
 ghost use Rattle.vbi_field.specs.ConfigView.{most_fields};
 ghost use Rattle.vbi_field.specs.Outlet as outlets;
 
@@ -13,9 +18,10 @@ use crate::config::Config;
 use crate::document::Document;
 use crate::outlet::Outlet;
 use crate::progress::Progress;
-use crate::report::Report;
+use crate::recovered::RecoveredDocument;
+use crate::report::{RecoveredReport, Report};
 use crate::summary::{RunFault, Summary};
-use crate::texts::{Kind, end, put};
+use crate::texts::{HELD_SIZE, Kind, end, put};
 use std::io::{Read, Write};
 use vbi_line::{Filled, Intake};
 
@@ -45,12 +51,42 @@ fn fill_line<R: Read>(
     }
 }
 
-/// Writes the text of a stream.
+/// Copies a row over the bytes from one place on.
+fn copy_row(held: &mut [u8], from: usize, row: &[u8])
+    requires { from + length row.now ≤ length held.old }
+    ensures { held.new ≡ take from held.old ++ (row.now ++ drop (from + length row.now) held.old) }
+{
+    held[from..from + row.len()].copy_from_slice(row);
+}
+
+/// Puts the row that is held whole in its place among rows 15, 16 and 17, if these are kept and it has one.
+fn keep_row<K: Kind, R: Read>(
+    config: &Config,
+    progress: &Progress,
+    intake: &Intake<R>,
+    held: &mut [u8],
+)
+    requires full { length (held_of intake.now) ≡ line_bytes config.now.system }
+    requires room { IsTrue K.KEEPS → length held.old ≡ 3 * line_bytes config.now.system }
+    ensures long { length held.new ≡ length held.old }
+    ensures holds { IsTrue K.KEEPS
+        → HoldsOn config.now.system progress.now.row (held_of intake.now) held.old held.new }
+{
+    if K::KEEPS && progress.is_selected() {
+        let size = config.line_bytes();
+        let from = size * (progress.row - 15);
+        copy_row(held, from, intake.bytes());
+    }
+}
+
+/// Writes the text of a stream, with room for the rows that are kept.
 fn run<K: Kind, R: Read, W: Write>(
     config: &Config,
     intake: &mut Intake<R>,
     outlet: &mut Outlet<W>,
+    held: &mut [u8],
 ) -> Result<Summary, RunFault>
+    requires room { IsTrue K.KEEPS → length held.old ≡ 3 * line_bytes config.now.system }
     requires intake { IsFresh intake.old config.now.system }
     requires outlet { outlets.IsFresh outlet.old }
     ensures same_reader { IsSameDevice (intakes.counted_of intake.old) (intakes.counted_of intake.new) }
@@ -63,8 +99,9 @@ fn run<K: Kind, R: Read, W: Write>(
     for row in 0..config.row_limit() {
         match fill_line(config, &progress, intake)? {
             Filled::Full => {
+                keep_row::<K, R>(config, &progress, intake, held);
                 let reading = intake.take_reading(config.levels(), progress.is_selected());
-                progress.add_row::<K, W>(config, reading, outlet)?;
+                progress.add_row::<K, W>(config, reading, held, outlet)?;
             }
             Filled::Ended(bytes) => {
                 let rest = progress.rest(config, bytes);
@@ -96,7 +133,26 @@ pub fn extract<R: Read, W: Write>(
     ensures same_writer { IsSameDevice (outlets.counted_of outlet.old) (outlets.counted_of outlet.new) }
     ensures run { Runs document R.remaining W.contents config.now intake.old intake.new outlet.old outlet.new result }
 {
-    run::<Document, R, W>(config, intake, outlet)
+    run::<Document, R, W>(config, intake, outlet, &mut [])
+}
+
+/// As `extract`, with recovered words: the clauses are the same with this document's texts. Of each field the bytes of
+/// rows 15, 16 and 17 are held until it is whole: three lines beside the one that is read. How often recovery looks at
+/// their samples isn't counted: the summary counts the looks of the readings.
+pub fn extract_recovered<R: Read, W: Write>(
+    config: &Config,
+    intake: &mut Intake<R>,
+    outlet: &mut Outlet<W>,
+) -> Result<Summary, RunFault>
+    requires intake { IsFresh intake.old config.now.system }
+    requires outlet { outlets.IsFresh outlet.old }
+    ensures same_reader { IsSameDevice (intakes.counted_of intake.old) (intakes.counted_of intake.new) }
+    ensures same_writer { IsSameDevice (outlets.counted_of outlet.old) (outlets.counted_of outlet.new) }
+    ensures run { Runs recovered_document R.remaining W.contents config.now intake.old intake.new outlet.old outlet.new
+        result }
+{
+    let mut held = [0; HELD_SIZE];
+    run::<RecoveredDocument, R, W>(config, intake, outlet, &mut held[..3 * config.line_bytes()])
 }
 
 /// Writes the report of the stream that the intake reads: the first line before the first read, the four lines of each
@@ -113,5 +169,22 @@ pub fn show<R: Read, W: Write>(
     ensures same_writer { IsSameDevice (outlets.counted_of outlet.old) (outlets.counted_of outlet.new) }
     ensures run { Runs report R.remaining W.contents config.now intake.old intake.new outlet.old outlet.new result }
 {
-    run::<Report, R, W>(config, intake, outlet)
+    run::<Report, R, W>(config, intake, outlet, &mut [])
+}
+
+/// As `show`, with recovered words, by what `extract_recovered` holds.
+pub fn show_recovered<R: Read, W: Write>(
+    config: &Config,
+    intake: &mut Intake<R>,
+    outlet: &mut Outlet<W>,
+) -> Result<Summary, RunFault>
+    requires intake { IsFresh intake.old config.now.system }
+    requires outlet { outlets.IsFresh outlet.old }
+    ensures same_reader { IsSameDevice (intakes.counted_of intake.old) (intakes.counted_of intake.new) }
+    ensures same_writer { IsSameDevice (outlets.counted_of outlet.old) (outlets.counted_of outlet.new) }
+    ensures run { Runs recovered_report R.remaining W.contents config.now intake.old intake.new outlet.old outlet.new
+        result }
+{
+    let mut held = [0; HELD_SIZE];
+    run::<RecoveredReport, R, W>(config, intake, outlet, &mut held[..3 * config.line_bytes()])
 }

@@ -1,10 +1,11 @@
 //! The texts of a stream, of either kind, and how they are written.
-ghost use Rattle.std.specs.Prelude.{◌≡◌, ◌+◌, ◌-◌, ◌^◌, ◌<◌, ◌≤◌, length, OnOk, OnErr, IfOk, IfErr};
+ghost use Rattle.std.specs.Prelude.{◌≡◌, ◌+◌, ◌-◌, ◌*◌, ◌^◌, Bool, IsTrue, ◌<◌, ◌≤◌, length, OnOk, OnErr, IfOk, IfErr};
+ghost use Rattle.vbi_words.specs.Geometry.{line_bytes};
 ghost use Rattle.vbi_line.specs.Counted.{failures_of, NoError, HasCause, IsSameDevice};
 ghost use Rattle.vbi_field.specs.Texts as kinds;
 ghost use Rattle.vbi_field.specs.ConfigView.{most_fields};
 ghost use Rattle.vbi_field.specs.Outlet.{counted_of, written_of, Puts};
-ghost use Rattle.vbi_field.specs.Stream.{cut_of};
+ghost use Rattle.vbi_field.specs.Stream.{cut_of, readings_of, rows_in, FieldRows};
 ghost use Rattle.vbi_field.specs.Texts.{joined_entry_of};
 
 use crate::config::Config;
@@ -13,23 +14,41 @@ use crate::readings::FieldReadings;
 use crate::summary::{RunFault, Summary};
 use arrayvec::ArrayString;
 use std::io::Write;
+use vbi_words::LONGEST_LINE;
 
 /// The most bytes that one text may have: those of the head, of an entry, or of the tail.
-pub(crate) const TEXT_SIZE: usize = 192;
+pub(crate) const TEXT_SIZE: usize = 448;
 
-/// What is written for a stream: the document, or the report.
+/// Room for the bytes of three of the longest lines.
+pub(crate) const HELD_SIZE: usize = 3 * LONGEST_LINE;
+
+/// What is written for a stream: the document or the report, as the lines are read or with recovered words.
 pub(crate) trait Kind {
     /// The head, the entries and the tail, as functions of what they are written for.
     ghost kind: { kinds.Kind };
+
+    /// Whether the bytes of rows 15, 16 and 17 are kept until the field is whole.
+    const KEEPS: bool;
+
+    ghost KEEPS: { Bool };
 
     /// The head, which is written before the first read.
     fn head(config: &Config) -> ArrayString<TEXT_SIZE>
         ensures { result.bytes ≡ kind.head config.now };
 
-    /// The entry of a field behind `before` others, after the joint where there are any.
-    fn entry(before: u32, readings: &FieldReadings) -> ArrayString<TEXT_SIZE>
-        requires { before < 2 ^ 32 - 1 }
-        ensures { result.bytes ≡ joined_entry_of kind before readings.now };
+    /// The entry of a field behind `before` others, after the joint where there are any: by its readings and, where
+    /// they are kept, the bytes of its rows.
+    fn entry(
+        config: &Config,
+        before: u32,
+        readings: &FieldReadings,
+        held: &[u8],
+    ) -> ArrayString<TEXT_SIZE>
+        requires few { before < 2 ^ 32 - 1 }
+        requires held { IsTrue KEEPS → length held.now ≡ 3 * line_bytes config.now.system }
+        ensures { (rows : FieldRows) → readings.now ≡ readings_of config.now rows
+            → (IsTrue KEEPS → rows_in config.now.system held.now ≡ rows)
+            → result.bytes ≡ joined_entry_of kind config.now before rows };
 
     /// The tail, behind this number of whole fields and this number of bytes past them.
     fn tail(fields: u32, rest: u32) -> ArrayString<TEXT_SIZE>

@@ -170,6 +170,13 @@ impl<'a, R: Read> Intake<'a, R> {
         self.line.clear();
     }
 
+    /// The bytes held.
+    pub fn bytes(&self) -> &[u8]
+        ensures { result.now ≡ held_of self.now }
+    {
+        self.line.bytes()
+    }
+
     /// How many bytes are held, no more than a line's.
     pub fn held(&self) -> usize
         ensures value { result ≡ length (held_of self.now) }

@@ -114,6 +114,13 @@ impl LineBuf {
         self.held
     }
 
+    /// The bytes held.
+    pub fn bytes(&self) -> &[u8]
+        ensures { result.now ≡ self.now.held }
+    {
+        &self.store.bytes[..self.held]
+    }
+
     /// The system that the line is made for.
     pub(crate) fn system(&self) -> System
         ensures { result ≡ self.now.system }

@@ -9,7 +9,7 @@ use Rattle.json.specs.Spaced.{IsGap, AreGaps, print_spaced}
 use Rattle.json.specs.Token.{Token, begin_object, begin_array, end_array, key, number}
 use Rattle.json.specs.Tree.{json_tokens, items_tokens, members_tokens}
 use Rattle.vbi_field.specs.ConfigView.{System, ConfigView, Ntsc, Pal, width_of, height_of, name_of}
-use Rattle.vbi_field.specs.Document.{head_of, record_of, tail_of}
+use Rattle.vbi_field.specs.Document.{head_of, parameters_of, record_of, tail_of}
 use Rattle.vbi_field.specs.declared.readings.FieldReadings.{FieldReadings}
 use Rattle.vbi_meta.proofs.RecordTexts.{Pieces, plain, gapped, count_json, record_json, quoted_then, record_prints}
 use Rattle.vbi_meta.proofs.ShownLines.{AreShown}
@@ -141,7 +141,7 @@ sizes_then c r =
 -- the head behind its line feed
 head_prints : (c : ConfigView) (qs : Pieces) (r : List ℕ) → print_spaced false qs ≡ 10 ∷ r
     → print_spaced false (plain (head_tokens c) ++ qs) ≡ head_of c ++ r
-unfolding print_spaced escape_byte head_of
+unfolding print_spaced escape_byte parameters_of
 head_prints c qs r e =
     let front = codes "{\"version\":2,\"videoParameters\":{\"system\":" in
     ap (λ l. front ++ l) (quoted_then (name_of c.system) (sizes_then c (print_spaced false qs)) (escape_name c.system))

@@ -1,7 +1,7 @@
 -- The words of a field's three lines: those that its lines show, and where a line shows none, the word that its samples
 -- say (Said.antt): first the levelled ones, and where these say none, those as they are.
 use Rattle.std.specs.Prelude.{◌≡◌, ℕ, ◌+◌, ◌*◌, ◌==◌, ◌&&◌, ◌||◌, Bool, true, false, not, List, [], ◌∷◌, take}
-use Rattle.std.specs.Prelude.{drop, nat_le, IsTrue, Option, Some, None, if◌then◌else◌}
+use Rattle.std.specs.Prelude.{drop, replicate, nat_le, IsTrue, Option, Some, None, if◌then◌else◌}
 use Rattle.vbi_words.specs.declared.system.System.{System}
 use Rattle.vbi_words.specs.declared.outcome.Outcome.{Outcome}
 use Rattle.vbi_words.specs.declared.outcome.Outcome.TheVariants.{Word, Blank}
@@ -155,6 +155,10 @@ IsOwn system number slicing row own = (seen : Seen) → IsSeen system number sli
     → own ≡ own_of (unit_of slicing) seen
 
 -- ---- a field, by its bytes
+
+-- of a field's three rows no column is erased
+abbrev pub none_erased : System → List Bool
+none_erased system = replicate (3 * width_of system) false
 
 -- a row of three, counted from 0, of which some columns are erased
 abbrev pub row_at : System → List ℕ → List Bool → ℕ → Row

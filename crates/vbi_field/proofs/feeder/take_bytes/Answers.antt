@@ -27,7 +27,7 @@ returns-in_ok-add_row-clause-step g c =
     (omega (arith, st.few, c.if-progress-max_fields.false, c.max_fields.ensures.value)) copied.rest.system
     (c.is_full.ensures.0 c.if-is_full.true) c.is_selected.ensures read.shows
     c.take_reading-reading.new.line c.add_row.new.self c.args.outlet.now c.add_row.new.outlet read.held
-    c.in_ok-add_row.ensures.adds
+    (λ z b at row. c.in_ok-add_row.ensures.adds z b at row (λ keeps last. cc))
 
 pub returns-in_err-add_row-clause-step : goal.returns-in_err-add_row-clause-step
 returns-in_err-add_row-clause-step g c =
@@ -39,7 +39,7 @@ returns-in_err-add_row-clause-step g c =
     (omega (arith, st.few, c.if-progress-max_fields.false, c.max_fields.ensures.value)) copied.rest.system
     (c.is_full.ensures.0 c.if-is_full.true) c.is_selected.ensures read.shows
     c.take_reading-reading.new.line c.add_row.new.self c.args.outlet.now c.add_row.new.outlet
-    c.in_err-add_row.ensures.adds
+    (λ z b at row. c.in_err-add_row.ensures.adds z b at row (λ keeps last. cc))
     c.args.bytes.now c.copy_in-count.result c.add_row.new.outlet.written c.from_residual.result refl (search rules)
 
 pub returns-in_ok-add_row-clause-stand : goal.returns-in_ok-add_row-clause-stand

@@ -1,20 +1,27 @@
-use Rattle.std.proofs.Common.{◌≡◌, ◌<◌, ◌≤◌, ◌+◌, ◌*◌, refl, ◌∙◌, arith, rules}
+use Rattle.std.specs.Prelude.{IsTrue}
+use Rattle.vbi_field.specs.Progress.{HoldsRows}
+use Rattle.std.proofs.Common.{◌≡◌, ◌++◌, ◌<◌, ◌≤◌, ◌+◌, ◌*◌, refl, ◌∙◌, arith, rules}
 use Rattle.std.proofs.Math.Nat.{zero-mul, le_of_eq, le_of_lt}
 use Rattle.vbi_words.specs.Geometry.{height_of, line_bytes, field_bytes}
 use Rattle.vbi_field.proofs.Counts.{sizes_of, all_fields, rows_fit, row_fits}
 use Rattle.vbi_field.proofs.PullEnds.{ended, read_fault, too_many}
 use Rattle.vbi_field.proofs.PullFaults.{head_fault}
 use Rattle.vbi_field.proofs.PullRows.{row_came, step, entry_fault}
+use Rattle.vbi_field.proofs.HeldRows.{holds_none}
+use Rattle.vbi_field.proofs.PulledRows.{holds_kept, kept_field, kept_next}
 use Rattle.vbi_field.proofs.Pulled.{start}
 use Rattle.vbi_field.proofs.run.run.Goals as goal
 
 pub loop-row-init : goal.loop-row-init
-loop-row-init g c =
-    start _ g.R.Read.remaining _ c.args.config.now c.args.intake.now c.args.outlet.now c.put.new.outlet
-    c.new-progress.result c.as_str.result.now c.requires.intake c.requires.outlet
-    (c.as_str.ensures.value ∙ c.head.ensures) c.as_str.ensures.fits c.in_ok-put.ensures.puts
-    c.in_ok-put.ensures.ok c.in_ok-put.ensures.no_error c.in_ok-put.ensures.same c.new-progress.ensures.fields
-    c.new-progress.ensures.row c.new-progress.ensures.readings
+loop-row-init g c = record {
+  pulled = start _ g.R.Read.remaining _ c.args.config.now c.args.intake.now c.args.outlet.now c.put.new.outlet
+      c.new-progress.result c.as_str.result.now c.requires.intake c.requires.outlet
+      (c.as_str.ensures.value ∙ c.head.ensures) c.as_str.ensures.fits c.in_ok-put.ensures.puts
+      c.in_ok-put.ensures.ok c.in_ok-put.ensures.no_error c.in_ok-put.ensures.same c.new-progress.ensures.fields
+      c.new-progress.ensures.row c.new-progress.ensures.readings;
+  long = refl;
+  holds = λ keeps. holds_none c.args.config.now _ _ _ _ c.new-progress.ensures.row;
+}
 
 pub returns-in_err-put-clause-run : goal.returns-in_err-put-clause-run
 returns-in_err-put-clause-run g c =
@@ -24,29 +31,39 @@ returns-in_err-put-clause-run g c =
 
 pub loop-row-preserved : goal.loop-row-preserved
 loop-row-preserved g c =
-    let v = c.loop-row.invariant in
+    let w = c.loop-row.invariant in
+    let v = w.pulled in
     let t = rw c.in-Full.is at c.in_ok-fill_line.ensures.takes in
     let same = c.in_ok-fill_line.ensures.same in
     let reads = c.take_reading-reading.ensures.reads in
     let reader = c.take_reading-reading.ensures.reader in
     let came = row_came v (search rules) c.levels.ensures t reads reader
     same in
+    let more : IsTrue g.K.Kind.KEEPS → HoldsRows c.args.config.now (v.z ++ t.bytes) c.loop-row.progress.fields
+    (c.loop-row.progress.row + 1) c.keep_row.new.held =
+    holds_kept v t came w.holds c.keep_row.ensures.holds in
     let last : c.loop-row.row + 1 ≤ c.args.config.now.max_fields * height_of c.args.config.now.system =
     omega (arith, c.row_limit-row-end.ensures.value) in
     let e = c.in_ok-add_row-in-Full.ensures in
-    step v (search rules) c.levels.ensures t reads reader same
-    c.add_row.new.outlet c.add_row.new.self e.next e.rises (e.adds v.z t.bytes v.at came) e.no_error e.same last
+    let added = e.adds v.z t.bytes v.at came (λ keeps ends. kept_field v t more keeps ends) in
+    let after = step v (search rules) c.levels.ensures t reads reader same
+    c.add_row.new.outlet c.add_row.new.self e.next e.rises added e.no_error e.same last in
+    record {
+      pulled = after.0;
+      long = c.keep_row.ensures.long ∙ w.long;
+      holds = λ keeps. kept_next v t c.add_row.new.self after.1 more keeps e.next;
+    }
 
 pub returns-in_err-fill_line-clause-run : goal.returns-in_err-fill_line-clause-run
 returns-in_err-fill_line-clause-run g c =
     let last : c.loop-row.row ≤ c.args.config.now.max_fields * height_of c.args.config.now.system =
     omega (arith, c.row_limit-row-end.ensures.value) in
-    read_fault c.loop-row.invariant c.in_err-fill_line.ensures.takes last c.from_residual-in_err-fill_line.result
+    read_fault c.loop-row.invariant.pulled c.in_err-fill_line.ensures.takes last c.from_residual-in_err-fill_line.result
     (search rules)
 
 pub returns-in_err-add_row-in-Full-clause-run : goal.returns-in_err-add_row-in-Full-clause-run
 returns-in_err-add_row-in-Full-clause-run g c =
-    let v = c.loop-row.invariant in
+    let v = c.loop-row.invariant.pulled in
     let t = rw c.in-Full.is at c.in_ok-fill_line.ensures.takes in
     let same = c.in_ok-fill_line.ensures.same in
     let reads = c.take_reading-reading.ensures.reads in
@@ -56,7 +73,10 @@ returns-in_err-add_row-in-Full-clause-run g c =
     let last : c.loop-row.row + 1 ≤ c.args.config.now.max_fields * height_of c.args.config.now.system =
     omega (arith, c.row_limit-row-end.ensures.value) in
     let e = c.in_err-add_row-in-Full.ensures in
-    let added = e.adds v.z t.bytes v.at came in
+    let more : IsTrue g.K.Kind.KEEPS → HoldsRows c.args.config.now (v.z ++ t.bytes) c.loop-row.progress.fields
+    (c.loop-row.progress.row + 1) c.keep_row.new.held =
+    holds_kept v t came c.loop-row.invariant.holds c.keep_row.ensures.holds in
+    let added = e.adds v.z t.bytes v.at came (λ keeps ends. kept_field v t more keeps ends) in
     entry_fault v (search rules) c.levels.ensures t reads reader same c.add_row.new.outlet c.add_row.new.self e.next
     e.field added.0 added.1 e.failed last c.from_residual-in_err-add_row-in-Full.result (search rules)
 
@@ -64,7 +84,7 @@ pub returns-in-Ended-clause-run : goal.returns-in-Ended-clause-run
 returns-in-Ended-clause-run g c =
     let t = rw c.in-Ended.is at c.in_ok-fill_line.ensures.takes in
     let got = t.got in
-    let v = c.loop-row.invariant in
+    let v = c.loop-row.invariant.pulled in
     let before : c.loop-row.row < c.args.config.now.max_fields * height_of c.args.config.now.system =
     omega (arith, c.row_limit-row-end.ensures.value) in
     let short : c.in-Ended.bytes < line_bytes c.args.config.now.system = rw (got.count_of, ← v.system) got.short in
@@ -77,7 +97,7 @@ returns-in-Ended-clause-run g c =
 
 pub returns-in-Ended-eq0-clause-run : goal.returns-in-Ended-eq0-clause-run
 returns-in-Ended-eq0-clause-run g c =
-    let v = c.loop-row.invariant in
+    let v = c.loop-row.invariant.pulled in
     let at = v.at in
     let last : c.loop-row.row ≡ c.args.config.now.max_fields * height_of c.args.config.now.system =
     omega (arith, c.row_limit-row-end.ensures.value) in
@@ -100,7 +120,7 @@ pub returns-in_err-fill_line-2-clause-run : goal.returns-in_err-fill_line-2-clau
 returns-in_err-fill_line-2-clause-run g c =
     let last : c.loop-row.row ≡ c.args.config.now.max_fields * height_of c.args.config.now.system =
     omega (arith, c.row_limit-row-end.ensures.value) in
-    read_fault c.loop-row.invariant c.in_err-fill_line-2.ensures.takes (le_of_eq last)
+    read_fault c.loop-row.invariant.pulled c.in_err-fill_line-2.ensures.takes (le_of_eq last)
     c.from_residual-in_err-fill_line-2.result (search rules)
 
 pub returns-in-Ended-2-clause-run : goal.returns-in-Ended-2-clause-run
@@ -109,7 +129,7 @@ returns-in-Ended-2-clause-run g c =
     let got = t.got in
     let last : c.loop-row.row ≡ c.args.config.now.max_fields * height_of c.args.config.now.system =
     omega (arith, c.row_limit-row-end.ensures.value) in
-    too_many c.loop-row.invariant t last (omega (arith, got.count_of))
+    too_many c.loop-row.invariant.pulled t last (omega (arith, got.count_of))
     (omega (arith, got.short)) got.no_error
 
 pub returns-in-Full-2-clause-run : goal.returns-in-Full-2-clause-run
@@ -119,4 +139,4 @@ returns-in-Full-2-clause-run g c =
     let sizes = sizes_of c.loop-row.intake.line.system in
     let last : c.loop-row.row ≡ c.args.config.now.max_fields * height_of c.args.config.now.system =
     omega (arith, c.row_limit-row-end.ensures.value) in
-    too_many c.loop-row.invariant t last (omega (arith, got.0)) (le_of_eq got.0) got.1
+    too_many c.loop-row.invariant.pulled t last (omega (arith, got.0)) (le_of_eq got.0) got.1

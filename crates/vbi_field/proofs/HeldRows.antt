@@ -1,0 +1,155 @@
+-- The bytes of rows 15, 16 and 17 while a stream grows.
+use Rattle.std.proofs.Common.{◌≡◌, ◌≢◌, ℕ, ◌+◌, ◌-◌, ◌*◌, ◌≤◌, ◌<◌, ◌⊎◌, inl, inr, List, ◌++◌, length, take, drop, sym, ap}
+use Rattle.std.proofs.Common.{◌∙◌, arith, append_assoc}
+use Rattle.std.proofs.lemmas.Bool.{cases_lt}
+use Rattle.std.proofs.lemmas.List.{length-append, length-drop, length-take-le, take-append-drop, take_all, drop-drop, drop_at}
+use Rattle.vbi_field.specs.Shown.{joined_rows}
+use Rattle.std.proofs.Math.Nat.{eq-or-lt_of_le, mul-le-mul_right}
+use Rattle.vbi_field.specs.ConfigView.{height_of, line_bytes, field_bytes, System, ConfigView, Ntsc, Pal}
+use Rattle.vbi_field.specs.Stream.{line_at, rows_at, rows_in}
+use Rattle.vbi_field.specs.Progress.{HoldsRows, HoldsOn, IsHeld, MovesOneRow, Progress}
+use Rattle.vbi_field.proofs.Growing.{line_at-more, line_at-new}
+
+module _ (c : ConfigView) (z b : List ℕ) (i row : ℕ) (held now : List ℕ)
+    (long : length z ≡ (i * height_of c.system + row) * line_bytes c.system)
+    (whole : length b ≡ line_bytes c.system) where
+  placed : (r at : ℕ) → (r < row → line_at c.system held 0 at ≡ line_at c.system z i r)
+      → IsHeld c.system r at row b held now → r < row + 1
+      → line_at c.system now 0 at ≡ line_at c.system (z ++ b) i r
+  placed r at before kept less = go (eq-or-lt_of_le {n = r} {m = row} (omega arith))
+    where
+      go : (r ≡ row) ⊎ (r < row) → line_at c.system now 0 at ≡ line_at c.system (z ++ b) i r
+      go (inl e) =
+          let here : length z ≡ (i * height_of c.system + r) * line_bytes c.system = long
+          ∙ ap (λ k. (i * height_of c.system + k) * line_bytes c.system) (sym e) in
+          kept.0 (sym e) ∙ sym (line_at-new c.system z b i r here whole)
+      go (inr k) =
+          let later : i * height_of c.system + r + 1 ≤ i * height_of c.system + row = omega arith in
+          let m = mul-le-mul_right (line_bytes c.system) later in
+          kept.1 (λ e. omega arith) ∙ before k ∙ sym (line_at-more c.system z b i r (omega arith))
+
+  pub holds_more : HoldsRows c z i row held → HoldsOn c.system row b held now → HoldsRows c (z ++ b) i (row + 1) now
+  holds_more was on = record {
+    first = placed 15 0 was.first on.first;
+    second = placed 16 1 was.second on.second;
+    third = placed 17 2 was.third on.third;
+  }
+
+-- a whole field's
+pub holds_field : (c : ConfigView) (z : List ℕ) (i rows : ℕ) (held : List ℕ) → HoldsRows c z i rows held → 17 < rows
+    → rows_in c.system held ≡ rows_at c z i
+holds_field c z i rows held holds all = λ j. record {
+  first = holds.first (omega arith) j;
+  second = holds.second (omega arith) j;
+  third = holds.third all j;
+}
+
+-- none yet
+pub holds_none : (c : ConfigView) (z : List ℕ) (i row : ℕ) (held : List ℕ) → row ≡ 0 → HoldsRows c z i row held
+holds_none c z i row held e = record {
+  first = λ less. absurd (omega arith);
+  second = λ less. absurd (omega arith);
+  third = λ less. absurd (omega arith);
+}
+
+-- one row further
+pub holds_next : (c : ConfigView) (z : List ℕ) (p p' : Progress) (held : List ℕ)
+    → HoldsRows c z p.fields (p.row + 1) held → MovesOneRow c p p' → HoldsRows c z p'.fields p'.row held
+holds_next c z p p' held holds (inl (fields, row)) = rw (fields, row) holds
+holds_next c z p p' held holds (inr (fields, row, last)) = holds_none c z p'.fields p'.row held row
+
+-- a field has rows past these
+pub tall : (s : System) → 17 < height_of s
+tall Ntsc = omega arith
+tall Pal = omega arith
+
+-- ---- a row that is copied over the bytes of its place
+
+module _ (s : System) (held b : List ℕ) (r : ℕ) (small : r ≤ 2) (room : 3 * line_bytes s ≤ length held)
+    (whole : length b ≡ line_bytes s) where
+  abbrev from : ℕ
+  from = line_bytes s * r
+
+  abbrev spliced : List ℕ
+  spliced = take from held ++ (b ++ drop (from + length b) held)
+
+  within : from + length b ≤ length held
+  within = grind (arith, small, room, whole)
+
+  long-first : length (take from held) ≡ from
+  long-first = length-take-le from held (omega (arith, within))
+
+  again : spliced ≡ (take from held ++ b) ++ drop (from + length b) held
+  again = sym (append_assoc (take from held) b (drop (from + length b) held))
+
+  times-row : (0 * height_of s + r) * line_bytes s ≡ from
+  times-row = grind arith
+
+  here : line_at s spliced 0 r ≡ b
+  here =
+      ap (λ (l : List ℕ). line_at s l 0 r) again
+      ∙ line_at-more s (take from held ++ b) (drop (from + length b) held) 0 r
+      (grind (arith, length-append (take from held) b, long-first, whole, times-row))
+      ∙ line_at-new s (take from held) b 0 r (long-first ∙ sym times-row) whole
+
+  before : (q : ℕ) → q < r → line_at s spliced 0 q ≡ line_at s held 0 q
+  before q less =
+      let fits : (0 * height_of s + q + 1) * line_bytes s ≤ length (take from held) = grind (arith, long-first, less) in
+      line_at-more s (take from held) (b ++ drop (from + length b) held) 0 q fits
+      ∙ sym (line_at-more s (take from held) (drop from held) 0 q fits)
+      ∙ ap (λ (l : List ℕ). line_at s l 0 q) (take-append-drop from held)
+
+  behind : (q : ℕ) → r < q → line_at s spliced 0 q ≡ line_at s held 0 q
+  behind q less =
+      let m : ℕ = from + length b in
+      let k : ℕ = 0 * field_bytes s + line_bytes s * q - m in
+      let e : 0 * field_bytes s + line_bytes s * q ≡ m + k = grind (arith, less, whole) in
+      let long : length (take from held ++ b) ≡ m = length-append (take from held) b ∙ ap (λ n. n + length b) long-first in
+      ap (take (line_bytes s)) (ap (λ n. drop n spliced) e
+      ∙ ap (drop (m + k)) again
+      ∙ sym (drop-drop k m ((take from held ++ b) ++ drop m held))
+      ∙ ap (drop k) (drop_at (take from held ++ b) (drop m held) m long)
+      ∙ drop-drop k m held
+      ∙ ap (λ n. drop n held) (sym e))
+
+  held_at : (row q : ℕ) → row ≡ 15 + r → IsHeld s (15 + q) q row b held spliced
+  held_at row q is = (
+    λ e. let same : q ≡ r = omega arith in ap (λ (n : ℕ). line_at s spliced 0 n) same ∙ here,
+    λ differs. go (cases_lt q r) (cases_lt r q) differs,
+  )
+    where
+      go : (q < r) ⊎ (r ≤ q) → (r < q) ⊎ (q ≤ r) → row ≢ 15 + q → line_at s spliced 0 q ≡ line_at s held 0 q
+      go (inl less) more differs = before q less
+      go (inr le) (inl more) differs = behind q more
+      go (inr le) (inr ge) differs = absurd (differs (omega arith))
+
+  pub put_on : (row : ℕ) → row ≡ 15 + r → HoldsOn s row b held spliced
+  put_on row is = record {
+    long = grind (
+      arith,
+      within,
+      long-first,
+      length-append (take from held) (b ++ drop (from + length b) held),
+      length-append b (drop (from + length b) held),
+      length-drop (from + length b) held,
+    );
+    first = held_at row 0 is;
+    second = held_at row 1 is;
+    third = held_at row 2 is;
+  }
+
+-- ---- three rows one behind the other
+
+-- three rows that are taken apart and joined are what they were
+pub joined_in : (s : System) (rows : List ℕ) → length rows ≡ 3 * line_bytes s → joined_rows (rows_in s rows) ≡ rows
+joined_in s rows long =
+    let l : ℕ = line_bytes s in
+    let a : 0 * field_bytes s + line_bytes s * 0 ≡ 0 = grind arith in
+    let b : 0 * field_bytes s + line_bytes s * 1 ≡ l = grind arith in
+    let c : 0 * field_bytes s + line_bytes s * 2 ≡ l + l = grind arith in
+    let last : take l (drop (l + l) rows) ≡ drop (l + l) rows =
+    take_all l (drop (l + l) rows) (omega (arith, length-drop (l + l) rows, long)) in
+    (λ j. take l (drop (a j) rows) ++ (take l (drop (b j) rows) ++ take l (drop (c j) rows)))
+    ∙ ap (λ (x : List ℕ). take l rows ++ (take l (drop l rows) ++ x)) (last ∙ sym (drop-drop l l rows))
+    ∙ ap (λ (x : List ℕ). take l rows ++ x) (take-append-drop l (drop l rows))
+    ∙ take-append-drop l rows

@@ -1,0 +1,5 @@
+use Rattle.vbi_field.proofs.OneShown as laws
+use Rattle.vbi_field.proofs.laws.one_near_row.Goals as goal
+
+pub returns : goal.returns
+returns c = laws.one_near_row

@@ -1,0 +1,18 @@
+use Rattle.std.proofs.Common.{ℕ, ◌+◌, List, ap, ◌∙◌, sym, refl}
+use Rattle.std.specs.Prelude.{◌==◌}
+use Rattle.vbi_field.specs.Report.{recovered_entry_of}
+use Rattle.vbi_field.specs.Shown.{as_readings, joined_rows, recovery_of}
+use Rattle.vbi_field.specs.Stream.{readings_of}
+use Rattle.vbi_field.proofs.Entries.{no_joint}
+use Rattle.vbi_field.proofs.HeldRows.{joined_in}
+use Rattle.vbi_field.proofs.report.RecoveredReportKind.entry.Goals as goal
+
+pub returns : goal.returns
+returns c = λ rows reads kept.
+    let cfg = c.args.config.now in
+    let same = sym (joined_in cfg.system c.args.held.now (c.requires.held refl)) ∙ ap joined_rows (kept refl) in
+    let lines = c.shown_lines.ensures (reads ∙ ap (readings_of cfg) (sym (kept refl)))
+    ∙ ap (λ (l : List ℕ). as_readings (recovery_of cfg.system cfg.levels l)) same in
+    c.recovered_entry.ensures
+    ∙ ap (recovered_entry_of (c.args.before + 1)) lines
+    ∙ sym (no_joint (c.args.before == 0) _)

@@ -1,0 +1,21 @@
+use Rattle.std.proofs.Common.{sym, ap}
+use Rattle.std.specs.Prelude.{List}
+use Rattle.vbi_field.proofs.OneShown.{sure_rows}
+use Rattle.vbi_near.specs.declared.recovery.Recovered.{Recovered}
+use Rattle.vbi_field.specs.Shown.{as_readings}
+use Rattle.vbi_field.specs.Shown.{recovery_of}
+use Rattle.vbi_field.specs.Stream.{FieldReadings}
+use Rattle.vbi_field.proofs.OneShown.{is_shown}
+use Rattle.vbi_field.proofs.shown.shown_lines.Goals as goal
+
+pub returns-then-is_sure-3 : goal.returns-then-is_sure-3
+returns-then-is_sure-3 c = λ e.
+    let system = c.args.config.now.system in
+    let levels = c.args.config.now.levels in
+    let rows = c.args.rows.now in
+    let was = c.args.readings.now in
+    let same = sure_rows system levels rows (recovery_of system levels rows) was.first was.second was.third
+    (is_shown system levels rows) (ap (λ (r : FieldReadings). r.first) e) (ap (λ (r : FieldReadings). r.second) e)
+    (ap (λ (r : FieldReadings). r.third) e) (c.is_sure.ensures c.if-is_sure.true)
+    (c.is_sure-then-is_sure.ensures c.if-is_sure-2.true) (c.is_sure-then-is_sure-2.ensures c.if-is_sure-3.true) in
+    sym (ap (λ (l : List Recovered). as_readings l) same)

@@ -1,0 +1,57 @@
+-- What the bytes of a field's three rows show with recovered words, and which word is nearest to a row: as relations, and
+-- as functions, which give the only answer there is.
+use Rattle.std.specs.Prelude.{ℕ, List, [], ◌∷◌, ◌++◌}
+use Rattle.vbi_words.specs.declared.system.System.{System}
+use Rattle.vbi_words.specs.declared.outcome.Outcome.TheVariants.{Blank}
+use Rattle.vbi_words.specs.Levels.{Slicing}
+use Rattle.vbi_near.specs.declared.near.Near.{Near}
+use Rattle.vbi_near.specs.declared.recovery.Recovered.{Recovered}
+use Rattle.vbi_near.specs.Distances.{lines_of}
+use Rattle.vbi_near.specs.Nearest.{IsNearest, IsFirst}
+use Rattle.vbi_near.specs.Longer.{IsLonger}
+use Rattle.vbi_near.specs.Shorter.{IsShorter}
+use Rattle.vbi_near.specs.Recovery.{IsRecovered, none_erased}
+use Rattle.vbi_near.proofs.SomeNear.{some_near}
+use Rattle.vbi_near.proofs.SomeRecovered.{some_recovered}
+use Rattle.vbi_field.specs.Stream.{Reading, FieldReadings, FieldRows}
+
+-- ---- the nearest word of a row
+
+-- this word is the nearest one to a row as it is, and the first of those that are as near
+pub record IsNearRow (system : System) (slicing : Slicing) (row : List ℕ) (near : Near) : Type 0 where
+  pub nearest : IsNearest system slicing (lines_of system row 1) near
+  pub first : IsFirst system slicing (lines_of system row 1) near
+  pub longer : IsLonger system slicing (lines_of system row 1) near
+  pub shorter : IsShorter system slicing (lines_of system row 1) near
+
+-- the nearest word of a row. Its body is taken from a proof, and nobody needs to read it: the law `one_near_row` shows
+-- that it meets `IsNearRow`, and that nothing else does.
+unfoldable pub near_of : System → Slicing → List ℕ → Near
+near_of system slicing row = (some_near system slicing (lines_of system row 1)).0
+
+-- ---- what a field shows
+
+-- three rows one behind the other
+abbrev pub joined_rows : FieldRows → List ℕ
+joined_rows rows = rows.first ++ (rows.second ++ rows.third)
+
+-- three rows show this, none of whose columns is erased
+abbrev pub AreShown : System → Slicing → List ℕ → List Recovered → Type 0
+AreShown system slicing rows shown = IsRecovered system slicing rows (none_erased system) shown
+
+-- what three rows show; the law `one_shown` shows that it meets `AreShown`, and that nothing else does
+unfoldable pub recovery_of : System → Slicing → List ℕ → List Recovered
+recovery_of system slicing rows = (some_recovered system slicing rows (none_erased system)).0
+
+-- what a line shows as a reading; one of pass 3 was recovered
+abbrev pub reading_as : Recovered → Reading
+reading_as line = record { outcome = line.outcome; pass = line.pass }
+
+abbrev pub blank_line : Reading
+blank_line = record { outcome = Blank; pass = 0 }
+
+-- what lines 16, 17 and 18 show
+abbrev pub as_readings : List Recovered → FieldReadings
+as_readings (first ∷ second ∷ third ∷ []) =
+    record { first = reading_as first; second = reading_as second; third = reading_as third }
+as_readings _ = record { first = blank_line; second = blank_line; third = blank_line }
