@@ -67,11 +67,7 @@ fn complain(rt: &impl Eprint, fault: MainFault) -> u8 {
 
 /// Opens what the job names, does the job, and answers the status.
 fn run_with_files(rt: &HostRuntime, job: &Job) -> Result<u8, MainFault> {
-    let meta = job
-        .meta
-        .as_ref()
-        .map(|path| metadata(rt, path.as_str()))
-        .transpose()?;
+    let meta = metadata_of(rt, job)?;
     let mut input = match &job.input {
         None => Input::Standard(rt.stdin()),
         Some(path) => {
@@ -98,9 +94,44 @@ fn run_with_files(rt: &HostRuntime, job: &Job) -> Result<u8, MainFault> {
     Ok(status(&ended))
 }
 
-/// The bytes of the metadata file, up to one past those that are allowed.
+/// The bytes of the metadata file that the job names, or of the one beside its input, if there is one.
+fn metadata_of(rt: &HostRuntime, job: &Job) -> Result<Option<Vec<u8>>, MainFault> {
+    match (&job.meta, &job.input) {
+        (Some(path), _) => metadata(rt, path.as_str()).map(Some),
+        (None, Some(input)) if job.looks_beside() => metadata_beside(rt, input.as_str()),
+        _ => Ok(None),
+    }
+}
+
+/// The bytes of a metadata file, up to one past those that are allowed.
 fn metadata(rt: &(impl Files + AllocGlobal), path: &str) -> Result<Vec<u8>, MainFault> {
     let file = File::open(rt, path).map_err(|_| MainFault::CannotReadMetadata)?;
+    metadata_in(rt, file)
+}
+
+/// The bytes of the metadata of this input, which has its name and `.json` behind it, if there is such a file.
+fn metadata_beside(
+    rt: &(impl Files + AllocGlobal),
+    input: &str,
+) -> Result<Option<Vec<u8>>, MainFault> {
+    let path = format!(in rt.alloc(); "{input}.json").map_err(|_| MainFault::OutOfMemory)?;
+    match File::open(rt, path.as_str()) {
+        Ok(file) => metadata_in(rt, file).map(Some),
+        Err(error) if is_absent(error.kind()) => Ok(None),
+        Err(_) => Err(MainFault::CannotReadMetadata),
+    }
+}
+
+/// Whether a file that can't be opened for this reason isn't there.
+fn is_absent(kind: io::ErrorKind) -> bool {
+    matches!(
+        kind,
+        io::ErrorKind::NotFound | io::ErrorKind::NotADirectory
+    )
+}
+
+/// The bytes of an open metadata file, up to one past those that are allowed.
+fn metadata_in(rt: &impl AllocGlobal, file: File) -> Result<Vec<u8>, MainFault> {
     let mut bytes = Vec::new(rt.alloc());
     match file.take(META_LIMIT as u64 + 1).read_to_end(&mut bytes) {
         Ok(_) => Ok(bytes),

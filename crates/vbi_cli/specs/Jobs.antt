@@ -1,7 +1,7 @@
 -- What a job does: what metadata and options settle, what each command does with it, and the job's answer; and the
 -- statuses that the program ends with.
 use Rattle.std.specs.Prelude.{◌≡◌, ◌⊎◌, ℕ, List, Option, Some, None, Result, Ok, Err, IfOk, ⊤, is_some, if◌then◌else◌}
-use Rattle.std.specs.Prelude.{codes, Bool, true, false}
+use Rattle.std.specs.Prelude.{codes, Bool, true, false, not, ◌&&◌}
 use Rattle.vbi_field.specs.ConfigView.{line_bytes, System, ConfigView}
 use Rattle.vbi_words.specs.declared.outcome.Outcome.{Outcome}
 use Rattle.vbi_field.specs.Texts.{document, recovered_document, report, recovered_report}
@@ -18,6 +18,7 @@ use Rattle.vbi_cli.specs.declared.fault.AppFault.{AppFault}
 use Rattle.vbi_cli.specs.declared.fault.AppFault.TheVariants as app
 use Rattle.vbi_cli.specs.declared.job.Ended.{Ended}
 use Rattle.vbi_cli.specs.declared.job.Ended.TheVariants.{Whole, CutField}
+use Rattle.vbi_cli.specs.declared.command_line.Job.{Job}
 use Rattle.vbi_cli.specs.declared.command_line.Verb.{Verb}
 use Rattle.vbi_cli.specs.declared.command_line.Verb.TheVariants.{Line, Extract, Show, Draw}
 use Rattle.vbi_line.specs.Intake as lines
@@ -183,6 +184,13 @@ recovers Line = false
 recovers (Extract recover) = recover
 recovers (Show recover) = recover
 recovers Draw = false
+
+-- the metadata that lies beside the input is to be read, if there is some
+abbrev pub looks_beside : Job → Bool
+looks_beside job =
+    let given = job.overrides in
+    is_some job.input && not (is_some job.meta)
+    && not (is_some given.system && is_some given.black && is_some given.white)
 
 -- where the command line gives no job: 2 where it is refused, 0 where help is asked for, 1 where memory runs out
 abbrev pub words_status : WordsFault → ℕ

@@ -2,7 +2,7 @@
 
 ghost use Rattle.std.specs.Prelude.{◌≡◌, None, IfOk, OnErr};
 ghost use Rattle.vbi_words.specs.Geometry.{name_of, system_named};
-ghost use Rattle.vbi_cli.specs.Jobs.{words_status, word_of, recovers};
+ghost use Rattle.vbi_cli.specs.Jobs.{words_status, word_of, recovers, looks_beside};
 ghost use Rattle.vbi_cli.specs.declared.command_line.Verb as verbs;
 
 use crate::commands::{RECOVER, can_recover, program};
@@ -43,6 +43,18 @@ pub struct Job {
     pub meta: Option<String>,
     /// The path of the input; None for standard input.
     pub input: Option<String>,
+}
+
+impl Job {
+    /// Whether the metadata that lies beside the input is to be read, if there is some: the input is a file, and neither
+    /// metadata nor each of system, black and white is given.
+    pub fn looks_beside(&self) -> bool
+        ensures { result ≡ looks_beside self.now }
+    {
+        let given = &self.overrides;
+        let is_settled = given.system.is_some() && given.black.is_some() && given.white.is_some();
+        self.input.is_some() && self.meta.is_none() && !is_settled
+    }
 }
 
 /// Why a command line gives no job.

@@ -254,6 +254,20 @@ fn each_command_refuses_other_options(rt: HostRuntime) -> Result<(), Fail> {
     Ok(())
 }
 
+#[test]
+fn recovered_words_are_of_extract_and_show_alone(rt: HostRuntime) -> Result<(), Fail> {
+    for command in ["line", "draw"] {
+        let why = "unexpected argument '--recover' found\n\n  tip: to pass '--recover' as a value, use '-- --recover'";
+        says_why(rt.alloc(), command, &["--recover"], why, true)?;
+    }
+    for command in ["extract", "show"] {
+        refuses(rt.alloc(), command, &["--recover=yes"])?;
+        refuses(rt.alloc(), command, &["--recover", "--recover"])?;
+        refuses(rt.alloc(), command, &["--recove"])?;
+    }
+    Ok(())
+}
+
 /// Words that name no command, the program's name first, and why they are refused.
 static NO_COMMAND: [(&[&str], &str); 5] = [
     (

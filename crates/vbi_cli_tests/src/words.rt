@@ -1,6 +1,6 @@
 //! What the words of the command line put into a job.
 
-use crate::runs::NONE;
+use crate::runs::{EXTRACT, NONE, SHOW};
 use std::alloc::{AllocError, Global};
 use std::test::Fail;
 use vbi_cli::{Job, Verb, WordsFault, read_words};
@@ -37,9 +37,15 @@ fn owned(alloc: Global, texts: &[&str]) -> Result<Vec<String>, AllocError> {
 
 pub(crate) static COMMANDS: [(&str, Verb); 4] = [
     ("line", Verb::Line),
-    ("extract", Verb::Extract),
-    ("show", Verb::Show),
+    ("extract", EXTRACT),
+    ("show", SHOW),
     ("draw", Verb::Draw),
+];
+
+/// The commands with the flag that asks for recovered words.
+static RECOVERING: [(&str, Verb); 2] = [
+    ("extract", Verb::Extract { recover: true }),
+    ("show", Verb::Show { recover: true }),
 ];
 
 /// All that a job holds.
@@ -130,6 +136,38 @@ fn each_command_takes_each_set_of_options(rt: HostRuntime) -> Result<(), Fail> {
                 }
             }
         }
+    }
+    Ok(())
+}
+
+#[test]
+fn recovered_words_are_asked_for_before_or_behind_the_input(rt: HostRuntime) -> Result<(), Fail> {
+    for &(command, verb) in &RECOVERING {
+        for words in [["--recover", "disc.tbc"], ["disc.tbc", "--recover"]] {
+            let job = read_behind(rt.alloc(), command, &words)?;
+            let wanted = wanted(verb, [false; 5], Some("disc.tbc"));
+            same(contents_of(&job), wanted, (command, words))?;
+        }
+    }
+    Ok(())
+}
+
+/// Words behind `extract`, and whether metadata beside the input is looked for.
+static BESIDE: [(&[&str], bool); 7] = [
+    (&["disc.tbc"], true),
+    (&["--recover", "--max-fields", "5", "disc.tbc"], true),
+    (&["--system", "PAL", "--white", "54016", "disc.tbc"], true),
+    (&["--black", "0", "--white", "54016", "disc.tbc"], true),
+    (&["--system", "PAL", "--black", "0", "--white", "54016", "disc.tbc"], false),
+    (&["--meta", "a.json", "disc.tbc"], false),
+    (&["-"], false),
+];
+
+#[test]
+fn metadata_is_looked_for_beside_a_file(rt: HostRuntime) -> Result<(), Fail> {
+    for &(words, looks) in &BESIDE {
+        let job = read_behind(rt.alloc(), "extract", words)?;
+        same(job.looks_beside(), looks, words)?;
     }
     Ok(())
 }

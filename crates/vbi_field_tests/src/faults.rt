@@ -5,8 +5,9 @@
 use crate::faults::End::{Cut, Read, TooMany, Whole};
 use crate::fields::{NONE, config, field, front, two_fields};
 use crate::known::{
-    BLACK, HEAD, PAL_HEAD, PAL_REPORT_HEAD, REPORT_BLACK, REPORT_HEAD, REPORT_SECOND_BLACK,
-    REPORT_TAIL, SECOND_BLACK, TAIL,
+    BLACK, HEAD, PAL_HEAD, PAL_RECOVERED_HEAD, PAL_REPORT_HEAD, RECOVERED_BLACK, RECOVERED_HEAD,
+    REPORT_BLACK, REPORT_HEAD, REPORT_SECOND_BLACK, REPORT_TAIL, SECOND_BLACK,
+    SECOND_RECOVERED_BLACK, TAIL,
 };
 use crate::runs::{
     Done, Ended, NO_FAILURE, ONE_ERROR, VERBS, Verb, answers, interruptions, total, whole,
@@ -78,12 +79,15 @@ fn texts_of(verb: Verb, system: System, end: End) -> [&'static str; 4] {
     let head = match (verb, system) {
         (Verb::Extract, Ntsc) => HEAD,
         (Verb::Extract, Pal) => PAL_HEAD,
-        (Verb::Show, Ntsc) => REPORT_HEAD,
-        (Verb::Show, Pal) => PAL_REPORT_HEAD,
+        (Verb::ExtractRecovered, Ntsc) => RECOVERED_HEAD,
+        (Verb::ExtractRecovered, Pal) => PAL_RECOVERED_HEAD,
+        (Verb::Show | Verb::ShowRecovered, Ntsc) => REPORT_HEAD,
+        (Verb::Show | Verb::ShowRecovered, Pal) => PAL_REPORT_HEAD,
     };
     let (first, second, tails, cut) = match verb {
         Verb::Extract => (BLACK, SECOND_BLACK, [TAIL; 3], CUTS[0]),
-        Verb::Show => (REPORT_BLACK, REPORT_SECOND_BLACK, LASTS, CUTS[1]),
+        Verb::ExtractRecovered => (RECOVERED_BLACK, SECOND_RECOVERED_BLACK, [TAIL; 3], CUTS[0]),
+        Verb::Show | Verb::ShowRecovered => (REPORT_BLACK, REPORT_SECOND_BLACK, LASTS, CUTS[1]),
     };
     match end {
         Cut => [head, cut, "", ""],
@@ -127,7 +131,9 @@ fn no_reader_is_asked_again_after_its_end_or_an_error(rt: HostRuntime) -> Result
             Some(count) => count,
             None => bytes,
         };
-        for &verb in &VERBS {
+        // One loop serves all four, so that short streams are enough for those with recovered words.
+        let verbs = if asked < 2000 { 4 } else { 2 };
+        for &verb in VERBS.iter().take(verbs) {
             let texts = texts_of(verb, system, end);
             let mut tape = Tape {
                 piece: 1,

@@ -25,6 +25,9 @@ pub(crate) enum Line {
     Word(u32),
     /// A drawn word of which two columns in its first high half cell are black: 170 and 171, or 215 and 216 of PAL.
     Scratched(u32),
+    /// A drawn word of which five columns are turned over, the fourth to the eighth of a cell: of its third in NTSC, 210
+    /// to 214, of its fourth in PAL, 299 to 303.
+    Torn(u32),
     /// So many black columns, so many white ones, and black ones to the end.
     Run(usize, usize),
 }
@@ -48,9 +51,23 @@ fn sample_of(config: &Config, line: Line, column: usize) -> u16
         (config.system(), column),
         (System::Ntsc, 170 | 171) | (System::Pal, 215 | 216)
     );
+    let is_torn = match config.system() {
+        System::Ntsc => 210 <= column && column <= 214,
+        System::Pal => 299 <= column && column <= 303,
+    };
     let word = match line {
         Line::Black => None,
         Line::Word(value) => Word24::new(value).ok(),
+        Line::Torn(value) => {
+            let word = Word24::new(value).ok();
+            let sample = drawn_sample(config.system(), levels, word, column);
+            // What is black becomes white, and the other way round.
+            return if is_torn == (sample == levels.black()) {
+                levels.white()
+            } else {
+                levels.black()
+            };
+        }
         Line::Scratched(_) if is_scratch => None,
         Line::Scratched(value) => Word24::new(value).ok(),
         Line::Run(low, high) => {

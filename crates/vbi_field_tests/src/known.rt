@@ -16,6 +16,21 @@ pub(crate) const BLACK: &str = "{\"seqNo\":1,\"vbi\":{\"vbiData\":[0,0,0]},\
 pub(crate) const SECOND_BLACK: &str = ",\n{\"seqNo\":2,\"vbi\":{\"vbiData\":[0,0,0]},\
     \"vbiCause\":[\"blank\",\"blank\",\"blank\"],\"vbiPass\":[0,0,0]}";
 
+/// The heads of the documents with recovered words.
+pub(crate) const RECOVERED_HEAD: &str = "{\"version\":3,\"videoParameters\":{\"system\":\"NTSC\",\
+    \"fieldWidth\":910,\"fieldHeight\":263,\"black16bIre\":16384,\"white16bIre\":51200},\"fields\":[\n";
+
+pub(crate) const PAL_RECOVERED_HEAD: &str =
+    "{\"version\":3,\"videoParameters\":{\"system\":\"PAL\",\
+    \"fieldWidth\":1135,\"fieldHeight\":313,\"black16bIre\":16384,\"white16bIre\":54016},\"fields\":[\n";
+
+/// The record of a first black field in such a document, and that of a second one with what joins them.
+pub(crate) const RECOVERED_BLACK: &str = "{\"seqNo\":1,\"vbi\":{\"vbiData\":[0,0,0]},\
+    \"vbiCause\":[\"blank\",\"blank\",\"blank\"],\"vbiPass\":[0,0,0],\"vbiNear\":[null,null,null]}";
+
+pub(crate) const SECOND_RECOVERED_BLACK: &str = ",\n{\"seqNo\":2,\"vbi\":{\"vbiData\":[0,0,0]},\
+    \"vbiCause\":[\"blank\",\"blank\",\"blank\"],\"vbiPass\":[0,0,0],\"vbiNear\":[null,null,null]}";
+
 pub(crate) const WORDS: &str = "{\"seqNo\":1,\"vbi\":{\"vbiData\":[8572927,15803205,15803205]},\
     \"vbiCause\":[\"word\",\"word\",\"word\"],\"vbiPass\":[1,1,1]}";
 

@@ -25,6 +25,8 @@ mod known;
 #[cfg(test)]
 mod outlets;
 #[cfg(test)]
+mod recovered;
+#[cfg(test)]
 mod runs;
 #[cfg(test)]
 mod texts;

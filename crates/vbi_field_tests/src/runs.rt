@@ -3,7 +3,10 @@
 use std::alloc::Global;
 use std::io::Read;
 use std::test::Fail;
-use vbi_field::{Config, DrawFault, Outlet, RowIntake, RunFault, Summary, draw, extract, show};
+use vbi_field::{
+    Config, DrawFault, Outlet, RowIntake, RunFault, Summary, draw, extract, extract_recovered,
+    show, show_recovered,
+};
 use vbi_line::Intake;
 use vbi_test_devices::{Paper, Tape, holds, same};
 
@@ -49,17 +52,26 @@ pub(crate) struct Done {
 #[derive(Clone, Copy, Debug)]
 pub(crate) enum Verb {
     Extract,
+    ExtractRecovered,
     Show,
+    ShowRecovered,
 }
 
-pub(crate) static VERBS: [Verb; 2] = [Verb::Extract, Verb::Show];
+pub(crate) static VERBS: [Verb; 4] = [
+    Verb::Extract,
+    Verb::Show,
+    Verb::ExtractRecovered,
+    Verb::ShowRecovered,
+];
 
 pub(crate) fn ran<R: Read>(verb: Verb, config: &Config, reader: &mut R, paper: &mut Paper) -> Done {
     let mut intake = Intake::new(reader, config.system());
     let mut outlet = Outlet::new(paper);
     let result = match verb {
         Verb::Extract => extract(config, &mut intake, &mut outlet),
+        Verb::ExtractRecovered => extract_recovered(config, &mut intake, &mut outlet),
         Verb::Show => show(config, &mut intake, &mut outlet),
+        Verb::ShowRecovered => show_recovered(config, &mut intake, &mut outlet),
     };
     Done {
         result,

@@ -103,4 +103,8 @@ impl Matches {
     pub(crate) fn get_one<Number: Copy + Send + Sync + 'static>(&self, id: &str) -> Option<Number> {
         self.given.get_one(id).copied()
     }
+
+    pub(crate) fn get_flag(&self, id: &str) -> bool {
+        self.given.get_flag(id)
+    }
 }

@@ -44,7 +44,7 @@ fn run() -> u8 {
 
 /// Opens what the job names, does the job, and answers the status.
 fn run_with_files(job: &Job) -> Result<u8, &'static str> {
-    let meta = job.meta.as_deref().map(metadata).transpose()?;
+    let meta = metadata_of(job)?;
     let mut input = match &job.input {
         None => Input::Standard(Stream::input()),
         Some(path) => Input::File(File::open(path).map_err(|_| "cannot open input")?),
@@ -63,9 +63,26 @@ fn run_with_files(job: &Job) -> Result<u8, &'static str> {
     Ok(status(&ended))
 }
 
-/// The bytes of the metadata file, up to one past those that are allowed. An interrupted read is made again.
-fn metadata(path: &str) -> Result<Vec<u8>, &'static str> {
-    let mut file = File::open(path).map_err(|_| "cannot read metadata")?;
+/// The bytes of the metadata file that the job names, or of the one beside its input, if there is one.
+fn metadata_of(job: &Job) -> Result<Option<Vec<u8>>, &'static str> {
+    match (&job.meta, &job.input) {
+        (Some(path), _) => metadata(File::open(path)).map(Some),
+        (None, Some(input)) if job.looks_beside() => match File::open(format!("{input}.json")) {
+            Err(error) if is_absent(&error) => Ok(None),
+            opened => metadata(opened).map(Some),
+        },
+        _ => Ok(None),
+    }
+}
+
+/// Whether a file that can't be opened isn't there. The kind of a name below a file (20) has no name in older compilers.
+fn is_absent(error: &std::io::Error) -> bool {
+    error.kind() == ErrorKind::NotFound || cfg!(unix) && error.raw_os_error() == Some(20)
+}
+
+/// The bytes of a metadata file, up to one past those that are allowed. An interrupted read is made again.
+fn metadata(opened: std::io::Result<File>) -> Result<Vec<u8>, &'static str> {
+    let mut file = opened.map_err(|_| "cannot read metadata")?;
     let (mut bytes, mut piece) = (Vec::new(), vec![0; 65536]);
     while bytes.len() <= META_LIMIT {
         let most = piece.len().min(META_LIMIT + 1 - bytes.len());
