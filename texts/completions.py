@@ -3,7 +3,7 @@
 import textwrap
 from typing import Iterable, List
 
-from program import ANYTHING, FILE, FOLDER, NOTHING, Command, Option, Program
+from program import ANYTHING, FILE, FOLDER, NOTHING, Command, Option, Program, by_options
 
 WIDTH = 120
 
@@ -73,9 +73,10 @@ def bash_case(pattern: str, command: Command) -> str:
 def bash(program: Program) -> str:
     without, *commands = program.commands
     if program.needs_command:
-        names = " ".join(command.name for command in commands)
-        first = " ".join([names, "help", *long_names(without.options)])
-        cases = ["        '') answers='%s' ;;" % first, HELP_OF_COMMANDS % names, bash_case("*", commands[0])]
+        all_names = " ".join(command.name for command in commands)
+        first = " ".join([all_names, "help", *long_names(without.options)])
+        cases = ["        '') answers='%s' ;;" % first, HELP_OF_COMMANDS % all_names]
+        cases += [bash_case(" | ".join(names), command) for names, command in by_options(commands)]
     else:
         cases = [bash_case(command.name, command) for command in commands] + [bash_case("*", without)]
     return BASH.format(name=program.name, function="_" + program.name.replace("-", "_"), cases="\n".join(cases))
@@ -164,7 +165,7 @@ def zsh_case(pattern: str, command: Command) -> str:
 def zsh(program: Program) -> str:
     without, *commands = program.commands
     if program.needs_command:
-        cases = [zsh_case("|".join(command.name for command in commands), commands[0])]
+        cases = [zsh_case("|".join(names), command) for names, command in by_options(commands)]
         rows = "\n".join("    " + quoted("%s:%s" % (command.name, command.about[:1].lower() + command.about[1:]))
                          for command in commands)
         options = " \\\n".join("    " + zsh_option(option) for option in without.options)

@@ -4,7 +4,7 @@ import re
 import textwrap
 from typing import Iterable, List
 
-from program import NOTHING, Command, Option, Program
+from program import NOTHING, Command, Option, Program, by_options
 
 WIDTH = 80
 # A word of a text that is an option, or stands in backquotes, with what stands behind it
@@ -87,8 +87,13 @@ def commands_of_ldvbi(program: Program) -> str:
 
 
 def options_of_ldvbi(program: Program) -> str:
-    without, first = program.commands[:2]
-    return options(first) + ".Pp\nWithout a command:\n" + options_list(without.options)
+    without, first, *others = program.commands
+    text = options(first)
+    for names, command in by_options(others):
+        own = [option for option in command.options if option not in first.options]
+        of = "and\n".join(".Cm %s\n" % name for name in names)
+        text += ".Pp\nOf\n" + of + "alone:\n" + options_list(own) if own else ""
+    return text + ".Pp\nWithout a command:\n" + options_list(without.options)
 
 
 # ---- ldvbi-side

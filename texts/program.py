@@ -102,14 +102,17 @@ def option_of_ldvbi(row: Dict[str, str]) -> Option:
 def ldvbi() -> Program:
     with open(os.path.join(TOP, COMMANDS_OF_LDVBI), encoding="utf-8") as file:
         text = file.read()
-    options = [option_of_ldvbi(row) for row in fields_of(text, "OptionTexts")] + [HELP]
-    commands = [Command(row["name"], row["about"], paragraph(row["details"]), options,
-                        [Words("input", FILE, 1, False)]) for row in fields_of(text, "CommandTexts")]
+    options = [option_of_ldvbi(row) for row in fields_of(text, "OptionTexts")]
     version = Option(("-V", "--version"), "", NOTHING, (), "print the version", "print the version", (), False)
     constants = re.findall(r"^const (\w+): &str =\s+%s;" % LITERAL, text, re.M)
     whole = {name: unescaped(literal) for name, literal in constants}
+    flag = Option(("--" + re.findall(r"^pub\(crate\) const RECOVER: &str = %s;" % LITERAL, text, re.M)[0],), "", NOTHING,
+                  (), paragraph(whole["RECOVER_DETAILS"]), lower(whole["RECOVER_HELP"]), (), False)
+    commands = [Command(row["name"], row["about"], paragraph(row["details"]),
+                        options + [flag] * (row["recovers"] == "true") + [HELP], [Words("input", FILE, 1, False)])
+                for row in fields_of(text, "CommandTexts")]
     statuses = re.findall(r"^  (\d+)  (.*)$", whole["EXAMPLES"].partition("Exit status:")[2], re.M)
-    if (len(commands), len(options), len(statuses)) != (text.count("about: \""), text.count("value: \"") + 1, 4):
+    if (len(commands), len(options), len(statuses)) != (text.count("about: \""), text.count("value: \""), 4):
         raise SystemExit("%s has commands, options or statuses in a form that isn't known" % COMMANDS_OF_LDVBI)
     without = Command("", "", paragraph(whole["DETAILS"]), [HELP, version], [])
     return Program("ldvbi", COMMANDS_OF_LDVBI, [without, *commands], True, statuses)
@@ -150,6 +153,14 @@ def command_of(name: str, parser: argparse.ArgumentParser) -> Command:
             words.append(Words(str(action.metavar or action.dest), takes_of(action), least, action.nargs == "+"))
     text = paragraph(parser.description or "")
     return Command(name, lower(clause(text)), text, options, words)
+
+
+def by_options(commands: List[Command]) -> List[Tuple[List[str], Command]]:
+    """The names of commands that have the same options, and one of these commands."""
+    groups: Dict[Tuple[str, ...], List[Command]] = {}
+    for command in commands:
+        groups.setdefault(tuple(option.names[-1] for option in command.options), []).append(command)
+    return [([command.name for command in group], group[0]) for group in groups.values()]
 
 
 def ldvbi_side() -> Program:

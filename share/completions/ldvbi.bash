@@ -19,8 +19,16 @@ _ldvbi() {
             [ "$COMP_CWORD" = 2 ] || return
             answers='line extract show draw'
             ;;
-        *)
+        line | draw)
             options='--meta --system --black --white --max-fields --help'
+            case $before in
+                --system) answers='NTSC PAL' ;;
+                --meta) compopt -o default; return ;;
+                --black | --white | --max-fields) return ;;
+            esac
+            ;;
+        extract | show)
+            options='--meta --system --black --white --max-fields --recover --help'
             case $before in
                 --system) answers='NTSC PAL' ;;
                 --meta) compopt -o default; return ;;

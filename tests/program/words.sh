@@ -77,7 +77,8 @@ line.raw --black|82CFFF|$levels -- --black
 |cannot open input|$levels line.raw/line.raw
 END
 
-# help_of NAME: the help of this file, whose line `@options` stands for what all commands have. The short help of a
+# help_of NAME: the help of this file, whose lines `@options` and `@help` stand for what all commands have, and
+# `@recover` for a flag of two. The short help of a
 # command is its line in that of the program, and then the same from the usage on, with the input in one line.
 help_of() {
     of=${1%-short}
@@ -88,7 +89,8 @@ help_of() {
             sed -n "s/^  $of  *//p" "$here/help/ldvbi.txt"
             sed -n '/^$/,$p' "$here/help/$of.txt" | sed '/^  \[INPUT\]$/{N;s/\n */  /;}'
             ;;
-    esac | sed -e "/^@options\$/{r $here/help/options$short.txt" -e 'd;}'
+    esac | sed -e "/^@options\$/{r $here/help/options$short.txt" -e 'd;}' \
+        -e "/^@recover\$/{r $here/help/recover$short.txt" -e 'd;}' -e "/^@help\$/{r $here/help/help$short.txt" -e 'd;}'
 }
 # helped NAME: whether the last run printed this help. Of the Rust program, whose clap may be of any version, the words
 # have to be the same, but for what clap says of its own options.

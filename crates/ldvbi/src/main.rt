@@ -124,14 +124,11 @@ fn metadata_beside(
 
 /// Whether a file that can't be opened for this reason isn't there.
 fn is_absent(kind: io::ErrorKind) -> bool {
-    matches!(
-        kind,
-        io::ErrorKind::NotFound | io::ErrorKind::NotADirectory
-    )
+    matches!(kind, io::ErrorKind::NotFound | io::ErrorKind::NotADirectory)
 }
 
 /// The bytes of an open metadata file, up to one past those that are allowed.
-fn metadata_in(rt: &impl AllocGlobal, file: File) -> Result<Vec<u8>, MainFault> {
+fn metadata_in<R: Read + Drop>(rt: &impl AllocGlobal, file: R) -> Result<Vec<u8>, MainFault> {
     let mut bytes = Vec::new(rt.alloc());
     match file.take(META_LIMIT as u64 + 1).read_to_end(&mut bytes) {
         Ok(_) => Ok(bytes),

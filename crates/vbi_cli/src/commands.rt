@@ -36,6 +36,8 @@ struct CommandTexts {
     details: &'static str,
     input: &'static str,
     example: &'static str,
+    /// Whether it has the flag that asks for recovered words.
+    recovers: bool,
 }
 
 /// The commands, in the order of the help.
@@ -54,6 +56,7 @@ static COMMANDS: [CommandTexts; 4] = [
             \x20 0  done\n\
             \x20 1  a fault, as a short line, named on standard error\n\
             \x20 2  the command line was refused",
+        recovers: false,
     },
     CommandTexts {
         name: "extract",
@@ -69,6 +72,7 @@ static COMMANDS: [CommandTexts; 4] = [
             \x20 1  a fault, named in one line on standard error\n\
             \x20 2  the command line was refused\n\
             \x20 3  done, and the last field was cut (cutField has its bytes)",
+        recovers: true,
     },
     CommandTexts {
         name: "show",
@@ -84,6 +88,7 @@ static COMMANDS: [CommandTexts; 4] = [
             \x20 1  a fault, named in one line on standard error\n\
             \x20 2  the command line was refused\n\
             \x20 3  done, and the last field was cut",
+        recovers: true,
     },
     CommandTexts {
         name: "draw",
@@ -98,6 +103,7 @@ static COMMANDS: [CommandTexts; 4] = [
             \x20 0  done\n\
             \x20 1  a fault, as a malformed row, named on standard error\n\
             \x20 2  the command line was refused",
+        recovers: false,
     },
 ];
 
@@ -168,12 +174,21 @@ static OPTIONS: [OptionTexts; 5] = [
 
 static SYSTEMS: [&str; 2] = ["NTSC", "PAL"];
 
-/// The name of the flag that asks for recovered words.
+/// The flag that asks for recovered words, with the texts of its help.
 pub(crate) const RECOVER: &str = "recover";
+
+const RECOVER_HELP: &str = "Recover words from worn lines";
+
+const RECOVER_DETAILS: &str =
+    "Recover words from worn lines: the word whose drawing is nearest to the line's samples, if it\n\
+        is far enough ahead of all others. The document of extract is of version 3 then, with vbiPass 3\n\
+        and vbiNear; show marks such words";
 
 /// Whether the command of this name has that flag.
 pub(crate) fn can_recover(name: &str) -> bool {
-    name == "extract" || name == "show"
+    COMMANDS
+        .iter()
+        .any(|texts| texts.recovers && texts.name == name)
 }
 
 /// The program's command line: a command has to be given, and no option is shared by all.
@@ -210,19 +225,19 @@ fn command<'a>(alloc: Global, texts: &CommandTexts) -> Result<Command<'a>, Alloc
     for option_texts in &OPTIONS {
         command = command.arg(option(alloc, option_texts))?;
     }
-    with_recover(alloc, command, texts.name)?.arg(input(alloc, texts.input))
+    with_recover(alloc, command, texts.recovers)?.arg(input(alloc, texts.input))
 }
 
-/// The command of this name, with its flag, if it has that.
+/// A command with the flag that asks for recovered words, if it is to have that.
 fn with_recover<'a>(
     alloc: Global,
     command: Command<'a>,
-    name: &str,
+    recovers: bool,
 ) -> Result<Command<'a>, AllocError>
     requires { (fields_of command).has_globals ≡ false }
     ensures { IfOk result (λ c. (fields_of c).has_globals ≡ false) }
 {
-    if can_recover(name) {
+    if recovers {
         command.arg(recover(alloc))
     } else {
         Ok(command)
@@ -236,12 +251,8 @@ fn recover<'a>(alloc: Global) -> Arg<'a>
     Arg::new(alloc, RECOVER)
         .long(RECOVER)
         .action(ArgAction::SetTrue)
-        .help("Recover words from worn lines")
-        .long_help(
-            "Recover words from worn lines: that whose drawing is nearest to the line's samples, if it\n\
-            is far enough ahead of all others. Of extract the document is of version 3, with vbiPass 3\n\
-            and vbiNear; show marks such words",
-        )
+        .help(RECOVER_HELP)
+        .long_help(RECOVER_DETAILS)
 }
 
 /// An option of a command.

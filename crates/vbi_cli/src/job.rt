@@ -16,8 +16,10 @@ use crate::one_line::{LineFault, run_line};
 use crate::source::Source;
 use std::alloc::Global;
 use std::io::{Read, Write};
-use vbi_field::{Config, DrawFault, Outlet, RunFault, Summary, draw, extract, extract_recovered};
-use vbi_field::{show, show_recovered};
+use vbi_field::{
+    Config, DrawFault, Outlet, RunFault, Summary, draw, extract, extract_recovered, show,
+    show_recovered,
+};
 use vbi_line::Intake;
 use vbi_meta::{MetaFault, read_meta, settings};
 use vbi_words::{Outcome, System};

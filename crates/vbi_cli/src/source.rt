@@ -62,9 +62,8 @@ impl<'a, R: Read> Source<'a, R> {
         ensures reader { result.now ≡ device_of (counted_of self.entry) }
     {
         match self {
-            Source::Line(intake)
-            | Source::Extract { intake, .. }
-            | Source::Show { intake, .. } => intake.into_reader(),
+            Source::Line(intake) | Source::Extract { intake, .. } | Source::Show { intake, .. } =>
+                intake.into_reader(),
             Source::Draw(rows) => rows.into_reader(),
         }
     }

@@ -3,7 +3,7 @@
 
 use crate::asserts::{ends, writes};
 use crate::known::{black_stream, drawn_line, front, stored_line};
-use crate::runs::{EXTRACT, NEVER, NONE, NTSC, PAL, SHOW, STORED, Ran, job, run_between, run_over};
+use crate::runs::{EXTRACT, NEVER, NONE, NTSC, PAL, Ran, SHOW, STORED, job, run_between, run_over};
 use std::alloc::Global;
 use std::test::Fail;
 use vbi_cli::{AppFault, Ended, Job, Verb};

@@ -257,7 +257,8 @@ fn each_command_refuses_other_options(rt: HostRuntime) -> Result<(), Fail> {
 #[test]
 fn recovered_words_are_of_extract_and_show_alone(rt: HostRuntime) -> Result<(), Fail> {
     for command in ["line", "draw"] {
-        let why = "unexpected argument '--recover' found\n\n  tip: to pass '--recover' as a value, use '-- --recover'";
+        let why =
+            "unexpected argument '--recover' found\n\n  tip: to pass '--recover' as a value, use '-- --recover'";
         says_why(rt.alloc(), command, &["--recover"], why, true)?;
     }
     for command in ["extract", "show"] {

@@ -37,6 +37,7 @@ pub(crate) const PAL: Overrides = Overrides {
 
 /// Without recovered words.
 pub(crate) const EXTRACT: Verb = Verb::Extract { recover: false };
+
 pub(crate) const SHOW: Verb = Verb::Show { recover: false };
 
 /// A job with no paths.

@@ -6,7 +6,7 @@ use crate::known::{
     BLACK, HEAD, REPORT_BLACK, REPORT_HEAD, REPORT_TAIL, SECOND_BLACK, SECOND_REPORT_BLACK, TAIL,
     black_stream, front, joined,
 };
-use crate::runs::{EXTRACT, NTSC, SHOW, Asked, Ran, job, run_between};
+use crate::runs::{Asked, EXTRACT, NTSC, Ran, SHOW, job, run_between};
 use std::alloc::{AllocError, Global};
 use std::test::Fail;
 use vbi_cli::{AppFault, Ended, Verb};

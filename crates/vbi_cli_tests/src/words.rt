@@ -158,7 +158,12 @@ static BESIDE: [(&[&str], bool); 7] = [
     (&["--recover", "--max-fields", "5", "disc.tbc"], true),
     (&["--system", "PAL", "--white", "54016", "disc.tbc"], true),
     (&["--black", "0", "--white", "54016", "disc.tbc"], true),
-    (&["--system", "PAL", "--black", "0", "--white", "54016", "disc.tbc"], false),
+    (
+        &[
+            "--system", "PAL", "--black", "0", "--white", "54016", "disc.tbc",
+        ],
+        false,
+    ),
     (&["--meta", "a.json", "disc.tbc"], false),
     (&["-"], false),
 ];
