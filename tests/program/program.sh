@@ -58,6 +58,10 @@ echo '8AE012 87FFFF F0DD00' > pal.words
 tail -c +36321 pal.tbc > pal.rest
 { cat pal.tbc; head -c 710509 pal.tbc; } > cut_pal.tbc
 { cat pal_begun.json; cut_field '{"seqNo":2,"bytes":710509}'; } > cut_pal.json
+# with recovered words: each line shows one, so nothing else differs from what is written without them
+for name in drawn cut_pal; do
+    sed 's/"version":2/"version":3/; /"vbiPass"/s/}$/,"vbiNear":[null,null,null]}/' $name.json > $name.recovered
+done
 judge_rows << END
 the document of no field|extract $ntsc|0|none.json|
 the document of a black field|extract $ntsc black.tbc|0|black.json|
@@ -68,6 +72,9 @@ the document of a drawn field|extract $ntsc drawn.tbc|0|drawn.json|
 a field of PAL drawn|draw $pal pal.words|0|pal.tbc|
 the document of a field of PAL|extract $pal pal.tbc|0|pal.json|
 the report of a field of PAL|show $pal pal.tbc|0|pal.txt|
+a drawn field with recovered words|extract $ntsc --recover drawn.tbc|0|drawn.recovered|
+a field of PAL and a cut one with recovered words|extract $pal --recover cut_pal.tbc|3|cut_pal.recovered|
+the report with recovered words|show $pal --recover pal.tbc|0|pal.txt|
 a line of a field of PAL|line $pal pal.rest|0|pal.line|
 the document of a field of PAL and a cut one|extract $pal cut_pal.tbc|3|cut_pal.json|
 a document as metadata, drawn|extract --meta drawn.json drawn.tbc|0|drawn.json|

@@ -21,10 +21,10 @@ from random_lines import SYSTEMS, random_line, worn_rows
 from random_metadata import random_metadata
 
 COMMANDS = ["line", "extract", "show", "draw"]
-OPTIONS = ["--meta", "--system", "--black", "--white", "--max-fields", "--help", "--version", "-h", "-V"]
+OPTIONS = ["--meta", "--system", "--black", "--white", "--max-fields", "--recover", "--help", "--version", "-h", "-V"]
 VALUES = ["", "-", "0", "1", "5", "-1", "+5", "++5", "65535", "65536", "8224", "16448", "1000001", "4294967296", "1e3",
           " 5", "99999999999999999999", "-99999999999999999999", "NTSC", "PAL", "NTS", "PALS", "ntsc", "line.raw",
-          "absent", ".", "meta.json", "bad.json", "\u00e4\u20ac\U0001f4bf"]
+          "beside.raw", "wrong.raw", "absent", ".", "meta.json", "bad.json", "\u00e4\u20ac\U0001f4bf"]
 # Words that are near a command or an option, and others
 STRAY = ["--", "-x", "-xh", "-hx", "-5", "--met=meta.json", "--meat", "--blac=5", "--maxfields", "--syste",
          "--helq", "--vers", "--zzz", "---", "lines", "lien", "Line", "extra", "lineextract", "sho",
@@ -43,6 +43,9 @@ def put_files(folder):
     videos = '{"videoParameters":{"system":"NTSC","black16bIre":8224,"white16bIre":16448}}'
     (folder / "meta.json").write_text(videos, encoding="utf-8")
     (folder / "bad.json").write_text(videos[:-1], encoding="utf-8")
+    for name, text in (("beside", videos), ("wrong", videos[:-1])):
+        (folder / (name + ".raw")).write_bytes((folder / "line.raw").read_bytes())
+        (folder / (name + ".raw.json")).write_text(text, encoding="utf-8")
     (folder / "empty").write_bytes(b"")
 
 
@@ -67,7 +70,8 @@ def random_words(choose):
     words = [choose.choice(COMMANDS)]
     if choose.random() < 0.5:
         parts = [random_option(choose, name, values) for name, values in FIT.items() if choose.random() < 0.8]
-        parts += [["line.raw"]] * (choose.random() < 0.8)
+        parts += [[choose.choice(["line.raw", "line.raw", "beside.raw", "wrong.raw"])]] * (choose.random() < 0.8)
+        parts += [["--recover"]] * (choose.random() < 0.1)
         parts += [random_parts(choose)] * (choose.random() < 0.6)
         choose.shuffle(parts)
         return sum(parts, words)
@@ -112,10 +116,13 @@ def streams(choose):
     for _ in range(choose.randrange(4)):
         blank = black.to_bytes(2, "little") * width
         lines = b"".join(random_line(choose, system, black, white) for _ in range(3))
+        if black < white and choose.random() < 0.3:
+            lines = worn_rows(choose, system, black, white, 3)
         stream += blank * 15 + lines + blank * (height - 18)
     if choose.random() < 0.3:
         stream += bytes(choose.randrange(2 * width * height))
     words = [choose.choice(["extract", "show"]), *options_of(system, black, white)]
+    words += ["--recover"] * (choose.random() < 0.5)
     if choose.random() < 0.2:
         words += ["--max-fields", str(choose.randrange(4))]
     yield words, bytes(stream)

@@ -1,5 +1,6 @@
 #!/bin/sh
-# Runs the built program on what is wrong before a run begins, where several things are, and on metadata.
+# Runs the built program on what is wrong before a run begins, where several things are, and on metadata, named or beside
+# the input.
 # usage: sh tests/program/settings.sh PROGRAM
 # runs: everywhere rust
 # fails where: tests/program/settings.sh|s/field height/field heighT/g
@@ -38,6 +39,43 @@ extract $equal --max-fields 0|black level is not below white level
 show $levels --max-fields 0|max fields is not from 1 to 1000000
 draw $levels --max-fields 1000001|max fields is not from 1 to 1000000
 END
+
+# Metadata beside the input, INPUT.json: it is read unless other metadata or all three settings are given. The words, what
+# `line` says of the stored line by its metadata's levels, or what is said; the fourth row has levels of its own.
+mkdir side folder.raw.json
+for name in beside side/beside wrong.json folder absent; do
+    [ $name = absent ] || cp line.raw $name.raw
+done
+for name in beside side/beside absent; do
+    echo '{"videoParameters":{"system":"NTSC","black16bIre":8224,"white16bIre":16448}}' > $name.raw.json
+done
+cp nan.json wrong.json.raw.json
+echo '{"videoParameters":{"system":"NTSC","black16bIre":8224,"white16bIre":65535}}' > far.json
+while IFS='|' read -r words answer; do
+    run_with line.raw line $words
+    case $answer in
+        82CFFF | blank) echo "$answer" > answer; judge "$words, metadata beside it" 0 answer '' ;;
+        *) judge "$words, metadata beside it" 1 empty "ldvbi: $answer" ;;
+    esac
+done << END
+beside.raw|82CFFF
+./side/beside.raw|82CFFF
+--black 8224 --max-fields 5 beside.raw|82CFFF
+--system NTSC --white 65535 beside.raw|blank
+--system PAL beside.raw|short line: 1820 of 2270 bytes
+--meta far.json beside.raw|blank
+$levels wrong.json.raw|82CFFF
+wrong.json.raw|metadata is not JSON
+folder.raw|cannot read metadata
+absent.raw|cannot open input
+line.raw|no system given
+line.raw/line.raw|cannot open input
+-|no system given
+END
+for command in extract show draw; do
+    run $command absent.raw
+    judge "$command absent.raw, metadata beside it" 1 empty 'ldvbi: cannot open input'
+done
 
 # Metadata: each row has a document, or what videoParameters hold; options; and what `line` says of the stored line.
 # That is 82CFFF where the settings are those of the stored run, blank where black and white are far apart, and that it
