@@ -22,6 +22,7 @@ Key = Tuple[str, str, str]    # a definition: its crate, its file and its name
 SECTIONS = {mark: [tuple(one.split()) for one in text.split(";")] for mark, text in {
     "line": "vbi_line/src/reading.rt read_bytes_twice",
     "fields": "vbi_field/src/run.rt extract",
+    "worn": "vbi_field/src/run.rt extract_recovered",
     "counts": "vbi_line/src/tries.rt read_once write_once; "
               "vbi_line/src/line.rt clear start_pass next_sample next_block",
     "nearest": "vbi_near/src/lines.rt nearest_of_lines",
@@ -39,6 +40,8 @@ PRINTED = "line"
 RELATIONS: Dict[Key, Tuple[Key, str]] = {
     ("vbi_line", "OneReading", "outcome_of"): (("vbi_words", "Outcomes", "IsOutcome"), "one_outcome"),
     ("vbi_line", "OneReading", "reading_of"): (("vbi_words", "Readings", "IsReading"), "one_reading"),
+    ("vbi_field", "Shown", "near_of"): (("vbi_field", "Shown", "IsNearRow"), "one_near_row"),
+    ("vbi_field", "Shown", "recovery_of"): (("vbi_field", "Shown", "AreShown"), "one_shown"),
     ("vbi_words", "Smooth", "smooth_of"): (("vbi_words", "Smooth", "IsSmooth"), "one_smooth"),
 }
 HEAD = re.compile(r"(?:abbrev pub|unfoldable pub|pub record|pub data|record|data|abbrev|unfoldable|pub) (\S+)(?= )")

@@ -17,14 +17,15 @@ use Rattle.vbi_field.specs.Stream.{Reading, FieldReadings, FieldRows}
 
 -- ---- the nearest word of a row
 
--- this word is the nearest one to a row as it is, and the first of those that are as near
+-- this word is the nearest one to a row as it is, and the first of those that are as near; a row has one
+-- (`laws::one_near_row`)
 pub record IsNearRow (system : System) (slicing : Slicing) (row : List ℕ) (near : Near) : Type 0 where
   pub nearest : IsNearest system slicing (lines_of system row 1) near
   pub first : IsFirst system slicing (lines_of system row 1) near
   pub longer : IsLonger system slicing (lines_of system row 1) near
   pub shorter : IsShorter system slicing (lines_of system row 1) near
 
--- the nearest word of a row. Its body is taken from a proof, and nobody needs to read it: the law `one_near_row` shows
+-- the nearest word of a row. Its body is taken from a proof, and nobody needs to read it: `laws::one_near_row` shows
 -- that it meets `IsNearRow`, and that nothing else does.
 unfoldable pub near_of : System → Slicing → List ℕ → Near
 near_of system slicing row = (some_near system slicing (lines_of system row 1)).0
@@ -35,11 +36,11 @@ near_of system slicing row = (some_near system slicing (lines_of system row 1)).
 abbrev pub joined_rows : FieldRows → List ℕ
 joined_rows rows = rows.first ++ (rows.second ++ rows.third)
 
--- three rows show this, none of whose columns is erased
+-- three rows show this, none of whose columns is erased; they show one thing (`laws::one_shown`)
 abbrev pub AreShown : System → Slicing → List ℕ → List Recovered → Type 0
 AreShown system slicing rows shown = IsRecovered system slicing rows (none_erased system) shown
 
--- what three rows show; the law `one_shown` shows that it meets `AreShown`, and that nothing else does
+-- what three rows show: `laws::one_shown` shows that it meets `AreShown`, and that nothing else does
 unfoldable pub recovery_of : System → Slicing → List ℕ → List Recovered
 recovery_of system slicing rows = (some_recovered system slicing rows (none_erased system)).0
 

@@ -170,7 +170,7 @@ impl<'a, R: Read> Intake<'a, R> {
         self.line.clear();
     }
 
-    /// The bytes held.
+    /// The bytes held. Looks at the samples there aren't counted.
     pub fn bytes(&self) -> &[u8]
         ensures { result.now ≡ held_of self.now }
     {

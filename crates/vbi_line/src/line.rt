@@ -115,7 +115,7 @@ impl LineBuf {
     }
 
     /// The bytes held.
-    pub fn bytes(&self) -> &[u8]
+    pub(crate) fn bytes(&self) -> &[u8]
         ensures { result.now ≡ self.now.held }
     {
         &self.store.bytes[..self.held]
