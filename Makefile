@@ -74,6 +74,7 @@ ldvbi: crates.txt $(SOURCES)
 	@$(MAKE) -s toolchain
 	$(call proved,vbi_words,rt lib $(LARGE))
 	$(call proved,vbi_line,rt lib $(LARGE))
+	$(call proved,vbi_near,rt lib $(LARGE))
 	$(call proved,vbi_field,rt lib $(LARGE))
 	$(call proved,vbi_meta,rt lib $(SMALL))
 	$(call proved,vbi_cli,rt lib $(LARGE))

@@ -7,14 +7,15 @@ command -v rt > /dev/null || { echo "bench: rt isn't there" >&2; exit 1; }
 work=$(mktemp -d)
 trap 'rm -rf "$work"' EXIT
 mkdir -p "$work/crates/field_bench/src"
-for crate in vbi_words vbi_line vbi_field; do
+for crate in vbi_words vbi_line vbi_near vbi_field; do
     cp -r "$here/../crates/$crate" "$work/crates/"
 done
 cp "$here/fields.rattle" "$work/crates/field_bench/src/main.rt"
 cat > "$work/crates.txt" << 'END'
 vbi_words:
 vbi_line: vbi_words byteorder
-vbi_field: vbi_words vbi_line arrayvec itoa
+vbi_near: vbi_words vbi_line
+vbi_field: vbi_words vbi_line vbi_near arrayvec itoa
 field_bench: vbi_words vbi_line vbi_field
 END
 (cd "$work/crates/field_bench" && rt run > "$work/log" 2>&1) || { cat "$work/log" >&2; exit 1; }

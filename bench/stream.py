@@ -1,17 +1,19 @@
 #!/usr/bin/env python3
 """Time and peak memory of `ldvbi extract` beside a plain reader of the same stream in reads of one line's bytes, from a
 file and from a pipe, of `ldvbi draw` beside `head -c` of zeros and a plain writer of as many lines into the same sink,
-of both over as many bytes of PAL beside NTSC, and of metadata beside `jq`, all in one run. Works in a folder of its
-own.
+of both over as many bytes of PAL beside NTSC, of `extract --recover` beside `extract` where all lines are clean and
+where a tenth of those with a word is worn, and of metadata beside `jq`, all in one run. Works in a folder of its own.
 
 usage: stream.py PROGRAM [FIELDS]    (of NTSC)"""
 
 import os
+import random
 import statistics
 import subprocess
 import sys
 import tempfile
 import time
+from array import array
 
 LEVELS = ["--black", "16384", "--white", "51200"]
 # The bytes of a line and of a field
@@ -130,6 +132,29 @@ class Stream:
         print(f"a stream of {fields} fields of {system}, {self.size / 1e9:.2f} GB", flush=True)
 
 
+def write_worn(stream, path):
+    """Writes a drawn NTSC stream of which a tenth of the lines with a word have noise of 35 %."""
+    chance, width = random.Random(1), LINE["NTSC"] // 2
+    with open(stream.samples, "rb") as source, open(path, "wb") as sink:
+        for field in iter(lambda: source.read(FIELD["NTSC"]), b""):
+            samples = array("H", field)
+            for row in (15, 16):
+                if chance.random() < 0.1:
+                    for column in range(row * width, row * width + width):
+                        samples[column] = min(max(samples[column] + int(chance.gauss(0, 12000)), 0), 65535)
+            samples.tofile(sink)
+
+
+def compare_recovery(ntsc, work):
+    """Recovered words beside none, over a clean stream and one with worn lines."""
+    worn = os.path.join(work, "worn.tbc")
+    write_worn(ntsc, worn)
+    for name, samples in (("clean lines", ntsc.samples), ("a tenth of worn lines", worn)):
+        compared(f"extract --recover beside extract, {name}",
+                 lambda path=samples: timed([*ntsc.extract, "--recover", path]),
+                 lambda path=samples: timed([*ntsc.extract, path]), ntsc.size)
+
+
 def compare_streams(ntsc, pal, work):
     """The program over streams, beside plain programs and beside itself."""
     reader = [built("plain_stream", work), str(LINE["NTSC"])]
@@ -153,7 +178,9 @@ def main():
     fields = int(sys.argv[2]) if len(sys.argv) > 2 else 440
     with tempfile.TemporaryDirectory() as work:
         size = fields * FIELD["NTSC"]
-        compare_streams(Stream(program, "NTSC", size, work), Stream(program, "PAL", size, work), work)
+        ntsc = Stream(program, "NTSC", size, work)
+        compare_streams(ntsc, Stream(program, "PAL", size, work), work)
+        compare_recovery(ntsc, work)
         metadata = os.path.join(work, "side.tbc.json")
         size = write_metadata(metadata, 10**7)
         extract = [program, "extract", "--meta", metadata, os.devnull]

@@ -11,7 +11,7 @@
 bench=$top/bench
 grep -v '^#' "$bench/bounds.txt" > bounds
 count=$(wc -l < bounds)
-check 'no bound is gone' [ "$count" = 40 ]
+check 'no bound is gone' [ "$count" = 42 ]
 
 # A bound's line is known by how it begins
 sort bounds | awk -F '|' 'NR > 1 && index($1, before) == 1 { print before ", " $1 } { before = $1 }' > err

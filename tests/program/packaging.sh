@@ -210,7 +210,7 @@ seq 99 >&2
 touch "out/$crate" "out/lib$crate.a"
 END
 path=$work/toolchain:$PATH
-program_crates='vbi_words vbi_line vbi_field vbi_meta vbi_cli ldvbi'
+program_crates='vbi_words vbi_line vbi_near vbi_field vbi_meta vbi_cli ldvbi'
 library_crates='vbi_words vbi_line vbi_near vbi_side vbi_c'
 # proves WORD..: `make` with these words by that toolchain, which fails in the crate FAILS; its times are N
 proves() {
@@ -226,7 +226,7 @@ while IFS='|' read -r processors word jobs; do
     rm tree/ldvbi
     stub toolchain/nproc "echo $processors"
     proves ldvbi $word
-    printf "rt lib --jobs %s\n" $jobs $jobs $jobs 1 $jobs > wanted
+    printf "rt lib --jobs %s\n" $jobs $jobs $jobs $jobs 1 $jobs > wanted
     echo 'rt run --jobs 1 -- --help' >> wanted
     for crate in $program_crates; do sed -n 1p "tree/crates/$crate/out/make.log"; done > found
     check "$processors processors, make $word" cmp found wanted
