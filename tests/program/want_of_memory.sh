@@ -63,6 +63,9 @@ each 'a refused option' empty line --black 65536
 each 'metadata that is not JSON' "$stored/stdin" line --meta nan.json
 each 'the stored run with metadata' "$stored/stdin" line --meta line.json
 each 'the joined run' black.tbc extract --meta full.json
+cp black.tbc beside.tbc
+cp full.json beside.tbc.json
+each 'metadata beside the input' black.tbc extract --recover beside.tbc
 
 # What the program says of metadata of each length: a quote and letters, a text without its end. No allocation may be
 # refused then. One shell is for all, since to bound each run by itself takes longer than the runs do.

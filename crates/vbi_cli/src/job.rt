@@ -143,8 +143,8 @@ fn line_end(system: System, outcome: Result<Outcome, LineFault>) -> Result<Ended
     }
 }
 
-/// The command `extract` without recovered words. It stands by itself, since its document is also known to be read back as the words that the
-/// lines show.
+/// The command `extract` without recovered words. It stands by itself, since its document is also known to be read back
+/// as the words that the lines show.
 fn extract_job<R: Read, W: Write>(
     config: &Config,
     intake: &mut Intake<R>,
