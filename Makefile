@@ -43,7 +43,7 @@ BUILT := $(if $(filter rust,$(FROM)),rust/)
 # Where `make wheel` puts the wheel
 WHEELS ?= dist
 SOURCES := $(shell find crates -name out -prune -o \( -name '*.rt' -o -name '*.antt' \) -print)
-LIBRARY_CRATES := crates/vbi_words/% crates/vbi_line/% crates/vbi_near/% crates/vbi_side/% crates/vbi_c/%
+LIBRARY_CRATES := $(addprefix crates/,vbi_words/% vbi_line/% vbi_near/% vbi_field/% vbi_side/% vbi_c/%)
 LIBRARY_SOURCES := $(filter $(LIBRARY_CRATES),$(SOURCES))
 
 # $(call proved,CRATE,COMMAND): proves and builds a crate by a command of the toolchain, and prints a line with the time
@@ -88,6 +88,7 @@ libldvbi.a: crates.txt $(LIBRARY_SOURCES)
 	$(call proved,vbi_words,rt lib $(LARGE))
 	$(call proved,vbi_line,rt lib $(LARGE))
 	$(call proved,vbi_near,rt lib $(LARGE))
+	$(call proved,vbi_field,rt lib $(LARGE))
 	$(call proved,vbi_side,rt lib $(LARGE))
 	$(call proved,vbi_c,rt lib $(SMALL))
 	cp crates/vbi_c/out/libvbi_c.a libldvbi.a

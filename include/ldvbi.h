@@ -210,6 +210,21 @@ LDVBI_RESULT uint32_t ldvbi_recover_fields_without(uint32_t system, uint32_t bla
     const void *samples, size_t length, const LdvbiErased *erased, size_t erased_count, LdvbiFieldReadings *readings,
     size_t count);
 
+/* The record of a field in the document with recovered words, version 3, which docs/FORMATS.md describes: a line of JSON
+ * without a newline. In the document a comma and a newline stand between two records. */
+typedef struct LdvbiRecord {
+    uint32_t length;   /* the bytes of the record */
+    uint8_t text[448]; /* them, which are ASCII, and zeros behind them */
+} LdvbiRecord;
+
+/* Writes the record of a field by its lines 16, 17 and 18, as ldvbi_recover_rows_without takes them. `number` is that
+ * of the field, from 1 on in the document; none is refused. What it says of how near a nearest word is counts no erased
+ * column. This is proved: without erased columns the text is the one that `ldvbi extract --recover` writes of the
+ * field; with them it has the words and causes of ldvbi_recover_rows_without. */
+LDVBI_RESULT LDVBI_POINTER(9) uint32_t ldvbi_recovered_record(uint32_t system, uint32_t black, uint32_t white,
+    uint32_t number, const void *samples, size_t length, const LdvbiErased *erased, size_t erased_count,
+    LdvbiRecord *record);
+
 /* Finds the word that 1 to 28 lines say together, which all have one word, or none: `word` gets 0 where they say none.
  * They are of one number, `line`: 16, 17 or 18. They lie one after the other, as ldvbi_nearest takes them, and may be
  * of several fields or captures. `erased` lists columns that count for nothing: `field` is the place of the line among

@@ -1,12 +1,12 @@
-"""The documents of `ldvbi extract`, version 2, as docs/FORMATS.md describes them: read, and written from a TBC file,
-the same bytes as the program's. Those with recovered words, version 3, are read as well. Each number of a document that
-is read is checked; what isn't as it has to be raises a ValueError that says where. The readings that are written are
-those of the library, which is proved; that the text is the program's is shown by tests alone."""
+"""The documents of `ldvbi extract`, version 2, and those with recovered words, version 3, as docs/FORMATS.md describes
+them: read, and written from a TBC file, the same bytes as the program's. Each number of a document that is read is
+checked; what isn't as it has to be raises a ValueError that says where. The readings that are written, and the records
+of version 3, are those of the library, which is proved; that the text is the program's is shown by tests alone."""
 
 import array
 import json
 import re
-from typing import Any, Callable, Dict, Iterable, Iterator, NamedTuple, Optional, TextIO, Tuple
+from typing import Any, Callable, Dict, Iterable, Iterator, List, NamedTuple, Optional, TextIO, Tuple
 
 from .collector import paused
 from .library import System
@@ -275,23 +275,30 @@ class _KnownCauses(Dict[str, _Lines]):
 
 # ---- Written
 
-def write_document(stream: Stream, file: TextIO, over: Callable[[Iterable[Any], int], Iterable[Any]]) -> None:
-    """Writes the document of a stream to a text file. `over` yields the blocks that it gets, each of so many fields,
-    and may say meanwhile how far they are."""
-    check_count(len(stream), stream.cut_bytes > 0)
-    file.write(head_of(2, stream.system, stream.black, stream.white))
-    number = 0
-    for block in over(stream.packed(0, len(stream)), BLOCK):
-        records = list(_records(block, number))
-        file.write((",\n" if number else "") + ",\n".join(records))
-        number += len(records)
-    file.write(tail_of(cut_of(stream)))
+# Yields the blocks that it gets, each of so many fields, and may say meanwhile how far they are
+Over = Callable[[Iterable[Any], int], Iterable[Any]]
 
 
-def check_count(fields: int, is_cut: bool) -> None:
-    """Refuses a stream of more whole fields, with the one in which it is cut, than a document may have."""
-    if fields + is_cut > MAX_FIELDS:
+def write_document(stream: Stream, file: TextIO, over: Over) -> None:
+    """Writes the document of a stream to a text file."""
+    _write(2, stream, _blocks_of_records(stream), file, over)
+
+
+def write_recovered(stream: Stream, file: TextIO, over: Over) -> None:
+    """Writes the document with recovered words of a stream, without its dropouts."""
+    _write(3, stream, stream.records(), file, over)
+
+
+def _write(version: int, stream: Stream, blocks: Iterator[List[str]], file: TextIO, over: Over) -> None:
+    """Writes a document of these records."""
+    if len(stream) + (stream.cut_bytes > 0) > MAX_FIELDS:
         raise ValueError("too many fields")
+    file.write(head_of(version, stream.system, stream.black, stream.white))
+    joint = ""
+    for records in over(blocks, BLOCK):
+        file.write(joint + ",\n".join(records))
+        joint = ",\n"
+    file.write(tail_of(cut_of(stream)))
 
 
 def head_of(version: int, system: System, black: int, white: int) -> str:
@@ -303,6 +310,15 @@ def head_of(version: int, system: System, black: int, white: int) -> str:
 def tail_of(cut: Optional[Cut]) -> str:
     """What stands behind them."""
     return '\n],"cutField":%s}\n' % ('{"seqNo":%d,"bytes":%d}' % cut if cut else "null")
+
+
+def _blocks_of_records(stream: Stream) -> Iterator[List[str]]:
+    """The records of all fields of a stream, in blocks."""
+    number = 0
+    for block in stream.packed(0, len(stream)):
+        records = list(_records(block, number))
+        yield records
+        number += len(records)
 
 
 def _records(block: Any, number: int) -> Iterator[str]:

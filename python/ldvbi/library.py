@@ -86,6 +86,8 @@ _LATER = {
     "ldvbi_recover_pile": ("recover words of piles", _SETUP + [_NUMBER] * 2 + [_MEMORY, _SIZE] * 2 + [_MEMORY]),
     "ldvbi_recover_rows_without": ("leave out columns", _SETUP + [_MEMORY, _SIZE] * 2 + [_MEMORY]),
     "ldvbi_recover_fields_without": ("leave out columns", _SETUP + [_MEMORY, _SIZE] * 3),
+    "ldvbi_recovered_record": ("write the document with recovered words",
+                               _SETUP + [_NUMBER] + [_MEMORY, _SIZE] * 2 + [_MEMORY]),
 }
 
 

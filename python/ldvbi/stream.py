@@ -5,6 +5,7 @@ import mmap
 import operator
 import os
 import stat
+import struct
 from typing import Any, Iterable, Iterator, List, Optional, Tuple, Union, overload
 
 from .dropouts import Dropouts, refuse_dropouts
@@ -15,6 +16,7 @@ from .samples import Samples
 BLOCK = 64  # fields to a call of the library; of a mapped file the pages of so many are fetched ahead
 _GIVE_BACK = getattr(mmap, "MADV_DONTNEED", None)  # not every system has it
 
+_PACKED_RECORD = struct.Struct("=I448s")  # LdvbiRecord of ldvbi.h
 # Of each dropout of a stream the field, the line, the first column and the last; all but the line are counted from 0
 StreamDropouts = Optional[Iterable[Tuple[int, int, int, int]]]
 
@@ -133,6 +135,28 @@ class Stream:
             last = min(first + BLOCK, end)
             self._fetch(last, min(last + BLOCK, end))
             yield self._packed_block(first, last - first)
+
+    def records(self) -> Iterator[List[str]]:
+        """The records of all fields in the document with recovered words, version 3, as the library writes them, in
+        blocks. The words are recovered without the stream's dropouts, whether `recover` is given or not."""
+        return self._records(later_call("ldvbi_recovered_record"))
+
+    def _records(self, write: Any) -> Iterator[List[str]]:
+        self._fetch(0, min(BLOCK, self._count))
+        for first in range(0, self._count, BLOCK):
+            last = min(first + BLOCK, self._count)
+            self._fetch(last, min(last + BLOCK, self._count))
+            records = [self._record(write, field) for field in range(first, last)]
+            self._give_back(first * self._size, last * self._size)
+            yield records
+
+    def _record(self, write: Any, field: int) -> str:
+        line, out = line_bytes(self.system), ctypes.create_string_buffer(_PACKED_RECORD.size)
+        address = self._open_samples().address + field * self._size + 15 * line
+        erased = self.dropouts.packed(field, field + 1)
+        self._setup.check(write(*self._setup, field + 1, address, 3 * line, *erased, out))
+        length, text = _PACKED_RECORD.unpack(out)
+        return str(text[:length], "ascii")
 
     def _packed_block(self, first: int, count: int) -> Any:
         out = ctypes.create_string_buffer(PACKED_FIELD.size * count)

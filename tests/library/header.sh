@@ -67,7 +67,7 @@ check 'the first declaration stands before line 60' \
 called_as() {
     taken='const void *samples, void *drawn, LdvbiReading *reading, LdvbiFieldReadings *readings, LdvbiCode *code,
 LdvbiNear *near, uint32_t *format, const LdvbiFieldReadings *read, LdvbiSightings *seen, LdvbiNumber *numbers,
-LdvbiSought *sought, const LdvbiErased *erased'
+LdvbiSought *sought, const LdvbiErased *erased, LdvbiRecord *record'
     printf '%s\n' '#include <ldvbi.h>' "uint32_t called($taken);" "uint32_t called($taken) { $1; return 0; }" > called.c
 }
 # Calls, and where the last pointer of one mustn't be null, the word null before it
@@ -91,6 +91,7 @@ null ldvbi_recover_rows(1, 1, 2, samples, 5460, readings)
 - ldvbi_recover_fields(1, 1, 2, samples, 478660, readings, 1)
 null ldvbi_recover_rows_without(1, 1, 2, samples, 5460, erased, 4, readings)
 - ldvbi_recover_fields_without(1, 1, 2, samples, 478660, erased, 4, readings, 1)
+null ldvbi_recovered_record(1, 1, 2, 7, samples, 5460, erased, 4, record)
 null ldvbi_recover_pile(1, 1, 2, 16, 1, samples, 3640, erased, 4, format)
 null ldvbi_classify(0xF12345, code)
 null ldvbi_format(0, 0xF12345, 0, format)

@@ -16,9 +16,9 @@ CUT_OFF = (256, 257, 258, 259, 65536, 65537, 65538, 65539, 0x80000001, MOST)
 BAD_PAIRS = ((2, 2), (65535, 0), (65535, 65535), (65536, 65537), (65536, 51200), (0, 65536), (16384, 65536 + 51200),
              (256, 1 << 31), (1 << 31, MOST), (0, MOST), (MOST, MOST))
 PAIRS = ((0, 1), (0, 65535), (65534, 65535), (0, 256), (256, 257))
-SIGHTINGS, READINGS, NEAR = 20, 24, 32  # bytes
+SIGHTINGS, READINGS, NEAR, RECORD = 20, 24, 32, 452  # bytes
 ROOM = 2 * 2270 * 313 + 8
-OPEN, CLOSED, ANSWER, SEEN, NUMBERS, LIST = map(Guarded, (ROOM, ROOM, NEAR, 4 * SIGHTINGS, 4 * 8, 4096))
+OPEN, CLOSED, ANSWER, SEEN, NUMBERS, LIST = map(Guarded, (ROOM, ROOM, RECORD, 4 * SIGHTINGS, 4 * 8, 4096))
 
 
 def at(memory, size):
@@ -32,21 +32,24 @@ def at(memory, size):
 # which is none here, as that is refused last of all
 CALLS = {"read_line": (1, ()), "read_rows": (3, ()), "read_field": (None, ()), "read_fields": (None, (1, )),
          "nearest": (1, ()), "recover_rows": (3, ()), "recover_fields": (None, (1, )), "draw_line": (1, (1, )),
-         "recover_rows_without": (3, ()), "recover_fields_without": (None, (1, ))}
+         "recover_rows_without": (3, ()), "recover_fields_without": (None, (1, )), "recovered_record": (3, ())}
+LISTED = "recover_rows_without", "recover_fields_without", "recovered_record"
 
 
 def has_status(name, asked, length, status, more=(), erased=(None, 0)):
     """The call has this status, and has written nothing but where that is DONE. Without a list, one that could be
     touched nowhere isn't looked at."""
     samples = at(OPEN if status == DONE else CLOSED, length)
-    answer = ANSWER.put(b"\x55" * NEAR)
-    if name.endswith("_without"):
+    size = RECORD if name == "recovered_record" else NEAR
+    answer = ANSWER.put(b"\x55" * size)
+    if name in LISTED:
         answer_and_more = (*(erased if status in (DONE, BAD_ERASED) else (CLOSED.end - 160, 10)), answer, *more)
     else:
         answer_and_more = (answer, *more)
     words = (*more, samples, length) if name == "draw_line" else (samples, length, *answer_and_more)
-    found = call(name)(*asked, *words)
-    expect(found == status and (status == DONE or ANSWER.get(NEAR) == b"\x55" * NEAR), name, asked, length, more, found)
+    number = (MOST, ) if name == "recovered_record" else ()  # of the field, and none is refused
+    found = call(name)(*asked, *number, *words)
+    expect(found == status and (status == DONE or ANSWER.get(size) == b"\x55" * size), name, asked, length, more, found)
 
 
 def test_call(name, lines, more):
@@ -75,7 +78,7 @@ def test_lengths(system):
         expect(call(name)(*asked, *(None, 0) * (3 if name.endswith("_without") else 2)) == DONE, name, "of no field")
     for length in (28 * line + 1, 29 * line, MOST_BYTES):
         has_status("nearest", asked, length, BAD_LENGTH)
-    for name in ("read_rows", "recover_rows", "recover_rows_without"):
+    for name in ("read_rows", "recover_rows", "recover_rows_without", "recovered_record"):
         has_status(name, asked, line, BAD_LENGTH)
     for word in (256, 65536, 0x7FFFFF, 0x1000000, 0x1800000, 0x80800000, MOST):
         has_status("draw_line", asked, line, BAD_WORD, (word, ))
@@ -113,7 +116,8 @@ def test_lists(system):
             is_kept = ANSWER.get(count * READINGS) == b"\x55" * count * READINGS
             expect(found == status and is_kept == (status != DONE or not count), system, count, entries, found)
             if count == 1:
-                has_status("recover_rows_without", asked, 3 * LINE_BYTES[system], status, (), erased)
+                for name in ("recover_rows_without", "recovered_record"):
+                    has_status(name, asked, 3 * LINE_BYTES[system], status, (), erased)
 
 
 # ---- Codes and formats. What each word says, tests/python/test_classes.py compares.

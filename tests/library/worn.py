@@ -211,6 +211,37 @@ def test_erased(tv):
         are_recovered(tv, [row[:3] for row in fields], packed)
 
 
+# ---- The record of a field
+
+RECORD = struct.Struct("<I448s")
+WRITTEN = Guarded(RECORD.size)
+# Of a field whose line 17 alone is worn, as above: how many columns are turned over, and what is erased; the field's
+# number; and how far the word is off, and any other, in hundredths of a column, if it is recovered. The cell has 29
+# columns, or 35. Of those that are turned over none counts where they are erased.
+RECORDS = (
+    (11, (), 1, {NTSC: (1100, 1800), PAL: (1400, 2100)}),
+    (14, ((17, 1, "turned"), ), 4294967295, {NTSC: (0, 1500), PAL: (0, 1800)}),
+    (14, ((16, 1, "turned"), ), 0, {NTSC: (), PAL: ()}))
+# The first column that is turned over, at which a level has lasted 4 columns
+FIRST_TURNED = {NTSC: 411, PAL: 513}
+
+
+def test_records(tv):
+    for turned, erased, number, found in RECORDS:
+        near = '{"word":15803205,"distance":%d,"rival":%d}' % found[tv] if found[tv] else "null"
+        word, of_pass = (15803205, 3) if found[tv] else (0, 0)
+        text = ('{"seqNo":%d,"vbi":{"vbiData":[9289889,%d,0]},"vbiCause":["word","change %d","blank"],'
+                '"vbiPass":[1,%d,0],"vbiNear":[null,%s,null]}' % (number, word, FIRST_TURNED[tv], of_pass, near))
+        rows = worn_rows(tv, (0x8DC0A1, 0xF12345, 0), (0, turned, 0))
+        entries = erased_of(tv, 0, (0, turned, 0), erased)
+        packed = b"".join(struct.pack("<4I", *entry) for entry in entries)
+        answer = WRITTEN.put(b"\xAA" * RECORD.size)
+        status = call("recovered_record")(*tv[:3], number, SAMPLES.put(rows.tobytes()), 2 * len(rows),
+                                          LIST.put(packed) if entries else None, len(entries), answer)
+        wanted = 0, RECORD.pack(len(text), text.encode("ascii"))
+        expect((status, WRITTEN.get(RECORD.size)) == wanted, tv.system, number, status, WRITTEN.get(RECORD.size))
+
+
 def main():
     for row in ENDS:
         test_ends(*row)
@@ -219,6 +250,7 @@ def main():
         test_levelled(tv)
         test_levelled_first(tv)
         test_erased(tv)
+        test_records(tv)
     finish()
 
 

@@ -278,6 +278,8 @@ def compare_lines(call, choose, draw):
         yield call("ldvbi_recover_rows", *first, rows, size(len(rows) - off), ..., room=24)
         yield call("ldvbi_recover_rows_without", *first, rows, size(len(rows) - off), *random_erased(choose, 1), ...,
                    room=24)
+        yield call("ldvbi_recovered_record", *first, number(choose.randrange(2 ** choose.randrange(33))), rows,
+                   size(len(rows) - off), *random_erased(choose, 1), ..., room=452)
         asked = number(rarely(choose, (15, 19, 272), 17)), number(choose.choice([0, 1, 1, 2]))
         entries = b"".join(struct.pack("<4I", place, 17, 300, 300 + choose.randrange(200)) for place in range(2))
         yield call("ldvbi_recover_pile", *first, *asked, worn, size(len(worn) - off), entries,

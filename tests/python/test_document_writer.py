@@ -1,28 +1,52 @@
-"""The document of a mapped file beside the one that the program's `extract` writes of it."""
+"""The documents of a mapped file, without recovered words and with them, beside those that the program's `extract`
+writes of it."""
 
 import io
+import random
 import subprocess
 
 import ldvbi
 from cases import InFolder, reason
-from ldvbi.document import write_document
+from ldvbi.document import write_document, write_recovered
 from ldvbi.readings import cause_text
 from ldvbi_side.command.progress import Progress
-from streams import NTSC, PAL, PROGRAM, line_with, pictures, write_stream
+from streams import NTSC, PAL, PROGRAM, line_with, pictures, worn_line, write_stream
 
 
-def extracted(path, setup):
+def extracted(path, setup, is_recovered):
     """What the program writes, and its status."""
     words = "extract --system %s --black %d --white %d" % setup
-    run = subprocess.run([PROGRAM, *words.split(), path], stdout=subprocess.PIPE, check=False)
+    more = ["--recover"] if is_recovered else []
+    run = subprocess.run([PROGRAM, *words.split(), *more, path], stdout=subprocess.PIPE, check=False)
     return run.stdout, run.returncode
 
 
-def written(source, setup):
-    text = io.StringIO()
-    with ldvbi.Stream(source, *setup) as stream, Progress(len(stream), is_wanted=False) as progress:
-        write_document(stream, text, progress.over)
+def written(source, setup, is_recovered=False):
+    text, write = io.StringIO(), write_recovered if is_recovered else write_document
+    with ldvbi.Stream(source, *setup, is_recovered) as stream, Progress(len(stream), is_wanted=False) as progress:
+        write(stream, text, progress.over)
     return text.getvalue().encode("ascii")
+
+
+def damaged(rng, word, setup):
+    """A line of a word or of none, as it is drawn, or with up to three pieces high, low, or at half way."""
+    line, width = bytearray(line_with(word, setup)), ldvbi.line_bytes(setup[0]) // 2
+    for _ in range(rng.randrange(4)):
+        first, columns = rng.randrange(width), rng.randrange(1, 60)
+        sample = rng.choice([*setup[1:], sum(setup[1:]) // 2]).to_bytes(2, "little")
+        line[2 * first:2 * (first + columns)] = sample * len(line[2 * first:2 * (first + columns):2])
+    return bytes(line)
+
+
+def damaged_fields(setup, count):
+    """Fields with words of discs on damaged lines, most of lines 17 and 18 with one word, and worn lines."""
+    rng, fields = random.Random(setup[0]), []
+    for number in range(count):
+        picture = 0xF00000 + int(str(number), 16)
+        words = [rng.choice([0, 0x82CFFF, 0x8DC0A1]), picture, picture if number % 4 else 0x801DDD]
+        fields.append([damaged(rng, word, setup) for word in words])
+    return fields + [[0, worn_line(0xF12345, setup, 9, columns), worn_line(0xF12345, setup, 12, columns)]
+                     for columns in range(8, 20)]
 
 
 def causes(setup):
@@ -52,11 +76,11 @@ class Stub:
 
 
 class Documents(InFolder):
-    def compare(self, setup, fields, rest=0):
+    def compare(self, setup, fields, rest=0, is_recovered=False):
         write_stream(self.path, setup, fields, rest)
-        wanted, status = extracted(self.path, setup)
+        wanted, status = extracted(self.path, setup, is_recovered)
         self.assertEqual(status, 3 if rest else 0)
-        self.assertEqual(written(self.path, setup), wanted)
+        self.assertEqual(written(self.path, setup, is_recovered), wanted)
         return wanted.decode("ascii")
 
     def test_causes_and_passes(self):
@@ -76,6 +100,18 @@ class Documents(InFolder):
             for count, rest in ((0, 0), (1, 0), (64, 0), (65, 0), (129, 0), (0, 1), (64, 1000), (3, size - 1)):
                 with self.subTest((setup, count, rest)):
                     self.compare(setup, pictures(count), rest)
+                    self.compare(setup, pictures(count), rest, True)
+
+    def test_recovered_words(self):
+        """Of damaged lines, from a file and from a buffer, and of lines with each cause."""
+        for setup in (NTSC, PAL, ("NTSC", 4000, 24001), ("PAL", 0, 65535)):
+            with self.subTest(setup):
+                text = self.compare(setup, damaged_fields(setup, 120), 0, True)
+                self.assertEqual(written(self.read("side.tbc"), setup, True), text.encode())
+                recovered, words = text.count('{"word":'), text.count('"word"')
+                self.assertGreater(recovered, 40)
+                self.assertGreater(words - recovered, 100)
+                self.compare(setup, causes(setup), 7, True)
 
     def test_too_many_fields(self):
         """As the program, which takes at most 1,000,000."""

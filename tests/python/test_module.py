@@ -162,6 +162,8 @@ class Library(InFolder):
                                     ("nearest(b'', 'NTSC', 1, 2)", "find nearest words", "nearest"),
                                     ("recover_pile(b'', 'NTSC', 1, 2, 17)", "recover words of piles", "recover_pile"),
                                     ("Stream(b'', 'NTSC', 1, 2, True)", "recover words", "recover_fields"),
+                                    ("Stream(b'', 'NTSC', 1, 2).records()", "write the document with recovered words",
+                                     "recovered_record"),
                                     ("read_rows(b'', 'NTSC', 1, 2, True, [(17, 1, 2)])", "leave out columns",
                                      "recover_rows_without")):
             self.assertEqual(run(READ + TRY % ("ldvbi." + call), LDVBI_LIBRARY=file),

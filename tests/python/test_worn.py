@@ -6,6 +6,7 @@ import struct
 
 import ldvbi
 from calls import Calls
+from command_runs import LEVELS
 from simulated_discs import disc
 from streams import NTSC, PAL, worn_line, write_stream
 
@@ -97,6 +98,14 @@ class Documents(Calls):
         known = json.loads(self.printed("side.tbc LEVELS --json"))
         # a document is not judged by the library
         self.assertEqual(json.loads(self.printed("again.json --json")), dict(known, judged=None))
+
+    def test_as_the_program_writes_it(self):
+        """With the metadata beside the file or without, where that has no dropouts."""
+        known = {"videoParameters": {"system": "NTSC", "black16bIre": 16384, "white16bIre": 51200}}
+        self.write("side.tbc.json", json.dumps(known))
+        wanted = self.extracted("side.tbc", [*LEVELS, "--recover"])
+        for words in ("side.tbc LEVELS", "side.tbc", "side.tbc --svg side.svg"):
+            self.assertEqual(self.printed(words + " --document --recovered"), wanted)
 
     def test_a_cut_field(self):
         write_stream(self.named("side.tbc"), NTSC, [], 7)

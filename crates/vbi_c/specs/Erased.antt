@@ -1,6 +1,6 @@
 -- Lists of erased columns, as C hands them over: which lists are taken, and which columns of a field they erase.
-use Rattle.std.specs.Prelude.{ℕ, Bool, true, false, ◌==◌, ◌&&◌, ◌||◌, nat_le, nat_lt, if◌then◌else◌, List, [], ◌∷◌}
-use Rattle.std.specs.Prelude.{◌++◌, ◌<◌, ◌≤◌, take, drop, map, replicate, ◌*◌, Result, Ok, Err, All}
+use Rattle.std.specs.Prelude.{ℕ, Bool, true, ◌==◌, ◌&&◌, ◌||◌, nat_le, nat_lt, if◌then◌else◌, List, [], ◌∷◌}
+use Rattle.std.specs.Prelude.{◌++◌, ◌<◌, ◌≤◌, take, drop, map, Result, Ok, Err, All}
 use Rattle.std.specs.List.{list_any, list_all, range_with_len}
 use Rattle.vbi_words.specs.declared.system.System as words
 use Rattle.vbi_words.specs.Geometry.{width_of}

@@ -9,6 +9,7 @@ pub mod Setups
 pub mod Statuses
 pub mod Words
 pub mod Recovering
+pub mod Record
 pub mod Piling
 pub mod Seeking
 pub mod Chapters

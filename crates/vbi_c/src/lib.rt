@@ -1,6 +1,6 @@
 //! The code words of LaserDisc lines (IEC 60857 and IEC 60856) for callers in C: the static library that
-//! `include/ldvbi.h` declares, over the reader of `vbi_line`, the nearest words of `vbi_near`, the judge of `vbi_side`
-//! and the codes of `vbi_words`.
+//! `include/ldvbi.h` declares, over the reader of `vbi_line`, the nearest words of `vbi_near`, the records of
+//! `vbi_field`, the judge of `vbi_side` and the codes of `vbi_words`.
 //!
 //! Each export tests the numbers that it is given, and answers a status; after any but 0 all that it could have written
 //! is as it was. Numbers are as wide as C hands them, 32 bits, so that none is cut off before it is tested.
@@ -23,6 +23,7 @@ mod pace;
 mod piling;
 mod probing;
 mod reading;
+mod record;
 mod recovering;
 mod seeking;
 mod setup;
@@ -45,6 +46,7 @@ pub use one_field::ldvbi_judge_field;
 pub use pace::ldvbi_find_pace;
 pub use piling::ldvbi_recover_pile;
 pub use reading::LdvbiReading;
+pub use record::{LdvbiRecord, ldvbi_recovered_record};
 pub use recovering::{
     ldvbi_recover_fields, ldvbi_recover_fields_without, ldvbi_recover_rows,
     ldvbi_recover_rows_without,

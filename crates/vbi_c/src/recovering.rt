@@ -17,7 +17,7 @@ use vbi_near::{Recovered, recover_rows};
 use vbi_words::System;
 
 /// The samples of the longest line, that of PAL.
-const WIDEST: usize = 1135;
+pub(crate) const WIDEST: usize = 1135;
 
 /// What a line shows, as C sees it.
 fn recovered_for_c(line: Recovered) -> LdvbiReading

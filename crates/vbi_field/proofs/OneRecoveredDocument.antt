@@ -1,33 +1,51 @@
 -- A stream has one document and one report with recovered words.
-use Rattle.std.proofs.Common.{◌≡◌, ℕ, ◌+◌, List, ◌++◌, ap, ◌∙◌}
+use Rattle.std.proofs.Common.{◌≡◌, ℕ, ◌+◌, Bool, List, ◌++◌, ap, ◌∙◌, sym, subst}
 use Rattle.std.specs.Prelude.{◌↔◌}
-use Rattle.vbi_field.specs.ConfigView.{ConfigView}
-use Rattle.vbi_field.specs.Recovered.{FieldRecovered, recovered_of}
-use Rattle.vbi_field.specs.Shown.{joined_rows}
-use Rattle.vbi_field.specs.Stream.{fields_of, rest_of, rows_at, line_at}
-use Rattle.vbi_field.specs.Texts.{FieldRecovers, IsRecoveredText, RecoveredKind, recovering, text_before_tail, whole_text}
+use Rattle.vbi_words.specs.Levels.{Slicing}
+use Rattle.vbi_line.proofs.OneReading.{is_reading, only_reading}
+use Rattle.vbi_near.specs.Candidates.{row_of}
+use Rattle.vbi_near.specs.Recovery.{none_erased}
+use Rattle.vbi_field.specs.ConfigView.{ConfigView, System}
+use Rattle.vbi_field.specs.Recovered.{FieldRecovered, RowsRecover, recovered_of, recovered_without}
+use Rattle.vbi_field.specs.Shown.{joined_rows, marks_at}
+use Rattle.vbi_field.specs.Stream.{fields_of, rest_of, rows_at, row_levels, FieldRows}
+use Rattle.vbi_field.specs.Texts.{IsRecoveredText, RecoveredKind, recovering, text_before_tail, whole_text}
 use Rattle.vbi_field.proofs.Entries.{entry_of, joined-same}
-use Rattle.vbi_field.proofs.OneDocument.{only_field, is_field}
 use Rattle.vbi_field.proofs.OneShown.{only_near, only_shown, is_near, is_shown}
 
-only_one : (c : ConfigView) (z : List ℕ) (i : ℕ) (f : FieldRecovered) → FieldRecovers c z i f
-    → f ≡ recovered_of c (rows_at c z i)
-only_one c z i f h = λ j. record {
-  readings = only_field c z i f.readings h.reads j;
-  shown = only_shown c.system c.levels (joined_rows (rows_at c z i)) f.shown h.shown j;
-  first = only_near c.system c.levels (line_at c.system z i 15) f.first h.first j;
-  second = only_near c.system c.levels (line_at c.system z i 16) f.second h.second j;
-  third = only_near c.system c.levels (line_at c.system z i 17) f.third h.third j;
+pub only_one : (system : System) (slicing : Slicing) (rows : FieldRows) (marks : List Bool) (f : FieldRecovered)
+    → RowsRecover system slicing rows marks f → f ≡ recovered_without system slicing rows marks
+only_one system slicing rows marks f h = λ j. record {
+  readings = record {
+    first = only_reading system (row_levels slicing rows.first) f.readings.first h.first_reads j;
+    second = only_reading system (row_levels slicing rows.second) f.readings.second h.second_reads j;
+    third = only_reading system (row_levels slicing rows.third) f.readings.third h.third_reads j;
+  };
+  shown = only_shown system slicing (joined_rows rows) marks f.shown h.shown j;
+  first = only_near system slicing (row_of rows.first (marks_at system marks 0)) f.first h.first j;
+  second = only_near system slicing (row_of rows.second (marks_at system marks 1)) f.second h.second j;
+  third = only_near system slicing (row_of rows.third (marks_at system marks 2)) f.third h.third j;
 }
 
-is_one : (c : ConfigView) (z : List ℕ) (i : ℕ) → FieldRecovers c z i (recovered_of c (rows_at c z i))
-is_one c z i = record {
-  reads = is_field c z i;
-  shown = is_shown c.system c.levels _;
-  first = is_near c.system c.levels _;
-  second = is_near c.system c.levels _;
-  third = is_near c.system c.levels _;
+pub is_one : (system : System) (slicing : Slicing) (rows : FieldRows) (marks : List Bool)
+    → RowsRecover system slicing rows marks (recovered_without system slicing rows marks)
+is_one system slicing rows marks = record {
+  first_reads = is_reading system _;
+  second_reads = is_reading system _;
+  third_reads = is_reading system _;
+  shown = is_shown system slicing _ marks;
+  first = is_near system slicing _;
+  second = is_near system slicing _;
+  third = is_near system slicing _;
 }
+
+pub one_field : (system : System) (slicing : Slicing) (rows : FieldRows) (marks : List Bool) (f : FieldRecovered)
+    → RowsRecover system slicing rows marks f ↔ (f ≡ recovered_without system slicing rows marks)
+one_field system slicing rows marks f = (
+  only_one system slicing rows marks f,
+  λ e. subst (λ (g : FieldRecovered). RowsRecover system slicing rows marks g) (sym e)
+      (is_one system slicing rows marks),
+)
 
 only_text : (t : RecoveredKind) (c : ConfigView) (z text : List ℕ) → IsRecoveredText t c z text
     → text ≡ whole_text (recovering t) c z
@@ -35,12 +53,12 @@ unfolding text_before_tail
 only_text t c z text (fields, each, e) =
     e ∙ ap (λ l. t.head c ++ l ++ t.tail (fields_of c z) (rest_of c z))
     (joined-same (λ i. t.entry c (i + 1) (fields i)) (entry_of (recovering t) c z) t.joint
-    (fields_of c z) (λ i lt. ap (t.entry c (i + 1)) (only_one c z i (fields i) (each i lt))))
+    (fields_of c z) (λ i lt. ap (t.entry c (i + 1)) (only_one c.system c.levels (rows_at c z i) (none_erased c.system) (fields i) (each i lt))))
 
 is_text : (t : RecoveredKind) (c : ConfigView) (z text : List ℕ) → text ≡ whole_text (recovering t) c z
     → IsRecoveredText t c z text
 unfolding text_before_tail
-is_text t c z text e = (λ i. recovered_of c (rows_at c z i), λ i lt. is_one c z i, e)
+is_text t c z text e = (λ i. recovered_of c (rows_at c z i), λ i lt. is_one c.system c.levels (rows_at c z i) (none_erased c.system), e)
 
 pub one_recovered_document : (t : RecoveredKind) (c : ConfigView) (z text : List ℕ)
     → IsRecoveredText t c z text ↔ (text ≡ whole_text (recovering t) c z)

@@ -1,5 +1,5 @@
 -- What the definitions of `Shown` have is all that there is.
-use Rattle.std.proofs.Common.{◌≡◌, ℕ, ◌*◌, ◌≤◌, false, List, [], ◌∷◌, take, replicate, get_or, ap, ◌∙◌, sym, subst, arith}
+use Rattle.std.proofs.Common.{◌≡◌, ℕ, ◌*◌, ◌≤◌, Bool, false, List, [], ◌∷◌, take, replicate, get_or, ap, ◌∙◌, sym, subst, arith}
 use Rattle.std.proofs.lemmas.List.{take-replicate}
 use Rattle.std.specs.Prelude.{◌↔◌}
 use Rattle.vbi_words.specs.declared.system.System.{System}
@@ -9,31 +9,32 @@ use Rattle.vbi_words.specs.declared.outcome.Reading.{Reading}
 use Rattle.vbi_words.specs.Levels.{Slicing}
 use Rattle.vbi_near.specs.declared.near.Near.{Near}
 use Rattle.vbi_near.specs.declared.recovery.Recovered.{Recovered}
-use Rattle.vbi_near.specs.Distances.{lines_of, unit_of}
-use Rattle.vbi_near.specs.Recovery.{IsSureBy, none_erased, row_reading, alone, stands_of}
+use Rattle.vbi_near.specs.Candidates.{Row, given_samples}
+use Rattle.vbi_near.specs.Distances.{unit_of}
+use Rattle.vbi_near.specs.Recovery.{IsRecovered, IsSureBy, none_erased, row_reading, alone, stands_of}
 use Rattle.vbi_near.proofs.Kept.{sure-shown}
 use Rattle.vbi_near.proofs.OneNear.{one_near}
 use Rattle.vbi_near.proofs.OneRecovered.{one_recovered}
 use Rattle.vbi_near.proofs.SomeNear.{some_near}
 use Rattle.vbi_near.proofs.SomeRecovered.{some_recovered}
-use Rattle.vbi_field.specs.Shown.{IsNearRow, AreShown, near_of, recovery_of, as_readings, reading_as}
+use Rattle.vbi_field.specs.Shown.{IsNearRow, near_of, recovery_of, as_readings, reading_as}
 
 -- ---- the nearest word of a row
 
-pub is_near : (system : System) (slicing : Slicing) (row : List ℕ) → IsNearRow system slicing row (near_of system slicing row)
+pub is_near : (system : System) (slicing : Slicing) (row : Row) → IsNearRow system slicing row (near_of system slicing row)
 unfolding near_of
 is_near system slicing row =
-    let there = some_near system slicing (lines_of system row 1) in
+    let there = some_near system slicing (given_samples row ∷ []) in
     record { nearest = there.1; first = there.2; longer = there.3; shorter = there.4 }
 
-pub only_near : (system : System) (slicing : Slicing) (row : List ℕ) (near : Near) → IsNearRow system slicing row near
+pub only_near : (system : System) (slicing : Slicing) (row : Row) (near : Near) → IsNearRow system slicing row near
     → near ≡ near_of system slicing row
 only_near system slicing row near is =
     let own = is_near system slicing row in
-    one_near system slicing (lines_of system row 1) near (near_of system slicing row) is.nearest is.first is.longer
+    one_near system slicing (given_samples row ∷ []) near (near_of system slicing row) is.nearest is.first is.longer
     is.shorter own.nearest own.first own.longer own.shorter
 
-pub one_near_row : (system : System) (slicing : Slicing) (row : List ℕ) (near : Near)
+pub one_near_row : (system : System) (slicing : Slicing) (row : Row) (near : Near)
     → IsNearRow system slicing row near ↔ (near ≡ near_of system slicing row)
 one_near_row system slicing row near = (
   only_near system slicing row near,
@@ -42,22 +43,23 @@ one_near_row system slicing row near = (
 
 -- ---- what three rows show
 
-pub is_shown : (system : System) (slicing : Slicing) (rows : List ℕ)
-    → AreShown system slicing rows (recovery_of system slicing rows)
+pub is_shown : (system : System) (slicing : Slicing) (rows : List ℕ) (marks : List Bool)
+    → IsRecovered system slicing rows marks (recovery_of system slicing rows marks)
 unfolding recovery_of
-is_shown system slicing rows = (some_recovered system slicing rows (none_erased system)).1
+is_shown system slicing rows marks = (some_recovered system slicing rows marks).1
 
-pub only_shown : (system : System) (slicing : Slicing) (rows : List ℕ) (shown : List Recovered)
-    → AreShown system slicing rows shown → shown ≡ recovery_of system slicing rows
-only_shown system slicing rows shown is =
-    one_recovered system slicing rows (none_erased system) shown (recovery_of system slicing rows) is
-    (is_shown system slicing rows)
+pub only_shown : (system : System) (slicing : Slicing) (rows : List ℕ) (marks : List Bool) (shown : List Recovered)
+    → IsRecovered system slicing rows marks shown → shown ≡ recovery_of system slicing rows marks
+only_shown system slicing rows marks shown is =
+    one_recovered system slicing rows marks shown (recovery_of system slicing rows marks) is
+    (is_shown system slicing rows marks)
 
-pub one_shown : (system : System) (slicing : Slicing) (rows : List ℕ) (shown : List Recovered)
-    → AreShown system slicing rows shown ↔ (shown ≡ recovery_of system slicing rows)
-one_shown system slicing rows shown = (
-  only_shown system slicing rows shown,
-  λ e. subst (λ (r : List Recovered). AreShown system slicing rows r) (sym e) (is_shown system slicing rows),
+pub one_shown : (system : System) (slicing : Slicing) (rows : List ℕ) (marks : List Bool) (shown : List Recovered)
+    → IsRecovered system slicing rows marks shown ↔ (shown ≡ recovery_of system slicing rows marks)
+one_shown system slicing rows marks shown = (
+  only_shown system slicing rows marks shown,
+  λ e. subst (λ (r : List Recovered). IsRecovered system slicing rows marks r) (sym e)
+      (is_shown system slicing rows marks),
 )
 
 -- no column of three rows is erased by the first of these marks
@@ -72,11 +74,11 @@ nothing_erased system n e =
     ∙ ap (λ (k : ℕ). replicate (3 * k) false) e
 
 -- they are three
-pub has_three : (system : System) (slicing : Slicing) (rows : List ℕ) (l : List Recovered) (a b c : Recovered)
-    → AreShown system slicing rows l
+pub has_three : (system : System) (slicing : Slicing) (rows : List ℕ) (marks : List Bool) (l : List Recovered)
+    (a b c : Recovered) → IsRecovered system slicing rows marks l
     → record { first = reading_as (get_or l 0 a); second = reading_as (get_or l 1 b); third = reading_as (get_or l 2 c) }
     ≡ as_readings l
-has_three system slicing rows l a b c (first, second, third, both, seen, e) =
+has_three system slicing rows marks l a b c (first, second, third, both, seen, e) =
     (λ j. record {
       first = reading_as (get_or (e j) 0 a);
       second = reading_as (get_or (e j) 1 b);
@@ -91,12 +93,12 @@ abbrev as_read : Reading → Recovered
 as_read reading = record { outcome = reading.outcome; pass = reading.pass }
 
 -- three rows whose readings are sure are shown as they were read
-pub sure_rows : (system : System) (slicing : Slicing) (rows : List ℕ) (shown : List Recovered) (a b c : Reading)
-    → AreShown system slicing rows shown → a ≡ row_reading system slicing rows 0
+pub sure_rows : (system : System) (slicing : Slicing) (rows : List ℕ) (marks : List Bool) (shown : List Recovered)
+    (a b c : Reading) → IsRecovered system slicing rows marks shown → a ≡ row_reading system slicing rows 0
     → b ≡ row_reading system slicing rows 1 → c ≡ row_reading system slicing rows 2
     → IsSureBy a.outcome a.pass → IsSureBy b.outcome b.pass → IsSureBy c.outcome c.pass
     → shown ≡ as_read a ∷ as_read b ∷ as_read c ∷ []
-sure_rows system slicing rows shown a b c (first, second, third, both, seen, e) one two three s t u =
+sure_rows system slicing rows marks shown a b c (first, second, third, both, seen, e) one two three s t u =
     let unit = unit_of slicing in
     let stands = stands_of unit second third both in
     let p = sure-shown alone unit first both a (seen.line_16.reading ∙ sym one) s in

@@ -1,11 +1,15 @@
 -- The document with recovered words, of version 3: as that of version 2, but that words of pass 2 may be missing, there
 -- are words of pass 3, and `vbiNear` has of each of these the nearest word of its line as it is, and how near that is.
-use Rattle.std.specs.Prelude.{ℕ, ◌-◌, ◌*◌, ◌/◌, List, ◌++◌, ◌==◌, if◌then◌else◌, Option, Some, None, codes, decimal}
-use Rattle.vbi_field.specs.ConfigView.{ConfigView}
+use Rattle.std.specs.Prelude.{ℕ, ◌-◌, ◌*◌, ◌/◌, Bool, List, ◌++◌, ◌==◌, if◌then◌else◌, Option, Some, None, codes, decimal}
+use Rattle.vbi_field.specs.ConfigView.{ConfigView, System}
 use Rattle.vbi_field.specs.CodeTexts.{cause_text_of}
 use Rattle.vbi_field.specs.Document.{value_of, lines_of, parameters_of}
-use Rattle.vbi_field.specs.Stream.{Reading, FieldReadings, FieldRows, readings_of}
-use Rattle.vbi_field.specs.Shown.{near_of, recovery_of, joined_rows, as_readings}
+use Rattle.vbi_words.specs.Levels.{Slicing}
+use Rattle.vbi_words.specs.Readings.{IsReading}
+use Rattle.vbi_near.specs.Candidates.{row_of}
+use Rattle.vbi_near.specs.Recovery.{IsRecovered, none_erased}
+use Rattle.vbi_field.specs.Stream.{Reading, FieldReadings, FieldRows, row_readings, row_levels}
+use Rattle.vbi_field.specs.Shown.{IsNearRow, near_of, recovery_of, joined_rows, marks_at, as_readings}
 pub use Rattle.vbi_near.specs.declared.near.Near.{Near}
 pub use Rattle.vbi_near.specs.declared.recovery.Recovered.{Recovered}
 
@@ -17,15 +21,30 @@ pub record FieldRecovered : Type 0 where
   pub second : Near
   pub third : Near
 
--- those of these rows
-abbrev pub recovered_of : ConfigView → FieldRows → FieldRecovered
-recovered_of c rows = record {
-  readings = readings_of c rows;
-  shown = recovery_of c.system c.levels (joined_rows rows);
-  first = near_of c.system c.levels rows.first;
-  second = near_of c.system c.levels rows.second;
-  third = near_of c.system c.levels rows.third;
+-- these are those of rows of which these columns are erased
+pub record RowsRecover (system : System) (slicing : Slicing) (rows : FieldRows) (marks : List Bool)
+    (field : FieldRecovered) : Type 0 where
+  pub first_reads : IsReading system (row_levels slicing rows.first) field.readings.first
+  pub second_reads : IsReading system (row_levels slicing rows.second) field.readings.second
+  pub third_reads : IsReading system (row_levels slicing rows.third) field.readings.third
+  pub shown : IsRecovered system slicing (joined_rows rows) marks field.shown
+  pub first : IsNearRow system slicing (row_of rows.first (marks_at system marks 0)) field.first
+  pub second : IsNearRow system slicing (row_of rows.second (marks_at system marks 1)) field.second
+  pub third : IsNearRow system slicing (row_of rows.third (marks_at system marks 2)) field.third
+
+-- the same as a function; the law `one_field` shows that it meets `RowsRecover`, and that nothing else does
+abbrev pub recovered_without : System → Slicing → FieldRows → List Bool → FieldRecovered
+recovered_without system slicing rows marks = record {
+  readings = row_readings system slicing rows;
+  shown = recovery_of system slicing (joined_rows rows) marks;
+  first = near_of system slicing (row_of rows.first (marks_at system marks 0));
+  second = near_of system slicing (row_of rows.second (marks_at system marks 1));
+  third = near_of system slicing (row_of rows.third (marks_at system marks 2));
 }
+
+-- those of rows of which no column is erased
+abbrev pub recovered_of : ConfigView → FieldRows → FieldRecovered
+recovered_of c rows = recovered_without c.system c.levels rows (none_erased c.system)
 
 -- ---- causes
 
@@ -49,22 +68,22 @@ word_or_zero (Some word) = word
 word_or_zero None = 0
 
 -- how far samples are off, in hundredths of what white and black are off in one column, rounded down
-abbrev pub hundredths : ConfigView → ℕ → ℕ
-hundredths c distance = distance * 100 / (c.levels.white - c.levels.black)
+abbrev pub hundredths : Slicing → ℕ → ℕ
+hundredths slicing distance = distance * 100 / (slicing.white - slicing.black)
 
 -- how near a line's nearest word is, where its word was recovered
-unfoldable pub near_text_of : ConfigView → Reading → Near → List ℕ
-near_text_of c line near = if line.pass == 3
+unfoldable pub near_text_of : Slicing → Reading → Near → List ℕ
+near_text_of slicing line near = if line.pass == 3
     then codes "{\"word\":" ++ decimal (word_or_zero near.word)
-    ++ codes ",\"distance\":" ++ decimal (hundredths c near.distance)
-    ++ codes ",\"rival\":" ++ decimal (hundredths c near.rival) ++ codes "}"
+    ++ codes ",\"distance\":" ++ decimal (hundredths slicing near.distance)
+    ++ codes ",\"rival\":" ++ decimal (hundredths slicing near.rival) ++ codes "}"
     else codes "null"
 
 -- the three of a field
-unfoldable pub nears_text_of : ConfigView → FieldReadings → FieldRecovered → List ℕ
-nears_text_of c lines field = codes ",\"vbiNear\":[" ++ near_text_of c lines.first field.first
-    ++ codes "," ++ near_text_of c lines.second field.second
-    ++ codes "," ++ near_text_of c lines.third field.third ++ codes "]"
+unfoldable pub nears_text_of : Slicing → FieldReadings → FieldRecovered → List ℕ
+nears_text_of slicing lines field = codes ",\"vbiNear\":[" ++ near_text_of slicing lines.first field.first
+    ++ codes "," ++ near_text_of slicing lines.second field.second
+    ++ codes "," ++ near_text_of slicing lines.third field.third ++ codes "]"
 
 -- ---- the document
 
@@ -82,7 +101,7 @@ record_with number lines causes nears =
     ++ lines_of (codes ",\"vbiPass\":[") (λ line. decimal line.pass) (codes "]") lines ++ nears ++ codes "}"
 
 -- the record of a field
-abbrev pub recovered_record_of : ConfigView → ℕ → FieldRecovered → List ℕ
-recovered_record_of c number field =
+abbrev pub recovered_record_of : Slicing → ℕ → FieldRecovered → List ℕ
+recovered_record_of slicing number field =
     let lines = as_readings field.shown in
-    record_with number lines (cause_lines lines field.readings) (nears_text_of c lines field)
+    record_with number lines (cause_lines lines field.readings) (nears_text_of slicing lines field)

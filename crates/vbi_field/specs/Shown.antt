@@ -1,34 +1,38 @@
 -- What the bytes of a field's three rows show with recovered words, and which word is nearest to a row: as relations, and
 -- as functions, which give the only answer there is.
-use Rattle.std.specs.Prelude.{ℕ, List, [], ◌∷◌, ◌++◌}
+use Rattle.std.specs.Prelude.{ℕ, ◌*◌, Bool, List, [], ◌∷◌, ◌++◌, take, drop}
 use Rattle.vbi_words.specs.declared.system.System.{System}
 use Rattle.vbi_words.specs.declared.outcome.Outcome.TheVariants.{Blank}
+use Rattle.vbi_words.specs.Geometry.{width_of}
 use Rattle.vbi_words.specs.Levels.{Slicing}
 use Rattle.vbi_near.specs.declared.near.Near.{Near}
 use Rattle.vbi_near.specs.declared.recovery.Recovered.{Recovered}
-use Rattle.vbi_near.specs.Distances.{lines_of}
+use Rattle.vbi_near.specs.Candidates.{Row, given_samples}
 use Rattle.vbi_near.specs.Nearest.{IsNearest, IsFirst}
 use Rattle.vbi_near.specs.Longer.{IsLonger}
 use Rattle.vbi_near.specs.Shorter.{IsShorter}
-use Rattle.vbi_near.specs.Recovery.{IsRecovered, none_erased}
 use Rattle.vbi_near.proofs.SomeNear.{some_near}
 use Rattle.vbi_near.proofs.SomeRecovered.{some_recovered}
 use Rattle.vbi_field.specs.Stream.{Reading, FieldReadings, FieldRows}
 
 -- ---- the nearest word of a row
 
--- this word is the nearest one to a row as it is, and the first of those that are as near; a row has one
--- (`laws::one_near_row`)
-pub record IsNearRow (system : System) (slicing : Slicing) (row : List ℕ) (near : Near) : Type 0 where
-  pub nearest : IsNearest system slicing (lines_of system row 1) near
-  pub first : IsFirst system slicing (lines_of system row 1) near
-  pub longer : IsLonger system slicing (lines_of system row 1) near
-  pub shorter : IsShorter system slicing (lines_of system row 1) near
+-- the marks of the erased columns of a row of three, counted from 0, of which the marks lie one row behind the other
+abbrev pub marks_at : System → List Bool → ℕ → List Bool
+marks_at system marks i = take (width_of system) (drop (width_of system * i) marks)
+
+-- this word is the nearest one to a row as it is, without its erased columns, and the first of those that are as near;
+-- a row has one (`laws::one_near_row`)
+pub record IsNearRow (system : System) (slicing : Slicing) (row : Row) (near : Near) : Type 0 where
+  pub nearest : IsNearest system slicing (given_samples row ∷ []) near
+  pub first : IsFirst system slicing (given_samples row ∷ []) near
+  pub longer : IsLonger system slicing (given_samples row ∷ []) near
+  pub shorter : IsShorter system slicing (given_samples row ∷ []) near
 
 -- the nearest word of a row. Its body is taken from a proof, and nobody needs to read it: `laws::one_near_row` shows
 -- that it meets `IsNearRow`, and that nothing else does.
-unfoldable pub near_of : System → Slicing → List ℕ → Near
-near_of system slicing row = (some_near system slicing (lines_of system row 1)).0
+unfoldable pub near_of : System → Slicing → Row → Near
+near_of system slicing row = (some_near system slicing (given_samples row ∷ [])).0
 
 -- ---- what a field shows
 
@@ -36,13 +40,10 @@ near_of system slicing row = (some_near system slicing (lines_of system row 1)).
 abbrev pub joined_rows : FieldRows → List ℕ
 joined_rows rows = rows.first ++ (rows.second ++ rows.third)
 
--- three rows show this, none of whose columns is erased; they show one thing (`laws::one_shown`)
-abbrev pub AreShown : System → Slicing → List ℕ → List Recovered → Type 0
-AreShown system slicing rows shown = IsRecovered system slicing rows (none_erased system) shown
-
--- what three rows show: `laws::one_shown` shows that it meets `AreShown`, and that nothing else does
-unfoldable pub recovery_of : System → Slicing → List ℕ → List Recovered
-recovery_of system slicing rows = (some_recovered system slicing rows (none_erased system)).0
+-- what three rows show, of whose columns these are erased; `laws::one_shown` shows that it meets `IsRecovered`, and by
+-- `laws::one_recovered` of the crate `vbi_near` nothing else does
+unfoldable pub recovery_of : System → Slicing → List ℕ → List Bool → List Recovered
+recovery_of system slicing rows marks = (some_recovered system slicing rows marks).0
 
 -- what a line shows as a reading; one of pass 3 was recovered
 abbrev pub reading_as : Recovered → Reading

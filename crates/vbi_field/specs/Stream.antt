@@ -3,7 +3,7 @@
 -- bytes.
 use Rattle.std.specs.Prelude.{ℕ, ◌+◌, ◌-◌, ◌*◌, ◌/◌, ◌%◌, ◌==◌, min, if◌then◌else◌, List, length, Option, Some, None}
 use Rattle.std.specs.Prelude.{drop, nat_lt}
-use Rattle.vbi_field.specs.ConfigView.{System, width_of, line_bytes, field_bytes, ConfigView}
+use Rattle.vbi_field.specs.ConfigView.{System, Slicing, width_of, line_bytes, field_bytes, ConfigView}
 pub use Rattle.vbi_words.specs.Levels.{row_levels}
 pub use Rattle.vbi_words.specs.Geometry.{line_at}
 pub use Rattle.vbi_words.specs.declared.outcome.Reading.{Reading}
@@ -52,13 +52,17 @@ rows_in system bytes = record {
   third = line_at system bytes 0 2;
 }
 
--- the readings of these rows; those of `rows_at` are `readings_at`
-abbrev pub readings_of : ConfigView → FieldRows → FieldReadings
-readings_of c rows = record {
-  first = reading_of c.system (row_levels c.levels rows.first);
-  second = reading_of c.system (row_levels c.levels rows.second);
-  third = reading_of c.system (row_levels c.levels rows.third);
+-- the readings of these rows, by the system and its levels
+abbrev pub row_readings : System → Slicing → FieldRows → FieldReadings
+row_readings system slicing rows = record {
+  first = reading_of system (row_levels slicing rows.first);
+  second = reading_of system (row_levels slicing rows.second);
+  third = reading_of system (row_levels slicing rows.third);
 }
+
+-- the same by a run's settings; those of `rows_at` are `readings_at`
+abbrev pub readings_of : ConfigView → FieldRows → FieldReadings
+readings_of c rows = row_readings c.system c.levels rows
 
 -- how many samples are looked at: those of the rows 15, 16 and 17 that the stream has whole, once each
 abbrev pub looks_of : ConfigView → List ℕ → ℕ

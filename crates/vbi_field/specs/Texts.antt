@@ -8,9 +8,10 @@ use Rattle.vbi_field.specs.Stream.{fields_of, rest_of, readings_of, rows_at, Fie
 use Rattle.vbi_field.specs.Stream.{row_levels, line_at}
 use Rattle.vbi_words.specs.Readings.{IsReading}
 use Rattle.vbi_field.specs.Document.{head_of, record_of, tail_of}
-use Rattle.vbi_field.specs.Shown.{AreShown, IsNearRow, as_readings, joined_rows}
+use Rattle.vbi_near.specs.Recovery.{none_erased}
+use Rattle.vbi_field.specs.Shown.{as_readings}
 use Rattle.vbi_field.specs.Recovered.{recovered_head_of, recovered_record_of, recovered_of}
-use Rattle.vbi_field.specs.Recovered.{FieldRecovered, Recovered, Near}
+use Rattle.vbi_field.specs.Recovered.{FieldRecovered, RowsRecover}
 use Rattle.vbi_field.specs.Report.{report_head_of, report_entry_of, recovered_entry_of, report_tail_of}
 use Rattle.vbi_field.specs.CodeTexts.{Outcome, Word, Blank, Unfinished, Change, Hold}
 
@@ -62,7 +63,7 @@ document = by plain_document
 -- the document of `extract --recover`
 abbrev pub worn_document : RecoveredKind
 worn_document =
-    record { head = recovered_head_of; joint = codes ",\n"; entry = recovered_record_of; tail = tail_of }
+    record { head = recovered_head_of; joint = codes ",\n"; entry = λ c. recovered_record_of c.levels; tail = tail_of }
 
 abbrev pub recovered_document : Kind
 recovered_document = recovering worn_document
@@ -182,21 +183,9 @@ refused_field = of_lines (has_none (Change 34)) (has_none (Hold 909)) (has_word 
 
 -- ---- with recovered words
 
--- the three rows of field i show this
-abbrev pub FieldShows : ConfigView → List ℕ → ℕ → List Recovered → Type 0
-FieldShows c z i shown = AreShown c.system c.levels (joined_rows (rows_at c z i)) shown
-
--- row r of field i has this nearest word
-abbrev pub RowIsNear : ConfigView → List ℕ → ℕ → ℕ → Near → Type 0
-RowIsNear c z i r near = IsNearRow c.system c.levels (line_at c.system z i r) near
-
 -- of field i its readings, what its rows show, and the nearest word of each
-pub record FieldRecovers (c : ConfigView) (z : List ℕ) (i : ℕ) (field : FieldRecovered) : Type 0 where
-  pub reads : FieldReads c z i field.readings
-  pub shown : FieldShows c z i field.shown
-  pub first : RowIsNear c z i 15 field.first
-  pub second : RowIsNear c z i 16 field.second
-  pub third : RowIsNear c z i 17 field.third
+abbrev pub FieldRecovers : ConfigView → List ℕ → ℕ → FieldRecovered → Type 0
+FieldRecovers c z i field = RowsRecover c.system c.levels (rows_at c z i) (none_erased c.system) field
 
 -- text is the head, the entries of the whole fields by what their rows show, joined, and the tail
 abbrev pub IsRecoveredText : RecoveredKind → ConfigView → List ℕ → List ℕ → Type 0

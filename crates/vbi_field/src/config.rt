@@ -66,6 +66,17 @@ impl Config {
         })
     }
 
+    /// A config of these levels, of which nothing but the levels and their system matters.
+    pub(crate) fn of_levels(system: System, levels: Levels) -> Config
+        ensures { result ≡ record { system = system; levels = levels; max_fields = 1 } }
+    {
+        Config {
+            system,
+            levels,
+            max_fields: 1,
+        }
+    }
+
     /// The television system.
     pub fn system(&self) -> System
         ensures { result ≡ self.now.system }

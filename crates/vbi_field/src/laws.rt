@@ -1,7 +1,7 @@
 //! Laws over the definitions: each function's contract is one, for every config, stream and text of words.
 
 ghost use Rattle.std.specs.Prelude.{◌≡◌, ◌↔◌, ℕ, ◌+◌, ◌*◌, ◌<◌, ◌≤◌, ◌⊎◌, List, length, take, Option, Some, slice_get};
-ghost use Rattle.std.specs.Prelude.{◌++◌, Result, codes};
+ghost use Rattle.std.specs.Prelude.{◌++◌, Bool, Result, codes};
 ghost use Rattle.std.specs.List.{concat};
 ghost use Rattle.std.specs.Io.KnownBytes.{Consumes, IsAtEnd};
 ghost use Rattle.vbi_words.specs.Geometry.{width_of, field_bytes};
@@ -9,7 +9,10 @@ ghost use Rattle.vbi_words.specs.declared.system.System.TheVariants.{Ntsc, Pal};
 ghost use Rattle.vbi_field.specs.Texts.{FieldReads, IsWholeText, text_before_tail, whole_text, Kind, ReadingKind, by};
 ghost use Rattle.vbi_field.specs.Texts.{document, report, plain_document, plain_report};
 ghost use Rattle.vbi_field.specs.Texts.{RecoveredKind, recovering, IsRecoveredText, recovered_document};
-ghost use Rattle.vbi_field.specs.Shown.{IsNearRow, near_of, AreShown, recovery_of};
+ghost use Rattle.vbi_field.specs.Shown.{IsNearRow, near_of, recovery_of};
+ghost use Rattle.vbi_field.specs.Recovered.{FieldRecovered, RowsRecover, recovered_without};
+ghost use Rattle.vbi_near.specs.Candidates.{Row};
+ghost use Rattle.vbi_near.specs.Recovery.{IsRecovered};
 ghost use Rattle.vbi_near.specs.declared.near.Near.{Near};
 ghost use Rattle.vbi_near.specs.declared.recovery.Recovered.{Recovered};
 ghost use Rattle.vbi_words.specs.declared.system.System.{System};
@@ -25,7 +28,7 @@ ghost use Rattle.vbi_field.specs.Feed.{StandsAt, IsFed, FeedsAll, Pushes, Feedin
 ghost use Rattle.vbi_field.specs.Outlet.{Wrote};
 ghost use Rattle.vbi_field.specs.Ran.{IsFirstOf};
 ghost use Rattle.vbi_field.specs.ConfigView.{ConfigView};
-ghost use Rattle.vbi_field.specs.Stream.{fields_of, rest_of, looks_of};
+ghost use Rattle.vbi_field.specs.Stream.{fields_of, rest_of, looks_of, FieldRows};
 ghost use Rattle.vbi_field.specs.WordRows.{IsWordRow, AreRows, word_row_of};
 ghost use Rattle.vbi_field.specs.Draws.{draw_out, AreDrawable, drawn_readings, drawn_text};
 
@@ -45,16 +48,23 @@ pub fn one_recovered_document()
         → (IsRecoveredText t c z text ↔ (text ≡ whole_text (recovering t) c z)) }
 {}
 
-/// A row has one nearest word, that which the document with recovered words has of it.
+/// A row has one nearest word, whatever columns are erased, that which the document with recovered words has of it.
 pub fn one_near_row()
-    ensures { (system : System) (slicing : Slicing) (row : List ℕ) (near : Near)
+    ensures { (system : System) (slicing : Slicing) (row : Row) (near : Near)
         → (IsNearRow system slicing row near ↔ (near ≡ near_of system slicing row)) }
 {}
 
-/// Three rows show one thing, that which document and report with recovered words have of them.
+/// Three rows show one thing, whatever columns are erased, that which document and report with recovered words have of
+/// them.
 pub fn one_shown()
-    ensures { (system : System) (slicing : Slicing) (rows : List ℕ) (shown : List Recovered)
-        → (AreShown system slicing rows shown ↔ (shown ≡ recovery_of system slicing rows)) }
+    ensures { (system : System) (slicing : Slicing) (rows : List ℕ) (marks : List Bool) (shown : List Recovered)
+        → (IsRecovered system slicing rows marks shown ↔ (shown ≡ recovery_of system slicing rows marks)) }
+{}
+
+/// What a record has of three rows is fixed by them, their levels and their erased columns.
+pub fn one_field()
+    ensures { (system : System) (slicing : Slicing) (rows : FieldRows) (marks : List Bool) (field : FieldRecovered)
+        → (RowsRecover system slicing rows marks field ↔ (field ≡ recovered_without system slicing rows marks)) }
 {}
 
 /// A row stands for these words exactly where it is their three items with one space between two of them.

@@ -33,6 +33,7 @@ pub use drawing::{DrawFault, draw};
 pub use feeder::Feeder;
 pub use outlet::{Outlet, OutletFault};
 pub use readings::FieldReadings;
+pub use recovered::recovered_record;
 pub use row_intake::RowIntake;
 pub use run::{extract, extract_recovered, show, show_recovered};
 pub use summary::{RunFault, Summary};

@@ -3,21 +3,23 @@
 
 ghost use Rattle.std.specs.Prelude.{true, IsTrue, [], ◌==◌, if◌then◌else◌, ◌≡◌, ◌+◌, ◌*◌, ◌-◌, ◌^◌, ◌<◌, ◌≤◌, ◌++◌};
 ghost use Rattle.std.specs.Prelude.{codes, decimal, length};
-ghost use Rattle.vbi_words.specs.Geometry.{line_bytes};
+ghost use Rattle.vbi_words.specs.Geometry.{line_bytes, width_of};
+ghost use Rattle.vbi_near.specs.Candidates.{row_of};
 ghost use Rattle.vbi_field.specs.Recovered.{cause_line, cause_lines, hundredths, near_text_of, nears_text_of};
-ghost use Rattle.vbi_field.specs.Recovered.{recovered_of, record_with, word_or_zero};
-ghost use Rattle.vbi_field.specs.Shown.{near_of};
-ghost use Rattle.vbi_field.specs.Stream.{rows_in, readings_of};
-ghost use Rattle.vbi_field.specs.Texts.{recovered_document, joined_entry_of};
+ghost use Rattle.vbi_field.specs.Recovered.{recovered_record_of, recovered_without, record_with, word_or_zero};
+ghost use Rattle.vbi_field.specs.Shown.{marks_at, near_of};
+ghost use Rattle.vbi_field.specs.Stream.{readings_of, rows_in};
+ghost use Rattle.vbi_field.specs.Texts.{recovered_document};
 
 use crate::config::Config;
 use crate::document::{causes_text, data_text, head_text, passes_text, tail_text};
 use crate::numbers::push_number;
 use crate::readings::FieldReadings;
-use crate::shown::{nearest_of_row, shown_lines};
+use crate::shown::{nearest_of_row, none_erased, shown_lines};
 use crate::texts::{Kind, TEXT_SIZE};
 use arrayvec::ArrayString;
-use vbi_words::{Reading, Word24};
+use vbi_line::read_bytes_twice;
+use vbi_words::{Levels, Reading, System, Word24};
 
 /// The document of `extract --recover`.
 pub(crate) struct RecoveredDocument;
@@ -39,7 +41,8 @@ impl Kind for RecoveredDocument {
         readings: &FieldReadings,
         held: &[u8],
     ) -> ArrayString<TEXT_SIZE> {
-        record_text(config, before, readings, held)
+        let erased = none_erased(config);
+        record_text(config, before == 0, before + 1, readings, held, erased)
     }
 
     fn tail(fields: u32, rest: u32) -> ArrayString<TEXT_SIZE> {
@@ -77,24 +80,27 @@ fn word_or_zero(word: Option<Word24>) -> u32
 
 /// How far samples are off, in hundredths of what white and black are off in one column, rounded down.
 fn hundredths(config: &Config, distance: u32) -> u64
-    ensures { result ≡ hundredths config.now distance }
+    ensures { result ≡ hundredths config.now.levels distance }
 {
     let levels = config.levels();
     u64::from(distance) * 100 / u64::from(levels.white() - levels.black())
 }
 
-/// How near a line's nearest word is, where its word was recovered.
+/// How near a line's nearest word is, where its word was recovered, by the bytes of its row and the marks of its erased
+/// columns.
 #[tactic(auto, unfolding(crate::specs::Recovered::near_text_of))]
-fn near_text(config: &Config, line: &Reading, row: &[u8]) -> ArrayString<80>
-    requires { length row.now ≡ line_bytes config.now.system }
-    ensures { result.bytes ≡ near_text_of config.now line.now (near_of config.now.system config.now.levels row.now) }
+fn near_text(config: &Config, line: &Reading, row: &[u8], erased: &[bool]) -> ArrayString<80>
+    requires row { length row.now ≡ line_bytes config.now.system }
+    requires erased { length erased.now ≡ width_of config.now.system }
+    ensures { result.bytes ≡ near_text_of config.now.levels line.now
+        (near_of config.now.system config.now.levels (row_of row.now erased.now)) }
 {
     let mut text = ArrayString::new();
     if line.pass != 3 {
         text.push_str("null");
         return text;
     }
-    let near = nearest_of_row(config.system(), config.levels(), row);
+    let near = nearest_of_row(config.system(), config.levels(), row, erased);
     text.push_str("{\"word\":");
     push_number(&mut text, word_or_zero(near.word));
     text.push_str(",\"distance\":");
@@ -105,21 +111,44 @@ fn near_text(config: &Config, line: &Reading, row: &[u8]) -> ArrayString<80>
     text
 }
 
-/// The three of a field, by the bytes of its rows.
+/// The marks of the erased columns of a row of three, counted from 0.
+fn marks_at<'a>(config: &Config, erased: &'a [bool], row: usize) -> &'a [bool]
+    requires whole { length erased.now ≡ 3 * width_of config.now.system }
+    requires row { row < 3 }
+    ensures marks { result.now ≡ marks_at config.now.system erased.now row }
+    ensures long { length result.now ≡ width_of config.now.system }
+{
+    let width = config.system().width();
+    &erased[width * row..width * row + width]
+}
+
+/// The three of a field, by the bytes of its rows and the marks of their erased columns.
 #[tactic(auto, unfolding(crate::specs::Recovered::nears_text_of))]
-fn nears_text(config: &Config, lines: &FieldReadings, rows: &[u8]) -> ArrayString<256>
-    requires { length rows.now ≡ 3 * line_bytes config.now.system }
-    ensures { result.bytes
-        ≡ nears_text_of config.now lines.now (recovered_of config.now (rows_in config.now.system rows.now)) }
+fn nears_text(
+    config: &Config,
+    lines: &FieldReadings,
+    rows: &[u8],
+    erased: &[bool],
+) -> ArrayString<256>
+    requires rows { length rows.now ≡ 3 * line_bytes config.now.system }
+    requires erased { length erased.now ≡ 3 * width_of config.now.system }
+    ensures { result.bytes ≡ nears_text_of config.now.levels lines.now
+        (recovered_without config.now.system config.now.levels (rows_in config.now.system rows.now) erased.now) }
 {
     let size = config.line_bytes();
+    let marks = marks_at(config, erased, 0);
+    let first = near_text(config, &lines.first, &rows[..size], marks);
+    let marks = marks_at(config, erased, 1);
+    let second = near_text(config, &lines.second, &rows[size..2 * size], marks);
+    let marks = marks_at(config, erased, 2);
+    let third = near_text(config, &lines.third, &rows[2 * size..3 * size], marks);
     let mut text = ArrayString::new();
     text.push_str(",\"vbiNear\":[");
-    text.push_str(near_text(config, &lines.first, &rows[..size]).as_str());
+    text.push_str(first.as_str());
     text.push_str(",");
-    text.push_str(near_text(config, &lines.second, &rows[size..2 * size]).as_str());
+    text.push_str(second.as_str());
     text.push_str(",");
-    text.push_str(near_text(config, &lines.third, &rows[2 * size..3 * size]).as_str());
+    text.push_str(third.as_str());
     text.push_str("]");
     text
 }
@@ -127,22 +156,22 @@ fn nears_text(config: &Config, lines: &FieldReadings, rows: &[u8]) -> ArrayStrin
 /// The record of a field of these lines, causes and nearest words, behind the joint unless it is the first.
 #[tactic(auto, unfolding(crate::specs::Recovered::record_with))]
 fn record_with(
-    before: u32,
+    is_first: bool,
+    number: u32,
     lines: &FieldReadings,
     causes: &FieldReadings,
     nears: &str,
 ) -> ArrayString<TEXT_SIZE>
-    requires few { before < 2 ^ 32 - 1 }
-    requires short { length nears.now ≤ 256 }
+    requires { length nears.now ≤ 256 }
     ensures { result.bytes
-        ≡ (if before == 0 then [] else codes ",\n") ++ record_with (before + 1) lines.now causes.now nears.now }
+        ≡ (if is_first then [] else codes ",\n") ++ record_with number lines.now causes.now nears.now }
 {
     let mut text = ArrayString::new();
-    if before != 0 {
+    if !is_first {
         text.push_str(",\n");
     }
     text.push_str("{\"seqNo\":");
-    push_number(&mut text, before + 1);
+    push_number(&mut text, number);
     text.push_str(data_text(lines).as_str());
     text.push_str(causes_text(causes).as_str());
     text.push_str(passes_text(lines).as_str());
@@ -151,21 +180,60 @@ fn record_with(
     text
 }
 
-/// The record of the field that this many fields come before, behind the joint unless it is the first.
+/// The record of a field of this number, behind the joint unless it is the first: by the readings of its rows, their
+/// bytes and the marks of their erased columns.
 fn record_text(
     config: &Config,
-    before: u32,
+    is_first: bool,
+    number: u32,
     readings: &FieldReadings,
     rows: &[u8],
+    erased: &[bool],
 ) -> ArrayString<TEXT_SIZE>
-    requires few { before < 2 ^ 32 - 1 }
     requires rows { length rows.now ≡ 3 * line_bytes config.now.system }
+    requires erased { length erased.now ≡ 3 * width_of config.now.system }
     ensures { readings.now ≡ readings_of config.now (rows_in config.now.system rows.now)
-        → result.bytes
-        ≡ joined_entry_of recovered_document config.now before (rows_in config.now.system rows.now) }
+        → result.bytes ≡ (if is_first then [] else codes ",\n") ++ recovered_record_of config.now.levels number
+        (recovered_without config.now.system config.now.levels (rows_in config.now.system rows.now) erased.now) }
 {
-    let lines = shown_lines(config, readings, rows);
+    let lines = shown_lines(config, readings, rows, erased);
     let causes = cause_lines(&lines, readings);
-    let nears = nears_text(config, &lines, rows);
-    record_with(before, &lines, &causes, nears.as_str())
+    let nears = nears_text(config, &lines, rows, erased);
+    record_with(is_first, number, &lines, &causes, nears.as_str())
+}
+
+/// The readings of a field's rows.
+fn readings_of_rows(config: &Config, rows: &[u8]) -> FieldReadings
+    requires { length rows.now ≡ 3 * line_bytes config.now.system }
+    ensures { result ≡ readings_of config.now (rows_in config.now.system rows.now) }
+{
+    let size = config.line_bytes();
+    let system = config.system();
+    let levels = config.levels();
+    FieldReadings {
+        first: read_bytes_twice(&rows[..size], system, levels),
+        second: read_bytes_twice(&rows[size..2 * size], system, levels),
+        third: read_bytes_twice(&rows[2 * size..3 * size], system, levels),
+    }
+}
+
+/// The record that the document of `extract --recover` has of a field with this number, by the bytes of its rows 15, 16
+/// and 17, one behind the other, and by the marks of their erased columns, a row's behind those of the one before:
+/// those columns count for no nearest word. The document's own records are those of rows without such columns. It
+/// numbers fields from 1; any number is written. A comma and a newline stand between two of its records.
+pub fn recovered_record(
+    system: System,
+    levels: Levels,
+    number: u32,
+    rows: &[u8],
+    erased: &[bool],
+) -> ArrayString<TEXT_SIZE>
+    requires rows { length rows.now ≡ 3 * line_bytes system }
+    requires erased { length erased.now ≡ 3 * width_of system }
+    ensures { result.bytes ≡ recovered_record_of levels number
+        (recovered_without system levels (rows_in system rows.now) erased.now) }
+{
+    let config = Config::of_levels(system, levels);
+    let readings = readings_of_rows(&config, rows);
+    record_text(&config, true, number, &readings, rows, erased)
 }

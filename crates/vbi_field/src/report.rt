@@ -13,7 +13,7 @@ use crate::code_texts::{code_text, hex_text};
 use crate::config::Config;
 use crate::numbers::push_number;
 use crate::readings::FieldReadings;
-use crate::shown::shown_lines;
+use crate::shown::{none_erased, shown_lines};
 use crate::texts::{Kind, TEXT_SIZE};
 use arrayvec::ArrayString;
 use vbi_words::{Format, Levels, Outcome, Reading, System, classify, format_of};
@@ -66,7 +66,8 @@ impl Kind for RecoveredReport {
         readings: &FieldReadings,
         held: &[u8],
     ) -> ArrayString<TEXT_SIZE> {
-        recovered_entry(before + 1, &shown_lines(config, readings, held))
+        let lines = shown_lines(config, readings, held, none_erased(config));
+        recovered_entry(before + 1, &lines)
     }
 
     fn tail(fields: u32, rest: u32) -> ArrayString<TEXT_SIZE> {

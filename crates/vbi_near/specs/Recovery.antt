@@ -179,7 +179,7 @@ pub record AreSeen (system : System) (slicing : Slicing) (rows : List ℕ) (eras
       → AreOfBoth system 17 slicing (row_at system rows erased 1) (row_at system rows erased 2) both
 
 -- what lines 16, 17 and 18 show, by the bytes of their rows and the columns that are erased: there are such nearest
--- words with which the rule says it
+-- words with which the rule says it. They show one thing, as `laws::one_recovered` says.
 abbrev pub IsRecovered : System → Slicing → List ℕ → List Bool → List Recovered → Type 0
 IsRecovered system slicing rows erased recovered = (first second third : Seen) × (both : Candidates)
     × AreSeen system slicing rows erased first second third both

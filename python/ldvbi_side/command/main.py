@@ -8,7 +8,7 @@ import sys
 from typing import List, Optional
 
 from ldvbi import Stream, field_bytes
-from ldvbi.document import is_document, write_document
+from ldvbi.document import is_document, write_document, write_recovered
 from ldvbi.metadata import beside, read_metadata, settings_of
 from ldvbi.packed import refuse_packed
 from ldvbi.stream import cut_of
@@ -25,7 +25,6 @@ from .map import COLUMNS as MAP_COLUMNS, map_rows
 from .outputs import refuse_inputs, whole_file
 from .parsers import parser_of_compare, parser_of_index, parser_of_side
 from .progress import Progress
-from .recovered import write_recovered
 from .statuses import FAULT, OF_SIDE, of_many
 from .summary import summary
 from .tables import BAD_LINE_COLUMNS, FIELD_COLUMNS, bad_line_rows, field_rows
@@ -86,11 +85,14 @@ def _stream(options, metadata):
         return stream_of_tbc(options.side, settings, metadata, not options.no_recover)
 
 
-def _print_document(path, stream):
+def _print_document(options, stream):
     # Between the lines of a document on the same terminal, messages would be of no use.
-    with Stream(path, stream.system, stream.black, stream.white) as plain, \
-            Progress(len(plain), is_wanted=not sys.stdout.isatty()) as progress:
-        write_document(plain, sys.stdout, progress.over)
+    with Progress(len(stream), is_wanted=not sys.stdout.isatty()) as progress:
+        if options.recovered:
+            write_recovered(stream, sys.stdout, progress.over)
+            return
+        with Stream(options.side, stream.system, stream.black, stream.white) as plain:
+            write_document(plain, sys.stdout, progress.over)
 
 
 def _side_of(source):
@@ -113,15 +115,22 @@ def _loaded(source, metadata, options):
 def _add_fields(side, name, metadata, is_all):
     """Adds what the metadata has of the fields to the side, which has this name. `is_all` says that nothing else is
     wanted of it."""
-    count, side.expected = len(side.readings), metadata.fields
-    if metadata.fields is not None and metadata.fields != count:
-        rest = " and %d bytes" % side.cut.bytes if side.cut else ""
-        say("%s: %d fields%s, %s says %d%s: another system, or another file's metadata?" % (
-            name, count, rest, metadata.path, metadata.fields, _unused(metadata, side.samples is not None)))
+    side.expected = metadata.fields
+    if _is_of_another(metadata, name, len(side.readings), side.cut, side.samples is not None):
         return
     side.first = metadata.first
     if is_all and side.first is None:
         say("%s has no isFirstField of each field" % metadata.path)
+
+
+def _is_of_another(metadata, name, count, cut, is_recovered):
+    """Whether the metadata has another count of fields than the side with this name, which is said then."""
+    if metadata.fields in (None, count):
+        return False
+    rest = " and %d bytes" % cut.bytes if cut else ""
+    say("%s: %d fields%s, %s says %d%s: another system, or another file's metadata?" % (
+        name, count, rest, metadata.path, metadata.fields, _unused(metadata, is_recovered)))
+    return True
 
 
 def _unused(metadata, is_recovered):
@@ -183,9 +192,8 @@ def _is_printed(options):
 
 
 def _is_judged(options):
-    """Whether it is asked what the words mean, or for a document that takes a side, and not for words alone."""
-    return any([*_drawn(options), options.csv, options.json, options.bad_lines, options.seek, options.summary,
-                options.document and options.recovered])
+    """Whether it is asked what the words mean, and not for words alone."""
+    return any([*_drawn(options), options.csv, options.json, options.bad_lines, options.seek, options.summary])
 
 
 def _options(words):
@@ -280,16 +288,15 @@ def _answer(options):
     if options.document:
         if isinstance(source, Side):
             raise ValueError("%s is a document, and --document is of a TBC file" % _name_of(options))
-        if not options.recovered:
-            _print_document(options.side, source)
+        if options.recovered and metadata and not _is_judged(options):
+            _is_of_another(metadata, _name_of(options), len(source), cut_of(source), True)
+        _print_document(options, source)
     if into:
         into.write(options.side, source, metadata, options.recovered)
     if not _is_judged(options):
         cut = source.cut if isinstance(source, Side) else cut_of(source)
         return _cut_status(cut, source.system, _name_of(options))
     side = _loaded(source, metadata, options)
-    if options.document and options.recovered:
-        write_recovered(side, sys.stdout)
     _write_files(side, options, not isinstance(source, Side))
     if options.seek:
         found = seek(side.answer, options.seek)

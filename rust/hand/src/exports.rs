@@ -3,7 +3,7 @@
 //! The caller owes what that header says: a pointer points to as many bytes, or readings, as the length beside it says,
 //! or to one value; only where the length is 0 it may be null.
 #![allow(clippy::missing_safety_doc)]
-use crate::c::{self, LdvbiCode, LdvbiErased, LdvbiFieldReadings, LdvbiNear, LdvbiReading, LdvbiSought};
+use crate::c::{self, LdvbiCode, LdvbiErased, LdvbiFieldReadings, LdvbiNear, LdvbiReading, LdvbiRecord, LdvbiSought};
 use crate::side::{Number, Sightings};
 use std::mem::size_of;
 use std::slice::{from_raw_parts, from_raw_parts_mut};
@@ -187,6 +187,22 @@ pub unsafe extern "C" fn ldvbi_recover_fields_without(
 ) -> u32 {
     let (samples, erased) = (values(samples, length), values(erased, erased_count));
     c::ldvbi_recover_fields_without(system, black, white, samples, erased, room(out, count))
+}
+
+#[no_mangle]
+pub unsafe extern "C" fn ldvbi_recovered_record(
+    system: u32,
+    black: u32,
+    white: u32,
+    number: u32,
+    samples: *const u8,
+    length: usize,
+    erased: *const LdvbiErased,
+    erased_count: usize,
+    out: *mut LdvbiRecord,
+) -> u32 {
+    let (samples, erased) = (values(samples, length), values(erased, erased_count));
+    c::ldvbi_recovered_record(system, black, white, number, samples, erased, &mut *out)
 }
 
 #[no_mangle]

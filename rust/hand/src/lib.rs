@@ -76,7 +76,6 @@ mod clap;
 mod cli;
 #[allow(unsafe_code)]
 mod exports;
-#[cfg(feature = "cli")]
 #[allow(dead_code, unused_imports)]
 mod field;
 #[allow(dead_code, unused_imports)]

@@ -1,6 +1,6 @@
-use Rattle.std.proofs.Common.{◌≡◌, ℕ, ◌+◌, ◌-◌, ◌*◌, List, Bool, take, drop, length, ap, sym, ◌∙◌, subst, arith}
+use Rattle.std.proofs.Common.{◌≡◌, ℕ, ◌-◌, ◌*◌, List, Bool, take, drop, ap, ◌∙◌, subst}
 use Rattle.vbi_words.specs.Geometry.{width_of}
-use Rattle.vbi_c.specs.Erased.{line_marks, erased_of}
+use Rattle.vbi_c.specs.Erased.{line_marks}
 use Rattle.vbi_c.proofs.Marks.{erased_of-line}
 use Rattle.vbi_c.proofs.MarkedLines.{marks-next}
 use Rattle.vbi_c.proofs.piling.mark_lines.Goals as goal

@@ -1,6 +1,6 @@
-use Rattle.std.proofs.Common.{◌≡◌, ◌+◌, ◌++◌, [], List, ℕ, ap, ◌∙◌, sym}
-use Rattle.std.specs.Prelude.{codes, ◌==◌, if◌then◌else◌}
-use Rattle.vbi_field.specs.Recovered.{cause_lines, nears_text_of, recovered_of, record_with}
+use Rattle.std.proofs.Common.{◌≡◌, ◌++◌, [], List, ℕ, ap, ◌∙◌, sym}
+use Rattle.std.specs.Prelude.{codes, if◌then◌else◌}
+use Rattle.vbi_field.specs.Recovered.{cause_lines, nears_text_of, recovered_without, record_with}
 use Rattle.vbi_field.specs.Shown.{as_readings, recovery_of}
 use Rattle.vbi_field.specs.Stream.{FieldReadings, rows_in}
 use Rattle.vbi_field.proofs.HeldRows.{joined_in}
@@ -8,17 +8,19 @@ use Rattle.vbi_field.proofs.recovered.record_text.Goals as goal
 
 pub returns : goal.returns
 returns c = λ e.
-    let cfg = c.args.config.now in
-    let field = recovered_of cfg (rows_in cfg.system c.args.rows.now) in
+    let system = c.args.config.now.system in
+    let levels = c.args.config.now.levels in
+    let marks = c.args.erased.now in
+    let field = recovered_without system levels (rows_in system c.args.rows.now) marks in
     let lines : c.shown_lines-lines.result ≡ as_readings field.shown = c.shown_lines-lines.ensures e
-    ∙ ap (λ (l : List ℕ). as_readings (recovery_of cfg.system cfg.levels l))
-    (sym (joined_in cfg.system c.args.rows.now c.requires.rows)) in
-    let joint : List ℕ = if c.args.before == 0 then [] else codes ",\n" in
+    ∙ ap (λ (l : List ℕ). as_readings (recovery_of system levels l marks))
+    (sym (joined_in system c.args.rows.now c.requires.rows)) in
+    let joint : List ℕ = if c.args.is_first then [] else codes ",\n" in
     c.record_with.ensures
-    ∙ ap (λ (n : List ℕ). joint ++ record_with (c.args.before + 1) c.shown_lines-lines.result c.cause_lines-causes.result n)
+    ∙ ap (λ (n : List ℕ). joint ++ record_with c.args.number c.shown_lines-lines.result c.cause_lines-causes.result n)
     (c.as_str.ensures.value ∙ c.nears_text-nears.ensures)
-    ∙ ap (λ (r : FieldReadings). joint ++ record_with (c.args.before + 1) c.shown_lines-lines.result r
-    (nears_text_of cfg c.shown_lines-lines.result field)) (c.cause_lines-causes.ensures
+    ∙ ap (λ (r : FieldReadings). joint ++ record_with c.args.number c.shown_lines-lines.result r
+    (nears_text_of levels c.shown_lines-lines.result field)) (c.cause_lines-causes.ensures
     ∙ ap (cause_lines c.shown_lines-lines.result) e)
-    ∙ ap (λ (l : FieldReadings). joint ++ record_with (c.args.before + 1) l (cause_lines l field.readings)
-    (nears_text_of cfg l field)) lines
+    ∙ ap (λ (l : FieldReadings). joint ++ record_with c.args.number l (cause_lines l field.readings)
+    (nears_text_of levels l field)) lines

@@ -1,9 +1,16 @@
-use Rattle.std.proofs.Common.{ap, ◌∙◌, sym, refl}
-use Rattle.vbi_field.specs.Stream.{readings_of}
+use Rattle.std.proofs.Common.{[], ◌++◌, ◌+◌, Bool, List, ℕ, ap, ◌∙◌, sym, refl}
+use Rattle.std.specs.Prelude.{codes, ◌==◌, if◌then◌else◌}
+use Rattle.vbi_field.specs.Recovered.{recovered_record_of, recovered_without}
+use Rattle.vbi_field.specs.Stream.{readings_of, rows_in}
 use Rattle.vbi_field.specs.Texts.{joined_entry_of, recovered_document}
 use Rattle.vbi_field.proofs.recovered.RecoveredDocumentKind.entry.Goals as goal
 
 pub returns : goal.returns
 returns c = λ rows reads kept.
-    c.record_text.ensures (reads ∙ ap (readings_of c.args.config.now) (sym (kept refl)))
-    ∙ ap (joined_entry_of recovered_document c.args.config.now c.args.before) (kept refl)
+    let cfg = c.args.config.now in
+    let before = c.args.before in
+    let joint : List ℕ = if before == 0 then [] else codes ",\n" in
+    c.record_text.ensures (reads ∙ ap (readings_of cfg) (sym (kept refl)))
+    ∙ ap (λ (marks : List Bool). joint ++ recovered_record_of cfg.levels (before + 1)
+    (recovered_without cfg.system cfg.levels (rows_in cfg.system c.args.held.now) marks)) c.none_erased-erased.ensures
+    ∙ ap (joined_entry_of recovered_document cfg before) (kept refl)

@@ -1,5 +1,6 @@
-use Rattle.std.proofs.Common.{ℕ, ◌+◌, List, ap, ◌∙◌, sym, refl}
+use Rattle.std.proofs.Common.{ℕ, ◌+◌, Bool, List, ap, ◌∙◌, sym, refl}
 use Rattle.std.specs.Prelude.{◌==◌}
+use Rattle.vbi_near.specs.Recovery.{none_erased}
 use Rattle.vbi_field.specs.Report.{recovered_entry_of}
 use Rattle.vbi_field.specs.Shown.{as_readings, joined_rows, recovery_of}
 use Rattle.vbi_field.specs.Stream.{readings_of}
@@ -11,8 +12,10 @@ pub returns : goal.returns
 returns c = λ rows reads kept.
     let cfg = c.args.config.now in
     let same = sym (joined_in cfg.system c.args.held.now (c.requires.held refl)) ∙ ap joined_rows (kept refl) in
-    let lines = c.shown_lines.ensures (reads ∙ ap (readings_of cfg) (sym (kept refl)))
-    ∙ ap (λ (l : List ℕ). as_readings (recovery_of cfg.system cfg.levels l)) same in
+    let lines = c.shown_lines-lines.ensures (reads ∙ ap (readings_of cfg) (sym (kept refl)))
+    ∙ ap (λ (marks : List Bool). as_readings (recovery_of cfg.system cfg.levels c.args.held.now marks))
+    c.none_erased.ensures
+    ∙ ap (λ (l : List ℕ). as_readings (recovery_of cfg.system cfg.levels l (none_erased cfg.system))) same in
     c.recovered_entry.ensures
     ∙ ap (recovered_entry_of (c.args.before + 1)) lines
     ∙ sym (no_joint (c.args.before == 0) _)

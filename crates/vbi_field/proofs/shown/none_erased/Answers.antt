@@ -1,0 +1,8 @@
+use Rattle.std.proofs.Common.{ap, ◌∙◌}
+use Rattle.vbi_field.specs.ConfigView.{width_of}
+use Rattle.vbi_field.proofs.OneShown.{nothing_erased}
+use Rattle.vbi_field.proofs.shown.none_erased.Goals as goal
+
+pub returns : goal.returns
+returns c =
+    nothing_erased c.args.config.now.system c.width.result (c.width.ensures ∙ ap width_of c.system.ensures)
