@@ -32,7 +32,8 @@ one_nears system number slicing lines near other is are =
     are.first are.longer are.shorter in
     let code = one_near_code system number slicing lines near.code other.code is.code is.code_first is.code_longer
     is.code_shorter are.code are.code_first are.code_longer are.code_shorter in
-    λ j. record { word = word j; code = code j }
+    let blank : near.blank ≡ other.blank = is.blank ∙ sym are.blank in
+    λ j. record { word = word j; code = code j; blank = blank j }
 
 -- lines can't both have nearest words and have none
 not_both : (can : Bool) → can ≡ false → can ≡ true → ⊥

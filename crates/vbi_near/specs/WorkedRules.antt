@@ -1,5 +1,5 @@
 -- Nearest words written down, with the numbers of the rule at their limits. White is 100 above black.
-use Rattle.std.specs.Prelude.{ℕ, ◌≡◌, List, map, Option, Some, None}
+use Rattle.std.specs.Prelude.{ℕ, ◌≡◌, ◌+◌, List, map, Option, Some, None}
 use Rattle.vbi_words.specs.declared.outcome.Outcome.{Outcome}
 use Rattle.vbi_words.specs.declared.outcome.Outcome.TheVariants.{Word, Unfinished, Change}
 use Rattle.vbi_words.specs.Outcomes.{word_of}
@@ -9,9 +9,9 @@ use Rattle.vbi_near.specs.declared.recovery.Recovered.{Recovered}
 use Rattle.vbi_near.specs.Candidates.{Candidates}
 use Rattle.vbi_near.specs.Recovery.{Seen}
 
--- a nearest word that is a code, and one that is none beside which no code is near
+-- a nearest word that is a code, and one that is none beside which no code is near. The row of no word is 20,000 farther
 abbrev pub as_code : Near → Nears
-as_code near = record { word = near; code = near }
+as_code near = record { word = near; code = near; blank = near.distance + 20000 }
 
 abbrev pub as_other : Near → Nears
 as_other near = record {
@@ -24,6 +24,7 @@ as_other near = record {
     longer = 99999;
     shorter = 99999;
   };
+  blank = near.distance + 20000;
 }
 
 -- a word at a distance of 10,000, with the distance of its rival, and of the row that goes on
@@ -53,6 +54,7 @@ beside distance rival = record {
     longer = distance;
     shorter = distance;
   };
+  blank = 30000;
 }
 
 -- nearest words of lines as they are, which can't be levelled; and of lines that can
@@ -110,6 +112,10 @@ both_at distance rival = as_code (record {
 
 abbrev pub together_at : ℕ → ℕ → Candidates
 together_at distance rival = as_given (both_at distance rival)
+
+-- nearest words of lines that are this far from the row of no word
+abbrev pub from_none : ℕ → Nears → Nears
+from_none blank near = record near { blank = blank }
 
 -- the words and the passes of lines
 abbrev pub words_of : List Recovered → List (Option ℕ)

@@ -10,4 +10,5 @@ returns c slicing lines pile = record {
   code_first = c.nears.ensures.code_first slicing lines pile;
   code_longer = c.nears.ensures.code_longer slicing lines pile;
   code_shorter = c.nears.ensures.code_shorter slicing lines pile;
+  blank = c.nears.ensures.blank slicing lines pile;
 }

@@ -1,4 +1,5 @@
-use Rattle.std.proofs.Common.{◌≡◌, ℕ, List, false, ◌-◌, ◌∙◌, ap, arith, subst}
+use Rattle.std.proofs.Common.{◌≡◌, ℕ, List, false, ◌-◌, ◌∙◌, ap, arith, refl, subst, sym}
+use Rattle.std.specs.Prelude.{None}
 use Rattle.vbi_words.specs.Geometry.{width_of}
 use Rattle.vbi_words.specs.Levels.{Slicing}
 use Rattle.vbi_near.specs.Distances.{Samples, Shades, shades, IsPile}
@@ -11,7 +12,8 @@ use Rattle.vbi_near.proofs.Rising.{row_sums}
 use Rattle.vbi_near.proofs.Chosen.{nearest_is, first_is}
 use Rattle.vbi_near.proofs.ChosenCode.{code-place, code-chosen, code-first, code-longer, code-shorter, lead-is_word}
 use Rattle.vbi_near.proofs.OneCellMore.{longer_is}
-use Rattle.vbi_near.proofs.Piles.{nearest-same, first-same, nearest-there, first-there, longer-same}
+use Rattle.vbi_near.proofs.Costs.{blank-cost}
+use Rattle.vbi_near.proofs.Piles.{nearest-same, first-same, nearest-there, first-there, longer-same, far-same}
 use Rattle.vbi_near.proofs.ShorterRows.{shorter_is, shorter-same}
 use Rattle.vbi_near.proofs.near_code.nears.Goals as goal
 
@@ -77,18 +79,21 @@ rises c =
     c.requires.few.1 c.sum_up.ensures.sums c.sum_up-2.ensures.sums c.requires.dark c.requires.light
     c.sum_up.ensures.length c.sum_up-2.ensures.length
 
+blank_is : (c : goal.After-code_or_none)
+    → c.between-blank.result
+    ≡ span (shades c.sum_up.new.sums c.sum_up-2.new.sums) false 0 (width_of c.args.system)
+blank_is c =
+    let sums : Shades = shades c.sum_up.new.sums c.sum_up-2.new.sums in
+    let width : ℕ = width_of c.args.system in
+    let e : width - 0 ≡ width = omega arith in
+    c.between-blank.ensures.value ∙ ap (λ (w : ℕ). span sums false 0 (w - 0)) c.width.ensures ∙ ap (span sums false 0) e
+
 chosen : (c : goal.After-code_or_none)
     → IsChosen c.nearest_word-found.result c.longer_distance-longer.result c.shorter_distance-shorter.result
     (span (shades c.sum_up.new.sums c.sum_up-2.new.sums) false 0 (width_of c.args.system)) c.or_none.result
 chosen c =
-    let sums : Shades = shades c.sum_up.new.sums c.sum_up-2.new.sums in
-    let width : ℕ = width_of c.args.system in
-    let e : width - 0 ≡ width = omega arith in
-    let blank : c.between-blank.result ≡ span sums false 0 width
-    = c.between-blank.ensures.value ∙ ap (λ (w : ℕ). span sums false 0 (w - 0)) c.width.ensures
-    ∙ ap (span sums false 0) e in
     subst (λ (x : ℕ). IsChosen c.nearest_word-found.result c.longer_distance-longer.result
-    c.shorter_distance-shorter.result x c.or_none.result) blank
+    c.shorter_distance-shorter.result x c.or_none.result) (blank_is c)
     c.or_none.ensures
 
 -- ---- the word
@@ -189,3 +194,12 @@ returns-clause-code_shorter c slicing lines pile =
     (code-shorter costs sums c.args.system (both c) (codes_of c.args.system c.args.line) c.nearest_code-lead.result
     c.nearest_code-lead.ensures.lead c.nearest_code-lead.ensures.close c.code_longer-lead_longer.result
     c.code_shorter-lead_shorter.result near c.code_or_none.ensures c.code_shorter-lead_shorter.ensures)
+
+-- ---- none
+
+pub returns-clause-blank : goal.returns-clause-blank
+returns-clause-blank c slicing lines pile =
+    let costs : Shades = shades c.args.darks.now c.args.lights.now in
+    let sums : Shades = shades c.sum_up.new.sums c.sum_up-2.new.sums in
+    blank_is c ∙ sym (blank-cost costs sums c.args.system (both c))
+    ∙ far-same c.args.system slicing lines costs pile None 0 refl
