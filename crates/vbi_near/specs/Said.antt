@@ -22,18 +22,18 @@ lone_margins = record { code = 6; other = 8; code_share = 0; other_share = 0 }
 abbrev pub apart_margins : Margins
 apart_margins = record { code = 10; other = 12; code_share = 0; other_share = 0 }
 
--- of two lines together: a code by a third of what its cells are nearer on average than those of any other bits, another
--- word by a quarter. Noise makes all cells count less, a dropout some of them, and those say anything. As a cell is
--- nearer than one of the other bit by twice what it is nearer than black, a third of a 24th of it is four 144ths of
--- what the word is nearer than none.
+-- of two lines together: also by a share of what a cell counts there on average, a code by about a third of it, another
+-- word by about a quarter. Noise makes all cells count less, a dropout some of them, and those may say anything. A cell
+-- with the other bit is farther by about twice as much as a black one, so a cell counts about a twelfth of how much
+-- nearer the word is than none. The shares are 144ths of that.
 abbrev pub both_margins : Margins
-both_margins = record { code = 6; other = 8; code_share = 4; other_share = 3 }
+both_margins = record { code = 6; other = 9; code_share = 4; other_share = 3 }
 
 -- any other word is farther by so many columns at least
 abbrev pub is_ahead : ℕ → ℕ → Near → Bool
 is_ahead unit columns near = nat_le (near.distance + columns * unit) near.rival
 
--- it is farther by so many 144ths at least of what the nearest word is nearer than none, which is this far
+-- it is farther by so many 144ths at least of how much nearer the nearest word is than none, which is this far
 abbrev pub is_ahead_by : ℕ → ℕ → Near → Bool
 is_ahead_by share blank near =
     nat_le (144 * near.distance + share * blank) (144 * near.rival + share * near.distance)

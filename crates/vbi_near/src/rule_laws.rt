@@ -25,8 +25,8 @@ pub fn worked_margins()
         × (said_of 100 apart_margins 1 (as_other (near_with 0xF1234A 11199 10000)) ≡ None) }
     ensures both_code { (said_of 100 both_margins 2 (as_code (near_with 0xF12345 10600 10000)) ≡ Some 0xF12345)
         × (said_of 100 both_margins 2 (as_code (near_with 0xF12345 10599 10000)) ≡ None) }
-    ensures both_other { (said_of 100 both_margins 2 (as_other (near_with 0xF1234A 10800 10000)) ≡ Some 0xF1234A)
-        × (said_of 100 both_margins 2 (as_other (near_with 0xF1234A 10799 10000)) ≡ None) }
+    ensures both_other { (said_of 100 both_margins 2 (as_other (near_with 0xF1234A 10900 10000)) ≡ Some 0xF1234A)
+        × (said_of 100 both_margins 2 (as_other (near_with 0xF1234A 10899 10000)) ≡ None) }
     ensures both_code_share { (said_of 100 both_margins 2 (from_none 47000 (beside 11000 12000)) ≡ Some 0xF12345)
         × (said_of 100 both_margins 2 (from_none 47001 (beside 11000 12000)) ≡ None) }
     ensures both_other_share { (said_of 100 both_margins 2 (from_none 58000 (as_other (near_with 0xF1234A 11000 10000))) ≡ Some 0xF1234A)

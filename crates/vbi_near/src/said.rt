@@ -10,7 +10,7 @@ use crate::near::Near;
 use vbi_words::Word24;
 
 /// By how many columns the nearest word has to be ahead of any other: by so many times what white and black are off
-/// from each other. A share is one in 144ths of how much nearer the word is than none.
+/// from each other. Shares are 144ths of how much nearer the word is than none.
 #[derive(Clone, Copy)]
 pub struct Margins {
     /// A code that may stand on its line.
@@ -42,7 +42,7 @@ const APART: Margins = Margins {
 /// Those of two lines together.
 const BOTH: Margins = Margins {
     code: 6,
-    other: 8,
+    other: 9,
     code_share: 4,
     other_share: 3,
 };
