@@ -14,7 +14,7 @@ BLANK = 1
 Nears = namedtuple("Nears", "word code blank")
 Candidates = namedtuple("Candidates", "levelled given")
 Margins = namedtuple("Margins", "code other")
-LONE, APART, BOTH = Margins(6, 8), Margins(10, 12), Margins(6, 9)
+LONE, APART, BOTH = Margins(6, 8), Margins(10, 12), Margins(8, 9)
 # Shares of how much nearer a word is than none, in 144ths
 NO_SHARES, BOTH_SHARES = Margins(0, 0), Margins(4, 3)
 

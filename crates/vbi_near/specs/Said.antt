@@ -27,7 +27,7 @@ apart_margins = record { code = 10; other = 12; code_share = 0; other_share = 0 
 -- with the other bit is farther by about twice as much as a black one, so a cell counts about a twelfth of how much
 -- nearer the word is than none. The shares are 144ths of that.
 abbrev pub both_margins : Margins
-both_margins = record { code = 6; other = 9; code_share = 4; other_share = 3 }
+both_margins = record { code = 8; other = 9; code_share = 4; other_share = 3 }
 
 -- any other word is farther by so many columns at least
 abbrev pub is_ahead : ℕ → ℕ → Near → Bool

@@ -23,8 +23,8 @@ pub fn worked_margins()
         × (said_of 100 apart_margins 1 (as_code (near_with 0xF12345 10999 10000)) ≡ None) }
     ensures apart_other { (said_of 100 apart_margins 1 (as_other (near_with 0xF1234A 11200 10000)) ≡ Some 0xF1234A)
         × (said_of 100 apart_margins 1 (as_other (near_with 0xF1234A 11199 10000)) ≡ None) }
-    ensures both_code { (said_of 100 both_margins 2 (as_code (near_with 0xF12345 10600 10000)) ≡ Some 0xF12345)
-        × (said_of 100 both_margins 2 (as_code (near_with 0xF12345 10599 10000)) ≡ None) }
+    ensures both_code { (said_of 100 both_margins 2 (as_code (near_with 0xF12345 10800 10000)) ≡ Some 0xF12345)
+        × (said_of 100 both_margins 2 (as_code (near_with 0xF12345 10799 10000)) ≡ None) }
     ensures both_other { (said_of 100 both_margins 2 (as_other (near_with 0xF1234A 10900 10000)) ≡ Some 0xF1234A)
         × (said_of 100 both_margins 2 (as_other (near_with 0xF1234A 10899 10000)) ≡ None) }
     ensures both_code_share { (said_of 100 both_margins 2 (from_none 47000 (beside 11000 12000)) ≡ Some 0xF12345)
@@ -46,13 +46,13 @@ pub fn worked_fields()
     // The two agree up to 30 columns, or where their words are the same, and then say their word together, whatever
     // each of them says.
     ensures together { Shows (recovered_of 100 (read_as Blank 0) (worn (as_code (near_with 0xF12345 10100 10000)))
-        (worn (as_code (near_with 0xF12346 12000 10000))) (together_at 23000 23600))
+        (worn (as_code (near_with 0xF12346 12000 10000))) (together_at 23000 23800))
         (None ∷ Some 0xF12345 ∷ Some 0xF12345 ∷ []) (0 ∷ 3 ∷ 3 ∷ []) }
     ensures same { Shows (recovered_of 100 (read_as Blank 0) (worn (as_code (near_with 0xF12345 10100 10000)))
-        (worn (as_code (near_with 0xF12345 10100 10000))) (together_at 31000 31600))
+        (worn (as_code (near_with 0xF12345 10100 10000))) (together_at 31000 31800))
         (None ∷ Some 0xF12345 ∷ Some 0xF12345 ∷ []) (0 ∷ 3 ∷ 3 ∷ []) }
     ensures no_more { Shows (recovered_of 100 (read_as Blank 0) (worn (as_code (near_with 0xF12345 10900 10000)))
-        (worn (as_code (near_with 0xF12346 12000 10000))) (together_at 23000 23599))
+        (worn (as_code (near_with 0xF12346 12000 10000))) (together_at 23000 23799))
         (None ∷ None ∷ None ∷ []) (0 ∷ 0 ∷ 0 ∷ []) }
     ensures apart { Shows (recovered_of 100 (read_as Blank 0) (worn (as_code (near_with 0xF12345 10999 10000)))
         (worn (as_code (near_with 0xF12346 11000 10000))) (together_at 23001 29999))
@@ -90,7 +90,7 @@ pub fn worked_fields()
         (Some 0x8DC000 ∷ Some 0xF12345 ∷ Some 0xF12346 ∷ []) (1 ∷ 3 ∷ 2 ∷ []) }
     ensures falls { Shows (recovered_of 100 (smoothed 0x8DC000 (as_code (near_with 0x8DC000 10599 10000)))
         (worn (as_code (near_with 0xF12345 10600 10000))) (smoothed 0xF12346 (as_code (near_with 0xF12346 10599 10000)))
-        (together_at 23000 23600)) (None ∷ Some 0xF12345 ∷ Some 0xF12345 ∷ []) (0 ∷ 3 ∷ 3 ∷ []) }
+        (together_at 23000 23800)) (None ∷ Some 0xF12345 ∷ Some 0xF12345 ∷ []) (0 ∷ 3 ∷ 3 ∷ []) }
     ensures cause { recovered_of 100 (smoothed 0x8DC000 (as_code (near_with 0x8DC000 10599 10000))) (read_as Blank 0)
         (read_as (Word 0xF12345) 1) (together_at 0 0)
         ≡ record { outcome = Change 34; pass = 0 } ∷ record { outcome = Blank; pass = 0 }
@@ -111,12 +111,12 @@ pub fn worked_levels()
     ensures together { Shows (recovered_of 100 (read_as Blank 0)
         (worn_by (levelled_as (as_code (near_with 0xF12345 10100 10000)) (as_code (near_with 0xF12346 10100 10000))))
         (worn_by (levelled_as (as_code (near_with 0xF12345 10100 10000)) (as_code (near_with 0xF12346 10100 10000))))
-        (levelled_as (both_at 23000 23600) (both_at 90000 90000)))
+        (levelled_as (both_at 23000 23800) (both_at 90000 90000)))
         (None ∷ Some 0xF12345 ∷ Some 0xF12345 ∷ []) (0 ∷ 3 ∷ 3 ∷ []) }
     ensures unlike { Shows (recovered_of 100 (read_as Blank 0)
         (worn_by (levelled_as (as_code (near_with 0xF12347 10999 10000)) (as_code (near_with 0xF12345 10100 10000))))
         (worn_by (levelled_as (as_code (near_with 0xF12347 11000 10000)) (as_code (near_with 0xF12345 10100 10000))))
-        (as_given (both_at 23000 23600)))
+        (as_given (both_at 23000 23800)))
         (None ∷ Some 0xF12345 ∷ Some 0xF12347 ∷ []) (0 ∷ 3 ∷ 3 ∷ []) }
     ensures apart { Shows (recovered_of 100 (read_as Blank 0)
         (worn_by (levelled_as (as_code (near_with 0xF12345 10999 10000)) (as_code (near_with 0xF12347 11000 10000))))

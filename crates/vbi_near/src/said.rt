@@ -41,7 +41,7 @@ const APART: Margins = Margins {
 
 /// Those of two lines together.
 const BOTH: Margins = Margins {
-    code: 6,
+    code: 8,
     other: 9,
     code_share: 4,
     other_share: 3,
