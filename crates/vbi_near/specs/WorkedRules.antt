@@ -9,7 +9,7 @@ use Rattle.vbi_near.specs.declared.recovery.Recovered.{Recovered}
 use Rattle.vbi_near.specs.Candidates.{Candidates}
 use Rattle.vbi_near.specs.Recovery.{Seen}
 
--- a nearest word that is a code, and one that is none beside which no code is near. The row of no word is 20,000 farther
+-- a nearest word that is a code, and one that is none beside which no code is near; no word is farther by 20,000
 abbrev pub as_code : Near → Nears
 as_code near = record { word = near; code = near; blank = near.distance + 20000 }
 
@@ -116,6 +116,10 @@ together_at distance rival = as_given (both_at distance rival)
 -- nearest words of lines that are this far from the row of no word
 abbrev pub from_none : ℕ → Nears → Nears
 from_none blank near = record near { blank = blank }
+
+-- a word that is no code, ten columns ahead of any other, of lines that are this far from the row of no word
+abbrev pub ten_ahead : ℕ → Nears
+ten_ahead blank = from_none blank (as_other (near_with 0xF1234A 11000 10000))
 
 -- the words and the passes of lines
 abbrev pub words_of : List Recovered → List (Option ℕ)

@@ -5,8 +5,8 @@ ghost use Rattle.std.specs.Prelude.{◌≡◌, ◌∷◌, [], Some, None};
 ghost use Rattle.vbi_words.specs.declared.outcome.Outcome.TheVariants.{Word, Blank, Change};
 ghost use Rattle.vbi_near.specs.Said.{said_of, lone_margins, apart_margins, both_margins};
 ghost use Rattle.vbi_near.specs.Recovery.{recovered_of};
-ghost use Rattle.vbi_near.specs.WorkedRules.{near_with, cut_at, as_code, as_other, beside, from_none, as_given};
-ghost use Rattle.vbi_near.specs.WorkedRules.{levelled_as, worn_by, worn};
+ghost use Rattle.vbi_near.specs.WorkedRules.{near_with, cut_at, as_code, as_other, beside, from_none, ten_ahead};
+ghost use Rattle.vbi_near.specs.WorkedRules.{as_given, levelled_as, worn_by, worn};
 ghost use Rattle.vbi_near.specs.WorkedRules.{smoothed_by, smoothed_at, smoothed, read_as, both_at, together_at, Shows};
 
 /// By how much a nearest word has to be ahead: the least of each kind is said, and one less isn't.
@@ -27,10 +27,10 @@ pub fn worked_margins()
         × (said_of 100 both_margins 2 (as_code (near_with 0xF12345 10799 10000)) ≡ None) }
     ensures both_other { (said_of 100 both_margins 2 (as_other (near_with 0xF1234A 10900 10000)) ≡ Some 0xF1234A)
         × (said_of 100 both_margins 2 (as_other (near_with 0xF1234A 10899 10000)) ≡ None) }
-    ensures both_code_share { (said_of 100 both_margins 2 (from_none 47000 (beside 11000 12000)) ≡ Some 0xF12345)
+    ensures code_share { (said_of 100 both_margins 2 (from_none 47000 (beside 11000 12000)) ≡ Some 0xF12345)
         × (said_of 100 both_margins 2 (from_none 47001 (beside 11000 12000)) ≡ None) }
-    ensures both_other_share { (said_of 100 both_margins 2 (from_none 58000 (as_other (near_with 0xF1234A 11000 10000))) ≡ Some 0xF1234A)
-        × (said_of 100 both_margins 2 (from_none 58001 (as_other (near_with 0xF1234A 11000 10000))) ≡ None) }
+    ensures other_share { (said_of 100 both_margins 2 (ten_ahead 58000) ≡ Some 0xF1234A)
+        × (said_of 100 both_margins 2 (ten_ahead 58001) ≡ None) }
     ensures longer { (said_of 100 lone_margins 1 (as_code (near_with 0xF12345 20000 9600)) ≡ Some 0xF12345)
         × (said_of 100 lone_margins 1 (as_code (near_with 0xF12345 20000 9599)) ≡ None) }
     ensures longer_of_two { (said_of 100 both_margins 2 (as_code (near_with 0xF12345 20000 9200)) ≡ Some 0xF12345)
@@ -58,7 +58,7 @@ pub fn worked_fields()
         (worn (as_code (near_with 0xF12346 11000 10000))) (together_at 23001 29999))
         (None ∷ None ∷ Some 0xF12346 ∷ []) (0 ∷ 0 ∷ 3 ∷ []) }
 
-    // Each of them has to bear the common word: that is nearer to both, by 20 columns, than the word of one to that one,
+    // Each of them has to bear the common word: that is nearer to both, by 20 columns, than the word of one line to it
     // and none to the other.
     ensures borne { Shows (recovered_of 100 (read_as Blank 0) (worn (as_code (near_with 0xF12345 10100 10000)))
         (worn (from_none 14000 (as_code (near_with 0xF12346 10100 10000)))) (together_at 22000 29999))
