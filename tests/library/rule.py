@@ -11,7 +11,7 @@ from itertools import accumulate
 from nearest import SYSTEMS, Pile, codes_of
 
 BLANK = 1
-Nears = namedtuple("Nears", "word code blank")
+Nears = namedtuple("Nears", "word code blank word_halved code_halved")
 Candidates = namedtuple("Candidates", "levelled given")
 Margins = namedtuple("Margins", "code other")
 LONE, APART, BOTH = Margins(6, 8), Margins(10, 12), Margins(8, 9)
@@ -66,10 +66,11 @@ class Rule:
     def is_cut(self, lines, near):
         return near.shorter + 4 * lines * self.unit < near.distance
 
-    def is_clear(self, columns, share, lines, blank, near):
+    def is_clear(self, columns, share, lines, blank, halved, near):
         ahead = near.rival - near.distance
         return (columns * self.unit <= ahead and share * (blank - near.distance) <= 144 * ahead
-                and not self.goes_on(lines, near) and not self.is_cut(lines, near))
+                and not self.goes_on(lines, near) and not self.is_cut(lines, near)
+                and near.distance + 40 * lines * self.unit <= halved)
 
     def said(self, margins, lines, near):
         """The word that so many lines say by their nearest word and code, or None."""
@@ -78,9 +79,10 @@ class Rule:
         shares = BOTH_SHARES if margins is BOTH else NO_SHARES
         is_close = near.code.distance <= near.word.distance + 10 * self.unit
         if near.code.word is not None and is_close and self.is_clear(
-                margins.code, shares.code, lines, near.blank, near.code):
+                margins.code, shares.code, lines, near.blank, near.code_halved, near.code):
             return near.code.word
-        return near.word.word if self.is_clear(margins.other, shares.other, lines, near.blank, near.word) else None
+        is_clear = self.is_clear(margins.other, shares.other, lines, near.blank, near.word_halved, near.word)
+        return near.word.word if is_clear else None
 
     def is_one(self, second, third, both):
         return (second.word is not None and second.word == third.word
@@ -136,7 +138,8 @@ class Field:
 
     def nears(self, number, lines):
         pile = Pile(self.system, self.levels, lines)
-        return Nears(pile.nearest(), pile.nearest_of(codes_of(self.system, number)), pile.black)
+        word, code = pile.nearest(), pile.nearest_of(codes_of(self.system, number))
+        return Nears(word, code, pile.black, pile.halved(word), pile.halved(code))
 
     def candidates(self, *lines):
         """Of one line, or of two that have one word."""

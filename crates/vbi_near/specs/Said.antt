@@ -47,11 +47,16 @@ goes_on unit lines near = nat_lt (near.longer + 4 * lines * unit) near.distance
 abbrev pub is_cut : ℕ → ℕ → Near → Bool
 is_cut unit lines near = nat_lt (near.shorter + 4 * lines * unit) near.distance
 
--- any other word is so far behind, and the signal begins and ends with this one
-abbrev pub is_clear : ℕ → ℕ → ℕ → ℕ → ℕ → Near → Bool
-is_clear unit columns share lines blank near =
+-- each half of the word counts: the row of the other half alone is farther by 40 columns at least in each line. Levelled,
+-- a black half has samples half way between black and white, which are as far from all words.
+abbrev pub is_whole : ℕ → ℕ → ℕ → Near → Bool
+is_whole unit lines halved near = nat_le (near.distance + 40 * lines * unit) halved
+
+-- any other word is so far behind, and the signal begins and ends with this one, and is all there
+abbrev pub is_clear : ℕ → ℕ → ℕ → ℕ → ℕ → ℕ → Near → Bool
+is_clear unit columns share lines blank halved near =
     is_ahead unit columns near && is_ahead_by share blank near && not (goes_on unit lines near)
-    && not (is_cut unit lines near)
+    && not (is_cut unit lines near) && is_whole unit lines halved near
 
 -- no word is nearer than the nearest code by more than ten columns
 abbrev pub is_close : ℕ → Nears → Bool
@@ -62,9 +67,10 @@ is_close unit near = nat_le near.code.distance (near.word.distance + 10 * unit)
 abbrev pub said_of : ℕ → Margins → ℕ → Nears → Option ℕ
 said_of unit margins lines near =
     if is_some near.code.word && is_close unit near
-    && is_clear unit margins.code margins.code_share lines near.blank near.code
+    && is_clear unit margins.code margins.code_share lines near.blank near.code_halved near.code
     then near.code.word
-    else (if is_clear unit margins.other margins.other_share lines near.blank near.word then near.word.word else None)
+    else (if is_clear unit margins.other margins.other_share lines near.blank near.word_halved near.word
+    then near.word.word else None)
 
 -- what is said by what there may not be
 abbrev pub said_if : ℕ → Margins → ℕ → Option Nears → Option ℕ

@@ -55,6 +55,10 @@ pub struct Nears {
     pub code: Near,
     /// How far the lines are from the row of no word.
     pub blank: u32,
+    /// How far they are from the nearer row of half the word: with its first twelve cells black, or its last.
+    pub word_halved: u32,
+    /// The same of the code.
+    pub code_halved: u32,
 }
 
 /// The word that is nearest to some lines, and the nearest of the codes that may stand on a line of this number, by how

@@ -6,6 +6,7 @@ ghost use Rattle.vbi_words.specs.declared.outcome.Outcome.TheVariants.{Word, Bla
 ghost use Rattle.vbi_near.specs.Said.{said_of, lone_margins, apart_margins, both_margins};
 ghost use Rattle.vbi_near.specs.Recovery.{recovered_of};
 ghost use Rattle.vbi_near.specs.WorkedRules.{near_with, cut_at, as_code, as_other, beside, from_none, ten_ahead};
+ghost use Rattle.vbi_near.specs.WorkedRules.{code_halved_at, other_halved_at};
 ghost use Rattle.vbi_near.specs.WorkedRules.{as_given, levelled_as, worn_by, worn};
 ghost use Rattle.vbi_near.specs.WorkedRules.{smoothed_by, smoothed_at, smoothed, read_as, both_at, together_at, Shows};
 
@@ -31,6 +32,12 @@ pub fn worked_margins()
         × (said_of 100 both_margins 2 (from_none 47001 (beside 11000 12000)) ≡ None) }
     ensures other_share { (said_of 100 both_margins 2 (ten_ahead 58000) ≡ Some 0xF1234A)
         × (said_of 100 both_margins 2 (ten_ahead 58001) ≡ None) }
+    ensures code_halved { (said_of 100 lone_margins 1 (code_halved_at 14500) ≡ Some 0xF12345)
+        × (said_of 100 lone_margins 1 (code_halved_at 14499) ≡ None) }
+    ensures other_halved { (said_of 100 lone_margins 1 (other_halved_at 14000) ≡ Some 0xF1234A)
+        × (said_of 100 lone_margins 1 (other_halved_at 13999) ≡ None) }
+    ensures halved_of_two { (said_of 100 both_margins 2 (other_halved_at 18000) ≡ Some 0xF1234A)
+        × (said_of 100 both_margins 2 (other_halved_at 17999) ≡ None) }
     ensures longer { (said_of 100 lone_margins 1 (as_code (near_with 0xF12345 20000 9600)) ≡ Some 0xF12345)
         × (said_of 100 lone_margins 1 (as_code (near_with 0xF12345 20000 9599)) ≡ None) }
     ensures longer_of_two { (said_of 100 both_margins 2 (as_code (near_with 0xF12345 20000 9200)) ≡ Some 0xF12345)

@@ -1,8 +1,8 @@
 //! What the nearest words of lines say: by how much they have to be ahead, and whether lines 17 and 18 agree.
 
 ghost use Rattle.std.specs.Prelude.{◌≡◌, ◌≤◌};
-ghost use Rattle.vbi_near.specs.Said.{is_ahead, is_ahead_by, goes_on, is_cut, is_clear, is_close, said_of, said_if};
-ghost use Rattle.vbi_near.specs.Said.{first_said, is_said, is_same, is_one, is_borne, have_word, have_code, have_one};
+ghost use Rattle.vbi_near.specs.Said.{is_ahead, is_ahead_by, goes_on, is_cut, is_whole, is_clear, is_close};
+ghost use Rattle.vbi_near.specs.Said.{said_of, said_if, first_said, is_said, is_same, is_one, is_borne, have_word, have_code, have_one};
 ghost use Rattle.vbi_near.specs.Said.{do_agree, may_agree, stand_of, said_in, lone_margins};
 
 use crate::lines::Nears;
@@ -91,16 +91,33 @@ fn is_cut(unit: u32, lines: u32, near: &Near) -> bool
     u64::from(near.shorter) + 4 * u64::from(lines) * u64::from(unit) < u64::from(near.distance)
 }
 
-/// Whether the signal of so many lines begins and ends with the word, and any other is farther by so many columns and
-/// by such a share.
-fn is_clear(unit: u32, columns: u32, share: u8, lines: u32, blank: u32, near: &Near) -> bool
+/// Whether each half of the word counts in so many lines, which are so far from the nearer row of half of it.
+fn is_whole(unit: u32, lines: u32, halved: u32, near: &Near) -> bool
     requires { lines ≤ 28 }
-    ensures { result ≡ is_clear unit columns share lines blank near.now }
+    ensures { result ≡ is_whole unit lines halved near.now }
+{
+    u64::from(near.distance) + 40 * u64::from(lines) * u64::from(unit) <= u64::from(halved)
+}
+
+/// Whether the signal of so many lines begins and ends with the word and has both halves of it, and any other is
+/// farther by so many columns and by such a share.
+fn is_clear(
+    unit: u32,
+    columns: u32,
+    share: u8,
+    lines: u32,
+    blank: u32,
+    halved: u32,
+    near: &Near,
+) -> bool
+    requires { lines ≤ 28 }
+    ensures { result ≡ is_clear unit columns share lines blank halved near.now }
 {
     is_ahead(unit, columns, near)
         && is_ahead_by(share, blank, near)
         && !goes_on(unit, lines, near)
         && !is_cut(unit, lines, near)
+        && is_whole(unit, lines, halved, near)
 }
 
 /// Whether no word is nearer than the nearest code by more than ten columns.
@@ -115,7 +132,6 @@ fn said_of(unit: u32, margins: &Margins, lines: u32, near: &Nears) -> Option<Wor
     requires { lines ≤ 28 }
     ensures { result ≡ said_of unit margins.now lines near.now }
 {
-    let blank = near.blank;
     if near.code.word.is_some()
         && is_close(unit, near)
         && is_clear(
@@ -123,7 +139,8 @@ fn said_of(unit: u32, margins: &Margins, lines: u32, near: &Nears) -> Option<Wor
             margins.code,
             margins.code_share,
             lines,
-            blank,
+            near.blank,
+            near.code_halved,
             &near.code,
         )
     {
@@ -133,7 +150,8 @@ fn said_of(unit: u32, margins: &Margins, lines: u32, near: &Nears) -> Option<Wor
         margins.other,
         margins.other_share,
         lines,
-        blank,
+        near.blank,
+        near.word_halved,
         &near.word,
     ) {
         near.word.word
