@@ -171,13 +171,16 @@ LDVBI_RESULT LDVBI_POINTER(6) uint32_t ldvbi_nearest(uint32_t system, uint32_t b
  *
  *                                           a code that may stand on the line   any other word
  *     one line                                               6                        8
- *     lines 17 and 18 together                               8                       10
+ *     lines 17 and 18 together                               8                        9
  *     either, where they don't agree                        10                       12
  *
  * If both lack a word, they are taken together where they agree: where the nearest word or code of each is the same, or
- * the common one is at most 30 columns farther from the two than that of each is from its own line. Nothing is
- * recovered where the row with one cell more (`longer`), or with one or two cells black at an end, is nearer by more
- * than 4 columns in each line, nor of two lines together where the longer one is so of each.
+ * the common one is at most 30 columns farther from the two than that of each is from its own line; and where each
+ * bears it: the common one is nearer to both, by 20 columns, than that of one line to this line and no word to the
+ * other. The margin of both together also has to be a 36th of how much nearer the word is than none, for a code, or a
+ * 48th, for any other word. Nothing is recovered where the row with one cell more (`longer`), or with one or two cells
+ * black at an end, is nearer by more than 4 columns in each line, nor of two lines together where the longer one is so
+ * of each.
  *
  * All that is asked first of the levelled lines: the mean of six cells is taken off, and the rest made to swing from
  * black to white, if it swings by 3 to 16 tenths of that, and of two lines neither more than twice as much as the

@@ -66,6 +66,13 @@ class Pile:
         costs = self.costs(start, word)
         return self.black + sum(costs) - max(costs[0], costs[0] + costs[1], costs[-1], costs[-1] + costs[-2])
 
+    def halved(self, near):
+        """The least distance of a row on which the word's first half is black, or its last; its own if there is none."""
+        if near.word is None:
+            return near.distance
+        costs = self.costs(near.start, near.word)
+        return self.black + min(sum(costs[:CELLS // 2]), sum(costs[CELLS // 2:]))
+
     def stretched(self, word):
         """The least distance of a row of the word whose cells have 98 to 102 hundredths of their length ."""
         high = [2 * cell + (word >> 23 - cell & 1) for cell in range(CELLS)]

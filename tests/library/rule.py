@@ -11,10 +11,12 @@ from itertools import accumulate
 from nearest import SYSTEMS, Pile, codes_of
 
 BLANK = 1
-Nears = namedtuple("Nears", "word code")
+Nears = namedtuple("Nears", "word code blank word_halved code_halved")
 Candidates = namedtuple("Candidates", "levelled given")
 Margins = namedtuple("Margins", "code other")
-LONE, APART, BOTH = Margins(6, 8), Margins(10, 12), Margins(8, 10)
+LONE, APART, BOTH = Margins(6, 8), Margins(10, 12), Margins(8, 9)
+# Shares of how much nearer a word is than none, in 144ths
+NO_SHARES, BOTH_SHARES = Margins(0, 0), Margins(4, 3)
 
 
 # ---- Levelled lines (Levelled.antt)
@@ -64,27 +66,39 @@ class Rule:
     def is_cut(self, lines, near):
         return near.shorter + 4 * lines * self.unit < near.distance
 
-    def is_clear(self, columns, lines, near):
-        return (near.distance + columns * self.unit <= near.rival and not self.goes_on(lines, near)
-                and not self.is_cut(lines, near))
+    def is_clear(self, columns, share, lines, blank, halved, near):
+        ahead = near.rival - near.distance
+        return (columns * self.unit <= ahead and share * (blank - near.distance) <= 144 * ahead
+                and not self.goes_on(lines, near) and not self.is_cut(lines, near)
+                and near.distance + 40 * lines * self.unit <= halved)
 
     def said(self, margins, lines, near):
         """The word that so many lines say by their nearest word and code, or None."""
         if near is None:
             return None
+        shares = BOTH_SHARES if margins is BOTH else NO_SHARES
         is_close = near.code.distance <= near.word.distance + 10 * self.unit
-        if near.code.word is not None and is_close and self.is_clear(margins.code, lines, near.code):
+        if near.code.word is not None and is_close and self.is_clear(
+                margins.code, shares.code, lines, near.blank, near.code_halved, near.code):
             return near.code.word
-        return near.word.word if self.is_clear(margins.other, lines, near.word) else None
+        is_clear = self.is_clear(margins.other, shares.other, lines, near.blank, near.word_halved, near.word)
+        return near.word.word if is_clear else None
 
     def is_one(self, second, third, both):
         return (second.word is not None and second.word == third.word
                 or both.distance <= second.distance + third.distance + 30 * self.unit)
 
+    def is_borne(self, second, third, both, blanks):
+        """The common word is nearer to both lines than the word of one is to that, and none to the other."""
+        apart = min(second.distance + blanks[1], third.distance + blanks[0])
+        return both.distance + 20 * self.unit <= apart
+
     def agree(self, second, third, both):
         if second is None or third is None or both is None:
             return False
-        return any(map(self.is_one, second, third, both)) and not (
+        blanks = second.blank, third.blank
+        return any(self.is_one(*three) and self.is_borne(*three, blanks)
+                   for three in zip(second[:2], third[:2], both[:2])) and not (
             self.goes_on(1, second.word) and self.goes_on(1, third.word))
 
 
@@ -124,7 +138,8 @@ class Field:
 
     def nears(self, number, lines):
         pile = Pile(self.system, self.levels, lines)
-        return Nears(pile.nearest(), pile.nearest_of(codes_of(self.system, number)))
+        word, code = pile.nearest(), pile.nearest_of(codes_of(self.system, number))
+        return Nears(word, code, pile.black, pile.halved(word), pile.halved(code))
 
     def candidates(self, *lines):
         """Of one line, or of two that have one word."""

@@ -32,6 +32,7 @@ pub mod CellsAt
 pub mod Halves
 pub mod CutShort
 pub mod ShorterRows
+pub mod HalvedRows
 pub mod Stretches
 pub mod LeastAt
 pub mod Unstretched

@@ -15,7 +15,10 @@ use Rattle.vbi_line.specs.OneReading.{reading_of, outcome_of}
 use Rattle.vbi_line.proofs.OneReading.{by_outcomes}
 use Rattle.vbi_near.specs.declared.lines.Nears.{Nears}
 use Rattle.vbi_near.specs.declared.recovery.Recovered.{Recovered}
-use Rattle.vbi_near.specs.Distances.{Samples}
+use Rattle.vbi_near.specs.declared.near.Near.{Near}
+use Rattle.vbi_near.specs.Pictures.{drawn_as}
+use Rattle.vbi_near.specs.Distances.{Samples, unit_of, distance_of}
+use Rattle.vbi_near.specs.Halved.{halved_far}
 use Rattle.vbi_near.specs.Stretched.{IsLeastAt, IsStretched}
 use Rattle.vbi_near.specs.Candidates.{HasNear, Row, Candidates, HasNearIf, AreOf, AreOfBoth, given_samples}
 use Rattle.vbi_near.specs.Candidates.{levelled_samples, has_swing, are_alike}
@@ -32,7 +35,19 @@ one_nears system number slicing lines near other is are =
     are.first are.longer are.shorter in
     let code = one_near_code system number slicing lines near.code other.code is.code is.code_first is.code_longer
     is.code_shorter are.code are.code_first are.code_longer are.code_shorter in
-    λ j. record { word = word j; code = code j }
+    let blank : near.blank ≡ other.blank = is.blank ∙ sym are.blank in
+    let far : List Bool → ℕ = λ levels. distance_of (unit_of slicing) lines (drawn_as slicing levels) in
+    let word_halved : near.word_halved ≡ other.word_halved
+    = is.word_halved ∙ ap (λ (n : Near). halved_far system far n.word n) word ∙ sym are.word_halved in
+    let code_halved : near.code_halved ≡ other.code_halved
+    = is.code_halved ∙ ap (λ (n : Near). halved_far system far n.word n) code ∙ sym are.code_halved in
+    λ j. record {
+      word = word j;
+      code = code j;
+      blank = blank j;
+      word_halved = word_halved j;
+      code_halved = code_halved j;
+    }
 
 -- lines can't both have nearest words and have none
 not_both : (can : Bool) → can ≡ false → can ≡ true → ⊥

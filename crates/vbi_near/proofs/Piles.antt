@@ -106,7 +106,7 @@ levels-same system slicing lines costs pile levels wide =
     costs_are slicing lines costs (width_of system) 0 levels pile.exact (omega (arith, wide))
     ∙ rows_are slicing (width_of system) lines levels wide pile.whole
 
-far-same : (system : System) (slicing : Slicing) (lines : List Samples) (costs : Shades)
+pub far-same : (system : System) (slicing : Slicing) (lines : List Samples) (costs : Shades)
     → IsPile system slicing lines costs → (word : Option ℕ) (start : ℕ) → IsPlace system word start
     → far system costs word start ≡ far_from system slicing lines word start
 far-same system slicing lines costs pile word start place =

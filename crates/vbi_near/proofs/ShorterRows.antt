@@ -22,7 +22,7 @@ use Rattle.vbi_near.proofs.Piles.{levels-same}
 
 -- ---- how wide
 
-row-wide : (system : System) (start : ℕ) (halves levels : List Bool) → start + word_length system ≤ width_of system
+pub row-wide : (system : System) (start : ℕ) (halves levels : List Bool) → start + word_length system ≤ width_of system
     → length halves ≡ 48 → levels ≡ row_of_halves system start halves → length levels ≡ width_of system
 unfolding row_of_halves
 row-wide system start halves levels room many e =

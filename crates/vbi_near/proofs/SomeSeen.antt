@@ -17,6 +17,8 @@ use Rattle.vbi_near.specs.Stretched.{IsStretchedPlace, IsStretched}
 use Rattle.vbi_near.specs.Candidates.{HasNear, Row, Candidates, HasNearIf, AreOf, AreOfBoth, given_samples}
 use Rattle.vbi_near.specs.Candidates.{levelled_samples, has_swing, are_alike}
 use Rattle.vbi_near.specs.Recovery.{Seen, IsSeen}
+use Rattle.vbi_near.specs.Halved.{halved_far}
+use Rattle.vbi_near.specs.Nearest.{far_from}
 use Rattle.vbi_near.proofs.SomeNear.{some_near, some_near_code}
 use Rattle.vbi_near.proofs.Least.{found, at_most_told}
 use Rattle.vbi_near.proofs.LeastAt.{same-least, first-rate, rate-more}
@@ -27,9 +29,16 @@ use Rattle.vbi_near.proofs.LeastAt.{same-least, first-rate, rate-more}
 pub some_nears : (system : System) (number : ℕ) (slicing : Slicing) (lines : List Samples)
     → (near : Nears) × HasNear system number slicing lines near
 some_nears system number slicing lines =
+    let far : List Bool → ℕ = λ levels. distance_of (unit_of slicing) lines (drawn_as slicing levels) in
     let w = some_near system slicing lines in
     let c = some_near_code system number slicing lines in (
-      record { word = w.0; code = c.0 },
+      record {
+        word = w.0;
+        code = c.0;
+        blank = far_from system slicing lines None 0;
+        word_halved = halved_far system far w.0.word w.0;
+        code_halved = halved_far system far c.0.word c.0;
+      },
       record {
         nearest = w.1;
         first = w.2;
@@ -39,6 +48,9 @@ some_nears system number slicing lines =
         code_first = c.2;
         code_longer = c.3;
         code_shorter = c.4;
+        blank = refl;
+        word_halved = refl;
+        code_halved = refl;
       },
     )
 

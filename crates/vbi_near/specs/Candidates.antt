@@ -4,12 +4,14 @@ use Rattle.vbi_words.specs.declared.system.System.{System}
 use Rattle.vbi_words.specs.Levels.{Slicing, samples_of}
 use Rattle.vbi_near.specs.declared.lines.Nears.{Nears}
 use Rattle.vbi_near.specs.Distances.{Samples, unit_of, known_but}
-use Rattle.vbi_near.specs.Nearest.{IsNearest, IsFirst, IsNearestCode, IsFirstCode}
+use Rattle.vbi_near.specs.Nearest.{IsNearest, IsFirst, IsNearestCode, IsFirstCode, far_from}
 use Rattle.vbi_near.specs.Longer.{IsLonger}
 use Rattle.vbi_near.specs.Shorter.{IsShorter}
+use Rattle.vbi_near.specs.Halved.{IsHalved}
 use Rattle.vbi_near.specs.Levelled.{filled, swing_of, is_swing, levelled}
 
--- the nearest word of some lines, and the nearest of the codes that may stand on a line of this number
+-- the nearest word of some lines, the nearest of the codes that may stand on a line of this number, and how far the
+-- lines are from half of each, and from the row of no word
 pub record HasNear (system : System) (number : ℕ) (slicing : Slicing) (lines : List Samples) (near : Nears) : Type 0
   where
     pub nearest : IsNearest system slicing lines near.word
@@ -20,6 +22,9 @@ pub record HasNear (system : System) (number : ℕ) (slicing : Slicing) (lines :
     pub code_first : IsFirstCode system number slicing lines near.code
     pub code_longer : IsLonger system slicing lines near.code
     pub code_shorter : IsShorter system slicing lines near.code
+    pub blank : near.blank ≡ far_from system slicing lines None 0
+    pub word_halved : IsHalved system slicing lines near.word near.word_halved
+    pub code_halved : IsHalved system slicing lines near.code near.code_halved
 
 -- ---- a line, as it is and levelled
 

@@ -7,6 +7,7 @@ pub mod Nearest
 pub mod Apart
 pub mod Longer
 pub mod Shorter
+pub mod Halved
 pub mod Stretched
 pub mod LineCodes
 pub mod Leads

@@ -16,7 +16,7 @@ use Rattle.vbi_near.specs.Candidates.{Candidates, HasNear, HasNearIf}
 -- the columns by which the nearest word has to be ahead: a code that may stand on the lines by fewer than another word,
 -- where it is known which columns are erased
 abbrev pub pile_margins : Bool → Margins
-pile_margins known = record { code = if known then 6 else 10; other = 10 }
+pile_margins known = record { code = if known then 6 else 10; other = 10; code_share = 0; other_share = 0 }
 
 -- lines that swing so may be levelled together: each two of them may
 abbrev pub swing_alike : ℕ → List ℕ → Bool

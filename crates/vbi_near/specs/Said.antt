@@ -16,19 +16,27 @@ use Rattle.vbi_near.specs.declared.said.Stand.TheVariants.{Alone, Apart, Togethe
 -- the columns by which the nearest word of one line has to be ahead: a code that may stand on the line by fewer than
 -- another word
 abbrev pub lone_margins : Margins
-lone_margins = record { code = 6; other = 8 }
+lone_margins = record { code = 6; other = 8; code_share = 0; other_share = 0 }
 
 -- of one of two lines whose nearest words don't agree: at least one of them is badly worn, or they have two words
 abbrev pub apart_margins : Margins
-apart_margins = record { code = 10; other = 12 }
+apart_margins = record { code = 10; other = 12; code_share = 0; other_share = 0 }
 
--- of two lines together
+-- of two lines together: also by a share of what a cell counts there on average, a code by about a third of it, another
+-- word by about a quarter. Noise makes all cells count less, a dropout some of them, and those may say anything. A cell
+-- with the other bit is farther by about twice as much as a black one, so a cell counts about a twelfth of how much
+-- nearer the word is than none. The shares are 144ths of that.
 abbrev pub both_margins : Margins
-both_margins = record { code = 8; other = 10 }
+both_margins = record { code = 8; other = 9; code_share = 4; other_share = 3 }
 
 -- any other word is farther by so many columns at least
 abbrev pub is_ahead : ℕ → ℕ → Near → Bool
 is_ahead unit columns near = nat_le (near.distance + columns * unit) near.rival
+
+-- it is farther by so many 144ths at least of how much nearer the nearest word is than none, which is this far
+abbrev pub is_ahead_by : ℕ → ℕ → Near → Bool
+is_ahead_by share blank near =
+    nat_le (144 * near.distance + share * blank) (144 * near.rival + share * near.distance)
 
 -- the signal goes on beyond the word: with one more cell the drawn row is nearer by more than four columns in each line
 abbrev pub goes_on : ℕ → ℕ → Near → Bool
@@ -39,10 +47,16 @@ goes_on unit lines near = nat_lt (near.longer + 4 * lines * unit) near.distance
 abbrev pub is_cut : ℕ → ℕ → Near → Bool
 is_cut unit lines near = nat_lt (near.shorter + 4 * lines * unit) near.distance
 
--- any other word is so far behind, and the signal begins and ends with this one
-abbrev pub is_clear : ℕ → ℕ → ℕ → Near → Bool
-is_clear unit columns lines near =
-    is_ahead unit columns near && not (goes_on unit lines near) && not (is_cut unit lines near)
+-- each half of the word counts: the row of the other half alone is farther by 40 columns at least in each line. Levelled,
+-- a black half has samples half way between black and white, which are as far from all words.
+abbrev pub is_whole : ℕ → ℕ → ℕ → Near → Bool
+is_whole unit lines halved near = nat_le (near.distance + 40 * lines * unit) halved
+
+-- any other word is so far behind, and the signal begins and ends with this one, and is all there
+abbrev pub is_clear : ℕ → ℕ → ℕ → ℕ → ℕ → ℕ → Near → Bool
+is_clear unit columns share lines blank halved near =
+    is_ahead unit columns near && is_ahead_by share blank near && not (goes_on unit lines near)
+    && not (is_cut unit lines near) && is_whole unit lines halved near
 
 -- no word is nearer than the nearest code by more than ten columns
 abbrev pub is_close : ℕ → Nears → Bool
@@ -52,9 +66,11 @@ is_close unit near = nat_le near.code.distance (near.word.distance + 10 * unit)
 -- of none, and no word is much nearer; else the nearest word, if it is so far ahead of any other
 abbrev pub said_of : ℕ → Margins → ℕ → Nears → Option ℕ
 said_of unit margins lines near =
-    if is_some near.code.word && is_close unit near && is_clear unit margins.code lines near.code
+    if is_some near.code.word && is_close unit near
+    && is_clear unit margins.code margins.code_share lines near.blank near.code_halved near.code
     then near.code.word
-    else (if is_clear unit margins.other lines near.word then near.word.word else None)
+    else (if is_clear unit margins.other margins.other_share lines near.blank near.word_halved near.word
+    then near.word.word else None)
 
 -- what is said by what there may not be
 abbrev pub said_if : ℕ → Margins → ℕ → Option Nears → Option ℕ
@@ -84,10 +100,26 @@ abbrev pub is_one : ℕ → Near → Near → Near → Bool
 is_one unit second third both =
     is_same second.word third.word || nat_le both.distance (second.distance + third.distance + 30 * unit)
 
--- by their nearest words, or by their nearest codes
+-- the common word is nearer to two lines, by 20 columns, than the word of the one is to that, and none to the other,
+-- which is this far
+abbrev pub is_borne : ℕ → Near → ℕ → Near → Bool
+is_borne unit near blank both = nat_le (both.distance + 20 * unit) (near.distance + blank)
+
+-- two lines have one word, and each of them bears it: by their nearest words
+abbrev pub have_word : ℕ → Nears → Nears → Nears → Bool
+have_word unit second third both =
+    is_one unit second.word third.word both.word && is_borne unit second.word third.blank both.word
+    && is_borne unit third.word second.blank both.word
+
+-- the same by their nearest codes
+abbrev pub have_code : ℕ → Nears → Nears → Nears → Bool
+have_code unit second third both =
+    is_one unit second.code third.code both.code && is_borne unit second.code third.blank both.code
+    && is_borne unit third.code second.blank both.code
+
+-- by the ones or the others
 abbrev pub have_one : ℕ → Nears → Nears → Nears → Bool
-have_one unit second third both =
-    is_one unit second.word third.word both.word || is_one unit second.code third.code both.code
+have_one unit second third both = have_word unit second third both || have_code unit second third both
 
 -- then they agree, unless each of them goes on beyond its nearest word, as two sines do
 abbrev pub do_agree : ℕ → Nears → Nears → Nears → Bool

@@ -1,5 +1,5 @@
 -- Nearest words written down, with the numbers of the rule at their limits. White is 100 above black.
-use Rattle.std.specs.Prelude.{ℕ, ◌≡◌, List, map, Option, Some, None}
+use Rattle.std.specs.Prelude.{ℕ, ◌≡◌, ◌+◌, List, map, Option, Some, None}
 use Rattle.vbi_words.specs.declared.outcome.Outcome.{Outcome}
 use Rattle.vbi_words.specs.declared.outcome.Outcome.TheVariants.{Word, Unfinished, Change}
 use Rattle.vbi_words.specs.Outcomes.{word_of}
@@ -9,9 +9,16 @@ use Rattle.vbi_near.specs.declared.recovery.Recovered.{Recovered}
 use Rattle.vbi_near.specs.Candidates.{Candidates}
 use Rattle.vbi_near.specs.Recovery.{Seen}
 
--- a nearest word that is a code, and one that is none beside which no code is near
+-- a nearest word that is a code, and one that is none beside which no code is near; no word is farther by 20,000, and
+-- half of it by 8,000, as much as is asked of two lines
 abbrev pub as_code : Near → Nears
-as_code near = record { word = near; code = near }
+as_code near = record {
+  word = near;
+  code = near;
+  blank = near.distance + 20000;
+  word_halved = near.distance + 8000;
+  code_halved = near.distance + 8000;
+}
 
 abbrev pub as_other : Near → Nears
 as_other near = record {
@@ -24,6 +31,9 @@ as_other near = record {
     longer = 99999;
     shorter = 99999;
   };
+  blank = near.distance + 20000;
+  word_halved = near.distance + 8000;
+  code_halved = 99999;
 }
 
 -- a word at a distance of 10,000, with the distance of its rival, and of the row that goes on
@@ -53,6 +63,9 @@ beside distance rival = record {
     longer = distance;
     shorter = distance;
   };
+  blank = 30000;
+  word_halved = 18000;
+  code_halved = distance + 8000;
 }
 
 -- nearest words of lines as they are, which can't be levelled; and of lines that can
@@ -110,6 +123,22 @@ both_at distance rival = as_code (record {
 
 abbrev pub together_at : ℕ → ℕ → Candidates
 together_at distance rival = as_given (both_at distance rival)
+
+-- nearest words of lines that are this far from the row of no word
+abbrev pub from_none : ℕ → Nears → Nears
+from_none blank near = record near { blank = blank }
+
+-- a code, half of which is so far
+abbrev pub code_halved_at : ℕ → Nears
+code_halved_at halved = record (beside 10500 12000) { code_halved = halved }
+
+-- a word that is no code, half of which is so far
+abbrev pub other_halved_at : ℕ → Nears
+other_halved_at halved = record (as_other (near_with 0xF1234A 20000 10000)) { word_halved = halved }
+
+-- a word that is no code, ten columns ahead of any other, of lines that are this far from the row of no word
+abbrev pub ten_ahead : ℕ → Nears
+ten_ahead blank = from_none blank (as_other (near_with 0xF1234A 11000 10000))
 
 -- the words and the passes of lines
 abbrev pub words_of : List Recovered → List (Option ℕ)

@@ -46,13 +46,19 @@ pub fn nearest_of_lines(system: System, levels: Levels, lines: &[u8], count: usi
     nearest(system, darks, lights)
 }
 
-/// The word that is nearest to some lines, and the code that is nearest.
+/// The word that is nearest to some lines, the code that is nearest, and how far they are from none.
 #[derive(Clone, Copy)]
 pub struct Nears {
     /// Of all words, or none.
     pub word: Near,
     /// Of the codes that may stand on a line, or none.
     pub code: Near,
+    /// How far the lines are from the row of no word.
+    pub blank: u32,
+    /// How far they are from the nearer row of half the word: with its first twelve cells black, or its last.
+    pub word_halved: u32,
+    /// The same of the code.
+    pub code_halved: u32,
 }
 
 /// The word that is nearest to some lines, and the nearest of the codes that may stand on a line of this number, by how

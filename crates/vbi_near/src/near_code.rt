@@ -1,6 +1,6 @@
 //! The nearest word of some lines, and the nearest of the codes that may stand on a line, or none.
 
-ghost use Rattle.std.specs.Prelude.{◌≡◌, ◌⊎◌, ℕ, ◌+◌, ◌*◌, ◌^◌, ◌≤◌, ◌<◌, length, slice_index, List};
+ghost use Rattle.std.specs.Prelude.{◌≡◌, ◌⊎◌, ℕ, ◌+◌, ◌*◌, ◌^◌, ◌≤◌, ◌<◌, length, slice_index, List, None};
 ghost use Rattle.vbi_words.specs.Geometry.{width_of};
 ghost use Rattle.vbi_words.specs.Words.{IsWord};
 ghost use Rattle.vbi_words.specs.Levels.{Slicing};
@@ -8,15 +8,17 @@ ghost use Rattle.vbi_near.specs.Pictures.{starts};
 ghost use Rattle.vbi_near.specs.Sums.{AreRowSums};
 ghost use Rattle.vbi_near.specs.Costs.{place_cost};
 ghost use Rattle.vbi_near.specs.Distances.{Samples, IsPile, AreFew, shades};
-ghost use Rattle.vbi_near.specs.Nearest.{IsNearest, IsFirst, IsNearestCode, IsFirstCode};
+ghost use Rattle.vbi_near.specs.Nearest.{IsNearest, IsFirst, IsNearestCode, IsFirstCode, far_from};
 ghost use Rattle.vbi_near.specs.Longer.{IsLonger, IsLongerFound};
 ghost use Rattle.vbi_near.specs.Shorter.{IsShorter, IsShorterFound};
+ghost use Rattle.vbi_near.specs.Halved.{IsHalved};
 ghost use Rattle.vbi_near.specs.Leads.{IsCodeChosen};
 
 use crate::beyond::longer_distance;
 use crate::bits::MOST_STARTS;
 use crate::codes::nearest_code;
 use crate::found::{Found, nearest_word, start_count};
+use crate::halved::halved_distance;
 use crate::lines::Nears;
 use crate::near::{Near, WIDEST, or_none, word_of};
 use crate::sums::{between, sum_up};
@@ -81,8 +83,8 @@ fn code_shorter(dark: &[u32], light: &[u32], system: System, found: Found) -> u3
     }
 }
 
-/// The word that is nearest to some lines, and the nearest of the codes that may stand on a line of this number, by how
-/// far their samples are from black in each column, and from white.
+/// The word that is nearest to some lines, the nearest of the codes that may stand on a line of this number, how far the
+/// lines are from half of each, and from the row of no word, by how far their samples are from black in each column, and from white.
 pub(crate) fn nears(system: System, line: u32, darks: &[u32], lights: &[u32]) -> Nears
     requires dark { length darks.now ≡ width_of system }
     requires light { length lights.now ≡ width_of system }
@@ -105,6 +107,14 @@ pub(crate) fn nears(system: System, line: u32, darks: &[u32], lights: &[u32]) ->
         → IsPile system slicing lines (shades darks.now lights.now) → IsLonger system slicing lines result.code }
     ensures code_shorter { (slicing : Slicing) (lines : List Samples)
         → IsPile system slicing lines (shades darks.now lights.now) → IsShorter system slicing lines result.code }
+    ensures blank { (slicing : Slicing) (lines : List Samples) → IsPile system slicing lines (shades darks.now lights.now)
+        → result.blank ≡ far_from system slicing lines None 0 }
+    ensures word_halved { (slicing : Slicing) (lines : List Samples)
+        → IsPile system slicing lines (shades darks.now lights.now)
+        → IsHalved system slicing lines result.word result.word_halved }
+    ensures code_halved { (slicing : Slicing) (lines : List Samples)
+        → IsPile system slicing lines (shades darks.now lights.now)
+        → IsHalved system slicing lines result.code result.code_halved }
 {
     let mut dark_sums = [0; WIDEST + 1];
     let mut light_sums = [0; WIDEST + 1];
@@ -122,9 +132,16 @@ pub(crate) fn nears(system: System, line: u32, darks: &[u32], lights: &[u32]) ->
     let lead = nearest_code(dark, light, system, line, found.start, bounds, blank);
     let lead_longer = code_longer(dark, light, system, lead);
     let lead_shorter = code_shorter(dark, light, system, lead);
+    let word = or_none(found, longer, shorter, blank);
+    let code = code_or_none(lead, lead_longer, lead_shorter);
+    let word_halved = halved_distance(dark, light, system, &word);
+    let code_halved = halved_distance(dark, light, system, &code);
     Nears {
-        word: or_none(found, longer, shorter, blank),
-        code: code_or_none(lead, lead_longer, lead_shorter),
+        word,
+        code,
+        blank,
+        word_halved,
+        code_halved,
     }
 }
 

@@ -23,6 +23,8 @@ fn pile_margins(known: bool) -> Margins
     Margins {
         code: if known { 6 } else { 10 },
         other: 10,
+        code_share: 0,
+        other_share: 0,
     }
 }
 

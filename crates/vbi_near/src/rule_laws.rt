@@ -5,8 +5,9 @@ ghost use Rattle.std.specs.Prelude.{◌≡◌, ◌∷◌, [], Some, None};
 ghost use Rattle.vbi_words.specs.declared.outcome.Outcome.TheVariants.{Word, Blank, Change};
 ghost use Rattle.vbi_near.specs.Said.{said_of, lone_margins, apart_margins, both_margins};
 ghost use Rattle.vbi_near.specs.Recovery.{recovered_of};
-ghost use Rattle.vbi_near.specs.WorkedRules.{near_with, cut_at, as_code, as_other, beside, as_given};
-ghost use Rattle.vbi_near.specs.WorkedRules.{levelled_as, worn_by, worn};
+ghost use Rattle.vbi_near.specs.WorkedRules.{near_with, cut_at, as_code, as_other, beside, from_none, ten_ahead};
+ghost use Rattle.vbi_near.specs.WorkedRules.{code_halved_at, other_halved_at};
+ghost use Rattle.vbi_near.specs.WorkedRules.{as_given, levelled_as, worn_by, worn};
 ghost use Rattle.vbi_near.specs.WorkedRules.{smoothed_by, smoothed_at, smoothed, read_as, both_at, together_at, Shows};
 
 /// By how much a nearest word has to be ahead: the least of each kind is said, and one less isn't.
@@ -25,8 +26,18 @@ pub fn worked_margins()
         × (said_of 100 apart_margins 1 (as_other (near_with 0xF1234A 11199 10000)) ≡ None) }
     ensures both_code { (said_of 100 both_margins 2 (as_code (near_with 0xF12345 10800 10000)) ≡ Some 0xF12345)
         × (said_of 100 both_margins 2 (as_code (near_with 0xF12345 10799 10000)) ≡ None) }
-    ensures both_other { (said_of 100 both_margins 2 (as_other (near_with 0xF1234A 11000 10000)) ≡ Some 0xF1234A)
-        × (said_of 100 both_margins 2 (as_other (near_with 0xF1234A 10999 10000)) ≡ None) }
+    ensures both_other { (said_of 100 both_margins 2 (as_other (near_with 0xF1234A 10900 10000)) ≡ Some 0xF1234A)
+        × (said_of 100 both_margins 2 (as_other (near_with 0xF1234A 10899 10000)) ≡ None) }
+    ensures code_share { (said_of 100 both_margins 2 (from_none 47000 (beside 11000 12000)) ≡ Some 0xF12345)
+        × (said_of 100 both_margins 2 (from_none 47001 (beside 11000 12000)) ≡ None) }
+    ensures other_share { (said_of 100 both_margins 2 (ten_ahead 58000) ≡ Some 0xF1234A)
+        × (said_of 100 both_margins 2 (ten_ahead 58001) ≡ None) }
+    ensures code_halved { (said_of 100 lone_margins 1 (code_halved_at 14500) ≡ Some 0xF12345)
+        × (said_of 100 lone_margins 1 (code_halved_at 14499) ≡ None) }
+    ensures other_halved { (said_of 100 lone_margins 1 (other_halved_at 14000) ≡ Some 0xF1234A)
+        × (said_of 100 lone_margins 1 (other_halved_at 13999) ≡ None) }
+    ensures halved_of_two { (said_of 100 both_margins 2 (other_halved_at 18000) ≡ Some 0xF1234A)
+        × (said_of 100 both_margins 2 (other_halved_at 17999) ≡ None) }
     ensures longer { (said_of 100 lone_margins 1 (as_code (near_with 0xF12345 20000 9600)) ≡ Some 0xF12345)
         × (said_of 100 lone_margins 1 (as_code (near_with 0xF12345 20000 9599)) ≡ None) }
     ensures longer_of_two { (said_of 100 both_margins 2 (as_code (near_with 0xF12345 20000 9200)) ≡ Some 0xF12345)
@@ -45,7 +56,7 @@ pub fn worked_fields()
         (worn (as_code (near_with 0xF12346 12000 10000))) (together_at 23000 23800))
         (None ∷ Some 0xF12345 ∷ Some 0xF12345 ∷ []) (0 ∷ 3 ∷ 3 ∷ []) }
     ensures same { Shows (recovered_of 100 (read_as Blank 0) (worn (as_code (near_with 0xF12345 10100 10000)))
-        (worn (as_code (near_with 0xF12345 10100 10000))) (together_at 90000 90800))
+        (worn (as_code (near_with 0xF12345 10100 10000))) (together_at 31000 31800))
         (None ∷ Some 0xF12345 ∷ Some 0xF12345 ∷ []) (0 ∷ 3 ∷ 3 ∷ []) }
     ensures no_more { Shows (recovered_of 100 (read_as Blank 0) (worn (as_code (near_with 0xF12345 10900 10000)))
         (worn (as_code (near_with 0xF12346 12000 10000))) (together_at 23000 23799))
@@ -53,6 +64,19 @@ pub fn worked_fields()
     ensures apart { Shows (recovered_of 100 (read_as Blank 0) (worn (as_code (near_with 0xF12345 10999 10000)))
         (worn (as_code (near_with 0xF12346 11000 10000))) (together_at 23001 29999))
         (None ∷ None ∷ Some 0xF12346 ∷ []) (0 ∷ 0 ∷ 3 ∷ []) }
+
+    // Each of them has to bear the common word: that is nearer to both, by 20 columns, than the word of one line to it
+    // and none to the other.
+    ensures borne { Shows (recovered_of 100 (read_as Blank 0) (worn (as_code (near_with 0xF12345 10100 10000)))
+        (worn (from_none 14000 (as_code (near_with 0xF12346 10100 10000)))) (together_at 22000 29999))
+        (None ∷ Some 0xF12345 ∷ Some 0xF12345 ∷ []) (0 ∷ 3 ∷ 3 ∷ []) }
+    ensures not_on_17 { Shows (recovered_of 100 (read_as Blank 0)
+        (worn (from_none 13999 (as_code (near_with 0xF12345 10100 10000))))
+        (worn (as_code (near_with 0xF12346 11000 10000))) (together_at 22000 29999))
+        (None ∷ None ∷ Some 0xF12346 ∷ []) (0 ∷ 0 ∷ 3 ∷ []) }
+    ensures not_on_18 { Shows (recovered_of 100 (read_as Blank 0) (worn (as_code (near_with 0xF12345 11000 10000)))
+        (worn (from_none 13999 (as_code (near_with 0xF12346 10100 10000)))) (together_at 22000 29999))
+        (None ∷ Some 0xF12345 ∷ None ∷ []) (0 ∷ 3 ∷ 0 ∷ []) }
 
     // Where each of the two goes on beyond its nearest word, they don't agree; where one does, they may.
     ensures go_on { Shows (recovered_of 100 (read_as Blank 0) (worn (as_code (near_with 0xF12345 20000 9599)))

@@ -1,35 +1,51 @@
 //! What the nearest words of lines say: by how much they have to be ahead, and whether lines 17 and 18 agree.
 
 ghost use Rattle.std.specs.Prelude.{◌≡◌, ◌≤◌};
-ghost use Rattle.vbi_near.specs.Said.{is_ahead, goes_on, is_cut, is_clear, is_close, said_of, said_if};
-ghost use Rattle.vbi_near.specs.Said.{first_said, is_said};
-ghost use Rattle.vbi_near.specs.Said.{is_same, is_one, have_one, do_agree, may_agree, stand_of, said_in, lone_margins};
+ghost use Rattle.vbi_near.specs.Said.{is_ahead, is_ahead_by, goes_on, is_cut, is_whole, is_clear, is_close};
+ghost use Rattle.vbi_near.specs.Said.{said_of, said_if, first_said, is_said, is_same, is_one, is_borne, have_word, have_code, have_one};
+ghost use Rattle.vbi_near.specs.Said.{do_agree, may_agree, stand_of, said_in, lone_margins};
 
 use crate::lines::Nears;
 use crate::near::Near;
 use vbi_words::Word24;
 
 /// By how many columns the nearest word has to be ahead of any other: by so many times what white and black are off
-/// from each other.
+/// from each other. Shares are 144ths of how much nearer the word is than none.
 #[derive(Clone, Copy)]
 pub struct Margins {
     /// A code that may stand on its line.
     pub code: u32,
     /// Any other word.
     pub other: u32,
+    /// The share by which a code has to be ahead.
+    pub code_share: u8,
+    /// That of any other word.
+    pub other_share: u8,
 }
 
 /// Those of one line.
-const LONE: Margins = Margins { code: 6, other: 8 };
+const LONE: Margins = Margins {
+    code: 6,
+    other: 8,
+    code_share: 0,
+    other_share: 0,
+};
 
 /// Those of one of two lines that don't agree.
 const APART: Margins = Margins {
     code: 10,
     other: 12,
+    code_share: 0,
+    other_share: 0,
 };
 
 /// Those of two lines together.
-const BOTH: Margins = Margins { code: 8, other: 10 };
+const BOTH: Margins = Margins {
+    code: 8,
+    other: 9,
+    code_share: 4,
+    other_share: 3,
+};
 
 /// How lines 17 and 18 stand to each other.
 #[derive(Clone, Copy)]
@@ -49,6 +65,16 @@ fn is_ahead(unit: u32, columns: u32, near: &Near) -> bool
     u64::from(near.distance) + u64::from(columns) * u64::from(unit) <= u64::from(near.rival)
 }
 
+/// Whether any other word is farther by such a share of how much nearer the word is than none, which is this far.
+fn is_ahead_by(share: u8, blank: u32, near: &Near) -> bool
+    ensures { result ≡ is_ahead_by share blank near.now }
+{
+    let share = u64::from(share);
+    let distance = u64::from(near.distance);
+    let rival = u64::from(near.rival);
+    144 * distance + share * u64::from(blank) <= 144 * rival + share * distance
+}
+
 /// Whether the signal of so many lines goes on beyond the word.
 fn goes_on(unit: u32, lines: u32, near: &Near) -> bool
     requires { lines ≤ 28 }
@@ -65,12 +91,33 @@ fn is_cut(unit: u32, lines: u32, near: &Near) -> bool
     u64::from(near.shorter) + 4 * u64::from(lines) * u64::from(unit) < u64::from(near.distance)
 }
 
-/// Whether the signal of so many lines begins and ends with the word, and any other is farther by so many columns.
-fn is_clear(unit: u32, columns: u32, lines: u32, near: &Near) -> bool
+/// Whether each half of the word counts in so many lines, which are so far from the nearer row of half of it.
+fn is_whole(unit: u32, lines: u32, halved: u32, near: &Near) -> bool
     requires { lines ≤ 28 }
-    ensures { result ≡ is_clear unit columns lines near.now }
+    ensures { result ≡ is_whole unit lines halved near.now }
 {
-    is_ahead(unit, columns, near) && !goes_on(unit, lines, near) && !is_cut(unit, lines, near)
+    u64::from(near.distance) + 40 * u64::from(lines) * u64::from(unit) <= u64::from(halved)
+}
+
+/// Whether the signal of so many lines begins and ends with the word and has both halves of it, and any other is
+/// farther by so many columns and by such a share.
+fn is_clear(
+    unit: u32,
+    columns: u32,
+    share: u8,
+    lines: u32,
+    blank: u32,
+    halved: u32,
+    near: &Near,
+) -> bool
+    requires { lines ≤ 28 }
+    ensures { result ≡ is_clear unit columns share lines blank halved near.now }
+{
+    is_ahead(unit, columns, near)
+        && is_ahead_by(share, blank, near)
+        && !goes_on(unit, lines, near)
+        && !is_cut(unit, lines, near)
+        && is_whole(unit, lines, halved, near)
 }
 
 /// Whether no word is nearer than the nearest code by more than ten columns.
@@ -87,10 +134,26 @@ fn said_of(unit: u32, margins: &Margins, lines: u32, near: &Nears) -> Option<Wor
 {
     if near.code.word.is_some()
         && is_close(unit, near)
-        && is_clear(unit, margins.code, lines, &near.code)
+        && is_clear(
+            unit,
+            margins.code,
+            margins.code_share,
+            lines,
+            near.blank,
+            near.code_halved,
+            &near.code,
+        )
     {
         near.code.word
-    } else if is_clear(unit, margins.other, lines, &near.word) {
+    } else if is_clear(
+        unit,
+        margins.other,
+        margins.other_share,
+        lines,
+        near.blank,
+        near.word_halved,
+        &near.word,
+    ) {
         near.word.word
     } else {
         None
@@ -159,12 +222,39 @@ fn is_one(unit: u32, second: &Near, third: &Near, both: &Near) -> bool
     is_same(second.word, third.word) || u64::from(both.distance) <= sum + 30 * u64::from(unit)
 }
 
-/// Whether two lines have one word, by the nearest word of each and by that of both.
+/// Whether the common word is nearer to two lines than the word of the one to that, and none to the other, which is
+/// this far.
+fn is_borne(unit: u32, near: &Near, blank: u32, both: &Near) -> bool
+    ensures { result ≡ is_borne unit near.now blank both.now }
+{
+    let both = *both;
+    let apart = u64::from(near.distance) + u64::from(blank);
+    u64::from(both.distance) + 20 * u64::from(unit) <= apart
+}
+
+/// Whether two lines have one word that each of them bears, by their nearest words.
+fn have_word(unit: u32, second: &Nears, third: &Nears, both: &Nears) -> bool
+    ensures { result ≡ have_word unit second.now third.now both.now }
+{
+    is_one(unit, &second.word, &third.word, &both.word)
+        && is_borne(unit, &second.word, third.blank, &both.word)
+        && is_borne(unit, &third.word, second.blank, &both.word)
+}
+
+/// The same by their nearest codes.
+fn have_code(unit: u32, second: &Nears, third: &Nears, both: &Nears) -> bool
+    ensures { result ≡ have_code unit second.now third.now both.now }
+{
+    is_one(unit, &second.code, &third.code, &both.code)
+        && is_borne(unit, &second.code, third.blank, &both.code)
+        && is_borne(unit, &third.code, second.blank, &both.code)
+}
+
+/// Whether two lines have one word that each of them bears.
 fn have_one(unit: u32, second: &Nears, third: &Nears, both: &Nears) -> bool
     ensures { result ≡ have_one unit second.now third.now both.now }
 {
-    is_one(unit, &second.word, &third.word, &both.word)
-        || is_one(unit, &second.code, &third.code, &both.code)
+    have_word(unit, second, third, both) || have_code(unit, second, third, both)
 }
 
 /// Whether two lines agree: they have one word, and not each of them goes on beyond its own.

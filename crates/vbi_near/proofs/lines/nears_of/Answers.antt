@@ -10,4 +10,7 @@ returns c slicing lines pile = record {
   code_first = c.nears.ensures.code_first slicing lines pile;
   code_longer = c.nears.ensures.code_longer slicing lines pile;
   code_shorter = c.nears.ensures.code_shorter slicing lines pile;
+  blank = c.nears.ensures.blank slicing lines pile;
+  word_halved = c.nears.ensures.word_halved slicing lines pile;
+  code_halved = c.nears.ensures.code_halved slicing lines pile;
 }

@@ -1,4 +1,5 @@
-use Rattle.std.proofs.Common.{◌≡◌, ℕ, List, false, ◌-◌, ◌∙◌, ap, arith, subst}
+use Rattle.std.proofs.Common.{◌≡◌, ℕ, List, false, ◌-◌, ◌∙◌, ap, arith, refl, subst, sym}
+use Rattle.std.specs.Prelude.{None}
 use Rattle.vbi_words.specs.Geometry.{width_of}
 use Rattle.vbi_words.specs.Levels.{Slicing}
 use Rattle.vbi_near.specs.Distances.{Samples, Shades, shades, IsPile}
@@ -11,8 +12,10 @@ use Rattle.vbi_near.proofs.Rising.{row_sums}
 use Rattle.vbi_near.proofs.Chosen.{nearest_is, first_is}
 use Rattle.vbi_near.proofs.ChosenCode.{code-place, code-chosen, code-first, code-longer, code-shorter, lead-is_word}
 use Rattle.vbi_near.proofs.OneCellMore.{longer_is}
-use Rattle.vbi_near.proofs.Piles.{nearest-same, first-same, nearest-there, first-there, longer-same}
+use Rattle.vbi_near.proofs.Costs.{blank-cost}
+use Rattle.vbi_near.proofs.Piles.{nearest-same, first-same, nearest-there, first-there, longer-same, far-same}
 use Rattle.vbi_near.proofs.ShorterRows.{shorter_is, shorter-same}
+use Rattle.vbi_near.proofs.HalvedRows.{halved-by}
 use Rattle.vbi_near.proofs.near_code.nears.Goals as goal
 
 pub longer_distance-longer-requires-clause-sums : goal.longer_distance-longer-requires-clause-sums
@@ -53,8 +56,8 @@ code_shorter-lead_shorter-requires-clause-sums c =
     c.requires.few.1 c.sum_up.ensures.sums c.sum_up-2.ensures.sums c.requires.dark c.requires.light
     c.sum_up.ensures.length c.sum_up-2.ensures.length
 
-pub code_or_none-requires : goal.code_or_none-requires
-code_or_none-requires c =
+pub code_or_none-code-requires : goal.code_or_none-code-requires
+code_or_none-code-requires c =
     let sums : Shades = shades c.sum_up.new.sums c.sum_up-2.new.sums in
     lead-is_word (shades c.args.darks.now c.args.lights.now) sums c.args.system
     (both_are c.args.darks.now c.args.lights.now c.sum_up.new.sums c.sum_up-2.new.sums (width_of c.args.system)
@@ -65,43 +68,46 @@ code_or_none-requires c =
 
 -- ---- what each clause rests on
 
-both : (c : goal.After-code_or_none) → AreBoth (shades c.args.darks.now c.args.lights.now)
+both : (c : goal.After-light-2-1) → AreBoth (shades c.args.darks.now c.args.lights.now)
     (shades c.sum_up.new.sums c.sum_up-2.new.sums) (width_of c.args.system)
 both c =
     both_are c.args.darks.now c.args.lights.now c.sum_up.new.sums c.sum_up-2.new.sums (width_of c.args.system)
     c.sum_up.ensures.sums c.sum_up-2.ensures.sums c.requires.dark c.requires.light
 
-rises : (c : goal.After-code_or_none) → AreRowSums c.args.system (shades c.sum_up.new.sums c.sum_up-2.new.sums)
+rises : (c : goal.After-light-2-1) → AreRowSums c.args.system (shades c.sum_up.new.sums c.sum_up-2.new.sums)
 rises c =
     row_sums c.args.system c.args.darks.now c.args.lights.now c.sum_up.new.sums c.sum_up-2.new.sums c.requires.few.0
     c.requires.few.1 c.sum_up.ensures.sums c.sum_up-2.ensures.sums c.requires.dark c.requires.light
     c.sum_up.ensures.length c.sum_up-2.ensures.length
 
-chosen : (c : goal.After-code_or_none)
-    → IsChosen c.nearest_word-found.result c.longer_distance-longer.result c.shorter_distance-shorter.result
-    (span (shades c.sum_up.new.sums c.sum_up-2.new.sums) false 0 (width_of c.args.system)) c.or_none.result
-chosen c =
+blank_is : (c : goal.After-light-2-1)
+    → c.between-blank.result
+    ≡ span (shades c.sum_up.new.sums c.sum_up-2.new.sums) false 0 (width_of c.args.system)
+blank_is c =
     let sums : Shades = shades c.sum_up.new.sums c.sum_up-2.new.sums in
     let width : ℕ = width_of c.args.system in
     let e : width - 0 ≡ width = omega arith in
-    let blank : c.between-blank.result ≡ span sums false 0 width
-    = c.between-blank.ensures.value ∙ ap (λ (w : ℕ). span sums false 0 (w - 0)) c.width.ensures
-    ∙ ap (span sums false 0) e in
+    c.between-blank.ensures.value ∙ ap (λ (w : ℕ). span sums false 0 (w - 0)) c.width.ensures ∙ ap (span sums false 0) e
+
+chosen : (c : goal.After-light-2-1)
+    → IsChosen c.nearest_word-found.result c.longer_distance-longer.result c.shorter_distance-shorter.result
+    (span (shades c.sum_up.new.sums c.sum_up-2.new.sums) false 0 (width_of c.args.system)) c.or_none-word.result
+chosen c =
     subst (λ (x : ℕ). IsChosen c.nearest_word-found.result c.longer_distance-longer.result
-    c.shorter_distance-shorter.result x c.or_none.result) blank
-    c.or_none.ensures
+    c.shorter_distance-shorter.result x c.or_none-word.result) (blank_is c)
+    c.or_none-word.ensures
 
 -- ---- the word
 
-nearest_to : (c : goal.After-code_or_none) (slicing : Slicing) (lines : List Samples)
+nearest_to : (c : goal.After-light-2-1) (slicing : Slicing) (lines : List Samples)
     → IsPile c.args.system slicing lines (shades c.args.darks.now c.args.lights.now)
-    → IsNearest c.args.system slicing lines c.or_none.result
+    → IsNearest c.args.system slicing lines c.or_none-word.result
 nearest_to c slicing lines pile =
     let costs : Shades = shades c.args.darks.now c.args.lights.now in
     let sums : Shades = shades c.sum_up.new.sums c.sum_up-2.new.sums in
-    nearest-same c.args.system slicing lines costs c.or_none.result pile
+    nearest-same c.args.system slicing lines costs c.or_none-word.result pile
     (nearest_is costs sums c.args.system (both c) c.nearest_word-found.result c.nearest_word-found.ensures.found
-    c.longer_distance-longer.result c.shorter_distance-shorter.result c.or_none.result (chosen c))
+    c.longer_distance-longer.result c.shorter_distance-shorter.result c.or_none-word.result (chosen c))
 
 pub returns-clause-nearest : goal.returns-clause-nearest
 returns-clause-nearest c slicing lines pile = nearest_to c slicing lines pile
@@ -110,31 +116,31 @@ pub returns-clause-first : goal.returns-clause-first
 returns-clause-first c slicing lines pile =
     let costs : Shades = shades c.args.darks.now c.args.lights.now in
     let sums : Shades = shades c.sum_up.new.sums c.sum_up-2.new.sums in
-    first-same c.args.system slicing lines costs c.or_none.result pile
+    first-same c.args.system slicing lines costs c.or_none-word.result pile
     (first_is costs sums c.args.system (both c) c.nearest_word-found.result c.nearest_word-found.ensures.found
-    c.longer_distance-longer.result c.shorter_distance-shorter.result c.or_none.result (chosen c))
+    c.longer_distance-longer.result c.shorter_distance-shorter.result c.or_none-word.result (chosen c))
 
 pub returns-clause-longer : goal.returns-clause-longer
 returns-clause-longer c slicing lines pile =
     let costs : Shades = shades c.args.darks.now c.args.lights.now in
     let sums : Shades = shades c.sum_up.new.sums c.sum_up-2.new.sums in
     let is = nearest_to c slicing lines pile in
-    longer-same c.args.system slicing lines costs c.or_none.result pile is.place
+    longer-same c.args.system slicing lines costs c.or_none-word.result pile is.place
     (longer_is costs sums c.args.system (both c) (rises c) c.nearest_word-found.result
     c.nearest_word-found.ensures.found.before c.nearest_word-found.ensures.found.exact c.longer_distance-longer.result
-    c.longer_distance-longer.ensures c.or_none.result c.shorter_distance-shorter.result c.between-blank.result
-    c.or_none.ensures)
+    c.longer_distance-longer.ensures c.or_none-word.result c.shorter_distance-shorter.result c.between-blank.result
+    c.or_none-word.ensures)
 
 pub returns-clause-shorter : goal.returns-clause-shorter
 returns-clause-shorter c slicing lines pile =
     let costs : Shades = shades c.args.darks.now c.args.lights.now in
     let sums : Shades = shades c.sum_up.new.sums c.sum_up-2.new.sums in
     let is = nearest_to c slicing lines pile in
-    shorter-same c.args.system slicing lines costs c.or_none.result pile is.place
+    shorter-same c.args.system slicing lines costs c.or_none-word.result pile is.place
     (shorter_is costs sums c.args.system (both c) c.nearest_word-found.result
     c.nearest_word-found.ensures.found.before c.nearest_word-found.ensures.found.exact
-    c.shorter_distance-shorter.result c.shorter_distance-shorter.ensures c.or_none.result
-    c.longer_distance-longer.result c.between-blank.result c.or_none.ensures)
+    c.shorter_distance-shorter.result c.shorter_distance-shorter.ensures c.or_none-word.result
+    c.longer_distance-longer.result c.between-blank.result c.or_none-word.ensures)
 
 -- ---- the code
 
@@ -143,49 +149,123 @@ returns-clause-code c slicing lines pile =
     let costs : Shades = shades c.args.darks.now c.args.lights.now in
     let sums : Shades = shades c.sum_up.new.sums c.sum_up-2.new.sums in
     nearest-there (IsCodePlace (codes_of c.args.system c.args.line) c.args.system) c.args.system
-    (code-place (codes_of c.args.system c.args.line) c.args.system) slicing lines costs c.code_or_none.result pile
+    (code-place (codes_of c.args.system c.args.line) c.args.system) slicing lines costs c.code_or_none-code.result pile
     (code-chosen costs sums c.args.system (both c) (codes_of c.args.system c.args.line) c.nearest_code-lead.result
     c.nearest_code-lead.ensures.lead c.nearest_code-lead.ensures.close
-    c.code_longer-lead_longer.result c.code_shorter-lead_shorter.result c.code_or_none.result
-    c.code_or_none.ensures)
+    c.code_longer-lead_longer.result c.code_shorter-lead_shorter.result c.code_or_none-code.result
+    c.code_or_none-code.ensures)
 
 pub returns-clause-code_first : goal.returns-clause-code_first
 returns-clause-code_first c slicing lines pile =
     let costs : Shades = shades c.args.darks.now c.args.lights.now in
     let sums : Shades = shades c.sum_up.new.sums c.sum_up-2.new.sums in
     first-there (IsCodePlace (codes_of c.args.system c.args.line) c.args.system) c.args.system
-    (code-place (codes_of c.args.system c.args.line) c.args.system) slicing lines costs c.code_or_none.result pile
+    (code-place (codes_of c.args.system c.args.line) c.args.system) slicing lines costs c.code_or_none-code.result pile
     (code-first costs sums c.args.system (both c) (codes_of c.args.system c.args.line) c.nearest_code-lead.result
     c.nearest_code-lead.ensures.lead c.nearest_code-lead.ensures.close
-    c.code_longer-lead_longer.result c.code_shorter-lead_shorter.result c.code_or_none.result
-    c.code_or_none.ensures)
+    c.code_longer-lead_longer.result c.code_shorter-lead_shorter.result c.code_or_none-code.result
+    c.code_or_none-code.ensures)
 
 pub returns-clause-code_longer : goal.returns-clause-code_longer
 returns-clause-code_longer c slicing lines pile =
     let costs : Shades = shades c.args.darks.now c.args.lights.now in
     let sums : Shades = shades c.sum_up.new.sums c.sum_up-2.new.sums in
-    let near = c.code_or_none.result in
+    let near = c.code_or_none-code.result in
     let is = code-chosen costs sums c.args.system (both c) (codes_of c.args.system c.args.line)
     c.nearest_code-lead.result c.nearest_code-lead.ensures.lead c.nearest_code-lead.ensures.close
     c.code_longer-lead_longer.result c.code_shorter-lead_shorter.result
-    near c.code_or_none.ensures in
+    near c.code_or_none-code.ensures in
     longer-same c.args.system slicing lines costs near pile
     (code-place (codes_of c.args.system c.args.line) c.args.system near.word near.start is.place)
     (code-longer costs sums c.args.system (both c) (codes_of c.args.system c.args.line) c.nearest_code-lead.result
     c.nearest_code-lead.ensures.lead c.nearest_code-lead.ensures.close
     c.code_longer-lead_longer.result c.code_shorter-lead_shorter.result (rises c) near
-    c.code_or_none.ensures c.code_longer-lead_longer.ensures)
+    c.code_or_none-code.ensures c.code_longer-lead_longer.ensures)
 
 pub returns-clause-code_shorter : goal.returns-clause-code_shorter
 returns-clause-code_shorter c slicing lines pile =
     let costs : Shades = shades c.args.darks.now c.args.lights.now in
     let sums : Shades = shades c.sum_up.new.sums c.sum_up-2.new.sums in
-    let near = c.code_or_none.result in
+    let near = c.code_or_none-code.result in
     let is = code-chosen costs sums c.args.system (both c) (codes_of c.args.system c.args.line)
     c.nearest_code-lead.result c.nearest_code-lead.ensures.lead c.nearest_code-lead.ensures.close
-    c.code_longer-lead_longer.result c.code_shorter-lead_shorter.result near c.code_or_none.ensures in
+    c.code_longer-lead_longer.result c.code_shorter-lead_shorter.result near c.code_or_none-code.ensures in
     shorter-same c.args.system slicing lines costs near pile
     (code-place (codes_of c.args.system c.args.line) c.args.system near.word near.start is.place)
     (code-shorter costs sums c.args.system (both c) (codes_of c.args.system c.args.line) c.nearest_code-lead.result
     c.nearest_code-lead.ensures.lead c.nearest_code-lead.ensures.close c.code_longer-lead_longer.result
-    c.code_shorter-lead_shorter.result near c.code_or_none.ensures c.code_shorter-lead_shorter.ensures)
+    c.code_shorter-lead_shorter.result near c.code_or_none-code.ensures c.code_shorter-lead_shorter.ensures)
+
+-- ---- none
+
+pub returns-clause-blank : goal.returns-clause-blank
+returns-clause-blank c slicing lines pile =
+    let costs : Shades = shades c.args.darks.now c.args.lights.now in
+    let sums : Shades = shades c.sum_up.new.sums c.sum_up-2.new.sums in
+    blank_is c ∙ sym (blank-cost costs sums c.args.system (both c))
+    ∙ far-same c.args.system slicing lines costs pile None 0 refl
+
+-- ---- half a word
+
+pub returns-clause-word_halved : goal.returns-clause-word_halved
+returns-clause-word_halved c slicing lines pile =
+    let costs : Shades = shades c.args.darks.now c.args.lights.now in
+    let sums : Shades = shades c.sum_up.new.sums c.sum_up-2.new.sums in
+    let near = c.or_none-word.result in
+    let is = nearest_to c slicing lines pile in
+    c.halved_distance-word_halved.ensures
+    ∙ halved-by c.args.system slicing lines costs sums pile (both c) near near.word is.place
+
+pub returns-clause-code_halved : goal.returns-clause-code_halved
+returns-clause-code_halved c slicing lines pile =
+    let costs : Shades = shades c.args.darks.now c.args.lights.now in
+    let sums : Shades = shades c.sum_up.new.sums c.sum_up-2.new.sums in
+    let near = c.code_or_none-code.result in
+    let is = code-chosen costs sums c.args.system (both c) (codes_of c.args.system c.args.line)
+    c.nearest_code-lead.result c.nearest_code-lead.ensures.lead c.nearest_code-lead.ensures.close
+    c.code_longer-lead_longer.result c.code_shorter-lead_shorter.result near c.code_or_none-code.ensures in
+    c.halved_distance-code_halved.ensures
+    ∙ halved-by c.args.system slicing lines costs sums pile (both c) near near.word
+    (code-place (codes_of c.args.system c.args.line) c.args.system near.word near.start is.place)
+
+pub halved_distance-word_halved-requires-clause-sums : goal.halved_distance-word_halved-requires-clause-sums
+halved_distance-word_halved-requires-clause-sums c =
+    row_sums c.args.system c.args.darks.now c.args.lights.now c.sum_up.new.sums c.sum_up-2.new.sums c.requires.few.0
+    c.requires.few.1 c.sum_up.ensures.sums c.sum_up-2.ensures.sums c.requires.dark c.requires.light
+    c.sum_up.ensures.length c.sum_up-2.ensures.length
+
+pub halved_distance-code_halved-requires-clause-sums : goal.halved_distance-code_halved-requires-clause-sums
+halved_distance-code_halved-requires-clause-sums c =
+    row_sums c.args.system c.args.darks.now c.args.lights.now c.sum_up.new.sums c.sum_up-2.new.sums c.requires.few.0
+    c.requires.few.1 c.sum_up.ensures.sums c.sum_up-2.ensures.sums c.requires.dark c.requires.light
+    c.sum_up.ensures.length c.sum_up-2.ensures.length
+
+pub halved_distance-word_halved-requires-clause-place : goal.halved_distance-word_halved-requires-clause-place
+halved_distance-word_halved-requires-clause-place c =
+    let costs : Shades = shades c.args.darks.now c.args.lights.now in
+    let sums : Shades = shades c.sum_up.new.sums c.sum_up-2.new.sums in
+    let width : ℕ = width_of c.args.system in
+    let e : width - 0 ≡ width = omega arith in
+    let blank : c.between-blank.result ≡ span sums false 0 width
+    = c.between-blank.ensures.value ∙ ap (λ (w : ℕ). span sums false 0 (w - 0)) c.width.ensures
+    ∙ ap (span sums false 0) e in
+    let is = nearest_is costs sums c.args.system
+    (both_are c.args.darks.now c.args.lights.now c.sum_up.new.sums c.sum_up-2.new.sums width c.sum_up.ensures.sums
+    c.sum_up-2.ensures.sums c.requires.dark c.requires.light) c.nearest_word-found.result
+    c.nearest_word-found.ensures.found c.longer_distance-longer.result c.shorter_distance-shorter.result
+    c.or_none-word.result (subst (λ (x : ℕ). IsChosen c.nearest_word-found.result c.longer_distance-longer.result
+    c.shorter_distance-shorter.result x c.or_none-word.result) blank c.or_none-word.ensures) in
+    is.place
+
+pub halved_distance-code_halved-requires-clause-place : goal.halved_distance-code_halved-requires-clause-place
+halved_distance-code_halved-requires-clause-place c =
+    let costs : Shades = shades c.args.darks.now c.args.lights.now in
+    let sums : Shades = shades c.sum_up.new.sums c.sum_up-2.new.sums in
+    let near = c.code_or_none-code.result in
+    let is = code-chosen costs sums c.args.system
+    (both_are c.args.darks.now c.args.lights.now c.sum_up.new.sums c.sum_up-2.new.sums (width_of c.args.system)
+    c.sum_up.ensures.sums c.sum_up-2.ensures.sums c.requires.dark c.requires.light)
+    (codes_of c.args.system c.args.line) c.nearest_code-lead.result c.nearest_code-lead.ensures.lead
+    c.nearest_code-lead.ensures.close c.code_longer-lead_longer.result c.code_shorter-lead_shorter.result near
+    c.code_or_none-code.ensures in
+    code-place (codes_of c.args.system c.args.line) c.args.system near.word near.start is.place

@@ -1,0 +1,111 @@
+-- The rows on which half of a word is black: their half cells, and how far lines are from them.
+use Rattle.std.proofs.Common.{◌≡◌, ℕ, suc, ◌≤◌, ◌<◌, ◌+◌, ◌-◌, List, ◌++◌, Bool, true, false, length, take, drop, min}
+use Rattle.std.proofs.Common.{refl, arith, ap, sym, ◌∙◌, Option, get_or}
+use Rattle.std.proofs.Math.ListN.{replicate}
+use Rattle.std.proofs.lemmas.List.{get_or_append_left, get_or-append_right, get_or-replicate, get_or-drop, get_or-take}
+use Rattle.std.proofs.lemmas.List.{length-replicate, take_all}
+use Rattle.std.specs.Prelude.{Some, None, not, ◌&&◌}
+use Rattle.vbi_words.specs.declared.system.System.{System}
+use Rattle.vbi_words.specs.Geometry.{width_of}
+use Rattle.vbi_words.specs.Levels.{Slicing}
+use Rattle.vbi_words.specs.Words.{lowest_bits, halves_of}
+use Rattle.vbi_near.specs.declared.near.Near.{Near}
+use Rattle.vbi_near.specs.Pictures.{IsPlace, column_of, half_length, word_length, drawn_as}
+use Rattle.vbi_near.specs.Sums.{span}
+use Rattle.vbi_near.specs.Costs.{half_cost}
+use Rattle.vbi_near.specs.Stretched.{halves_cost}
+use Rattle.vbi_near.proofs.Columns.{column-first, column-next}
+use Rattle.vbi_near.specs.Distances.{Samples, unit_of, distance_of, Shades, distance_from, IsPile}
+use Rattle.vbi_near.specs.Shorter.{row_of_halves}
+use Rattle.vbi_near.specs.Halved.{half_of, halved_far, row_cost, halved_cost}
+use Rattle.vbi_near.proofs.Halves.{drawn-with, row-far}
+use Rattle.vbi_near.proofs.Distances.{AreBoth}
+use Rattle.vbi_near.proofs.Piles.{levels-same}
+use Rattle.vbi_near.proofs.ShorterRows.{row-wide}
+
+-- ---- half cells
+
+pub half-long : (late : Bool) (w : ℕ) → length (half_of late w) ≡ 48
+unfolding lowest_bits
+half-long true w = refl
+half-long false w = refl
+
+pub late-low : (w h : ℕ) → h < 24 → get_or (half_of true w) h false ≡ false
+late-low w h l =
+    get_or_append_left (replicate 24 false) (drop 24 (halves_of w)) false h
+    (omega (arith, l, length-replicate 24 false))
+    ∙ get_or-replicate 24 h false false l
+
+pub late-shown : (w h : ℕ) → 24 ≤ h → get_or (half_of true w) h false ≡ get_or (halves_of w) h false
+late-shown w h l =
+    let e : 24 + (h - 24) ≡ h = omega arith in
+    get_or-append_right (replicate 24 false) (drop 24 (halves_of w)) 24 h false (length-replicate 24 false) l
+    ∙ get_or-drop 24 (halves_of w) (h - 24) false ∙ ap (λ (k : ℕ). get_or (halves_of w) k false) e
+
+early-long : (w : ℕ) → length (take 24 (halves_of w)) ≡ 24
+unfolding lowest_bits
+early-long w = refl
+
+pub early-shown : (w h : ℕ) → h < 24 → get_or (half_of false w) h false ≡ get_or (halves_of w) h false
+early-shown w h l =
+    get_or_append_left (take 24 (halves_of w)) (replicate 24 false) false h (omega (arith, l, early-long w))
+    ∙ get_or-take 24 (halves_of w) h false l
+
+pub early-low : (w h : ℕ) → 24 ≤ h → h < 48 → get_or (half_of false w) h false ≡ false
+early-low w h l less =
+    get_or-append_right (take 24 (halves_of w)) (replicate 24 false) 24 h false (early-long w) l
+    ∙ get_or-replicate 24 (h - 24) false false (omega arith)
+
+pub below_half : (late : Bool) (w h : ℕ) → h < 24
+    → get_or (half_of late w) h false ≡ (not late && get_or (halves_of w) h false)
+below_half true w h l = late-low w h l
+below_half false w h l = early-shown w h l
+
+pub from_half : (late : Bool) (w h : ℕ) → 24 ≤ h → h < 48
+    → get_or (half_of late w) h false ≡ (late && get_or (halves_of w) h false)
+from_half true w h l less = late-shown w h l
+from_half false w h l less = early-low w h l less
+
+-- ---- what they cost
+
+pub half-costs : (sums : Shades) (system : System) (start j : ℕ) (level : Bool) (begin end : ℕ)
+    → begin ≡ column_of system start j → end ≡ column_of system start (suc j)
+    → span sums level begin (end - begin) ≡ half_cost sums system start j level
+half-costs sums system start j level begin end b e =
+    let n : end - begin ≡ half_length system j = omega (arith, b, e, column-next system start j) in
+    ap (span sums level begin) n ∙ ap (λ (k : ℕ). span sums level k (half_length system j)) b
+
+pub all-costs : (cost : ℕ → Bool → ℕ) (late : Bool) (w n : ℕ) → n ≡ 48
+    → halves_cost cost 0 (take n (half_of late w)) ≡ halves_cost cost 0 (half_of late w)
+all-costs cost late w n e =
+    ap (halves_cost cost 0) (take_all n (half_of late w) (omega (arith, e, half-long late w)))
+
+-- ---- rows
+
+module _ (system : System) (slicing : Slicing) (lines : List Samples) (costs sums : Shades)
+    (pile : IsPile system slicing lines costs) (both : AreBoth costs sums (width_of system)) where
+  row-same : (start : ℕ) → start + word_length system ≤ width_of system → (halves : List Bool) → length halves ≡ 48
+      → distance_from costs 0 (row_of_halves system start halves) ≡ row_cost sums system start halves
+  unfolding row_of_halves
+  row-same start room halves many =
+      let tail : List Bool = replicate (width_of system - (start + word_length system)) false in
+      ap (λ (drawn : List Bool). distance_from costs 0 (replicate start false ++ (drawn ++ tail)))
+      (drawn-with system 0 halves)
+      ∙ row-far (column_of system start) (half_length system) (column-next system start) costs sums (width_of system)
+      both start (start + word_length system) halves (sym (column-first system start))
+      (ap (column_of system start) (sym many)) room
+
+  half-same : (late : Bool) (w start : ℕ) → start + word_length system ≤ width_of system
+      → row_cost sums system start (half_of late w)
+      ≡ distance_of (unit_of slicing) lines (drawn_as slicing (row_of_halves system start (half_of late w)))
+  half-same late w start room =
+      sym (row-same start room (half_of late w) (half-long late w))
+      ∙ levels-same system slicing lines costs pile (row_of_halves system start (half_of late w))
+      (row-wide system start (half_of late w) (row_of_halves system start (half_of late w)) room (half-long late w) refl)
+
+  pub halved-by : (near : Near) (word : Option ℕ) → IsPlace system word near.start
+      → halved_cost sums system word near
+      ≡ halved_far system (λ levels. distance_of (unit_of slicing) lines (drawn_as slicing levels)) word near
+  halved-by near None place = refl
+  halved-by near (Some w) (word, room) =
+      λ j. min (half-same true w near.start room j) (half-same false w near.start room j)
