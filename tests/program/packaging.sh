@@ -211,7 +211,7 @@ touch "out/$crate" "out/lib$crate.a"
 END
 path=$work/toolchain:$PATH
 program_crates='vbi_words vbi_line vbi_near vbi_field vbi_meta vbi_cli ldvbi'
-library_crates='vbi_words vbi_line vbi_near vbi_side vbi_c'
+library_crates='vbi_words vbi_line vbi_near vbi_field vbi_side vbi_c'
 # proves WORD..: `make` with these words by that toolchain, which fails in the crate FAILS; its times are N
 proves() {
     made "$@"
