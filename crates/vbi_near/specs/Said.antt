@@ -48,8 +48,8 @@ abbrev pub is_cut : ℕ → ℕ → Near → Bool
 is_cut unit lines near = nat_lt (near.shorter + 4 * lines * unit) near.distance
 
 -- each half of the word counts: with its first or its last twelve cells black the row is farther, by a quarter at least
--- of how much farther none is. Levelled, samples lie half way between black and white where there is nothing, as far from
--- any word.
+-- of how much farther none is. Levelled, samples lie half way between black and white where there is nothing, and are
+-- as far from any word.
 abbrev pub is_whole : ℕ → ℕ → Near → Bool
 is_whole blank halved near = nat_le (4 * near.distance + blank) (4 * halved + near.distance)
 
