@@ -179,8 +179,8 @@ LDVBI_RESULT LDVBI_POINTER(6) uint32_t ldvbi_nearest(uint32_t system, uint32_t b
  * bears it: the common one is nearer to both, by 20 columns, than that of one line to this line and no word to the
  * other. The margin of both together also has to be a 36th of how much nearer the word is than none, for a code, or a
  * 48th, for any other word. Nothing is recovered where the row with one cell more (`longer`), or with one or two cells
- * black at an end, is nearer by more than 4 columns in each line, nor of two lines together where the longer one is so
- * of each.
+ * black at an end, is nearer by more than 4 columns in each line, or that with twelve cells black at an end isn't
+ * farther, by a quarter of how much farther none is; nor of two lines together where the longer one is so of each.
  *
  * All that is asked first of the levelled lines: the mean of six cells is taken off, and the rest made to swing from
  * black to white, if it swings by 3 to 16 tenths of that, and of two lines neither more than twice as much as the

@@ -67,7 +67,7 @@ class Pile:
         return self.black + sum(costs) - max(costs[0], costs[0] + costs[1], costs[-1], costs[-1] + costs[-2])
 
     def halved(self, near):
-        """The least distance of a row on which the word's first half is black, or its last; its own if there is none."""
+        """The least distance of a row on which the word's first half is black, or its last; its own of none."""
         if near.word is None:
             return near.distance
         costs = self.costs(near.start, near.word)

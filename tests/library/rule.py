@@ -70,7 +70,7 @@ class Rule:
         ahead = near.rival - near.distance
         return (columns * self.unit <= ahead and share * (blank - near.distance) <= 144 * ahead
                 and not self.goes_on(lines, near) and not self.is_cut(lines, near)
-                and near.distance + 40 * lines * self.unit <= halved)
+                and blank - near.distance <= 4 * (halved - near.distance))
 
     def said(self, margins, lines, near):
         """The word that so many lines say by their nearest word and code, or None."""

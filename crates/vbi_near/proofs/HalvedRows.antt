@@ -101,7 +101,8 @@ module _ (system : System) (slicing : Slicing) (lines : List Samples) (costs sum
   half-same late w start room =
       sym (row-same start room (half_of late w) (half-long late w))
       ∙ levels-same system slicing lines costs pile (row_of_halves system start (half_of late w))
-      (row-wide system start (half_of late w) (row_of_halves system start (half_of late w)) room (half-long late w) refl)
+      (row-wide system start (half_of late w) (row_of_halves system start (half_of late w)) room (half-long late w)
+      refl)
 
   pub halved-by : (near : Near) (word : Option ℕ) → IsPlace system word near.start
       → halved_cost sums system word near

@@ -47,16 +47,17 @@ goes_on unit lines near = nat_lt (near.longer + 4 * lines * unit) near.distance
 abbrev pub is_cut : ℕ → ℕ → Near → Bool
 is_cut unit lines near = nat_lt (near.shorter + 4 * lines * unit) near.distance
 
--- each half of the word counts: the row of the other half alone is farther by 40 columns at least in each line. Levelled,
--- a black half has samples half way between black and white, which are as far from all words.
-abbrev pub is_whole : ℕ → ℕ → ℕ → Near → Bool
-is_whole unit lines halved near = nat_le (near.distance + 40 * lines * unit) halved
+-- each half of the word counts: with its first or its last twelve cells black the row is farther, by a quarter at least
+-- of how much farther none is. Levelled, samples lie half way between black and white where there is nothing, and are
+-- as far from any word.
+abbrev pub is_whole : ℕ → ℕ → Near → Bool
+is_whole blank halved near = nat_le (4 * near.distance + blank) (4 * halved + near.distance)
 
 -- any other word is so far behind, and the signal begins and ends with this one, and is all there
 abbrev pub is_clear : ℕ → ℕ → ℕ → ℕ → ℕ → ℕ → Near → Bool
 is_clear unit columns share lines blank halved near =
     is_ahead unit columns near && is_ahead_by share blank near && not (goes_on unit lines near)
-    && not (is_cut unit lines near) && is_whole unit lines halved near
+    && not (is_cut unit lines near) && is_whole blank halved near
 
 -- no word is nearer than the nearest code by more than ten columns
 abbrev pub is_close : ℕ → Nears → Bool

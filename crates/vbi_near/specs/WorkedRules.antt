@@ -9,15 +9,14 @@ use Rattle.vbi_near.specs.declared.recovery.Recovered.{Recovered}
 use Rattle.vbi_near.specs.Candidates.{Candidates}
 use Rattle.vbi_near.specs.Recovery.{Seen}
 
--- a nearest word that is a code, and one that is none beside which no code is near; no word is farther by 20,000, and
--- half of it by 8,000, as much as is asked of two lines
+-- a nearest word that is a code, and one that is none beside which no code is near; no word is farther by 20,000
 abbrev pub as_code : Near → Nears
 as_code near = record {
   word = near;
   code = near;
   blank = near.distance + 20000;
-  word_halved = near.distance + 8000;
-  code_halved = near.distance + 8000;
+  word_halved = 99999;
+  code_halved = 99999;
 }
 
 abbrev pub as_other : Near → Nears
@@ -32,7 +31,7 @@ as_other near = record {
     shorter = 99999;
   };
   blank = near.distance + 20000;
-  word_halved = near.distance + 8000;
+  word_halved = 99999;
   code_halved = 99999;
 }
 
@@ -64,8 +63,8 @@ beside distance rival = record {
     shorter = distance;
   };
   blank = 30000;
-  word_halved = 18000;
-  code_halved = distance + 8000;
+  word_halved = 99999;
+  code_halved = 99999;
 }
 
 -- nearest words of lines as they are, which can't be levelled; and of lines that can

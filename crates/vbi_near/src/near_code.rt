@@ -83,8 +83,9 @@ fn code_shorter(dark: &[u32], light: &[u32], system: System, found: Found) -> u3
     }
 }
 
-/// The word that is nearest to some lines, the nearest of the codes that may stand on a line of this number, how far the
-/// lines are from half of each, and from the row of no word, by how far their samples are from black in each column, and from white.
+/// The word that is nearest to some lines, the nearest of the codes that may stand on a line of this number, how far
+/// the lines are from half of each, and from the row of no word, by how far their samples are from black in each
+/// column, and from white.
 pub(crate) fn nears(system: System, line: u32, darks: &[u32], lights: &[u32]) -> Nears
     requires dark { length darks.now ≡ width_of system }
     requires light { length lights.now ≡ width_of system }
@@ -107,7 +108,8 @@ pub(crate) fn nears(system: System, line: u32, darks: &[u32], lights: &[u32]) ->
         → IsPile system slicing lines (shades darks.now lights.now) → IsLonger system slicing lines result.code }
     ensures code_shorter { (slicing : Slicing) (lines : List Samples)
         → IsPile system slicing lines (shades darks.now lights.now) → IsShorter system slicing lines result.code }
-    ensures blank { (slicing : Slicing) (lines : List Samples) → IsPile system slicing lines (shades darks.now lights.now)
+    ensures blank { (slicing : Slicing) (lines : List Samples)
+        → IsPile system slicing lines (shades darks.now lights.now)
         → result.blank ≡ far_from system slicing lines None 0 }
     ensures word_halved { (slicing : Slicing) (lines : List Samples)
         → IsPile system slicing lines (shades darks.now lights.now)

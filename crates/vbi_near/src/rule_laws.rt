@@ -32,12 +32,10 @@ pub fn worked_margins()
         × (said_of 100 both_margins 2 (from_none 47001 (beside 11000 12000)) ≡ None) }
     ensures other_share { (said_of 100 both_margins 2 (ten_ahead 58000) ≡ Some 0xF1234A)
         × (said_of 100 both_margins 2 (ten_ahead 58001) ≡ None) }
-    ensures code_halved { (said_of 100 lone_margins 1 (code_halved_at 14500) ≡ Some 0xF12345)
-        × (said_of 100 lone_margins 1 (code_halved_at 14499) ≡ None) }
-    ensures other_halved { (said_of 100 lone_margins 1 (other_halved_at 14000) ≡ Some 0xF1234A)
-        × (said_of 100 lone_margins 1 (other_halved_at 13999) ≡ None) }
-    ensures halved_of_two { (said_of 100 both_margins 2 (other_halved_at 18000) ≡ Some 0xF1234A)
-        × (said_of 100 both_margins 2 (other_halved_at 17999) ≡ None) }
+    ensures code_halved { (said_of 100 lone_margins 1 (code_halved_at 15375) ≡ Some 0xF12345)
+        × (said_of 100 lone_margins 1 (code_halved_at 15374) ≡ None) }
+    ensures other_halved { (said_of 100 lone_margins 1 (other_halved_at 15000) ≡ Some 0xF1234A)
+        × (said_of 100 lone_margins 1 (other_halved_at 14999) ≡ None) }
     ensures longer { (said_of 100 lone_margins 1 (as_code (near_with 0xF12345 20000 9600)) ≡ Some 0xF12345)
         × (said_of 100 lone_margins 1 (as_code (near_with 0xF12345 20000 9599)) ≡ None) }
     ensures longer_of_two { (said_of 100 both_margins 2 (as_code (near_with 0xF12345 20000 9200)) ≡ Some 0xF12345)

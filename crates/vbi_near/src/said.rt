@@ -2,8 +2,8 @@
 
 ghost use Rattle.std.specs.Prelude.{◌≡◌, ◌≤◌};
 ghost use Rattle.vbi_near.specs.Said.{is_ahead, is_ahead_by, goes_on, is_cut, is_whole, is_clear, is_close};
-ghost use Rattle.vbi_near.specs.Said.{said_of, said_if, first_said, is_said, is_same, is_one, is_borne, have_word, have_code, have_one};
-ghost use Rattle.vbi_near.specs.Said.{do_agree, may_agree, stand_of, said_in, lone_margins};
+ghost use Rattle.vbi_near.specs.Said.{said_of, said_if, first_said, is_said, is_same, is_one, is_borne, have_word};
+ghost use Rattle.vbi_near.specs.Said.{have_code, have_one, do_agree, may_agree, stand_of, said_in, lone_margins};
 
 use crate::lines::Nears;
 use crate::near::Near;
@@ -91,12 +91,12 @@ fn is_cut(unit: u32, lines: u32, near: &Near) -> bool
     u64::from(near.shorter) + 4 * u64::from(lines) * u64::from(unit) < u64::from(near.distance)
 }
 
-/// Whether each half of the word counts in so many lines, which are so far from the nearer row of half of it.
-fn is_whole(unit: u32, lines: u32, halved: u32, near: &Near) -> bool
-    requires { lines ≤ 28 }
-    ensures { result ≡ is_whole unit lines halved near.now }
+/// Whether each half of the word counts in lines that are so far from none, and from the nearer row of half of it.
+fn is_whole(blank: u32, halved: u32, near: &Near) -> bool
+    ensures { result ≡ is_whole blank halved near.now }
 {
-    u64::from(near.distance) + 40 * u64::from(lines) * u64::from(unit) <= u64::from(halved)
+    let distance = u64::from(near.distance);
+    4 * distance + u64::from(blank) <= 4 * u64::from(halved) + distance
 }
 
 /// Whether the signal of so many lines begins and ends with the word and has both halves of it, and any other is
@@ -117,7 +117,7 @@ fn is_clear(
         && is_ahead_by(share, blank, near)
         && !goes_on(unit, lines, near)
         && !is_cut(unit, lines, near)
-        && is_whole(unit, lines, halved, near)
+        && is_whole(blank, halved, near)
 }
 
 /// Whether no word is nearer than the nearest code by more than ten columns.
