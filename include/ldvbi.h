@@ -213,8 +213,8 @@ LDVBI_RESULT uint32_t ldvbi_recover_fields_without(uint32_t system, uint32_t bla
     const void *samples, size_t length, const LdvbiErased *erased, size_t erased_count, LdvbiFieldReadings *readings,
     size_t count);
 
-/* The record of a field in the document with recovered words, version 3, which docs/FORMATS.md describes: a line of JSON
- * without a newline. In the document a comma and a newline stand between two records. */
+/* The record of a field in the document with recovered words, version 3, which docs/FORMATS.md describes: a line of
+ * JSON without a newline. In the document a comma and a newline stand between two records. */
 typedef struct LdvbiRecord {
     uint32_t length;   /* the bytes of the record */
     uint8_t text[448]; /* them, which are ASCII, and zeros behind them */

@@ -58,6 +58,7 @@ static void test_layout(void)
     has_bytes(&erased, sizeof erased, 16);
     has_bytes(&sought, sizeof sought, 24);
     CHECK(sizeof(LdvbiFieldReadings) == 24 && offsetof(LdvbiFieldReadings, lines[2]) == 16);
+    CHECK(sizeof(LdvbiRecord) == 452 && offsetof(LdvbiRecord, text) == 4);
 }
 
 /* ---- Texts by their numbers' names, of which one is the last, and that of any other number */

@@ -233,3 +233,7 @@ class Command(Calls):
                    "another file's metadata?\n" % unused
             found = self.printed("side.tbc", "--json", *more, said=said)
             self.assertEqual(json.loads(found)["lines"]["17"]["near"], 0)
+            if not more:  # each is said once, also where the side is judged besides
+                for words in (["--document"], ["--document", "--svg", "side.svg"]):
+                    found = self.printed("side.tbc", "--recovered", *words, said=said)
+                    self.assertEqual(found.count(b"[null,null,null]"), 12)

@@ -53,12 +53,17 @@ unfolding text_before_tail
 only_text t c z text (fields, each, e) =
     e ∙ ap (λ l. t.head c ++ l ++ t.tail (fields_of c z) (rest_of c z))
     (joined-same (λ i. t.entry c (i + 1) (fields i)) (entry_of (recovering t) c z) t.joint
-    (fields_of c z) (λ i lt. ap (t.entry c (i + 1)) (only_one c.system c.levels (rows_at c z i) (none_erased c.system) (fields i) (each i lt))))
+    (fields_of c z) (λ i lt. ap (t.entry c (i + 1)) (only_one c.system c.levels (rows_at c z i)
+    (none_erased c.system) (fields i) (each i lt))))
 
 is_text : (t : RecoveredKind) (c : ConfigView) (z text : List ℕ) → text ≡ whole_text (recovering t) c z
     → IsRecoveredText t c z text
 unfolding text_before_tail
-is_text t c z text e = (λ i. recovered_of c (rows_at c z i), λ i lt. is_one c.system c.levels (rows_at c z i) (none_erased c.system), e)
+is_text t c z text e = (
+  λ i. recovered_of c (rows_at c z i),
+  λ i lt. is_one c.system c.levels (rows_at c z i) (none_erased c.system),
+  e,
+)
 
 pub one_recovered_document : (t : RecoveredKind) (c : ConfigView) (z text : List ℕ)
     → IsRecoveredText t c z text ↔ (text ≡ whole_text (recovering t) c z)

@@ -1,5 +1,6 @@
 -- What the definitions of `Shown` have is all that there is.
-use Rattle.std.proofs.Common.{◌≡◌, ℕ, ◌*◌, ◌≤◌, Bool, false, List, [], ◌∷◌, take, replicate, get_or, ap, ◌∙◌, sym, subst, arith}
+use Rattle.std.proofs.Common.{◌≡◌, ℕ, ◌*◌, ◌≤◌, Bool, false, List, [], ◌∷◌, take, replicate, get_or, ap, ◌∙◌, sym}
+use Rattle.std.proofs.Common.{subst, arith}
 use Rattle.std.proofs.lemmas.List.{take-replicate}
 use Rattle.std.specs.Prelude.{◌↔◌}
 use Rattle.vbi_words.specs.declared.system.System.{System}
@@ -21,7 +22,8 @@ use Rattle.vbi_field.specs.Shown.{IsNearRow, near_of, recovery_of, as_readings, 
 
 -- ---- the nearest word of a row
 
-pub is_near : (system : System) (slicing : Slicing) (row : Row) → IsNearRow system slicing row (near_of system slicing row)
+pub is_near : (system : System) (slicing : Slicing) (row : Row)
+    → IsNearRow system slicing row (near_of system slicing row)
 unfolding near_of
 is_near system slicing row =
     let there = some_near system slicing (given_samples row ∷ []) in

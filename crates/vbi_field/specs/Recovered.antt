@@ -1,6 +1,7 @@
 -- The document with recovered words, of version 3: as that of version 2, but that words of pass 2 may be missing, there
 -- are words of pass 3, and `vbiNear` has of each of these the nearest word of its line as it is, and how near that is.
-use Rattle.std.specs.Prelude.{ℕ, ◌-◌, ◌*◌, ◌/◌, Bool, List, ◌++◌, ◌==◌, if◌then◌else◌, Option, Some, None, codes, decimal}
+use Rattle.std.specs.Prelude.{ℕ, ◌-◌, ◌*◌, ◌/◌, Bool, List, ◌++◌, ◌==◌, if◌then◌else◌, Option, Some, None, codes}
+use Rattle.std.specs.Prelude.{decimal}
 use Rattle.vbi_field.specs.ConfigView.{ConfigView, System}
 use Rattle.vbi_field.specs.CodeTexts.{cause_text_of}
 use Rattle.vbi_field.specs.Document.{value_of, lines_of, parameters_of}

@@ -60,8 +60,8 @@ fn recovered_lines(system: System, levels: Levels, rows: &[u8], erased: &[bool])
     }
 }
 
-/// What a field's rows show, by their readings, their bytes and the marks of their erased columns. Where each of them is
-/// sure, nothing is searched.
+/// What a field's rows show, by their readings, their bytes and the marks of their erased columns. Where each of them
+/// is sure, nothing is searched.
 pub(crate) fn shown_lines(
     config: &Config,
     readings: &FieldReadings,
