@@ -106,8 +106,9 @@ def ldvbi() -> Program:
     version = Option(("-V", "--version"), "", NOTHING, (), "print the version", "print the version", (), False)
     constants = re.findall(r"^const (\w+): &str =\s+%s;" % LITERAL, text, re.M)
     whole = {name: unescaped(literal) for name, literal in constants}
-    flag = Option(("--" + re.findall(r"^pub\(crate\) const RECOVER: &str = %s;" % LITERAL, text, re.M)[0],), "", NOTHING,
-                  (), paragraph(whole["RECOVER_DETAILS"]), lower(whole["RECOVER_HELP"]), (), False)
+    name = re.findall(r"^pub\(crate\) const RECOVER: &str = %s;" % LITERAL, text, re.M)[0]
+    flag = Option(("--" + name,), "", NOTHING, (), paragraph(whole["RECOVER_DETAILS"]),
+                  lower(whole["RECOVER_HELP"]), (), False)
     commands = [Command(row["name"], row["about"], paragraph(row["details"]),
                         options + [flag] * (row["recovers"] == "true") + [HELP], [Words("input", FILE, 1, False)])
                 for row in fields_of(text, "CommandTexts")]

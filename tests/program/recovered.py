@@ -2,7 +2,7 @@
 the rule says of each field (tests/library/rule.py), by the readings of the document without recovered words. Extracts
 them again with reads of 1, 3 and 1,821 bytes: the document has to be the same.
 
-usage: recovered.py PROGRAM DEVICES SYSTEM COUNT     DEVICES is the library of devices.c, or empty: then no read is cut"""
+usage: recovered.py PROGRAM DEVICES SYSTEM COUNT     DEVICES is the library of devices.c; without one no read is cut"""
 import json
 import os
 import pathlib

@@ -1,6 +1,6 @@
 #!/bin/sh
-# Runs the built program on what is wrong before a run begins, where several things are, and on metadata, named or beside
-# the input.
+# Runs the built program on what is wrong before a run begins, where several things are, and on metadata, named
+# or beside the input.
 # usage: sh tests/program/settings.sh PROGRAM
 # runs: everywhere rust
 # fails where: tests/program/settings.sh|s/field height/field heighT/g
@@ -40,8 +40,8 @@ show $levels --max-fields 0|max fields is not from 1 to 1000000
 draw $levels --max-fields 1000001|max fields is not from 1 to 1000000
 END
 
-# Metadata beside the input, INPUT.json: it is read unless other metadata or all three settings are given. The words, what
-# `line` says of the stored line by its metadata's levels, or what is said; the fourth row has levels of its own.
+# Metadata beside the input, INPUT.json: it is read unless other metadata or all three settings are given. The words,
+# and what `line` prints of the stored line, 82CFFF by its metadata's levels, or what is said
 mkdir side folder.raw.json
 for name in beside side/beside wrong.json folder absent; do
     [ $name = absent ] || cp line.raw $name.raw

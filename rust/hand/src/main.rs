@@ -75,7 +75,7 @@ fn metadata_of(job: &Job) -> Result<Option<Vec<u8>>, &'static str> {
     }
 }
 
-/// Whether a file that can't be opened isn't there. The kind of a name below a file (20) has no name in older compilers.
+/// Whether a file that can't be opened isn't there. A name below a file, error 20, has no kind in older compilers.
 fn is_absent(error: &std::io::Error) -> bool {
     error.kind() == ErrorKind::NotFound || cfg!(unix) && error.raw_os_error() == Some(20)
 }
