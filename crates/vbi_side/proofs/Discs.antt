@@ -16,7 +16,7 @@ some_is a b e = ap (λ (o : Option ℕ). unwrap_or o 0) e
 none_is : (o : Option ℕ) (b : ℕ) → o ≡ None → o ≡ Some b → ⊥
 none_is o b e f = cc
 
-video_is : (j m : ℕ) → video_disc j ≡ Some m → 2 * m ≡ j
+pub video_is : (j m : ℕ) → video_disc j ≡ Some m → 2 * m ≡ j
 video_is j m e = go (eqb_tells (j % 2) 0)
   where
     go : ((eqb (j % 2) 0 ≡ true) × (j % 2 ≡ 0)) ⊎ ((eqb (j % 2) 0 ≡ false) × (j % 2 ≢ 0)) → 2 * m ≡ j
@@ -68,7 +68,7 @@ film_runs i j k m n near others step here there =
     (le-leb (2 * k + 5 * m) (2 * j + 5 * n + 2) (omega (arith, p.0, p.1, q.0, q.1)))
     (le-leb (2 * j + 5 * n) (2 * k + 5 * m + 2) (omega (arith, p.0, p.1, q.0, q.1)))
 
-video_has : (i n : ℕ) → i ≡ 2 * n → video_disc i ≡ Some n
+pub video_has : (i n : ℕ) → i ≡ 2 * n → video_disc i ≡ Some n
 video_has i n e =
     let t : (i % 2 == 0) ≡ true = same_true (i % 2) 0 (omega (arith, e)) in
     let is : video_disc i ≡ Some (i / 2) = rw t refl in

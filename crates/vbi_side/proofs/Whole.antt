@@ -63,7 +63,7 @@ is_right o n e wrong = go (eqb_tells n n) (subst (λ p. not (is_recorded p n) �
     go (inl (t, same)) is = let turned : not true ≡ true = subst (λ b. not b ≡ true) t is in cc
     go (inr (f, apart)) is = apart refl
 
-none_misread : (recorded : ℕ → Option ℕ) (fields : List Sightings) (i : ℕ)
+pub none_misread : (recorded : ℕ → Option ℕ) (fields : List Sightings) (i : ℕ)
     → ((j n : ℕ) → Shows (slice_get fields j) n → recorded j ≡ Some n) → wrong_weight recorded fields i ≡ 0
 none_misread recorded fields i right = go (spread wrong fields i (2 * reach + 1) (2 * reach + 1))
   where

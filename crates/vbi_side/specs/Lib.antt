@@ -15,3 +15,11 @@ pub mod Chapters
 pub mod WorkedChapters
 pub mod Parts
 pub mod Stops
+pub mod Side
+pub mod Ends
+pub mod Gaps
+pub mod Verdicts
+pub mod Swaps
+pub mod Both
+pub mod WorkedSides
+pub mod Drifts

@@ -14,19 +14,13 @@ ghost use Rattle.vbi_side.specs.Numbers.{IsMarked};
 ghost use Rattle.vbi_side.specs.Paces.{Count, nearly};
 
 use crate::belief::REACH;
+use crate::gap::Place;
 use crate::number::Number;
 use crate::pace::Pace;
 use crate::sighting::Sightings;
 
 /// The fields to which two numbers may be apart that allow one between them to be off by a field.
 const CLOSE: usize = 8;
-
-/// A field with the number that it has.
-#[derive(Clone, Copy)]
-struct Place {
-    field: usize,
-    number: u32,
-}
 
 /// Whether so many fields last whole pictures.
 fn are_whole(pace: Pace, fields: usize) -> bool

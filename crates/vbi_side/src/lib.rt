@@ -9,26 +9,46 @@
 
 mod answers;
 mod belief;
+mod both;
 pub mod chapter_laws;
 mod chapters;
+mod drift;
 mod due;
+mod ends;
+mod extent;
 mod found;
+mod gap;
+pub mod gap_laws;
+mod gaps;
 pub mod laws;
 mod lines;
 mod number;
 mod pace;
+pub mod rule_laws;
 mod seek;
+pub mod side_laws;
 mod sighting;
 pub mod stop_laws;
 mod stops;
+mod swaps;
+mod verdict;
 
 pub use answers::{PART, judge, judge_one};
 pub use belief::{ENOUGH, REACH, judge_field, support};
+pub use both::is_on_both;
 pub use chapters::{chapters_shown, judge_chapters};
+pub use ends::{DOUBTFUL_END, LEAD_IN, LEAD_OUT, NO_END, judge_end};
+pub use extent::{Extent, extent_of};
 pub use found::found_pace;
+pub use gap::{BACK, Gap, HELD, JOINED, LOST, Numbering, OPEN, Rule, STILL, Tally};
+pub use gaps::find_gaps;
 pub use lines::{Counted, Shown, sightings};
 pub use number::{BELIEVED, DOUBTFUL, DUE, NOTHING, Number};
 pub use pace::Pace;
 pub use seek::first_of;
 pub use sighting::{Sighting, Sightings};
 pub use stops::judge_stop;
+pub use verdict::{
+    BEGIN_UNSEEN, BEGINS_LATE, CANNOT_TELL, END_UNSEEN, Finding, GOES_BACK, IS_HELD, IS_JOINED,
+    IS_LOST, IS_OFF, IS_OPEN, IS_SWAPPED, MANY_DOUBTFUL, NO, NO_NUMBERS, YES, judge_whole,
+};

@@ -2,6 +2,7 @@
 
 ghost use Rattle.std.specs.Prelude.{◌≡◌, ◌↔◌, ◌≤◌, true};
 ghost use Rattle.vbi_side.specs.Sightings.{weight_of, IsSeen};
+ghost use Rattle.vbi_side.specs.Gaps.{shows_between};
 
 use std::mem::size_of;
 
@@ -65,5 +66,13 @@ impl Sightings {
         self.line_17.weight >= 2
             && self.line_18.weight >= 2
             && self.line_17.number == self.line_18.number
+    }
+
+    /// Whether both lines show, in pass 1, one number between these two.
+    pub(crate) fn shows_between(&self, from: u32, to: u32) -> bool
+        ensures { result ≡ shows_between from to self.now }
+    {
+        let number = self.line_17.number;
+        self.shows_twice() && from < number && number < to
     }
 }

@@ -1,0 +1,80 @@
+-- Around a gap the capture isn't one run of the disc.
+use Rattle.std.proofs.Common.{◌≡◌, ℕ, zero, suc, ◌+◌, ◌*◌, ◌-◌, ◌<◌, ◌≤◌, List, subst, arith, eq-eqb}
+use Rattle.std.specs.Prelude.{Option, Some}
+use Rattle.vbi_side.specs.declared.gap.Gap.{Gap}
+use Rattle.vbi_side.specs.declared.gap.Numbering.{Numbering}
+use Rattle.vbi_side.specs.declared.number.Number.{Number}
+use Rattle.vbi_side.specs.declared.pace.Pace.TheVariants.{Video}
+use Rattle.vbi_side.specs.declared.sighting.Sightings.{Sightings}
+use Rattle.vbi_side.specs.Paces.{nearly}
+use Rattle.vbi_side.specs.Beliefs.{reach, enough}
+use Rattle.vbi_side.specs.Truth.{RunsOn, wrong_weight}
+use Rattle.vbi_side.specs.Numbers.{AreAnswers}
+use Rattle.vbi_side.specs.Side.{DiscRuns, captured, IsOneRun}
+use Rattle.vbi_side.specs.Gaps.{gap_as, kind_of, ended_between, shown_between, IsGap}
+use Rattle.vbi_side.proofs.Truth.{video_fits, on_the_disc}
+use Rattle.vbi_side.proofs.SideAnswers.{marked_is}
+use Rattle.vbi_side.proofs.GapLaws.{near_same, none_found}
+
+-- in one run the disc's fields are as far apart as those of the capture
+as_far : (place : ℕ → ℕ) (i j k : ℕ) → IsOneRun place i j → i + k ≤ j → place (i + k) ≡ place i + k
+as_far place i j zero run inside =
+    let same : i ≡ i + zero = omega arith in subst (λ n. place n ≡ place i + zero) same (omega arith)
+as_far place i j (suc k) run inside =
+    let next : suc (i + k) ≡ i + suc k = omega arith in
+    subst (λ n. place n ≡ place i + suc k) next (omega (
+      arith,
+      run (i + k) (omega arith) (omega (arith, inside)),
+      as_far place i j k run (omega (arith, inside)),
+    ))
+
+pub far_in : (place : ℕ → ℕ) (i j k : ℕ) → IsOneRun place i j → i ≤ k → k ≤ j → place k ≡ place i + (k - i)
+far_in place i j k run from to =
+    let whole : i + (k - i) ≡ k = omega (arith, from) in
+    subst (λ n. place n ≡ place i + (k - i)) whole (as_far place i j (k - i) run (omega (arith, from, to)))
+
+module _ (disc : ℕ → Option ℕ) (place : ℕ → ℕ) (runs : DiscRuns Video disc) (first last : ℕ)
+    (run : IsOneRun place (first - reach) (last + reach)) where
+  -- the numbers on the disc of two fields of the run count to each other
+  counts : (p q m n : ℕ) → first ≤ p + reach → p ≤ last + reach → first ≤ q + reach → q ≤ last + reach
+      → disc (place p) ≡ Some m → disc (place q) ≡ Some n → q + 2 * m ≡ p + 2 * n
+  counts p q m n from to begin end here there = omega (
+    arith,
+    from,
+    to,
+    begin,
+    end,
+    far_in place (first - reach) (last + reach) p run (omega (arith, from)) to,
+    far_in place (first - reach) (last + reach) q run (omega (arith, begin)) end,
+    video_fits (place p) m (place q) n (runs (place p) (place q) m n here there),
+  )
+
+  -- so the disc ran on around each
+  ran_on : (k : ℕ) → first ≤ k → k ≤ last → RunsOn Video (captured disc place) k
+  ran_on k from to p q m n near others step here there =
+      eq-eqb (q + 2 * m) (p + 2 * n) (counts p q m n (omega (arith, from, near.0)) (omega (arith, to, near.1))
+      (omega (arith, from, others.0)) (omega (arith, to, others.1)) here there)
+
+pub gap_not_run : (disc : ℕ → Option ℕ) (place : ℕ → ℕ) (fields : List Sightings) (numbering : Numbering)
+    (seen : List Sightings) (answers : List Number) (ends : List ℕ) (gap : Gap) → DiscRuns Video disc
+    → AreAnswers Video fields answers → IsGap Video 0 numbering seen answers ends gap
+    → wrong_weight (captured disc place) fields gap.after < enough
+    → wrong_weight (captured disc place) fields gap.before < enough
+    → IsOneRun place (gap.after - reach) (gap.before + reach) → ⊥
+gap_not_run disc place fields numbering seen answers ends gap runs are is few low run =
+    let order : gap.after < gap.before = is.neighbours.order in
+    let here = ran_on disc place runs gap.after gap.before run gap.after (omega arith) (omega (arith, order)) in
+    let there = ran_on disc place runs gap.after gap.before run gap.before (omega (arith, order)) (omega arith) in
+    let p = on_the_disc Video (captured disc place) fields gap.after gap.from here few
+    (marked_is fields answers gap.after gap.from are is.neighbours.here) in
+    let q = on_the_disc Video (captured disc place) fields gap.before gap.to there low
+    (marked_is fields answers gap.before gap.to are is.neighbours.there) in
+    let on = counts disc place runs gap.after gap.before run p.0 q.0 p.1 q.1 (omega (arith, p.2.0))
+    (omega (arith, p.2.1, order)) (omega (arith, q.2.0, order)) (omega (arith, q.2.1)) p.3 q.3 in
+    let one = video_fits gap.after gap.from p.0 p.1 p.5 in
+    let other = video_fits gap.before gap.to q.0 q.1 q.5 in
+    none_found (nearly Video 0 gap.after gap.from gap.before gap.to)
+    (gap_as Video 0 (kind_of Video numbering (ended_between ends gap.after gap.before) gap.after gap.from gap.before
+    gap.to)
+    (shown_between seen gap.after gap.from gap.before gap.to) gap.after gap.from gap.before gap.to) gap
+    (near_same (gap.before + 2 * gap.from) (gap.after + 2 * gap.to) (omega (arith, on, one, other))) is.found

@@ -1,0 +1,301 @@
+-- What the gaps of a capture say of it.
+use Rattle.std.proofs.Common.{◌-◌, ◌≡◌, ◌≢◌, ℕ, zero, suc, ◌+◌, ◌*◌, ◌<◌, ◌≤◌, Bool, true, false, List, [], ◌∷◌, ◌++◌}
+use Rattle.std.proofs.Common.{refl, arith, ap, sym, ◌∙◌, subst, inl, inr, length}
+use Rattle.std.specs.Prelude.{Option, Some, None, ◌⊎◌, nat_le, nat_lt, sum_by, if◌then◌else◌, ◌&&◌}
+use Rattle.std.proofs.lemmas.Bool.Decides.{leb_tells, eqb_tells}
+use Rattle.std.proofs.lemmas.List.{length_push}
+use Rattle.std.proofs.lemmas.List.Sums.{sum_by_push}
+use Rattle.std.proofs.Math.Dec.{eqb}
+use Rattle.vbi_side.specs.declared.number.Number.{Number}
+use Rattle.vbi_side.specs.declared.gap.Gap.{Gap}
+use Rattle.vbi_side.specs.declared.pace.Pace.{Pace}
+use Rattle.vbi_side.specs.declared.pace.Pace.TheVariants.{Video, Film}
+use Rattle.vbi_side.specs.Paces.{nearly, stays}
+use Rattle.vbi_side.specs.Numbers.{believed, IsMarked}
+use Rattle.vbi_side.specs.Side.{DiscRuns, Rises, captured, AreLost}
+use Rattle.vbi_side.specs.declared.sighting.Sightings.{Sightings}
+use Rattle.vbi_side.specs.declared.gap.Numbering.{Numbering}
+use Rattle.vbi_side.specs.Gaps.{lost, held, back, still, joined, open_gap, has_stills, is_open, lacking, gap_as}
+use Rattle.vbi_side.specs.Gaps.{kind_of}
+use Rattle.vbi_side.specs.Gaps.{fields_of, ended_between, shown_between, AreNeighbours, IsFree, IsGap, AreGaps}
+use Rattle.vbi_side.specs.Gaps.{fields_if, CountTo, HasRightEnds, LostAtLeast}
+use Rattle.vbi_side.proofs.Truth.{both, video_fits, film_fits}
+use Rattle.vbi_side.proofs.Sides.{apart}
+use Rattle.vbi_side.proofs.Telling.{gap_is, some_is}
+
+-- ---- one gap
+
+-- its fields are those of its kind
+gap_fields : (pace : Pace) (slack : ℕ) (numbering : Numbering) (seen : List Sightings) (answers : List Number)
+    (ends : List ℕ) (gap : Gap) → IsGap pace slack numbering seen answers ends gap
+    → gap.fields ≡ fields_of pace slack gap.kind gap.after gap.from gap.before gap.to
+gap_fields pace slack numbering seen answers ends gap is =
+    let e = gap_is pace slack numbering (ended_between ends gap.after gap.before)
+    (shown_between seen gap.after gap.from gap.before gap.to) gap.after gap.from gap.before gap.to gap is.found in
+    ap (λ (g : Gap). g.fields) e
+    ∙ ap (λ (k : ℕ). fields_of pace slack k gap.after gap.from gap.before gap.to) (sym (ap (λ (g : Gap). g.kind) e))
+
+kind_lost : (pace : Pace) (numbering : Numbering) (ended : Bool) (i m k n : ℕ)
+    → kind_of pace numbering ended i m k n ≡ lost
+    → 0 < lacking pace i m k n
+kind_lost pace numbering ended i m k n =
+    go ended (has_stills numbering && stays i m k n) (nat_lt n m) (is_open pace numbering i m k n)
+    (leb_tells 1 (lacking pace i m k n))
+  where
+    go : (a b c d : Bool) → ((nat_le 1 (lacking pace i m k n) ≡ true) × (1 ≤ lacking pace i m k n))
+        ⊎ ((nat_le 1 (lacking pace i m k n) ≡ false) × (lacking pace i m k n < 1))
+        → (if a then joined else (if b then still else (if c then back else (if d then open_gap
+        else (if nat_le 1 (lacking pace i m k n) then lost else held))))) ≡ lost → 0 < lacking pace i m k n
+    go true b c d l e = absurd (omega (arith, e))
+    go false true c d l e = absurd (omega (arith, e))
+    go false false true d l e = absurd (omega (arith, e))
+    go false false false true l e = absurd (omega (arith, e))
+    go false false false false (inl (t, le)) e = omega (arith, le)
+    go false false false false (inr (f, lt)) e = let h : held ≡ lost = rw f at e in absurd (omega (arith, h))
+
+-- of a gap with lost fields so many are too few between its numbers, and some are
+lost_lacks : (pace : Pace) (slack : ℕ) (numbering : Numbering) (seen : List Sightings) (answers : List Number)
+    (ends : List ℕ) (gap : Gap) → IsGap pace slack numbering seen answers ends gap
+    → gap.kind ≡ lost → (gap.fields ≡ lacking pace gap.after gap.from gap.before gap.to - slack)
+    × (0 < lacking pace gap.after gap.from gap.before gap.to)
+lost_lacks pace slack numbering seen answers ends gap is kind =
+    let e = gap_is pace slack numbering (ended_between ends gap.after gap.before)
+    (shown_between seen gap.after gap.from gap.before gap.to) gap.after gap.from gap.before gap.to gap is.found in (
+      gap_fields pace slack numbering seen answers ends gap is
+          ∙ ap (λ (k : ℕ). fields_of pace slack k gap.after gap.from gap.before gap.to) kind,
+      kind_lost pace numbering (ended_between ends gap.after gap.before) gap.after gap.from gap.before gap.to
+          (sym (ap (λ (g : Gap). g.kind) e) ∙ kind),
+    )
+
+-- of video just so many are lost
+pub gap_exact : (disc : ℕ → Option ℕ) (place : ℕ → ℕ) (numbering : Numbering) (seen : List Sightings)
+    (answers : List Number)
+    (ends : List ℕ) (gap : Gap)
+    → DiscRuns Video disc → IsGap Video 0 numbering seen answers ends gap → gap.kind ≡ lost
+    → HasRightEnds (captured disc place) gap → AreLost place gap.after gap.before gap.fields
+gap_exact disc place numbering seen answers ends gap runs is kind (first, last) =
+    let p = lost_lacks Video 0 numbering seen answers ends gap is kind in
+    let on = video_fits (place gap.after) gap.from (place gap.before) gap.to
+    (runs (place gap.after) (place gap.before) gap.from gap.to first last) in
+    let order : gap.after < gap.before = is.neighbours.order in
+    omega (arith, p.0, p.1, on, order)
+
+-- at either pace so many at least
+pub gap_least : (pace : Pace) (slack : ℕ) (disc : ℕ → Option ℕ) (place : ℕ → ℕ) (numbering : Numbering)
+    (seen : List Sightings) (answers : List Number) (ends : List ℕ)
+    (gap : Gap) → DiscRuns pace disc → IsGap pace slack numbering seen answers ends gap → gap.kind ≡ lost
+    → HasRightEnds (captured disc place) gap → LostAtLeast place gap.after gap.before gap.fields
+gap_least Video slack disc place numbering seen answers ends gap runs is kind (first, last) =
+    let p = lost_lacks Video slack numbering seen answers ends gap is kind in
+    let on = video_fits (place gap.after) gap.from (place gap.before) gap.to
+    (runs (place gap.after) (place gap.before) gap.from gap.to first last) in
+    let order : gap.after < gap.before = is.neighbours.order in
+    omega (arith, p.0, p.1, on, order)
+gap_least Film slack disc place numbering seen answers ends gap runs is kind (first, last) =
+    let p = lost_lacks Film slack numbering seen answers ends gap is kind in
+    let on = film_fits (place gap.after) gap.from (place gap.before) gap.to
+    (runs (place gap.after) (place gap.before) gap.from gap.to first last) in
+    let order : gap.after < gap.before = is.neighbours.order in
+    omega (arith, p.0, p.1, on.0, on.1, order)
+
+-- numbers that go on leave no gap
+pub none_found : (b : Bool) (one gap : Gap) → b ≡ true → (if b then None else Some one) ≡ Some gap → ⊥
+none_found true one gap e found = absurd cc
+none_found false one gap e found = absurd (let h : false ≡ true = e in cc)
+
+-- ---- neighbours
+
+number_is : (m n : ℕ) → believed m ≡ believed n → m ≡ n
+number_is m n e = ap (λ (x : Number). x.number) e
+
+pub same_number : (answers : List Number) (i m n : ℕ) → IsMarked answers i m → IsMarked answers i n → m ≡ n
+same_number answers i m n one other =
+    number_is m n (some_is (believed m) (believed n) (sym one ∙ other))
+
+-- the one before a field is one alone
+pub same_before : (answers : List Number) (i m k n h l o : ℕ) → AreNeighbours answers i m k n
+    → AreNeighbours answers h l k o
+    → i ≡ h
+same_before answers i m k n h l o one other = go (leb_tells i h) (leb_tells h i)
+  where
+    go : ((nat_le i h ≡ true) × (i ≤ h)) ⊎ ((nat_le i h ≡ false) × (h < i))
+        → ((nat_le h i ≡ true) × (h ≤ i)) ⊎ ((nat_le h i ≡ false) × (i < h)) → i ≡ h
+    go (inl (t, le)) (inl (u, more)) = omega (arith, le, more)
+    go (inr (f, lt)) _ = absurd (other.between i m lt one.order one.here)
+    go _ (inr (f, lt)) = absurd (one.between h l lt other.order other.here)
+
+-- ---- all numbers count to each other where there is no gap
+
+no_push : (xs : List Gap) (y : Gap) → [] ≡ xs ++ y ∷ [] → ⊥
+no_push xs y e = absurd (omega (arith, ap (λ (zs : List Gap). length zs) e, length_push xs y))
+
+pub on_video : (i m k n : ℕ) → nearly Video 0 i m k n ≡ true → CountTo i m k n
+on_video i m k n is =
+    let p = both (nat_le (k + 2 * m) (i + 2 * n + 0)) (nat_le (i + 2 * n) (k + 2 * m + 0)) is in
+    let a = leb_tells (k + 2 * m) (i + 2 * n + 0) in
+    let b = leb_tells (i + 2 * n) (k + 2 * m + 0) in
+    elim a [
+      | inl (t, le) ↦ elim b [
+        | inl (u, more) ↦ omega (arith, le, more)
+        | inr (u, less) ↦ absurd (let h : true ≡ false = sym p.1 ∙ u in cc)
+      ]
+      | inr (t, lt) ↦ absurd (let h : true ≡ false = sym p.0 ∙ t in cc)
+    ]
+
+pub all_count : (numbering : Numbering) (seen : List Sightings) (answers : List Number) (ends : List ℕ) (k unread : ℕ)
+    → AreGaps Video 0 numbering seen answers ends k [] unread
+    → (i m j n : ℕ) → IsMarked answers i m → IsMarked answers j n → i ≤ j → j < k → CountTo i m j n
+unfolding AreGaps
+all_count numbering seen answers ends zero unread all i m j n here there order inside = absurd (omega (arith, inside))
+all_count numbering seen answers ends (suc k) unread all i m j n here there order inside =
+    go (λ other fewer. all_count numbering seen answers ends k other fewer) all (eqb_tells j k) (eqb_tells i k)
+  where
+    go : ((other : ℕ) → AreGaps Video 0 numbering seen answers ends k [] other → (a b c d : ℕ) → IsMarked answers a b
+        → IsMarked answers c d
+        → a ≤ c → c < k → CountTo a b c d) → AreGaps Video 0 numbering seen answers ends (suc k) [] unread
+        → ((eqb j k ≡ true) × (j ≡ k)) ⊎ ((eqb j k ≡ false) × (j ≢ k))
+        → ((eqb i k ≡ true) × (i ≡ k)) ⊎ ((eqb i k ≡ false) × (i ≢ k)) → CountTo i m j n
+    go ih (inl (free, fewer)) (inr (f, differ)) _ =
+        ih unread fewer i m j n here there order (omega (arith, inside, differ))
+    go ih (inr (inl (h, l, o, other, on, fewer, e))) (inr (f, differ)) _ =
+        ih other fewer i m j n here there order (omega (arith, inside, differ))
+    go ih (inr (inr (one, others, is, last, fewer, e))) _ _ = absurd (no_push others one e)
+    go ih (inl (free, fewer)) (inl (t, same)) (inl (u, first)) =
+        let e : i ≡ j = omega (arith, same, first) in
+        omega (arith, e, same_number answers j m n (subst (λ x. IsMarked answers x m) e here) there)
+    go ih (inr (inl (h, l, o, other, on, fewer, e))) (inl (t, same)) (inl (u, first)) =
+        let e : i ≡ j = omega (arith, same, first) in
+        omega (arith, e, same_number answers j m n (subst (λ x. IsMarked answers x m) e here) there)
+    go ih (inl (inl never, fewer)) (inl (t, same)) (inr (u, differ)) =
+        absurd (never n (subst (λ x. IsMarked answers x n) same there))
+    go ih (inl (inr never, fewer)) (inl (t, same)) (inr (u, differ)) =
+        absurd (never i m (omega (arith, order, same, differ)) here)
+    go ih (inr (inl (h, l, o, other, on, fewer, e))) (inl (t, same)) (inr (u, differ)) =
+        let number = same_number answers k n o (subst (λ x. IsMarked answers x n) same there) on.neighbours.there in
+        elim (leb_tells i h) [
+          | inl (v, le) ↦ omega (
+            arith,
+            same,
+            number,
+            on_video h l k o on.near,
+            ih other fewer i m h l here on.neighbours.here le on.neighbours.order,
+          )
+          | inr (v, lt) ↦ absurd (on.neighbours.between i m lt (omega (arith, order, same, differ)) here)
+        ]
+
+-- ---- so many fields at least are lost
+
+-- with no number there is no gap
+none_gaps : (pace : Pace) (slack : ℕ) (numbering : Numbering) (seen : List Sightings) (answers : List Number)
+    (ends : List ℕ) (k : ℕ) (gaps : List Gap) (unread : ℕ)
+    → AreGaps pace slack numbering seen answers ends k gaps unread → ((j l : ℕ) → j < k → IsMarked answers j l → ⊥)
+    → gaps ≡ []
+unfolding AreGaps
+none_gaps pace slack numbering seen answers ends zero gaps unread (none, e) never = none
+none_gaps pace slack numbering seen answers ends (suc k) gaps unread (inl (free, all)) never =
+    none_gaps pace slack numbering seen answers ends k gaps unread all (λ j l less. never j l (omega (arith, less)))
+none_gaps pace slack numbering seen answers ends (suc k) gaps unread (inr (inl (i, m, n, fewer, on, all, e))) never =
+    absurd (never k n (omega arith) on.neighbours.there)
+none_gaps pace slack numbering seen answers ends (suc k) gaps unread (inr (inr (one, others, is, last, all, e))) never =
+    absurd (never one.before one.to (omega (arith, last)) is.neighbours.there)
+
+module _ (pace : Pace) (slack : ℕ) (disc : ℕ → Option ℕ) (place : ℕ → ℕ) (numbering : Numbering) (seen : List Sightings)
+    (answers : List Number) (ends : List ℕ)
+    (runs : DiscRuns pace disc) (rises : Rises place)
+    (right : (gap : Gap) → IsGap pace slack numbering seen answers ends gap → gap.kind ≡ lost
+    → HasRightEnds (captured disc place) gap)
+    (first : ℕ) (before_first : (j l : ℕ) → j < first → IsMarked answers j l → ⊥) where
+  -- a gap loses its fields, whatever its kind
+  loses : (gap : Gap) → IsGap pace slack numbering seen answers ends gap
+      → LostAtLeast place gap.after gap.before (fields_if lost gap)
+  loses gap is = go (eqb_tells gap.kind lost)
+    where
+      go : ((eqb gap.kind lost ≡ true) × (gap.kind ≡ lost)) ⊎ ((eqb gap.kind lost ≡ false) × (gap.kind ≢ lost))
+          → LostAtLeast place gap.after gap.before (fields_if lost gap)
+      go (inl (t, e)) = rw t (gap_least pace slack disc place numbering seen answers ends gap runs is e
+          (right gap is e))
+      go (inr (f, other)) = rw f (omega (
+        arith,
+        apart place gap.after gap.before rises
+            (let o : gap.after < gap.before = is.neighbours.order in omega (arith, o)),
+      ))
+
+  within : (gap : Gap) (k : ℕ) → IsGap pace slack numbering seen answers ends gap → gap.before ≡ k → gap.after < k
+  within gap k is last = let order : gap.after < gap.before = is.neighbours.order in omega (arith, order, last)
+
+  pub lost_below : (k : ℕ) (gaps : List Gap) (unread : ℕ) → AreGaps pace slack numbering seen answers ends k gaps unread
+      → (i m : ℕ) → IsMarked answers i m → i < k → ((j l : ℕ) → i < j → j < k → IsMarked answers j l → ⊥)
+      → (first ≤ i) × LostAtLeast place first i (sum_by (fields_if lost) gaps)
+  unfolding AreGaps
+  lost_below zero gaps unread all i m here inside behind = absurd (omega (arith, inside))
+  lost_below (suc k) gaps unread (inl (free, all)) i m here inside behind =
+      go (lost_below k gaps unread all i m here) free (eqb_tells i k) (leb_tells first i)
+    where
+      go : (i < k → ((j l : ℕ) → i < j → j < k → IsMarked answers j l → ⊥)
+          → (first ≤ i) × LostAtLeast place first i (sum_by (fields_if lost) gaps)) → IsFree answers k
+          → ((eqb i k ≡ true) × (i ≡ k)) ⊎ ((eqb i k ≡ false) × (i ≢ k))
+          → ((nat_le first i ≡ true) × (first ≤ i)) ⊎ ((nat_le first i ≡ false) × (i < first))
+          → (first ≤ i) × LostAtLeast place first i (sum_by (fields_if lost) gaps)
+      go ih f (inr (u, differ)) _ = ih (omega (arith, inside, differ))
+          (λ j l lt less. behind j l lt (omega (arith, less)))
+      go ih f (inl (t, same)) (inr (v, lt)) = absurd (before_first i m lt here)
+      go ih (inl never) (inl (t, same)) (inl (v, le)) = absurd (never m (subst (λ x. IsMarked answers x m) same here))
+      go ih (inr never) (inl (t, same)) (inl (v, le)) =
+          let none = none_gaps pace slack numbering seen answers ends k gaps unread all never in
+          (le, omega (arith, ap (λ (xs : List Gap). sum_by (fields_if lost) xs) none, apart place first i rises le))
+  lost_below (suc k) gaps unread (inr (inl (h, l, o, fewer, on, all, e))) i m here inside behind =
+      go (lost_below k gaps fewer all h l on.neighbours.here on.neighbours.order on.neighbours.between) (eqb_tells i k)
+    where
+      go : ((first ≤ h) × LostAtLeast place first h (sum_by (fields_if lost) gaps))
+          → ((eqb i k ≡ true) × (i ≡ k)) ⊎ ((eqb i k ≡ false) × (i ≢ k))
+          → (first ≤ i) × LostAtLeast place first i (sum_by (fields_if lost) gaps)
+      go p (inr (u, differ)) =
+          absurd (behind k o (omega (arith, inside, differ)) (omega arith) on.neighbours.there)
+      go p (inl (t, same)) =
+          let order : h < k = on.neighbours.order in
+          let up = apart place h k rises (omega (arith, order)) in
+          (omega (arith, p.0, order, same), omega (arith, p.0, p.1, up, order, same, ap place same))
+  lost_below (suc k) gaps unread (inr (inr (one, others, is, last, all, e))) i m here inside behind =
+      go (lost_below k others unread all one.after one.from is.neighbours.here (within one k is last)
+      (λ j l lt less. is.neighbours.between j l lt (omega (arith, less, last)))) (eqb_tells i k)
+    where
+      go : ((first ≤ one.after) × LostAtLeast place first one.after (sum_by (fields_if lost) others))
+          → ((eqb i k ≡ true) × (i ≡ k)) ⊎ ((eqb i k ≡ false) × (i ≢ k))
+          → (first ≤ i) × LostAtLeast place first i (sum_by (fields_if lost) gaps)
+      go p (inr (u, differ)) =
+          absurd (behind one.before one.to (omega (arith, inside, differ, last))
+          (omega (arith, last)) is.neighbours.there)
+      go p (inl (t, same)) =
+          let order : one.after < one.before = is.neighbours.order in
+          let up = loses one is in
+          let sum = ap (λ (xs : List Gap). sum_by (fields_if lost) xs) e ∙ sum_by_push (fields_if lost) others one in
+          let ends_at : place one.before ≡ place i = ap place (last ∙ sym same) in
+          (omega (arith, p.0, order, last, same), omega (arith, p.0, p.1, up, order, last, same, sum, ends_at))
+
+-- ---- a gap is a cut
+
+pub near_same : (x y : ℕ) → x ≡ y → (nat_le x (y + 0) && nat_le y (x + 0)) ≡ true
+near_same x y e = elim (leb_tells x (y + 0)) [
+  | inl (t, le) ↦ elim (leb_tells y (x + 0)) [
+    | inl (u, more) ↦ rw (t, u) refl
+    | inr (u, lt) ↦ absurd (omega (arith, e, lt))
+  ]
+  | inr (t, lt) ↦ absurd (omega (arith, e, lt))
+]
+
+-- with right numbers at both ends, of a disc that counts on, the capture isn't one run of the disc there
+pub gap_is_cut : (disc : ℕ → Option ℕ) (place : ℕ → ℕ) (numbering : Numbering) (seen : List Sightings)
+    (answers : List Number)
+    (ends : List ℕ) (gap : Gap)
+    → DiscRuns Video disc → IsGap Video 0 numbering seen answers ends gap → HasRightEnds (captured disc place) gap
+    → place gap.before ≢ place gap.after + (gap.before - gap.after)
+gap_is_cut disc place numbering seen answers ends gap runs is (first, last) same =
+    let on = video_fits (place gap.after) gap.from (place gap.before) gap.to
+    (runs (place gap.after) (place gap.before) gap.from gap.to first last) in
+    let order : gap.after < gap.before = is.neighbours.order in
+    let counts : gap.before + 2 * gap.from ≡ gap.after + 2 * gap.to = omega (arith, on, order, same) in
+    none_found (nearly Video 0 gap.after gap.from gap.before gap.to)
+    (gap_as Video 0 (kind_of Video numbering (ended_between ends gap.after gap.before) gap.after gap.from gap.before
+    gap.to)
+    (shown_between seen gap.after gap.from gap.before gap.to) gap.after gap.from gap.before gap.to) gap
+    (near_same (gap.before + 2 * gap.from) (gap.after + 2 * gap.to) counts) is.found

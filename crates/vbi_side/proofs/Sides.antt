@@ -1,0 +1,229 @@
+-- Which fields a capture lacks, by two believed numbers.
+use Rattle.std.proofs.Common.{◌≡◌, ℕ, zero, suc, ◌+◌, ◌*◌, ◌-◌, ◌<◌, ◌≤◌, Bool, true}
+use Rattle.std.proofs.Common.{false, List, arith, subst, inl, inr}
+use Rattle.std.specs.Prelude.{Option, Some, ◌⊎◌, nat_le, not, ◌&&◌}
+use Rattle.std.proofs.lemmas.Bool.Decides.{leb_tells}
+use Rattle.vbi_side.specs.declared.sighting.Sightings.{Sightings}
+use Rattle.vbi_side.specs.declared.pace.Pace.{Pace}
+use Rattle.vbi_side.specs.declared.pace.Pace.TheVariants.{Video, Film}
+use Rattle.vbi_side.specs.Paces.{fits, stays}
+use Rattle.vbi_side.specs.Beliefs.{reach, field_most, window_weight}
+use Rattle.vbi_side.specs.Truth.{IsNear, AreEven, is_recorded, wrong_weight}
+use Rattle.vbi_side.specs.Side.{DiscRuns, DiscCounts, Rises, captured, Lacks, NoneLost, AreLost, IsAnchor}
+use Rattle.vbi_side.proofs.Weights.{weight_below-split, once, spread, weight_at-passes}
+use Rattle.vbi_side.proofs.Truth.{both, and_so, video_fits, film_fits, stays_is, recorded_is, wrong_or_right}
+
+-- ---- places
+
+further : (place : ℕ → ℕ) (i k : ℕ) → Rises place → place i + k ≤ place (i + k)
+further place i zero rises = let same : i ≡ i + zero = omega arith in
+    subst (λ n. place i + zero ≤ place n) same (omega arith)
+further place i (suc k) rises =
+    let next : suc (i + k) ≡ i + suc k = omega arith in
+    subst (λ n. place i + suc k ≤ place n) next (omega (arith, further place i k rises, rises (i + k)))
+
+pub apart : (place : ℕ → ℕ) (i j : ℕ) → Rises place → i ≤ j → place i + (j - i) ≤ place j
+apart place i j rises le =
+    let whole : i + (j - i) ≡ j = omega (arith, le) in
+    subst (λ n. place i + (j - i) ≤ place n) whole (further place i (j - i) rises)
+
+-- no two fields of the capture are one of the disc
+one_place : (place : ℕ → ℕ) (i j : ℕ) → Rises place → place i ≡ place j → i ≡ j
+one_place place i j rises same = go (leb_tells i j)
+  where
+    go : ((nat_le i j ≡ true) × (i ≤ j)) ⊎ ((nat_le i j ≡ false) × (j < i)) → i ≡ j
+    go (inl (t, le)) = omega (arith, le, same, apart place i j rises le)
+    go (inr (f, lt)) = omega (arith, lt, same, apart place j i rises (omega (arith, lt)))
+
+-- where the two ends are as far apart on the disc as in the capture, none is lost between
+pub none_lost : (place : ℕ → ℕ) (p q i j : ℕ) → Rises place → p ≤ i → j ≤ q → place q ≡ place p + (q - p)
+    → NoneLost place i j
+none_lost place p q i j rises first last same k from to =
+    let at_i : place i ≡ place p + (i - p)
+    = omega (
+      arith,
+      first,
+      last,
+      from,
+      to,
+      same,
+      apart place p i rises first,
+      apart place i q rises
+          (omega (arith, from, to, last)),
+    ) in
+    omega (
+      arith,
+      first,
+      last,
+      from,
+      to,
+      same,
+      at_i,
+      apart place p k rises (omega (arith, first, from)),
+      apart place k q rises (omega (arith, to, last)),
+    )
+
+-- so the capture lacks no field of the disc there
+pub none_lacks : (place : ℕ → ℕ) (i j d : ℕ) → NoneLost place i j → i ≤ j → place i ≤ d → d ≤ place j
+    → Lacks place d → ⊥
+none_lacks place i j d none le from to lacks =
+    lacks (i + (d - place i)) (omega (
+      arith,
+      from,
+      to,
+      none j le (omega arith),
+      none (i + (d - place i)) (omega arith)
+          (omega (arith, from, to, le, none j le (omega arith))),
+    ))
+
+-- ---- a believed number is that of a field nearby, whatever was lost
+
+-- no two fields of the capture that are an even number of fields apart have one number
+abbrev pub Alone : (ℕ → Option ℕ) → Type 0
+Alone recorded = (j k n : ℕ) → recorded j ≡ Some n → recorded k ≡ Some n → AreEven j k → j ≡ k
+
+-- so it is where the places of a number are less than two fields apart
+pub alone_of : (disc : ℕ → Option ℕ) (place : ℕ → ℕ) → Rises place
+    → ((d e n : ℕ) → disc d ≡ Some n → disc e ≡ Some n → d ≤ e + 1) → Alone (captured disc place)
+alone_of disc place rises close j k n here there even = go (leb_tells j k)
+  where
+    go : ((nat_le j k ≡ true) × (j ≤ k)) ⊎ ((nat_le j k ≡ false) × (k < j)) → j ≡ k
+    go (inl (t, le)) =
+        omega (arith, le, even, apart place j k rises le, close (place k) (place j) n there here)
+    go (inr (f, lt)) =
+        omega (arith, lt, even, apart place k j rises (omega (arith, lt)), close (place j) (place k) n here there)
+
+module _ (pace : Pace) (recorded : ℕ → Option ℕ) (fields : List Sightings) (alone : Alone recorded) where
+  -- of the right ones one field's at most is of one still
+  right_still : (i n : ℕ) → window_weight (stays i n) fields i ≤ wrong_weight recorded fields i + field_most
+  right_still i n =
+      omega (
+        arith,
+        weight_below-split (stays i n) wrong right fields i (2 * reach + 1) (omega arith) split,
+        once right fields i (2 * reach + 1) (omega arith) one,
+      )
+    where
+      wrong : ℕ → ℕ → Bool
+      wrong = λ j m. not (is_recorded (recorded j) m)
+
+      right : ℕ → ℕ → Bool
+      right = λ j m. stays i n j m && is_recorded (recorded j) m
+
+      split : (j m : ℕ) → IsNear i j → stays i n j m ≡ true → (wrong j m ≡ true) ⊎ (right j m ≡ true)
+      split j m near e = elim (wrong_or_right recorded j m) [
+        | inl is ↦ inl is
+        | inr is ↦ inr (and_so (stays i n j m) (is_recorded (recorded j) m) e is)
+      ]
+
+      one : (j k l m : ℕ) → IsNear i j → IsNear i k → right j l ≡ true → right k m ≡ true → j ≡ k
+      one j k l m near others e f =
+          let p = both (stays i n j l) (is_recorded (recorded j) l) e in
+          let q = both (stays i n k m) (is_recorded (recorded k) m) f in
+          let a = stays_is i n j l p.0 in
+          let b = stays_is i n k m q.0 in
+          alone j k n (subst (λ x. recorded j ≡ Some x) a.0 (recorded_is (recorded j) l p.1))
+          (subst (λ x. recorded k ≡ Some x) b.0 (recorded_is (recorded k) m q.1)) (omega (arith, a.1, b.1))
+
+  pub near_one : (i n : ℕ) → IsAnchor pace recorded fields i n
+      → (j m : ℕ) × IsNear i j × (recorded j ≡ Some m) × (fits pace i n j m ≡ true)
+  near_one i n anchor = elim (spread right fields i (2 * reach + 1) (2 * reach + 1)) [
+    | inl (most, none) ↦ absurd (omega (
+      arith,
+      anchor.few,
+      anchor.believed.enough,
+      none (omega arith),
+      weight_below-split (fits pace i n) wrong right fields i (2 * reach + 1) (omega arith) split,
+      right_still i n,
+    ))
+    | inr (k, less, apart, weighs) ↦ let p = weight_at-passes right fields i k weighs in
+        let q = both (fits pace i n (i + k - reach) p.1.0) (is_recorded (recorded (i + k - reach)) p.1.0) p.1.2 in (
+          i + k - reach,
+          p.1.0,
+          (omega (arith, p.0), omega (arith, less)),
+          recorded_is (recorded (i + k - reach)) p.1.0 q.1,
+          q.0,
+        )
+  ]
+    where
+      wrong : ℕ → ℕ → Bool
+      wrong = λ j m. not (is_recorded (recorded j) m)
+
+      right : ℕ → ℕ → Bool
+      right = λ j m. fits pace i n j m && is_recorded (recorded j) m
+
+      split : (j m : ℕ) → IsNear i j → fits pace i n j m ≡ true → (wrong j m ≡ true) ⊎ (right j m ≡ true)
+      split j m near e = elim (wrong_or_right recorded j m) [
+        | inl is ↦ inl is
+        | inr is ↦ inr (and_so (fits pace i n j m) (is_recorded (recorded j) m) e is)
+      ]
+
+-- ---- the theorems
+
+module _ (disc : ℕ → Option ℕ) (place : ℕ → ℕ) (fields : List Sightings) where
+  -- of video, on a disc that may have a number on both fields of its picture: `slack` is 1, or 0 where it hasn't
+  pub nearly_lost : (slack : ℕ) → slack ≤ 1 → DiscCounts slack disc → Rises place → (i m j n more : ℕ)
+      → IsAnchor Video (captured disc place) fields i m → IsAnchor Video (captured disc place) fields j n
+      → i + 2 * reach ≤ j → j + 2 * m + more ≡ i + 2 * n
+      → (p q lost : ℕ) × IsNear i p × IsNear j q × AreLost place p q lost × (lost ≤ more + slack)
+      × (more ≤ lost + slack)
+  nearly_lost slack one counts rises i m j n more first last far same =
+      let alone : Alone (captured disc place) = alone_of disc place rises
+      (λ d e k here there. omega (arith, one, counts e d k k there here)) in
+      let p = near_one Video (captured disc place) fields alone i m first in
+      let q = near_one Video (captured disc place) fields alone j n last in
+      let order : p.0 ≤ q.0 = omega (arith, p.2.1, q.2.0, far) in
+      let least = apart place p.0 q.0 rises order in
+      let on = counts (place p.0) (place q.0) p.1 q.1 p.3 q.3 in
+      let back = counts (place q.0) (place p.0) q.1 p.1 q.3 p.3 in
+      let here = video_fits i m p.0 p.1 p.4 in
+      let there = video_fits j n q.0 q.1 q.4 in (
+        p.0,
+        q.0,
+        place q.0 - (place p.0 + (q.0 - p.0)),
+        p.2,
+        q.2,
+        omega (arith, least, order),
+        omega (arith, order, least, on, back, here, there, same),
+        omega (arith, order, least, on, back, here, there, same),
+      )
+
+  pub lost : DiscRuns Video disc → Rises place → (i m j n more : ℕ) → IsAnchor Video (captured disc place) fields i m
+      → IsAnchor Video (captured disc place) fields j n → i + 2 * reach ≤ j → j + 2 * m + more ≡ i + 2 * n
+      → (p q : ℕ) × IsNear i p × IsNear j q × AreLost place p q more
+  lost runs rises i m j n more first last far same =
+      let counts : DiscCounts 0 disc = λ d e k l here there. omega
+      (arith, video_fits d k e l (runs d e k l here there)) in
+      let p = nearly_lost 0 (omega arith) counts rises i m j n more first last far same in
+      (p.0, p.1, p.3, p.4, omega (arith, p.5, p.6, p.7))
+
+  pub whole : DiscRuns Video disc → Rises place → (i m j n : ℕ) → IsAnchor Video (captured disc place) fields i m
+      → IsAnchor Video (captured disc place) fields j n → i + 2 * reach ≤ j → j + 2 * m ≡ i + 2 * n
+      → NoneLost place (i + reach) (j - reach)
+  whole runs rises i m j n first last far same =
+      let p = lost runs rises i m j n 0 first last far (omega (arith, same)) in
+      none_lost place p.0 p.1 (i + reach) (j - reach) rises (omega (arith, p.2.1)) (omega (arith, p.3.0, far))
+      (omega (arith, p.4))
+
+  -- of film at most 4 fields are lost where the numbers fit
+  pub film : DiscRuns Film disc → Rises place → (i m j n : ℕ) → IsAnchor Film (captured disc place) fields i m
+      → IsAnchor Film (captured disc place) fields j n → i + 2 * reach ≤ j → fits Film i m j n ≡ true
+      → (p q lost : ℕ) × IsNear i p × IsNear j q × AreLost place p q lost × (lost ≤ 4)
+  film runs rises i m j n first last far same =
+      let alone : Alone (captured disc place) = alone_of disc place rises
+      (λ d e k here there. let f = film_fits d k e k (runs d e k k here there) in omega (arith, f.0, f.1)) in
+      let p = near_one Film (captured disc place) fields alone i m first in
+      let q = near_one Film (captured disc place) fields alone j n last in
+      let fit = film_fits (place p.0) p.1 (place q.0) q.1 (runs (place p.0) (place q.0) p.1 q.1 p.3 q.3) in
+      let one = film_fits i m p.0 p.1 p.4 in
+      let other = film_fits j n q.0 q.1 q.4 in
+      let both = film_fits i m j n same in
+      let order : p.0 ≤ q.0 = omega (arith, p.2.1, q.2.0, far) in
+      let least = apart place p.0 q.0 rises order in (
+        p.0,
+        q.0,
+        place q.0 - (place p.0 + (q.0 - p.0)),
+        p.2,
+        q.2,
+        omega (arith, least, order),
+        omega (arith, order, least, fit.0, fit.1, one.0, one.1, other.0, other.1, both.0, both.1),
+      )

@@ -1,0 +1,372 @@
+-- How the gaps of a capture are told, field by field.
+use Rattle.std.proofs.Common.{◌≡◌, ◌≢◌, ℕ, zero, suc, ◌+◌, ◌<◌, ◌≤◌, Bool, true, false, List, [], ◌∷◌, ◌++◌}
+use Rattle.std.proofs.Common.{refl, arith, ap, sym, ◌∙◌, subst, inl, inr, get_or, length}
+use Rattle.std.specs.Prelude.{Option, Some, None, slice_get, slice_set, ◌⊎◌, nat_le, sum_by, if◌then◌else◌, unwrap_or}
+use Rattle.std.proofs.lemmas.Bool.Decides.{leb_tells, eqb_tells}
+use Rattle.std.proofs.lemmas.List.{length-set, length_push, get_or_append_left, get_or-set_other, get_or-set_same}
+use Rattle.std.proofs.lemmas.List.Sums.{sum_by_push}
+use Rattle.std.proofs.Math.Seq.{get_or-append_seam}
+use Rattle.std.proofs.lemmas.Option.{slice_get-get_or, slice_get_within, slice_get_past, slice_get_read}
+use Rattle.std.proofs.lemmas.Option.{get_or_from_slice_get}
+use Rattle.vbi_side.specs.declared.number.Number.{Number}
+use Rattle.vbi_side.specs.declared.gap.Gap.{Gap}
+use Rattle.vbi_side.specs.declared.gap.Tally.{Tally}
+use Rattle.vbi_side.specs.declared.gap.Place.{Place}
+use Rattle.vbi_side.specs.declared.pace.Pace.{Pace}
+use Rattle.vbi_side.specs.Paces.{nearly}
+use Rattle.vbi_side.specs.Numbers.{believed, IsMarked}
+use Rattle.vbi_side.specs.declared.sighting.Sightings.{Sightings}
+use Rattle.vbi_side.specs.declared.gap.Numbering.{Numbering}
+use Rattle.vbi_side.specs.Gaps.{lost, held, back, still, joined, open_gap, gap_of, gap_as, kind_of, since_end}
+use Rattle.vbi_side.specs.Gaps.{ended_between}
+use Rattle.vbi_side.specs.Gaps.{shown_between, still_end_of, begins_still, last_still, stills_of}
+use Rattle.vbi_side.specs.Gaps.{is_end}
+use Rattle.vbi_side.specs.Gaps.{AreNeighbours, IsFree, IsGap, AreGaps, AreWritten, IsTold, IsLast, skipped, tally_of}
+use Rattle.vbi_side.specs.Gaps.{capped, one_if, fields_if, lost_of, undecided_of, with_gap, with_unread}
+
+-- ---- lists
+
+pub some_is : {A : Type 0} (a b : A) → Some a ≡ Some b → a ≡ b
+some_is a b e = ap (λ o. unwrap_or o a) e
+
+-- what stands in a list with one more behind it
+pub pushed : {A : Type 0} (xs : List A) (y x : A) (j : ℕ) → slice_get (xs ++ y ∷ []) j ≡ Some x
+    → ((j < length xs) × (slice_get xs j ≡ Some x)) ⊎ ((j ≡ length xs) × (y ≡ x))
+pushed xs y x j at = go (leb_tells (length xs) j)
+  where
+    within : j < length xs + 1
+    within = omega (arith, slice_get_within (xs ++ y ∷ []) j x at, length_push xs y)
+
+    reads : get_or (xs ++ y ∷ []) j x ≡ x
+    reads = get_or_from_slice_get (xs ++ y ∷ []) j x x at
+
+    go : ((nat_le (length xs) j ≡ true) × (length xs ≤ j)) ⊎ ((nat_le (length xs) j ≡ false) × (j < length xs))
+        → ((j < length xs) × (slice_get xs j ≡ Some x)) ⊎ ((j ≡ length xs) × (y ≡ x))
+    go (inl (t, le)) =
+        let same : j ≡ length xs = omega (arith, le, within) in
+        inr (same, sym (get_or-append_seam xs y [] x) ∙ subst (λ k. get_or (xs ++ y ∷ []) k x ≡ x) same reads)
+    go (inr (f, lt)) = inl (
+      lt,
+      slice_get_read xs (length xs) j x refl lt
+          (sym (sym (get_or_append_left xs (y ∷ []) x j lt) ∙ reads)),
+    )
+
+-- a write leaves the other places
+kept : {A : Type 0} (xs : List A) (i j : ℕ) (y : A) → j ≢ i → slice_get (slice_set xs i y) j ≡ slice_get xs j
+kept xs i j y other = go (leb_tells (length xs) j)
+  where
+    go : ((nat_le (length xs) j ≡ true) × (length xs ≤ j)) ⊎ ((nat_le (length xs) j ≡ false) × (j < length xs))
+        → slice_get (slice_set xs i y) j ≡ slice_get xs j
+    go (inl (t, le)) = slice_get_past (slice_set xs i y) j (omega (arith, le, length-set xs i y))
+        ∙ sym (slice_get_past xs j le)
+    go (inr (f, lt)) = slice_get-get_or (slice_set xs i y) j y (omega (arith, lt, length-set xs i y))
+        ∙ ap Some (get_or-set_other xs i j y y other) ∙ sym (slice_get-get_or xs j y lt)
+
+-- ---- what is written
+
+pub none_written : (old : List Gap) → AreWritten [] old old
+none_written old = record {
+  room = refl;
+  first = λ j gap less at. absurd (omega (arith, slice_get_within {A = Gap} [] j gap at));
+  others = λ j le. refl;
+}
+
+written_there : (gaps old new : List Gap) (gap : Gap) (place : ℕ) → place ≡ length gaps → AreWritten gaps old new
+    → place < length new → AreWritten (gaps ++ gap ∷ []) old (slice_set new place gap)
+written_there gaps old new gap place is before less = record {
+  room = length-set new place gap ∙ before.room;
+  first = λ j one inside at. elim (pushed gaps gap one j at) [
+    | inl (lt, there) ↦ kept new place j gap (omega (arith, is, lt)) ∙ before.first j one inside there
+    | inr (same, e) ↦
+        let at_place : slice_get (slice_set new place gap) place ≡ Some gap
+        = slice_get-get_or (slice_set new place gap) place gap (omega (arith, less, length-set new place gap))
+        ∙ ap Some (get_or-set_same new place gap gap less) in
+        subst (λ k. slice_get (slice_set new place gap) k ≡ Some one) (is ∙ sym same) (at_place ∙ ap Some e)
+  ];
+  others = λ j le.
+      let more : length gaps + 1 ≤ j = omega (arith, le, length_push gaps gap) in
+      kept new place j gap (omega (arith, is, more)) ∙ before.others j (omega (arith, more));
+}
+
+written_full : (gaps old new : List Gap) (gap : Gap) → AreWritten gaps old new → length new ≤ length gaps
+    → AreWritten (gaps ++ gap ∷ []) old new
+written_full gaps old new gap before full = record {
+  room = before.room;
+  first = λ j one inside at. elim (pushed gaps gap one j at) [
+    | inl (lt, there) ↦ before.first j one inside there
+    | inr (same, e) ↦ absurd (omega (arith, same, inside, full, before.room))
+  ];
+  others = λ j le. before.others j (omega (arith, le, length_push gaps gap));
+}
+
+-- ---- the tally
+
+capped_more : (a b : ℕ) → capped (capped a + b) ≡ capped (a + b)
+capped_more a b = omega arith
+
+-- a capped sum with one more behind it
+summed : (f : Gap → ℕ) (gaps : List Gap) (gap : Gap)
+    → capped (capped (sum_by f gaps) + f gap) ≡ capped (sum_by f (gaps ++ gap ∷ []))
+summed f gaps gap = capped_more (sum_by f gaps) (f gap) ∙ ap capped (sym (sum_by_push f gaps gap))
+
+-- the last still with one gap more
+last_still_push : (end : ℕ) (gaps : List Gap) (gap : Gap)
+    → last_still end (gaps ++ gap ∷ []) ≡ still_end_of (last_still end gaps) gap
+unfolding last_still
+last_still_push end [] gap = refl
+last_still_push end (one ∷ gaps) gap = last_still_push (still_end_of end one) gaps gap
+
+-- the stills with one gap more
+stills_push : (end : ℕ) (gaps : List Gap) (gap : Gap)
+    → stills_of end (gaps ++ gap ∷ []) ≡ stills_of end gaps + begins_still (last_still end gaps) gap
+unfolding last_still stills_of
+stills_push end [] gap = omega arith
+stills_push end (one ∷ gaps) gap = omega (arith, stills_push (still_end_of end one) gaps gap)
+
+stills_more : (gaps : List Gap) (gap : Gap)
+    → capped (capped (stills_of 0 gaps) + begins_still (last_still 0 gaps) gap) ≡ capped
+    (stills_of 0 (gaps ++ gap ∷ []))
+stills_more gaps gap = capped_more (stills_of 0 gaps) (begins_still (last_still 0 gaps) gap)
+    ∙ ap capped (sym (stills_push 0 gaps gap))
+
+pub tally_gap : (gaps : List Gap) (unread : ℕ) (gap : Gap)
+    → with_gap (tally_of gaps unread) gap ≡ tally_of (gaps ++ gap ∷ []) unread
+tally_gap gaps unread gap =
+    cc (
+      sym (length_push gaps gap),
+      summed (fields_if lost) gaps gap,
+      summed (fields_if held) gaps gap,
+      summed (fields_if still) gaps gap,
+      stills_more gaps gap,
+      sym (last_still_push 0 gaps gap),
+      summed (one_if back) gaps gap,
+      summed (one_if joined) gaps gap,
+      summed (one_if open_gap) gaps gap,
+      summed lost_of gaps gap,
+      summed undecided_of gaps gap,
+    )
+
+pub tally_unread : (gaps : List Gap) (unread more : ℕ)
+    → with_unread (tally_of gaps unread) more ≡ tally_of gaps (unread + more)
+tally_unread gaps unread more = ap (λ (n : ℕ). record (tally_of gaps unread) { unread = n }) (capped_more unread more)
+
+-- ---- a gap
+
+pub gap_is : (pace : Pace) (slack : ℕ) (numbering : Numbering) (ended : Bool) (shown i m k n : ℕ) (gap : Gap)
+    → gap_of pace slack numbering ended shown i m k n ≡ Some gap
+    → gap ≡ gap_as pace slack (kind_of pace numbering ended i m k n) shown i m k n
+gap_is pace slack numbering ended shown i m k n gap = go (nearly pace slack i m k n)
+  where
+    one : Gap
+    one = gap_as pace slack (kind_of pace numbering ended i m k n) shown i m k n
+
+    go : (b : Bool) → (if b then None else Some one) ≡ Some gap → gap ≡ one
+    go true e = absurd cc
+    go false e = sym (some_is one gap e)
+
+-- numbers with no gap between go on
+pub goes_on : (pace : Pace) (slack : ℕ) (numbering : Numbering) (ended : Bool) (shown i m k n : ℕ)
+    → gap_of pace slack numbering ended shown i m k n ≡ None → nearly pace slack i m k n ≡ true
+goes_on pace slack numbering ended shown i m k n = go (nearly pace slack i m k n)
+  where
+    one : Gap
+    one = gap_as pace slack (kind_of pace numbering ended i m k n) shown i m k n
+
+    go : (b : Bool) → (if b then None else Some one) ≡ None → b ≡ true
+    go true e = refl
+    go false e = absurd (let h = e in cc)
+
+pub moved : (P : ℕ → ℕ → ℕ → ℕ → Type 0) (a f b t i m k n : ℕ) → a ≡ i → f ≡ m → b ≡ k → t ≡ n → P i m k n → P a f b t
+moved P a f b t i m k n first from last to p =
+    subst (λ x. P x f b t) (sym first) (subst (λ x. P i x b t) (sym from)
+    (subst (λ x. P i m x t) (sym last) (subst (λ x. P i m k x) (sym to) p)))
+
+-- what lies between two neighbours is the gap of its ends
+pub gap_between : (pace : Pace) (slack : ℕ) (numbering : Numbering) (seen : List Sightings) (answers : List Number)
+    (ends : List ℕ) (i m k n : ℕ) (gap : Gap) → AreNeighbours answers i m k n
+    → gap_of pace slack numbering (ended_between ends i k) (shown_between seen i m k n) i m k n ≡ Some gap
+    → IsGap pace slack numbering seen answers ends gap × (gap.before ≡ k)
+gap_between pace slack numbering seen answers ends i m k n gap neighbours found =
+    let e = gap_is pace slack numbering (ended_between ends i k) (shown_between seen i m k n) i m k n gap found in
+    let first : gap.after ≡ i = ap (λ (g : Gap). g.after) e in
+    let from : gap.from ≡ m = ap (λ (g : Gap). g.from) e in
+    let last : gap.before ≡ k = ap (λ (g : Gap). g.before) e in
+    let to : gap.to ≡ n = ap (λ (g : Gap). g.to) e in (
+      record {
+        neighbours = moved (AreNeighbours answers) gap.after gap.from gap.before gap.to i m k n first from last to
+            neighbours;
+        found = moved (λ a f b t. gap_of pace slack numbering (ended_between ends a b)
+            (shown_between seen a f b t) a f b t
+            ≡ Some gap) gap.after gap.from gap.before gap.to i m k n first from last to found;
+      },
+      last,
+    )
+
+-- ---- field by field
+
+pub told_begins : (pace : Pace) (slack : ℕ) (numbering : Numbering) (seen : List Sightings) (answers : List Number)
+    (ends : List ℕ) (old : List Gap)
+    → IsTold pace slack numbering seen answers ends 0 (tally_of [] 0) old old
+unfolding AreGaps
+told_begins pace slack numbering seen answers ends old = record {
+  gaps = [];
+  unread = 0;
+  all = (refl, refl);
+  comes_to = refl;
+  written = none_written old;
+}
+
+pub told_free : (pace : Pace) (slack : ℕ) (numbering : Numbering) (seen : List Sightings) (answers : List Number)
+    (ends : List ℕ) (k : ℕ) (tally : Tally)
+    (old new : List Gap) → IsFree answers k → IsTold pace slack numbering seen answers ends k tally old new
+    → IsTold pace slack numbering seen answers ends (suc k) tally old new
+unfolding AreGaps
+told_free pace slack numbering seen answers ends k tally old new free told = record {
+  gaps = told.gaps;
+  unread = told.unread;
+  all = inl (free, told.all);
+  comes_to = told.comes_to;
+  written = told.written;
+}
+
+pub told_on : (pace : Pace) (slack : ℕ) (numbering : Numbering) (seen : List Sightings) (answers : List Number)
+    (ends : List ℕ) (i m k n : ℕ) (tally : Tally)
+    (old new : List Gap) → AreNeighbours answers i m k n
+    → nearly pace slack i m k n ≡ true → IsTold pace slack numbering seen answers ends k tally old new
+    → IsTold pace slack numbering seen answers ends (suc k) (with_unread tally (skipped m n)) old new
+unfolding AreGaps
+told_on pace slack numbering seen answers ends i m k n tally old new neighbours near told = record {
+  gaps = told.gaps;
+  unread = told.unread + skipped m n;
+  all = inr (inl (i, m, n, told.unread, record { neighbours = neighbours; near = near }, told.all, refl));
+  comes_to = ap (λ (t : Tally). with_unread t (skipped m n)) told.comes_to
+      ∙ tally_unread told.gaps told.unread (skipped m n);
+  written = told.written;
+}
+
+told_more : (pace : Pace) (slack : ℕ) (numbering : Numbering) (seen : List Sightings) (answers : List Number)
+    (ends : List ℕ) (k : ℕ) (gap : Gap) (tally : Tally)
+    (old new next : List Gap) → IsGap pace slack numbering seen answers ends gap → gap.before ≡ k
+    → (told : IsTold pace slack numbering seen answers ends k tally old new)
+    → AreWritten (told.gaps ++ gap ∷ []) old next
+    → IsTold pace slack numbering seen answers ends (suc k) (with_gap tally gap) old next
+unfolding AreGaps
+told_more pace slack numbering seen answers ends k gap tally old new next is last told written = record {
+  gaps = told.gaps ++ gap ∷ [];
+  unread = told.unread;
+  all = inr (inr (gap, told.gaps, is, last, told.all, refl));
+  comes_to = ap (λ (t : Tally). with_gap t gap) told.comes_to ∙ tally_gap told.gaps told.unread gap;
+  written = written;
+}
+
+pub told_gap : (pace : Pace) (slack : ℕ) (numbering : Numbering) (seen : List Sightings) (answers : List Number)
+    (ends : List ℕ) (i m k n : ℕ) (gap : Gap)
+    (tally : Tally) (old new next : List Gap) → AreNeighbours answers i m k n
+    → gap_of pace slack numbering (ended_between ends i k) (shown_between seen i m k n) i m k n ≡ Some gap
+    → (tally.gaps < length new → next ≡ slice_set new tally.gaps gap) → (length new ≤ tally.gaps → next ≡ new)
+    → IsTold pace slack numbering seen answers ends k tally old new
+    → IsTold pace slack numbering seen answers ends (suc k) (with_gap tally gap) old next
+told_gap pace slack numbering seen answers ends i m k n gap tally old new next neighbours found there full told =
+    let is = gap_between pace slack numbering seen answers ends i m k n gap neighbours found in
+    let place : tally.gaps ≡ length told.gaps = ap (λ (t : Tally). t.gaps) told.comes_to in
+    told_more pace slack numbering seen answers ends k gap tally old new next is.0 is.1 told
+    (go place (leb_tells (length new) tally.gaps))
+  where
+    go : tally.gaps ≡ length told.gaps → ((nat_le (length new) tally.gaps ≡ true) × (length new ≤ tally.gaps))
+        ⊎ ((nat_le (length new) tally.gaps ≡ false) × (tally.gaps < length new))
+        → AreWritten (told.gaps ++ gap ∷ []) old next
+    go place (inl (t, le)) = subst (AreWritten (told.gaps ++ gap ∷ []) old) (sym (full le))
+        (written_full told.gaps old new gap told.written (omega (arith, le, place)))
+    go place (inr (f, lt)) = subst (AreWritten (told.gaps ++ gap ∷ []) old) (sym (there lt))
+        (written_there told.gaps old new gap tally.gaps place told.written lt)
+
+-- ---- the last number
+
+pub last_kept : (answers : List Number) (k : ℕ) (last : Option Place) → ((n : ℕ) → IsMarked answers k n → ⊥)
+    → IsLast answers k last → IsLast answers (suc k) last
+last_kept answers k None none is = λ j l less at. elim (eqb_tells j k) [
+  | inl (t, e) ↦ none l (subst (λ x. IsMarked answers x l) e at)
+  | inr (f, other) ↦ is j l (omega (arith, less, other)) at
+]
+last_kept answers k (Some place) none is = (
+  omega (arith, is.0),
+  is.1,
+  λ j l behind less at. elim (eqb_tells j k) [
+    | inl (t, e) ↦ none l (subst (λ x. IsMarked answers x l) e at)
+    | inr (f, other) ↦ is.2 j l behind (omega (arith, less, other)) at
+  ],
+)
+
+pub last_new : (answers : List Number) (k n : ℕ) → IsMarked answers k n
+    → IsLast answers (suc k) (Some (record { field = k; number = n }))
+last_new answers k n at = (omega arith, at, λ j l behind less. absurd (omega (arith, behind, less)))
+
+pub neighbours_of : (answers : List Number) (k n : ℕ) (place : Place) → IsLast answers k (Some place)
+    → IsMarked answers k n
+    → AreNeighbours answers place.field place.number k n
+neighbours_of answers k n place is at = record { order = is.0; here = is.1; there = at; between = is.2 }
+
+-- ---- the count
+
+gaps_few : (pace : Pace) (slack : ℕ) (numbering : Numbering) (seen : List Sightings) (answers : List Number)
+    (ends : List ℕ) (k : ℕ) (gaps : List Gap) (unread : ℕ)
+    → AreGaps pace slack numbering seen answers ends k gaps unread → length gaps ≤ k
+unfolding AreGaps
+gaps_few pace slack numbering seen answers ends zero gaps unread (none, e) = omega
+    (arith, ap (λ (xs : List Gap). length xs) none)
+gaps_few pace slack numbering seen answers ends (suc k) gaps unread (inl (free, all)) =
+    omega (arith, gaps_few pace slack numbering seen answers ends k gaps unread all)
+gaps_few pace slack numbering seen answers ends (suc k) gaps unread (inr (inl (i, m, n, fewer, on, all, e))) =
+    omega (arith, gaps_few pace slack numbering seen answers ends k gaps fewer all)
+gaps_few pace slack numbering seen answers ends (suc k) gaps unread (inr (inr (one, others, is, last, all, e))) =
+    omega (
+      arith,
+      gaps_few pace slack numbering seen answers ends k others unread all,
+      ap (λ (xs : List Gap). length xs) e,
+      length_push others one,
+    )
+
+pub told_few : (pace : Pace) (slack : ℕ) (numbering : Numbering) (seen : List Sightings) (answers : List Number)
+    (ends : List ℕ) (k : ℕ) (tally : Tally)
+    (old new : List Gap) → IsTold pace slack numbering seen answers ends k tally old new → tally.gaps ≤ k
+told_few pace slack numbering seen answers ends k tally old new told =
+    omega (
+      arith,
+      ap (λ (t : Tally). t.gaps) told.comes_to,
+      gaps_few pace slack numbering seen answers ends k told.gaps told.unread told.all,
+    )
+
+-- ---- the ends of sides
+
+-- so many fields stand since the last end, if field k is of one or not
+since_is : (ends : List ℕ) (k d : ℕ) (b : Bool) → k < length ends → is_end (Some (get_or ends k d)) ≡ b
+    → (if b then 0 else suc (since_end ends k)) ≡ since_end ends (k + 1)
+unfolding since_end
+since_is ends k d b inside shown =
+    let next : suc k ≡ k + 1 = omega arith in
+    let shows : is_end (slice_get ends k) ≡ b = ap is_end (slice_get-get_or ends k d inside) ∙ shown in
+    subst (λ n. (if b then 0 else suc (since_end ends k)) ≡ since_end ends n) next
+    (ap (λ c. if c then 0 else suc (since_end ends k)) (sym shows))
+
+pub since_none : (ends : List ℕ) (k d : ℕ) → k < length ends → is_end (Some (get_or ends k d)) ≡ true
+    → 0 ≡ since_end ends (k + 1)
+since_none ends k d inside shown = since_is ends k d true inside shown
+
+pub since_more : (ends : List ℕ) (k since d : ℕ) → k < length ends → is_end (Some (get_or ends k d)) ≡ false
+    → since ≡ since_end ends k → since + 1 ≡ since_end ends (k + 1)
+since_more ends k since d inside shown is =
+    let more : since + 1 ≡ suc (since_end ends k) = omega (arith, is) in
+    more ∙ since_is ends k d false inside shown
+
+-- ---- what is marked
+
+pub unmarked : (answers : List Number) (k n : ℕ) (d : Number) → ((get_or answers k d).state ≡ 1 → ⊥)
+    → IsMarked answers k n → ⊥
+unmarked answers k n d never at = never (ap (λ (x : Number). x.state)
+    (get_or_from_slice_get answers k (believed n) d at))
+
+pub marked_here : (answers : List Number) (k : ℕ) (d : Number) → k < length answers → (get_or answers k d).state ≡ 1
+    → IsMarked answers k (get_or answers k d).number
+marked_here answers k d inside is =
+    slice_get-get_or answers k d inside
+    ∙ ap (λ (s : ℕ). Some (let x : Number = record { number = (get_or answers k d).number; state = s } in x)) is

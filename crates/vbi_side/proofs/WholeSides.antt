@@ -1,0 +1,280 @@
+-- What the verdict of a capture says of it.
+use Rattle.std.proofs.Common.{◌≡◌, ◌≢◌, ℕ, ◌+◌, ◌*◌, ◌-◌, ◌<◌, ◌≤◌, Bool, true, false, List}
+use Rattle.std.proofs.Common.{refl, arith, ap, sym, ◌∙◌, inl, inr, length}
+use Rattle.std.specs.Prelude.{Option, ◌⊎◌, nat_le, nat_lt, ◌==◌, ◌&&◌, ◌||◌, ◌%◌, not, sum_by, if◌then◌else◌}
+use Rattle.std.proofs.lemmas.Bool.Decides.{leb_tells, eqb_tells}
+use Rattle.std.proofs.Math.Dec.{eqb}
+use Rattle.vbi_side.specs.declared.number.Number.{Number}
+use Rattle.vbi_side.specs.declared.sighting.Sightings.{Sightings}
+use Rattle.vbi_side.specs.declared.gap.Gap.{Gap}
+use Rattle.vbi_side.specs.declared.gap.Tally.{Tally}
+use Rattle.vbi_side.specs.declared.verdict.Finding.{Finding}
+use Rattle.vbi_side.specs.declared.pace.Pace.{Pace}
+use Rattle.vbi_side.specs.declared.pace.Pace.TheVariants.{Video, Film}
+use Rattle.vbi_side.specs.Paces.{nearly}
+use Rattle.vbi_side.specs.Beliefs.{reach, enough}
+use Rattle.vbi_side.specs.Truth.{IsNear, wrong_weight}
+use Rattle.std.proofs.lemmas.Option.{slice_get_within}
+use Rattle.vbi_side.specs.Numbers.{believed, AreAnswers}
+use Rattle.vbi_side.specs.Side.{DiscRuns, DiscCounts, Rises, captured, NoneLost, AreLost, AreEnds, IsAnchor}
+use Rattle.vbi_side.specs.declared.gap.Numbering.{Numbering}
+use Rattle.vbi_side.specs.Gaps.{lost, fields_if, capped, IsGap, HasRightEnds, LostAtLeast}
+use Rattle.vbi_side.specs.Verdicts.{yes, no, cannot_tell, verdict_of, reason, seen_reasons, is_off, reasons_of, HasNone, IsUntold}
+use Rattle.vbi_side.specs.Verdicts.{IsFinding}
+use Rattle.vbi_side.specs.Verdicts.{is_end_unseen, is_begin_unseen, are_doubtful}
+use Rattle.vbi_side.proofs.Truth.{both, video_fits, film_fits}
+use Rattle.vbi_side.proofs.Filling.{answer_believed}
+use Rattle.vbi_side.proofs.Sides.{apart, near_one, alone_of, whole}
+use Rattle.vbi_side.proofs.SideAnswers.{anchor}
+use Rattle.vbi_side.proofs.GapLaws.{lost_below}
+
+-- ---- the verdict
+
+-- yes leaves no reason
+yes_none : (reasons : ℕ) → verdict_of reasons ≡ yes → reasons ≡ 0
+yes_none reasons = go (eqb_tells reasons 0) (eqb (reasons % 64) 0)
+  where
+    go : ((eqb reasons 0 ≡ true) × (reasons ≡ 0)) ⊎ ((eqb reasons 0 ≡ false) × (reasons ≢ 0)) → (b : Bool)
+        → (if eqb reasons 0 then yes else (if b then cannot_tell else no)) ≡ yes → reasons ≡ 0
+    go (inl (t, e)) b v = e
+    go (inr (f, other)) true v = let h : cannot_tell ≡ yes = rw f at v in absurd (omega (arith, h))
+    go (inr (f, other)) false v = let h : no ≡ yes = rw f at v in absurd (omega (arith, h))
+
+not_off : (seen swap last first doubt gaps : ℕ) (off : Bool)
+    → seen + swap + (if off then 64 else 0) + last + first + doubt + gaps ≡ 0 → off ≡ false
+not_off seen swap last first doubt gaps true e = absurd (omega (arith, e))
+not_off seen swap last first doubt gaps false e = refl
+
+not_open : (seen swap off last first doubt : ℕ) (b : Bool)
+    → seen + swap + off + last + first + doubt + (if b then 2048 else 0) ≡ 0 → b ≡ false
+not_open seen swap off last first doubt true e = absurd (omega (arith, e))
+not_open seen swap off last first doubt false e = refl
+
+-- neither of two
+neither : (a b : Bool) → (a || b) ≡ false → b ≡ false
+neither true b e = absurd (let h : true ≡ false = e in cc)
+neither false b e = e
+
+-- where no gap is open, and the ends aren't off, they are near
+is_near : (gaps : ℕ) (b : Bool) → nat_lt 0 gaps ≡ false → ((gaps == 0) && not b) ≡ false → b ≡ true
+is_near gaps true none e = refl
+is_near gaps false none e = elim (leb_tells 1 gaps) [
+  | inl (t, le) ↦ absurd (let h : true ≡ false = sym t ∙ none in cc)
+  | inr (f, lt) ↦ elim (eqb_tells gaps 0) [
+    | inl (t, zero_is) ↦ absurd (let h : true ≡ false = rw t at e in cc)
+    | inr (u, other) ↦ absurd (omega (arith, lt, other))
+  ]
+]
+
+-- ---- yes
+
+-- the ends of a capture that is said to be whole
+yes_near : (pace : Pace) (slack : ℕ) (numbering : Numbering) (may_end : Bool) (seen : List Sightings)
+    (answers : List Number) (ends : List ℕ) (finding : Finding) (old new : List Gap)
+    → IsFinding pace slack numbering may_end seen answers ends finding old new → finding.verdict ≡ yes
+    → (m n : ℕ) × AreEnds answers finding.first m finding.last n
+    × (nearly pace slack (finding.first + finding.tally.stood) m finding.last n ≡ true)
+yes_near pace slack numbering may_end seen answers ends finding old new is verdict = go is.reasons
+  where
+    none : finding.reasons ≡ 0
+    none = yes_none finding.reasons (sym is.verdict ∙ verdict)
+
+    go : IsUntold answers finding ⊎ ((m n : ℕ) × AreEnds answers finding.first m finding.last n
+        × (finding.reasons ≡ reasons_of pace slack may_end answers ends finding.tally is.swapped is.drifts
+        finding.first m finding.last n))
+        → (m n : ℕ) × AreEnds answers finding.first m finding.last n
+        × (nearly pace slack (finding.first + finding.tally.stood) m finding.last n ≡ true)
+    go (inl (never, e, first, last)) = absurd (omega (arith, none, e))
+    go (inr (m, n, are, e)) =
+        let first = finding.first in
+        let last = finding.last in
+        let tally = finding.tally in
+        let seen_here = seen_reasons pace ends tally first m in
+        let swap = reason 32 is.swapped in
+        let last_unseen = reason 256 (is_end_unseen may_end ends last) in
+        let first_unseen = reason 512 (is_begin_unseen ends first m) in
+        let doubt = reason 1024 (are_doubtful answers) in
+        let open_none = not_open seen_here swap (reason 64
+        (is.drifts || is_off pace slack tally first m last n)) last_unseen
+        first_unseen doubt (nat_lt 0 tally.open_gaps) (sym e ∙ none) in
+        let off = not_off seen_here swap last_unseen first_unseen doubt (reason 2048 (nat_lt 0 tally.open_gaps))
+        (is.drifts || is_off pace slack tally first m last n) (sym e ∙ none) in (
+          m,
+          n,
+          are,
+          is_near tally.open_gaps (nearly pace slack (first + tally.stood) m last n) open_none
+              (neither is.drifts (is_off pace slack tally first m last n) off),
+        )
+
+within : (slack i m j n : ℕ) → nearly Video slack i m j n ≡ true
+    → (j + 2 * m ≤ i + 2 * n + slack) × (i + 2 * n ≤ j + 2 * m + slack)
+within slack i m j n e =
+    let p = both (nat_le (j + 2 * m) (i + 2 * n + slack)) (nat_le (i + 2 * n) (j + 2 * m + slack)) e in
+    elim (leb_tells (j + 2 * m) (i + 2 * n + slack)) [
+      | inl (t, le) ↦ elim (leb_tells (i + 2 * n) (j + 2 * m + slack)) [
+        | inl (u, more) ↦ (le, more)
+        | inr (u, less) ↦ absurd (let h : true ≡ false = sym p.1 ∙ u in cc)
+      ]
+      | inr (t, lt) ↦ absurd (let h : true ≡ false = sym p.0 ∙ t in cc)
+    ]
+
+pub yes_ends : (numbering : Numbering) (may_end : Bool) (seen : List Sightings) (answers : List Number) (ends : List ℕ)
+    (finding : Finding) (old new : List Gap)
+    → IsFinding Video 0 numbering may_end seen answers ends finding old new → finding.verdict ≡ yes
+    → (m n : ℕ) × AreEnds answers finding.first m finding.last n
+    × (finding.last + 2 * m ≡ finding.first + finding.tally.stood + 2 * n)
+yes_ends numbering may_end seen answers ends finding old new is verdict =
+    let p = yes_near Video 0 numbering may_end seen answers ends finding old new is verdict in
+    let q = within 0 (finding.first + finding.tally.stood) p.0 finding.last p.1 p.3 in
+    (p.0, p.1, p.2, omega (arith, q.0, q.1))
+
+module _ (disc : ℕ → Option ℕ) (place : ℕ → ℕ) (fields : List Sightings) (runs : DiscRuns Video disc)
+    (rises : Rises place) where
+  -- in a capture in order no still lies between two numbers that count to each other less the stills
+  no_still : (i m j n stood : ℕ) → IsAnchor Video (captured disc place) fields i m
+      → IsAnchor Video (captured disc place) fields j n → i + 2 * reach ≤ j → j + 2 * m ≡ i + stood + 2 * n → stood ≡ 0
+  no_still i m j n stood first last far same =
+      let alone = alone_of disc place rises
+      (λ d e k here there. omega (arith, video_fits d k e k (runs d e k k here there))) in
+      let p = near_one Video (captured disc place) fields alone i m first in
+      let q = near_one Video (captured disc place) fields alone j n last in
+      let order : p.0 ≤ q.0 = omega (arith, p.2.1, q.2.0, far) in
+      omega (
+        arith,
+        apart place p.0 q.0 rises order,
+        order,
+        same,
+        video_fits (place p.0) p.1 (place q.0) q.1 (runs (place p.0) (place q.0) p.1 q.1 p.3 q.3),
+        video_fits i m p.0 p.1 p.4,
+        video_fits j n q.0 q.1 q.4,
+      )
+
+pub whole_yes : (disc : ℕ → Option ℕ) (place : ℕ → ℕ) (fields : List Sightings) (answers : List Number)
+    (numbering : Numbering) (may_end : Bool) (seen : List Sightings) (ends : List ℕ) (finding : Finding)
+    (old new : List Gap) → DiscRuns Video disc → Rises place
+    → AreAnswers Video fields answers → IsFinding Video 0 numbering may_end seen answers ends finding old new
+    → finding.verdict ≡ yes
+    → wrong_weight (captured disc place) fields finding.first < enough
+    → wrong_weight (captured disc place) fields finding.last < enough → finding.first + 2 * reach ≤ finding.last
+    → NoneLost place (finding.first + reach) (finding.last - reach)
+whole_yes disc place fields answers numbering may_end seen ends finding old new runs rises are is verdict few low far =
+    let p = yes_ends numbering may_end seen answers ends finding old new is verdict in
+    let first = anchor (captured disc place) fields answers finding.first p.0 are p.2.begins few in
+    let last = anchor (captured disc place) fields answers finding.last p.1 are p.2.ends low in
+    let none = no_still disc place fields runs rises finding.first p.0 finding.last p.1 finding.tally.stood first last
+    far p.3 in
+    whole disc place fields runs rises finding.first p.0 finding.last p.1 first last far (omega (arith, p.3, none))
+
+-- of a disc with a number on both fields of its pictures two fields at most are lost, of film four
+pub yes_of_both : (slack : ℕ) (disc : ℕ → Option ℕ) (place : ℕ → ℕ) (fields : List Sightings) (answers : List Number)
+    (numbering : Numbering) (may_end : Bool) (seen : List Sightings) (ends : List ℕ) (finding : Finding)
+    (old new : List Gap) → slack ≤ 1 → DiscCounts slack disc → Rises place
+    → AreAnswers Video fields answers → IsFinding Video slack numbering may_end seen answers ends finding old new
+    → finding.verdict ≡ yes
+    → wrong_weight (captured disc place) fields finding.first < enough
+    → wrong_weight (captured disc place) fields finding.last < enough → finding.first + 2 * reach ≤ finding.last
+    → (p q some : ℕ) × IsNear finding.first p × IsNear finding.last q × AreLost place p q some × (some ≤ 2 * slack)
+yes_of_both slack disc place fields answers numbering may_end seen ends finding old new one counts rises are is
+    verdict few low far =
+    let e = yes_near Video slack numbering may_end seen answers ends finding old new is verdict in
+    let near = within slack (finding.first + finding.tally.stood) e.0 finding.last e.1 e.3 in
+    let first = anchor (captured disc place) fields answers finding.first e.0 are e.2.begins few in
+    let last = anchor (captured disc place) fields answers finding.last e.1 are e.2.ends low in
+    let alone = alone_of disc place rises (λ d e k here there. omega (arith, one, counts e d k k there here)) in
+    let p = near_one Video (captured disc place) fields alone finding.first e.0 first in
+    let q = near_one Video (captured disc place) fields alone finding.last e.1 last in
+    let order : p.0 ≤ q.0 = omega (arith, p.2.1, q.2.0, far) in
+    let least = apart place p.0 q.0 rises order in
+    let on = counts (place p.0) (place q.0) p.1 q.1 p.3 q.3 in
+    let here = video_fits finding.first e.0 p.0 p.1 p.4 in
+    let there = video_fits finding.last e.1 q.0 q.1 q.4 in (
+      p.0,
+      q.0,
+      place q.0 - (place p.0 + (q.0 - p.0)),
+      p.2,
+      q.2,
+      omega (arith, least, order),
+      omega (arith, order, least, on, here, there, near.0, near.1),
+    )
+
+pub yes_of_film : (disc : ℕ → Option ℕ) (place : ℕ → ℕ) (fields : List Sightings) (answers : List Number)
+    (slack : ℕ) (numbering : Numbering) (may_end : Bool) (seen : List Sightings) (ends : List ℕ) (finding : Finding)
+    (old new : List Gap) → DiscRuns Film disc → Rises place
+    → AreAnswers Film fields answers → IsFinding Film slack numbering may_end seen answers ends finding old new
+    → finding.verdict ≡ yes
+    → wrong_weight (captured disc place) fields finding.first < enough
+    → wrong_weight (captured disc place) fields finding.last < enough → finding.first + 2 * reach ≤ finding.last
+    → (p q some : ℕ) × IsNear finding.first p × IsNear finding.last q × AreLost place p q some × (some ≤ 4)
+yes_of_film disc place fields answers slack numbering may_end seen ends finding old new runs rises are is verdict few
+    low far =
+    let e = yes_near Film slack numbering may_end seen answers ends finding old new is verdict in
+    let near = film_fits (finding.first + finding.tally.stood) e.0 finding.last e.1 e.3 in
+    let first : IsAnchor Film (captured disc place) fields finding.first e.0 = record {
+      believed = answer_believed Film fields finding.first e.0 (believed e.0)
+          (are.each finding.first (believed e.0) e.2.begins) refl;
+      few = few;
+    } in
+    let last : IsAnchor Film (captured disc place) fields finding.last e.1 = record {
+      believed = answer_believed Film fields finding.last e.1 (believed e.1)
+          (are.each finding.last (believed e.1) e.2.ends) refl;
+      few = low;
+    } in
+    let alone = alone_of disc place rises
+    (λ d e k here there. let f = film_fits d k e k (runs d e k k here there) in omega (arith, f.0, f.1)) in
+    let p = near_one Film (captured disc place) fields alone finding.first e.0 first in
+    let q = near_one Film (captured disc place) fields alone finding.last e.1 last in
+    let fit = film_fits (place p.0) p.1 (place q.0) q.1 (runs (place p.0) (place q.0) p.1 q.1 p.3 q.3) in
+    let here = film_fits finding.first e.0 p.0 p.1 p.4 in
+    let there = film_fits finding.last e.1 q.0 q.1 q.4 in
+    let order : p.0 ≤ q.0 = omega (arith, p.2.1, q.2.0, far) in
+    let least = apart place p.0 q.0 rises order in (
+      p.0,
+      q.0,
+      place q.0 - (place p.0 + (q.0 - p.0)),
+      p.2,
+      q.2,
+      omega (arith, least, order),
+      omega (arith, order, least, fit.0, fit.1, here.0, here.1, there.0, there.1, near.0, near.1),
+    )
+
+-- ---- no
+
+pub whole_lost : (pace : Pace) (slack : ℕ) (disc : ℕ → Option ℕ) (place : ℕ → ℕ) (answers : List Number)
+    (numbering : Numbering) (may_end : Bool) (seen : List Sightings) (ends : List ℕ) (finding : Finding)
+    (old new : List Gap) → DiscRuns pace disc → Rises place
+    → IsFinding pace slack numbering may_end seen answers ends finding old new
+    → ((gap : Gap) → IsGap pace slack numbering seen answers ends gap → gap.kind ≡ lost
+    → HasRightEnds (captured disc place) gap)
+    → (HasNone answers → ⊥) → LostAtLeast place finding.first finding.last finding.tally.lost
+whole_lost pace slack disc place answers numbering may_end seen ends finding old new runs rises is right some = go
+    is.reasons
+  where
+    sum : finding.tally.lost ≡ capped (sum_by (fields_if lost) is.told.gaps)
+    sum = ap (λ (t : Tally). t.lost) is.told.comes_to
+
+    go : IsUntold answers finding ⊎ ((m n : ℕ) × AreEnds answers finding.first m finding.last n
+        × (finding.reasons ≡ reasons_of pace slack may_end answers ends finding.tally is.swapped is.drifts
+        finding.first m finding.last n))
+        → LostAtLeast place finding.first finding.last finding.tally.lost
+    go (inl (never, e, first, last)) = absurd (some never)
+    go (inr (m, n, are, e)) =
+        let p = lost_below pace slack disc place numbering seen answers ends runs rises right finding.first
+        are.none_before
+        (length answers) is.told.gaps is.told.unread is.told.all finding.last n are.ends
+        (slice_get_within answers finding.last (believed n) are.ends) (λ j l lt less. are.none_behind j l lt) in
+        omega (arith, p.1, sum)
+
+-- ---- nothing is known
+
+pub none_known : (pace : Pace) (slack : ℕ) (numbering : Numbering) (may_end : Bool) (seen : List Sightings)
+    (answers : List Number) (ends : List ℕ) (finding : Finding)
+    (old new : List Gap) → IsFinding pace slack numbering may_end seen answers ends finding old new → HasNone answers
+    → finding.verdict ≡ cannot_tell
+none_known pace slack numbering may_end seen answers ends finding old new is never = go is.reasons
+  where
+    go : IsUntold answers finding ⊎ ((m n : ℕ) × AreEnds answers finding.first m finding.last n
+        × (finding.reasons ≡ reasons_of pace slack may_end answers ends finding.tally is.swapped is.drifts
+        finding.first m finding.last n))
+        → finding.verdict ≡ cannot_tell
+    go (inl (always, e, first, last)) = is.verdict ∙ ap verdict_of e
+    go (inr (m, n, are, e)) = absurd (never finding.first m are.begins)

@@ -1,0 +1,7 @@
+use Rattle.std.proofs.Common.{refl}
+use Rattle.vbi_side.specs.Gaps.{last_still, stills_of}
+use Rattle.vbi_side.proofs.gap.Tally.none.Goals as goal
+
+pub returns : goal.returns
+unfolding last_still stills_of
+returns c = refl

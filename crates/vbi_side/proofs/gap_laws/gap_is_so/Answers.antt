@@ -1,0 +1,11 @@
+use Rattle.vbi_side.proofs.GapLaws.{gap_exact, gap_least, gap_is_cut}
+use Rattle.vbi_side.proofs.gap_laws.gap_is_so.Goals as goal
+
+pub returns-clause-exact : goal.returns-clause-exact
+returns-clause-exact c = gap_exact
+
+pub returns-clause-least : goal.returns-clause-least
+returns-clause-least c = gap_least
+
+pub returns-clause-cut : goal.returns-clause-cut
+returns-clause-cut c = gap_is_cut

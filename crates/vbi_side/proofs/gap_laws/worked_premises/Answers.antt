@@ -1,0 +1,43 @@
+use Rattle.std.proofs.Common.{[], false, refl, arith, inr}
+use Rattle.vbi_side.specs.Gaps.{since_end, stills_of, last_still}
+use Rattle.vbi_side.specs.WorkedSides.{cav, worked_ends}
+use Rattle.vbi_side.proofs.Telling.{none_written}
+use Rattle.vbi_side.proofs.WorkedPictures.{answers_are, none_wrong, no_gaps, no_swap, no_drift, marked_is}
+use Rattle.vbi_side.proofs.gap_laws.worked_premises.Goals as goal
+
+pub returns-clause-answers : goal.returns-clause-answers
+returns-clause-answers c = answers_are
+
+pub returns-clause-few : goal.returns-clause-few
+returns-clause-few c = omega (arith, none_wrong 0)
+
+pub returns-clause-low : goal.returns-clause-low
+returns-clause-low c = omega (arith, none_wrong 48)
+
+pub returns-clause-finding : goal.returns-clause-finding
+unfolding since_end stills_of last_still
+returns-clause-finding c = record {
+  told = record {
+    gaps = [];
+    unread = 0;
+    all = no_gaps cav worked_ends 50 (omega arith);
+    comes_to = refl;
+    written = none_written [];
+  };
+  swapped = false;
+  swap = (refl, λ pace slack. no_swap);
+  drifts = false;
+  drift = no_drift;
+  verdict = refl;
+  reasons = inr (
+    0,
+    24,
+    record {
+      begins = refl;
+      ends = refl;
+      none_before = λ i k less. absurd (omega (arith, less));
+      none_behind = λ i k less at. let p = marked_is i k at in absurd (omega (arith, less, p.0, p.1));
+    },
+    refl,
+  );
+}

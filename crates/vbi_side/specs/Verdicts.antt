@@ -1,0 +1,117 @@
+-- Whether a capture of a side is whole: yes, no, or it can't be told, with the reasons.
+use Rattle.std.specs.Prelude.{◌≡◌, ℕ, ◌+◌, ◌*◌, ◌-◌, ◌%◌, ◌==◌, nat_lt, nat_le, not, ◌&&◌, ◌||◌, ◌⊎◌, Bool}
+use Rattle.std.specs.Prelude.{if◌then◌else◌, List, [], length, count_by, drop}
+use Rattle.vbi_side.specs.declared.number.Number.{Number}
+use Rattle.vbi_side.specs.declared.gap.Gap.{Gap}
+use Rattle.vbi_side.specs.declared.gap.Tally.{Tally}
+use Rattle.vbi_side.specs.declared.verdict.Finding.{Finding}
+use Rattle.vbi_side.specs.declared.pace.Pace.{Pace}
+use Rattle.vbi_side.specs.declared.pace.Pace.TheVariants.{Video, Film}
+use Rattle.vbi_side.specs.Paces.{nearly}
+use Rattle.vbi_side.specs.Numbers.{IsMarked}
+use Rattle.vbi_side.specs.Side.{AreEnds}
+use Rattle.vbi_side.specs.Gaps.{since_end, IsTold, tally_of}
+use Rattle.vbi_side.specs.Ends.{lead_out}
+use Rattle.vbi_side.specs.Swaps.{IsSwapTold}
+use Rattle.vbi_side.specs.Drifts.{IsDriftTold}
+use Rattle.vbi_side.specs.declared.sighting.Sightings.{Sightings}
+use Rattle.vbi_side.specs.declared.gap.Numbering.{Numbering}
+
+-- the verdicts
+abbrev pub cannot_tell : ℕ
+cannot_tell = 0
+
+abbrev pub yes : ℕ
+yes = 1
+
+abbrev pub no : ℕ
+no = 2
+
+-- the verdict that reasons leave: yes if there is none, no if one of the first six is there, which are seen on the
+-- capture, else it can't be told
+abbrev pub verdict_of : ℕ → ℕ
+verdict_of reasons = if reasons == 0 then yes else (if (reasons % 64) == 0 then cannot_tell else no)
+
+-- a reason, if it holds
+abbrev pub reason : ℕ → Bool → ℕ
+reason bit holds = if holds then bit else 0
+
+-- so many fields are fewer than the numbers before number m take, of which 1 is the first; of film by more than a field
+abbrev pub too_few : Pace → ℕ → ℕ → Bool
+too_few Video fields m = nat_lt fields (2 * (m - 1))
+too_few Film fields m = nat_lt (2 * fields + 2) (5 * (m - 1))
+
+-- fields are lost; too many are there; the numbers go back; another side begins; the capture begins late
+abbrev pub seen_reasons : Pace → List ℕ → Tally → ℕ → ℕ → ℕ
+seen_reasons pace ends tally first m =
+    reason 1 (nat_lt 0 tally.lost) + reason 2 (nat_lt 0 tally.held) + reason 4 (nat_lt 0 tally.back)
+    + reason 8 (nat_lt 0 tally.joined) + reason 16 (too_few pace (since_end ends first) m)
+
+-- no gap is open, and the first and the last number don't count to each other, less the fields for which the player
+-- stood still
+abbrev pub is_off : Pace → ℕ → Tally → ℕ → ℕ → ℕ → ℕ → Bool
+is_off pace slack tally first m last n =
+    (tally.open_gaps == 0) && not (nearly pace slack (first + tally.stood) m last n)
+
+-- the first number isn't the disc's first, and over a hundred fields without numbers stand before it
+abbrev pub is_begin_unseen : List ℕ → ℕ → ℕ → Bool
+is_begin_unseen ends first m = nat_lt 1 m && nat_lt 100 (since_end ends first)
+
+-- a field behind field k is of lead-out
+abbrev pub is_ended_behind : List ℕ → ℕ → Bool
+is_ended_behind ends k = nat_lt 0 (count_by (λ e. e == lead_out) (drop (k + 1) ends))
+
+-- no lead-out is seen behind the last number, and the caller doesn't say that the capture may end before the disc
+abbrev pub is_end_unseen : Bool → List ℕ → ℕ → Bool
+is_end_unseen may_end ends last = not may_end && not (is_ended_behind ends last)
+
+-- so many answers are of this state
+abbrev pub count_of : ℕ → List Number → ℕ
+count_of state answers = count_by (λ (a : Number). a.state == state) answers
+
+-- of the numbers that were read a tenth or more is in doubt
+abbrev pub are_doubtful : List Number → Bool
+are_doubtful answers =
+    nat_le (count_of 1 answers + count_of 2 answers) (10 * count_of 2 answers)
+
+-- all reasons against a capture whose first and last believed numbers are m in field `first` and n in field `last`
+abbrev pub reasons_of : Pace → ℕ → Bool → List Number → List ℕ → Tally → Bool → Bool → ℕ → ℕ → ℕ → ℕ → ℕ
+reasons_of pace slack may_end answers ends tally swapped drifts first m last n =
+    seen_reasons pace ends tally first m + reason 32 swapped
+    + reason 64 (drifts || is_off pace slack tally first m last n)
+    + reason 256 (is_end_unseen may_end ends last) + reason 512 (is_begin_unseen ends first m)
+    + reason 1024 (are_doubtful answers) + reason 2048 (nat_lt 0 tally.open_gaps)
+
+-- no number is believed
+abbrev pub HasNone : List Number → Type 0
+HasNone answers = (i k : ℕ) → IsMarked answers i k → ⊥
+
+-- no number is believed, and nothing else is said of the capture
+abbrev pub IsUntold : List Number → Finding → Type 0
+IsUntold answers finding =
+    HasNone answers × (finding.reasons ≡ 128) × (finding.first ≡ 0) × (finding.last ≡ 0)
+
+-- what is said of a capture
+pub record IsFinding (pace : Pace) (slack : ℕ) (numbering : Numbering) (may_end : Bool) (seen : List Sightings)
+    (answers : List Number) (ends : List ℕ) (finding : Finding) (old new : List Gap) : Type 0 where
+  pub told : IsTold pace slack numbering seen answers ends (length answers) finding.tally old new
+  pub swapped : Bool
+  pub swap : IsSwapTold pace slack seen answers finding.swap swapped
+  pub drifts : Bool
+  pub drift : IsDriftTold pace slack answers drifts
+  pub verdict : finding.verdict ≡ verdict_of finding.reasons
+  pub reasons : IsUntold answers finding
+      ⊎ ((m n : ℕ) × AreEnds answers finding.first m finding.last n
+      × (finding.reasons ≡ reasons_of pace slack may_end answers ends finding.tally swapped drifts
+      finding.first m finding.last n))
+
+-- what is said of a capture with no gap from the first field with a number to the last, to which nothing is to be said
+abbrev pub found_whole : ℕ → ℕ → Finding
+found_whole first last = record {
+  tally = tally_of [] 0;
+  first = first;
+  last = last;
+  swap = 0;
+  verdict = yes;
+  reasons = 0;
+}

@@ -1,0 +1,57 @@
+-- Worked sides: what discs count, and gaps and fields written down.
+use Rattle.std.specs.Prelude.{ℕ, zero, suc, List, [], ◌∷◌, replicate}
+use Rattle.vbi_words.specs.declared.system.System.TheVariants.{Ntsc, Pal}
+use Rattle.vbi_side.specs.declared.lines.Counted.TheVariants.{Pictures, Times}
+use Rattle.vbi_side.specs.declared.gap.Numbering.{Numbering}
+use Rattle.vbi_side.specs.declared.gap.Gap.{Gap}
+use Rattle.vbi_side.specs.declared.number.Number.{Number}
+use Rattle.vbi_side.specs.declared.sighting.Sightings.{Sightings}
+use Rattle.vbi_side.specs.Numbers.{believed, nothing}
+use Rattle.vbi_side.specs.Worked.{field_of, blank}
+use Rattle.vbi_side.specs.Gaps.{lost, still, gap_made}
+
+-- pictures, and times that keep to a clock or don't
+abbrev pub cav : Numbering
+cav = record { system = Ntsc; counted = Pictures }
+
+abbrev pub cav_pal : Numbering
+cav_pal = record { system = Pal; counted = Pictures }
+
+abbrev pub clv : Numbering
+clv = record { system = Ntsc; counted = Times }
+
+abbrev pub clv_pal : Numbering
+clv_pal = record { system = Pal; counted = Times }
+
+-- a still of three pictures more than the first, a loss, and a still of one picture more
+abbrev pub two_stills : List Gap
+two_stills =
+    gap_made 10 5 12 5 still 2 0 ∷ gap_made 12 5 14 5 still 2 0 ∷ gap_made 14 5 16 5 still 2 0
+    ∷ gap_made 16 5 18 8 lost 4 0 ∷ gap_made 18 8 20 8 still 2 0 ∷ []
+
+-- pictures 1 and 2, and what is answered of them
+abbrev pub two_pictures : List Sightings
+two_pictures = field_of 1 2 1 2 ∷ blank ∷ field_of 2 2 2 2 ∷ []
+
+abbrev pub two_answers : List Number
+two_answers = believed 1 ∷ nothing ∷ believed 2 ∷ []
+
+-- so many pictures from this number on, read on both lines of one field each
+abbrev pub pictures_from : ℕ → ℕ → List Sightings
+pictures_from zero n = []
+pictures_from (suc k) n = field_of n 2 n 2 ∷ blank ∷ pictures_from k (suc n)
+
+-- what is answered of them
+abbrev pub answers_from : ℕ → ℕ → List Number
+answers_from zero n = []
+answers_from (suc k) n = believed n ∷ nothing ∷ answers_from k (suc n)
+
+-- a capture of pictures 0 to 24, in 50 fields, of which none is of lead-in or lead-out
+abbrev pub worked_side : List Sightings
+worked_side = pictures_from 25 0
+
+abbrev pub worked_answers : List Number
+worked_answers = answers_from 25 0
+
+abbrev pub worked_ends : List ℕ
+worked_ends = replicate 50 0

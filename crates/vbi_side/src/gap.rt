@@ -1,0 +1,322 @@
+//! What lies between two neighbouring numbers of a capture: nothing, if they go on, else a gap.
+
+ghost use Rattle.std.specs.Prelude.{◌≡◌, ◌+◌, ◌*◌, ◌<◌, ◌≤◌, ◌^◌};
+ghost use Rattle.vbi_side.specs.Paces.{nearly, stays};
+ghost use Rattle.vbi_side.specs.Gaps.{lacking, has_stills, has_clock, off_by, is_open, kind_of, fields_of, gap_of};
+ghost use Rattle.vbi_side.specs.Gaps.{skipped, shown_most, lost_of, undecided_of, fields_if, one_if};
+
+use crate::lines::Counted;
+use crate::pace::Pace;
+use std::mem::size_of;
+use vbi_words::System;
+
+/// Fields of the disc are lost.
+pub const LOST: u32 = 1;
+/// More fields are there than the numbers count to.
+pub const HELD: u32 = 2;
+/// The numbers go back.
+pub const BACK: u32 = 3;
+/// The player stood still: the same number, an even count of fields behind.
+pub const STILL: u32 = 4;
+/// A lead-in or a lead-out stands between: another side begins.
+pub const JOINED: u32 = 5;
+/// The disc itself may skip there: the clock of an NTSC CLV disc leaves out a number or two, and where film is cut a
+/// number that wasn't read may stand a field off.
+pub const OPEN: u32 = 6;
+
+/// What lies between two neighbouring believed numbers that don't go on.
+#[derive(Clone, Copy)]
+#[repr(C)]
+pub struct Gap {
+    /// The field before it that has a number, counted from 0.
+    pub after: usize,
+    /// The field behind it that has one.
+    pub before: usize,
+    /// By how many fields: those lost or too many, at least; those of the still; else 0. Where it is open, how many
+    /// more or less there are than the numbers count to.
+    pub fields: u64,
+    /// How many fields between the two show a number between theirs, on both lines in pass 1.
+    pub shown: u64,
+    /// The number of the field before it.
+    pub from: u32,
+    /// The number of the field behind it.
+    pub to: u32,
+    /// `LOST`, `HELD`, `BACK`, `STILL`, `JOINED` or `OPEN`.
+    pub kind: u32,
+}
+
+/// What the gaps of a capture come to.
+#[derive(Clone, Copy)]
+#[repr(C)]
+pub struct Tally {
+    /// How many gaps there are.
+    pub gaps: usize,
+    /// The fields that are lost, at least.
+    pub lost: u64,
+    /// The fields that are too many, at least.
+    pub held: u64,
+    /// The fields of stills.
+    pub stood: u64,
+    /// The stills: one counts once, however long it is.
+    pub stills: u64,
+    /// The field behind the last still, counted from 0; 0 if there is none.
+    pub still_end: usize,
+    /// How often the numbers go back.
+    pub back: u64,
+    /// How often another side begins.
+    pub joined: u64,
+    /// How many gaps are open.
+    pub open_gaps: u64,
+    /// The numbers that are lost, at least.
+    pub lost_numbers: u64,
+    /// The further numbers in gaps with lost fields, and those in open gaps: of these it isn't known.
+    pub undecided: u64,
+    /// The numbers that weren't read, but of which the fields are there.
+    pub unread: u64,
+}
+
+// As include/ldvbi.h has them.
+const _: () = prove!(size_of::<Gap>() == 48);
+
+const _: () = prove!(size_of::<Tally>() == 96);
+
+/// What the numbers of a disc are.
+#[derive(Clone, Copy)]
+pub struct Numbering {
+    /// The disc's system.
+    pub system: System,
+    /// What it counts.
+    pub counted: Counted,
+}
+
+impl Numbering {
+    /// Whether a player can stand still at a number: a CLV disc has no stills.
+    fn has_stills(self) -> bool
+        ensures { result ≡ has_stills self }
+    {
+        matches!(self.counted, Counted::Pictures)
+    }
+
+    /// Whether the numbers keep to a clock, for which some are left out.
+    fn has_clock(self) -> bool
+        ensures { result ≡ has_clock self }
+    {
+        matches!((self.system, self.counted), (System::Ntsc, Counted::Times))
+    }
+}
+
+/// How two numbers of a disc go on: at this pace, to within so many fields, which are 1 of a disc with a number on both
+/// fields of its pictures, else 0.
+#[derive(Clone, Copy)]
+pub struct Rule {
+    /// The disc's pace.
+    pub pace: Pace,
+    /// 0 or 1.
+    pub slack: u64,
+    /// What its numbers are.
+    pub numbering: Numbering,
+}
+
+/// A field with the number that is believed of it.
+#[derive(Clone, Copy)]
+pub(crate) struct Place {
+    pub(crate) field: usize,
+    pub(crate) number: u32,
+}
+
+/// Whether two numbers go on, to within so many fields.
+pub(crate) fn goes_on(pace: Pace, slack: u64, here: Place, there: Place) -> bool
+    requires slack { slack ≤ 1 }
+    requires here { here.field < 2 ^ 60 }
+    requires there { there.field < 2 ^ 60 }
+    ensures { result ≡ nearly pace slack here.field here.number there.field there.number }
+{
+    let (field, number) = (here.field as u64, u64::from(here.number));
+    let (other, count) = (there.field as u64, u64::from(there.number));
+    match pace {
+        Pace::Video => {
+            other + 2 * number <= field + 2 * count + slack
+                && field + 2 * count <= other + 2 * number + slack
+        }
+        Pace::Film => {
+            2 * other + 5 * number <= 2 * field + 5 * count + 2
+                && 2 * field + 5 * count <= 2 * other + 5 * number + 2
+        }
+    }
+}
+
+/// Whether two fields are of one still.
+fn is_still(here: Place, there: Place) -> bool
+    requires here { here.field < 2 ^ 60 }
+    requires there { there.field < 2 ^ 60 }
+    ensures { result ≡ stays here.field here.number there.field there.number }
+{
+    there.number == here.number && (here.field + there.field) % 2 == 0
+}
+
+/// How many fields at least are too few between two numbers.
+fn lacking(pace: Pace, here: Place, there: Place) -> u64
+    requires here { here.field < 2 ^ 60 }
+    requires there { there.field < 2 ^ 60 }
+    ensures { result ≡ lacking pace here.field here.number there.field there.number }
+{
+    let (field, number) = (here.field as u64, u64::from(here.number));
+    let (other, count) = (there.field as u64, u64::from(there.number));
+    match pace {
+        Pace::Video => (field + 2 * count).saturating_sub(other + 2 * number),
+        Pace::Film => {
+            (2 * field + 5 * count)
+                .saturating_sub(2 * other + 5 * number)
+                .saturating_sub(1)
+                / 2
+        }
+    }
+}
+
+/// By how many fields too few or too many the two are apart, at least.
+fn off_by(pace: Pace, here: Place, there: Place) -> u64
+    requires here { here.field < 2 ^ 60 }
+    requires there { there.field < 2 ^ 60 }
+    ensures { result ≡ off_by pace here.field here.number there.field there.number }
+{
+    lacking(pace, here, there) + lacking(pace, there, here)
+}
+
+/// Whether the disc itself may skip between two numbers.
+fn is_open(pace: Pace, numbering: Numbering, here: Place, there: Place) -> bool
+    requires here { here.field < 2 ^ 60 }
+    requires there { there.field < 2 ^ 60 }
+    ensures { result ≡ is_open pace numbering here.field here.number there.field there.number }
+{
+    match pace {
+        Pace::Video => {
+            let few = lacking(pace, here, there);
+            numbering.has_clock() && (few == 2 || few == 4)
+        }
+        Pace::Film => {
+            u64::from(here.number) + 1 < u64::from(there.number) && off_by(pace, here, there) == 1
+        }
+    }
+}
+
+/// What lies between two numbers that don't go on.
+fn kind(pace: Pace, numbering: Numbering, ended: bool, here: Place, there: Place) -> u32
+    requires here { here.field < 2 ^ 60 }
+    requires there { there.field < 2 ^ 60 }
+    ensures { result ≡ kind_of pace numbering ended here.field here.number there.field there.number }
+{
+    if ended {
+        JOINED
+    } else if numbering.has_stills() && is_still(here, there) {
+        STILL
+    } else if there.number < here.number {
+        BACK
+    } else if is_open(pace, numbering, here, there) {
+        OPEN
+    } else if lacking(pace, here, there) > 0 {
+        LOST
+    } else {
+        HELD
+    }
+}
+
+/// By how many fields they don't.
+fn fields(pace: Pace, slack: u64, kind: u32, here: Place, there: Place) -> u64
+    requires here { here.field < 2 ^ 60 }
+    requires there { there.field < 2 ^ 60 }
+    requires order { here.field ≤ there.field }
+    ensures { result ≡ fields_of pace slack kind here.field here.number there.field there.number }
+{
+    if kind == LOST {
+        lacking(pace, here, there).saturating_sub(slack)
+    } else if kind == HELD {
+        lacking(pace, there, here).saturating_sub(slack)
+    } else if kind == STILL {
+        (there.field - here.field) as u64
+    } else if kind == OPEN {
+        off_by(pace, here, there)
+    } else {
+        0
+    }
+}
+
+/// The gap between two numbers, or none if they go on. `shown` are the fields between that show a number between.
+pub(crate) fn between(rule: Rule, ended: bool, shown: u64, here: Place, there: Place) -> Option<Gap>
+    requires slack { rule.slack ≤ 1 }
+    requires here { here.field < 2 ^ 60 }
+    requires there { there.field < 2 ^ 60 }
+    requires order { here.field ≤ there.field }
+    ensures { result ≡ gap_of rule.pace rule.slack rule.numbering ended shown here.field here.number there.field
+        there.number }
+{
+    if goes_on(rule.pace, rule.slack, here, there) {
+        return None;
+    }
+    let kind = kind(rule.pace, rule.numbering, ended, here, there);
+    Some(Gap {
+        after: here.field,
+        before: there.field,
+        fields: fields(rule.pace, rule.slack, kind, here, there),
+        shown,
+        from: here.number,
+        to: there.number,
+        kind,
+    })
+}
+
+/// The numbers that two others skip.
+pub(crate) fn skipped(from: u32, to: u32) -> u64
+    ensures { result ≡ skipped from to }
+{
+    u64::from(to.saturating_sub(from).saturating_sub(1))
+}
+
+impl Gap {
+    /// Its fields, if it is of this kind.
+    pub(crate) fn fields_if(self, kind: u32) -> u64
+        ensures { result ≡ fields_if kind self }
+    {
+        if self.kind == kind { self.fields } else { 0 }
+    }
+
+    /// One, if it is of this kind.
+    pub(crate) fn one_if(self, kind: u32) -> u64
+        ensures { result ≡ one_if kind self }
+    {
+        if self.kind == kind { 1 } else { 0 }
+    }
+
+    /// The numbers between its own that its fields show or could show.
+    fn shown_most(self) -> u64
+        requires { self.after < self.before }
+        ensures { result ≡ shown_most self }
+    {
+        self.shown.max(((self.before - self.after - 1) / 2) as u64)
+    }
+
+    /// The numbers that are lost in it, at least.
+    pub(crate) fn lost_numbers(self) -> u64
+        requires { self.after < self.before }
+        ensures { result ≡ lost_of self }
+    {
+        if self.kind == LOST {
+            skipped(self.from, self.to).saturating_sub(self.shown_most())
+        } else {
+            0
+        }
+    }
+
+    /// The further ones of which it isn't known.
+    pub(crate) fn undecided(self) -> u64
+        requires { self.after < self.before }
+        ensures { result ≡ undecided_of self }
+    {
+        if self.kind == LOST {
+            skipped(self.from, self.to).min(self.shown_most())
+        } else if self.kind == OPEN {
+            skipped(self.from, self.to)
+        } else {
+            0
+        }
+    }
+}

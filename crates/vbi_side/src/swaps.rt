@@ -1,0 +1,171 @@
+//! Two fields of video that stand in each other's place.
+//!
+//! Of two swapped fields the one with a number shows it a field too early or too late. Its number is set aside, since
+//! it fits none around it, and those go on as if nothing were wrong. So it is looked for among what was set aside. One
+//! line is enough, of any pass: a word that was misread stands in a field that has a number, so an even count of fields
+//! off.
+
+ghost use Rattle.std.specs.Prelude.{◌≡◌, ℕ, ◌+◌, ◌*◌, ◌<◌, ◌≤◌, ◌^◌, true, length, IfSome, Some, None, slice_get};
+ghost use Rattle.vbi_side.specs.Gaps.{IsLast};
+ghost use Rattle.vbi_side.specs.Swaps.{stands_off, is_believed_as, is_beside, shows_off, is_stray, IsSwap, AreStrays};
+
+use crate::gap::{Place, goes_on};
+use crate::number::Number;
+use crate::pace::Pace;
+use crate::sighting::{Sighting, Sightings};
+
+/// Whether a number stands one field before or behind the place that another one leaves for it.
+fn stands_off(here: Place, there: Place) -> bool
+    requires here { here.field < 2 ^ 60 }
+    requires there { there.field < 2 ^ 60 }
+    ensures { result ≡ stands_off here.field here.number there.field there.number }
+{
+    let (field, number) = (here.field as u64, u64::from(here.number));
+    let (other, count) = (there.field as u64, u64::from(there.number));
+    other + 2 * number == field + 2 * count + 1 || other + 2 * number + 1 == field + 2 * count
+}
+
+/// Whether a field has this number.
+fn is_believed_as(numbers: &[Number], field: usize, number: u32) -> bool
+    ensures { result ≡ is_believed_as (slice_get numbers.now field) number }
+{
+    match numbers.get(field) {
+        Some(answer) => answer.is_believed() && answer.number == number,
+        None => false,
+    }
+}
+
+/// Whether a field beside this one has the number, which stands on both fields of its picture then.
+fn is_beside(numbers: &[Number], field: usize, number: u32) -> bool
+    requires { field < 2 ^ 60 }
+    ensures { result ≡ is_beside numbers.now field number }
+{
+    is_believed_as(numbers, field.saturating_sub(1), number)
+        || is_believed_as(numbers, field + 1, number)
+}
+
+/// Whether a line shows a number that stands a field off the one before, and isn't that of a field beside it.
+fn shows_off(numbers: &[Number], here: Place, field: usize, sighting: &Sighting) -> bool
+    requires here { here.field < 2 ^ 60 }
+    requires field { field < 2 ^ 60 }
+    ensures { result ≡ shows_off numbers.now here.field here.number field sighting.now }
+{
+    let number = sighting.number;
+    sighting.weight > 0
+        && stands_off(here, Place { field, number })
+        && !is_beside(numbers, field, number)
+}
+
+/// Whether one of a field's lines does.
+fn is_stray(seen: &[Sightings], numbers: &[Number], here: Place, field: usize) -> bool
+    requires inside { field < length seen.now }
+    requires here { here.field < 2 ^ 60 }
+    ensures { result ≡ is_stray numbers.now here.field here.number field (slice_get seen.now field) }
+{
+    let shown = &seen[field];
+    shows_off(numbers, here, field, &shown.line_17)
+        || shows_off(numbers, here, field, &shown.line_18)
+}
+
+/// What the search knows of the fields before the next one.
+#[derive(Clone, Copy)]
+struct Search {
+    /// The last field with a believed number.
+    last: Option<Place>,
+    /// A field behind it whose number stands a field off.
+    stray: Option<usize>,
+}
+
+/// The field that stands off, of those before the next one.
+fn stray_with(seen: &[Sightings], numbers: &[Number], field: usize, search: Search) -> Option<usize>
+    requires inside { field < length seen.now }
+    requires near { IfSome search.last (λ place. place.field < field) }
+    requires strays { AreStrays seen.now numbers.now search.last field search.stray }
+    ensures { AreStrays seen.now numbers.now search.last (field + 1) result }
+{
+    let Some(here) = search.last else {
+        return None;
+    };
+    if search.stray.is_none() && is_stray(seen, numbers, here, field) {
+        Some(field)
+    } else {
+        search.stray
+    }
+}
+
+/// What it knows with one field more.
+fn with_field(seen: &[Sightings], numbers: &[Number], field: usize, search: Search) -> Search
+    requires same { length seen.now ≡ length numbers.now }
+    requires inside { field < length numbers.now }
+    requires last { IsLast numbers.now field search.last }
+    requires strays { AreStrays seen.now numbers.now search.last field search.stray }
+    ensures last { IsLast numbers.now (field + 1) result.last }
+    ensures strays { AreStrays seen.now numbers.now result.last (field + 1) result.stray }
+{
+    let answer = numbers[field];
+    if answer.is_believed() {
+        return Search {
+            last: Some(Place {
+                field,
+                number: answer.number,
+            }),
+            stray: None,
+        };
+    }
+    Search {
+        last: search.last,
+        stray: stray_with(seen, numbers, field, search),
+    }
+}
+
+/// The field that stands off between the last number and the one of this field, if these go on.
+fn swap_before(
+    seen: &[Sightings],
+    numbers: &[Number],
+    field: usize,
+    search: Search,
+) -> Option<usize>
+    requires same { length seen.now ≡ length numbers.now }
+    requires inside { field < length numbers.now }
+    requires last { IsLast numbers.now field search.last }
+    requires strays { AreStrays seen.now numbers.now search.last field search.stray }
+    ensures some { IfSome result (λ k. IsSwap seen.now numbers.now k) }
+    ensures none { result ≡ None → (k : ℕ) → (swap : IsSwap seen.now numbers.now k) → swap.j ≡ field → ⊥ }
+{
+    let Some(here) = search.last else {
+        return None;
+    };
+    let answer = numbers[field];
+    if !answer.is_believed() {
+        return None;
+    }
+    let there = Place {
+        field,
+        number: answer.number,
+    };
+    if goes_on(Pace::Video, 0, here, there) {
+        search.stray
+    } else {
+        None
+    }
+}
+
+/// The first field that was swapped with one beside it, counted from 0, as the numbers around it show.
+pub(crate) fn first_swap(seen: &[Sightings], numbers: &[Number]) -> Option<usize>
+    requires { length seen.now ≡ length numbers.now }
+    ensures some { IfSome result (λ field. IsSwap seen.now numbers.now field) }
+    ensures none { result ≡ None → (k : ℕ) → IsSwap seen.now numbers.now k → ⊥ }
+{
+    let mut search = Search {
+        last: None,
+        stray: None,
+    };
+    for field in 0..numbers.len() {
+        let found = swap_before(seen, numbers, field, search);
+        if found.is_some() {
+            return found;
+        }
+        search = with_field(seen, numbers, field, search);
+    }
+    None
+}

@@ -1,0 +1,299 @@
+//! Whether a capture of a side is whole.
+
+ghost use Rattle.std.specs.Prelude.{◌≡◌, ℕ, List, ◌+◌, ◌*◌, ◌<◌, ◌≤◌, ◌^◌, length, Bool};
+ghost use Rattle.vbi_side.specs.Paces.{nearly};
+ghost use Rattle.vbi_side.specs.Gaps.{since_end, ended_between};
+ghost use Rattle.vbi_side.specs.Verdicts.{verdict_of, reason, too_few, seen_reasons, is_off, is_begin_unseen};
+ghost use Rattle.vbi_side.specs.Verdicts.{is_ended_behind, is_end_unseen, count_of, are_doubtful, reasons_of, IsFinding};
+ghost use Rattle.vbi_side.specs.Swaps.{IsSwapTold};
+
+use crate::drift::has_drift;
+use crate::ends::LEAD_OUT;
+use crate::extent::{first_believed, last_believed};
+use crate::gap::{Gap, Place, Rule, Tally};
+use crate::gaps::{find_gaps, since_at};
+use crate::number::{BELIEVED, DOUBTFUL, Number};
+use crate::pace::Pace;
+use crate::sighting::Sightings;
+use crate::swaps::first_swap;
+use std::mem::size_of;
+
+/// It can't be told.
+pub const CANNOT_TELL: u32 = 0;
+/// The capture has each field of the disc from its first number to its last one, as far as its numbers tell.
+pub const YES: u32 = 1;
+/// It hasn't, or what it has isn't one run of the disc.
+pub const NO: u32 = 2;
+
+/// Fields are lost.
+pub const IS_LOST: u32 = 1;
+/// More fields are there than the numbers count to.
+pub const IS_HELD: u32 = 2;
+/// The numbers go back.
+pub const GOES_BACK: u32 = 4;
+/// Another side begins.
+pub const IS_JOINED: u32 = 8;
+/// The capture begins late: fewer fields stand before the first number than the numbers before it take.
+pub const BEGINS_LATE: u32 = 16;
+/// Two fields are swapped: between two numbers that go on a field shows one that stands a field off.
+pub const IS_SWAPPED: u32 = 32;
+/// Numbers that go on one by one, each to within a field, don't count to each other; or the first and the last one
+/// don't, less the fields for which the player stood still, and no gap is open. Of film, or of numbers on both fields,
+/// a field may be lost there, or the disc cut.
+pub const IS_OFF: u32 = 64;
+/// No number is believed.
+pub const NO_NUMBERS: u32 = 128;
+/// No lead-out is seen behind the last number.
+pub const END_UNSEEN: u32 = 256;
+/// Numbers before the first one may be there, unread.
+pub const BEGIN_UNSEEN: u32 = 512;
+/// A tenth or more of the numbers that were read is in doubt.
+pub const MANY_DOUBTFUL: u32 = 1024;
+/// Between two numbers the disc itself may have skipped, or fields are lost.
+pub const IS_OPEN: u32 = 2048;
+
+/// What is said of a capture.
+#[derive(Clone, Copy)]
+#[repr(C)]
+pub struct Finding {
+    /// What its gaps come to.
+    pub tally: Tally,
+    /// The first field with a believed number, counted from 0; 0 if there is none.
+    pub first: usize,
+    /// The last one.
+    pub last: usize,
+    /// The first field that was swapped with one beside it, counted from 0; 0 if there is none.
+    pub swap: usize,
+    /// `YES`, `NO` or `CANNOT_TELL`.
+    pub verdict: u32,
+    /// Why not: the sum of the reasons; 0 just if the verdict is `YES`.
+    pub reasons: u32,
+}
+
+// As include/ldvbi.h has it.
+const _: () = prove!(size_of::<Finding>() == 128);
+
+/// The verdict that reasons leave.
+fn verdict(reasons: u32) -> u32
+    ensures { result ≡ verdict_of reasons }
+{
+    if reasons == 0 {
+        YES
+    } else if reasons % IS_OFF == 0 {
+        CANNOT_TELL
+    } else {
+        NO
+    }
+}
+
+/// A reason, if it holds.
+fn reason(bit: u32, holds: bool) -> u32
+    ensures value { result ≡ reason bit holds }
+    ensures range { result ≤ bit }
+{
+    if holds { bit } else { 0 }
+}
+
+/// How many fields stand before this one and behind the last end of a side.
+fn since_end(ends: &[u32], field: usize) -> usize
+    requires { field ≤ length ends.now }
+    ensures value { result ≡ since_end ends.now field }
+    ensures few { result ≤ field }
+{
+    let mut since = 0;
+    for place in 0..field {
+        since = since_at(ends, place, since);
+    }
+    since
+}
+
+/// Whether a field behind this one is of lead-out.
+fn is_ended_behind(ends: &[u32], field: usize) -> bool
+    requires { field < length ends.now }
+    ensures { result ≡ is_ended_behind ends.now field }
+{
+    let behind = &ends[field + 1..];
+    behind.iter().filter(|end| **end == LEAD_OUT).count() > 0
+}
+
+/// Whether so many fields are fewer than the numbers before this one take.
+fn too_few(pace: Pace, fields: usize, number: u32) -> bool
+    requires { fields < 2 ^ 60 }
+    ensures { result ≡ too_few pace fields number }
+{
+    let fields = fields as u64;
+    let before = u64::from(number.saturating_sub(1));
+    match pace {
+        Pace::Video => fields < 2 * before,
+        Pace::Film => 2 * fields + 2 < 5 * before,
+    }
+}
+
+/// Whether no gap is open, and the first and the last number don't count to each other, less the stills.
+fn is_off(rule: Rule, tally: &Tally, first: Place, last: Place) -> bool
+    requires slack { rule.slack ≤ 1 }
+    ensures { result ≡ is_off rule.pace rule.slack tally.now first.field first.number last.field last.number }
+{
+    let field = first.field as u128 + u128::from(tally.stood);
+    let number = u128::from(first.number);
+    let other = last.field as u128;
+    let count = u128::from(last.number);
+    let slack = u128::from(rule.slack);
+    let goes_on = match rule.pace {
+        Pace::Video => {
+            other + 2 * number <= field + 2 * count + slack
+                && field + 2 * count <= other + 2 * number + slack
+        }
+        Pace::Film => {
+            2 * other + 5 * number <= 2 * field + 5 * count + 2
+                && 2 * field + 5 * count <= 2 * other + 5 * number + 2
+        }
+    };
+    tally.open_gaps == 0 && !goes_on
+}
+
+/// How many answers are of this state.
+pub(crate) fn count_of(numbers: &[Number], state: u32) -> usize
+    ensures { result ≡ count_of state numbers.now }
+{
+    numbers.iter().filter(|n| n.state == state).count()
+}
+
+/// Whether a tenth or more of the numbers that were read is in doubt.
+fn are_doubtful(numbers: &[Number]) -> bool
+    ensures { result ≡ are_doubtful numbers.now }
+{
+    let believed = count_of(numbers, BELIEVED);
+    let doubtful = count_of(numbers, DOUBTFUL);
+    believed as u128 + doubtful as u128 <= 10 * doubtful as u128
+}
+
+/// The reasons that are seen between the numbers, and before the first one.
+fn seen_reasons(pace: Pace, since: usize, tally: &Tally, number: u32) -> u32
+    requires { since < 2 ^ 60 }
+    ensures value { (ends : List ℕ) (first : ℕ) → since ≡ since_end ends first
+        → result ≡ seen_reasons pace ends tally.now first number }
+    ensures range { result ≤ 31 }
+{
+    reason(IS_LOST, tally.lost > 0)
+        + reason(IS_HELD, tally.held > 0)
+        + reason(GOES_BACK, tally.back > 0)
+        + reason(IS_JOINED, tally.joined > 0)
+        + reason(BEGINS_LATE, too_few(pace, since, number))
+}
+
+/// All reasons against a capture with these first and last numbers.
+fn reasons(
+    numbers: &[Number],
+    ends: &[u32],
+    rule: Rule,
+    may_end: bool,
+    tally: &Tally,
+    is_swapped: bool,
+    drifts: bool,
+    first: Place,
+    last: Place,
+) -> u32
+    requires same { length ends.now ≡ length numbers.now }
+    requires slack { rule.slack ≤ 1 }
+    requires first { first.field < length numbers.now }
+    requires last { last.field < length numbers.now }
+    ensures { result ≡ reasons_of rule.pace rule.slack may_end numbers.now ends.now tally.now is_swapped drifts
+        first.field first.number last.field last.number }
+{
+    let before = since_end(ends, first.field);
+    let is_ended = is_ended_behind(ends, last.field);
+    seen_reasons(rule.pace, before, tally, first.number)
+        + reason(IS_SWAPPED, is_swapped)
+        + reason(IS_OFF, drifts || is_off(rule, tally, first, last))
+        + reason(END_UNSEEN, !may_end && !is_ended)
+        + reason(BEGIN_UNSEEN, first.number > 1 && before > 100)
+        + reason(MANY_DOUBTFUL, are_doubtful(numbers))
+        + reason(IS_OPEN, tally.open_gaps > 0)
+}
+
+/// A field that was swapped, or 0, and whether there is one.
+#[derive(Clone, Copy)]
+struct Swap {
+    field: usize,
+    is_seen: bool,
+}
+
+/// The first field that was swapped, of a disc on which that can be seen: one of video with a number on one field of
+/// its pictures.
+fn swap_by(seen: &[Sightings], numbers: &[Number], rule: Rule) -> Swap
+    requires { length seen.now ≡ length numbers.now }
+    ensures { IsSwapTold rule.pace rule.slack seen.now numbers.now result.field result.is_seen }
+{
+    match rule.pace {
+        Pace::Video if rule.slack == 0 => {}
+        _ => {
+            return Swap {
+                field: 0,
+                is_seen: false,
+            };
+        }
+    }
+    match first_swap(seen, numbers) {
+        Some(field) => Swap {
+            field,
+            is_seen: true,
+        },
+        None => Swap {
+            field: 0,
+            is_seen: false,
+        },
+    }
+}
+
+/// Whether a capture is whole. `seen` is what its fields show, `numbers` what is answered of them, and `ends` what
+/// `judge_end` answers; `may_end` says that the capture may end before the disc
+/// does. Writes the first gaps into the room, as far as it goes.
+pub fn judge_whole(
+    seen: &[Sightings],
+    numbers: &[Number],
+    ends: &[u32],
+    rule: Rule,
+    may_end: bool,
+    out: &mut [Gap],
+) -> Finding
+    requires seen { length seen.now ≡ length numbers.now }
+    requires ends { length ends.now ≡ length numbers.now }
+    requires slack { rule.slack ≤ 1 }
+    ensures { IsFinding rule.pace rule.slack rule.numbering may_end seen.now numbers.now ends.now result
+        out.old out.new }
+{
+    let tally = find_gaps(seen, numbers, ends, rule, out);
+    let swap = swap_by(seen, numbers, rule);
+    let drifts = has_drift(numbers, rule);
+    let Some(first) = first_believed(numbers) else {
+        return Finding {
+            tally,
+            first: 0,
+            last: 0,
+            swap: swap.field,
+            verdict: verdict(NO_NUMBERS),
+            reasons: NO_NUMBERS,
+        };
+    };
+    let last = last_believed(numbers).unwrap_or(first);
+    let reasons = reasons(
+        numbers,
+        ends,
+        rule,
+        may_end,
+        &tally,
+        swap.is_seen,
+        drifts,
+        first,
+        last,
+    );
+    Finding {
+        tally,
+        first: first.field,
+        last: last.field,
+        swap: swap.field,
+        verdict: verdict(reasons),
+        reasons,
+    }
+}
