@@ -151,7 +151,7 @@ LDVBI_RESULT uint32_t ldvbi_read_fields(uint32_t system, uint32_t black, uint32_
  * sines have a nearest word too, but of most the margin, which is rival - distance, is small. A sine of 0.5 MHz looks
  * like a word, but goes on beyond it: there `longer` is far below `distance`. */
 typedef struct LdvbiNear {
-    uint32_t word;     /* the nearest word, from 0x800000 to 0xFFFFFF; 0: no word is as near as the row of none */
+    uint32_t word;     /* the nearest word, from 0x800000 to 0xFFFFFF; 0: no word is nearer than the row of none */
     uint32_t start;    /* the column, counted from 0, from which on the word is drawn; 0 where there is none */
     uint64_t distance; /* of this row */
     uint64_t rival;    /* the least distance of a row of another word, or of none */
@@ -174,13 +174,14 @@ LDVBI_RESULT LDVBI_POINTER(6) uint32_t ldvbi_nearest(uint32_t system, uint32_t b
  *     lines 17 and 18 together                               8                        9
  *     either, where they don't agree                        10                       12
  *
- * If both lack a word, they are taken together where they agree: where the nearest word or code of each is the same, or
- * the common one is at most 30 columns farther from the two than that of each is from its own line; and where each
- * bears it: the common one is nearer to both, by 20 columns, than that of one line to this line and no word to the
- * other. The margin of both together also has to be a 36th of how much nearer the word is than none, for a code, or a
- * 48th, for any other word. Nothing is recovered where the row with one cell more (`longer`), or with one or two cells
- * black at an end, is nearer by more than 4 columns in each line, or that with twelve cells black at an end isn't
- * farther, by a quarter of how much farther none is; nor of two lines together where the longer one is so of each.
+ * If neither shows a word that stays and neither is blank, they are taken together where they agree: where the nearest
+ * word or code of each is the same, or the common one is at most 30 columns farther from the two than that of each is
+ * from its own line; and where each bears it: the common one is nearer to both, by 20 columns, than that of one line
+ * to this line and no word to the other. The margin of both together also has to be a 36th of how much nearer the word
+ * is than none, for a code, or a 48th, for any other word. Nothing is recovered where the row with one cell more
+ * (`longer`), or with one or two cells black at an end, is nearer by more than 4 columns in each line, or that with
+ * twelve cells black at an end isn't farther, by a quarter of how much farther none is; nor of two lines together
+ * where the longer one is so of each.
  *
  * All that is asked first of the levelled lines: the mean of six cells is taken off, and the rest made to swing from
  * black to white, if it swings by 3 to 16 tenths of that, and of two lines neither more than twice as much as the
@@ -291,16 +292,17 @@ LDVBI_RESULT LDVBI_POINTER(4) uint32_t ldvbi_format(uint32_t first, uint32_t sec
  * number on the disc, a believed one fits one that was recorded and read near it. If the player stood still at a
  * picture of video, the same holds as long as those words weigh less than 6, and the pace is that of video.
  *
- * A number is due in a field of which none is believed where those of two believed fields, one before it and one
- * behind, count to it: both lie whole pictures away, and at most LDVBI_REACH fields. No believed number between the two
- * may be off from it. None is due where the field shows a code that stands in place of a number, or one number on both
- * lines in pass 1. This is proved too: if the believed numbers within LDVBI_REACH fields are right, the field has the
- * one that is due where the disc is regular: where numbers of the disc before and behind the field, both within
- * LDVBI_REACH fields, count to one number in it, it has that one.
+ * A number is due in a field of which none is believed if those of two believed fields, one before it and one after
+ * it, count to it: both lie whole pictures away, and at most LDVBI_REACH fields. Each believed number between the two
+ * has to fit it; of video it may be a field off if the two are at most 8 fields apart. None is due if the field shows
+ * a code that stands in place of a number, or one number on both lines in pass 1. This is proved too: if the believed
+ * numbers within LDVBI_REACH fields are right, the field has the one that is due if the disc is regular: if numbers of
+ * the disc before and after the field, both within LDVBI_REACH fields, count to one number in it, it has that one.
  *
- * Nothing is promised where the player jumped, the capture lost a field, or the clock of an NTSC CLV disc leaves out a
- * number, within LDVBI_REACH fields, nor where film stands still, nor at a pace that is not the disc's, though errors
- * are rare there too. Minutes without their seconds and lost fields are not judged here: `ldvbi-side` judges them. */
+ * Nothing is promised where the player jumped, the capture lost a field, or the clock of an NTSC CLV disc leaves out
+ * a number, within LDVBI_REACH fields, nor where film stands still, nor at a pace that is not the disc's, though
+ * errors are rare there too. Lost fields are judged by ldvbi_judge_side; minutes without their seconds by
+ * `ldvbi-side` alone. */
 
 enum { LDVBI_REACH = 24 }; /* so many fields before a field, and as many behind it, are looked at */
 
@@ -361,15 +363,16 @@ LDVBI_RESULT LDVBI_POINTER(7) uint32_t ldvbi_judge_field(uint32_t system, uint32
 
 /* ---- Seeking a number, and where it was found */
 typedef struct LdvbiSought {
-    size_t field;       /* counted from 0; as many as the side has where none was found */
-    LdvbiNumber number; /* what is answered of this field: the number, LDVBI_BELIEVED or LDVBI_DUE */
-    uint32_t pace;      /* the pace at which it is answered; 0 where none was found */
+    size_t field;       /* counted from 0; as many as the side has if none was found */
+    LdvbiNumber number; /* what is answered of this field: the number, LDVBI_BELIEVED or LDVBI_DUE; else 0 */
+    uint32_t pace;      /* that at which it is answered, LDVBI_VIDEO or LDVBI_FILM; else 0 */
     uint32_t looked;    /* how many fields were read, LDVBI_LOOKED at most */
 } LdvbiSought;
 enum { LDVBI_LOOKED = 400 };
 
 /* Seeks a number in the `length` bytes of a side, as a mapped file: by halving, so few fields are read. `pace` is as
- * for ldvbi_judge; one that is to be found is found by the fields around the place. A cut last field is left out.
+ * for ldvbi_judge. With LDVBI_FIND_PACE the call takes a pace by the few fields that it judges, and names it in
+ * `sought`: it needn't be the one that ldvbi_find_pace answers of the side. A cut last field is left out.
  *
  * This is proved: the field that is answered has the number as ldvbi_judge answers it, at this pace, by what
  * ldvbi_read_fields reads of all fields, and the field before it hasn't. Whether a number is found is not proved: they
@@ -414,6 +417,124 @@ size_t ldvbi_first_of(const LdvbiNumber *numbers, size_t count, uint32_t number)
  * at the first field behind its own that has LDVBI_BELIEVED. All fields of a picture may have its stop. */
 LDVBI_RESULT uint32_t ldvbi_judge_stops(const LdvbiFieldReadings *readings, size_t count, uint32_t *stops,
     size_t stop_count);
+
+/* ---- Judging a whole side
+ *
+ * Where the numbers and the fields of a side don't go on together, and whether its capture is whole. Two neighbouring
+ * believed numbers go on if they lie as many fields apart as they count to. These are two for each picture or time; of
+ * film two and a half, to within a field; and of video with a number on both fields of a picture two, to within a
+ * field. All else is a gap.
+ *
+ * This is proved: `gaps` gets each gap, once and in order, as far as it has room, and `side->tally` counts all of
+ * them. For what follows the numbers have to be those of ldvbi_judge at this pace, and the disc has to count on, so
+ * that any two of its numbers go on.
+ *
+ * If each field of the capture stands later on the disc than the one before it, the capture is LDVBI_WHOLE, `last` is
+ * 2 * LDVBI_REACH fields or more after `first`, and the words misread within LDVBI_REACH fields of each of the two
+ * weigh less than 10, then no field of video is lost from LDVBI_REACH fields after `first` to as many before `last`,
+ * whatever was misread between. If numbers are on both fields of a picture, at most two are lost between a field that
+ * near to `first` and one that near to `last`; of film at most four.
+ *
+ * With a number on one field of each picture: if each field stands later on the disc than the one before it, and the
+ * numbers at both ends of each LDVBI_LOST gap are right, the capture lacks at least `tally.lost` fields of the disc
+ * between `first` and `last`. And in whatever order the fields stand, if the words misread within LDVBI_REACH fields
+ * of each end of a gap of video weigh less than 10, the capture isn't one run of the disc from LDVBI_REACH fields
+ * before the gap to as many after it.
+ *
+ * Not proved, and not so: that each fault is seen. Lost fields and as many doubled ones leave no gap if no number
+ * between is believed. Swapped fields aren't seen if their numbers weren't read, and neither of film nor with numbers
+ * on both fields. And a disc whose own numbers leave some out looks as if fields were lost. */
+enum LdvbiGapKind {
+    LDVBI_LOST = 1,   /* fields of the disc are lost */
+    LDVBI_HELD = 2,   /* more fields are there than the numbers count to */
+    LDVBI_BACK = 3,   /* the numbers go back */
+    LDVBI_STILL = 4,  /* the same number an even count of fields later: the player stood still; never of times */
+    LDVBI_JOINED = 5, /* lead-in or lead-out is believed of a field between: another side begins */
+    LDVBI_OPEN = 6    /* fields are lost, or the disc itself skips: the clock of an NTSC CLV disc leaves out one or two
+                         times, and film that is cut over a number that wasn't read goes on a field off */
+};
+
+typedef struct LdvbiGap {
+    size_t after, before; /* the fields with numbers before it and after it, counted from 0 */
+    uint64_t fields;      /* those lost or too many, at least; those of the still; if it is open, how many more or fewer
+                             there are than the numbers count to; else 0 */
+    uint64_t shown;       /* the fields between that show a number between these two, on both lines in pass 1 */
+    uint32_t from, to;    /* the numbers of the two fields */
+    uint32_t kind;        /* of enum LdvbiGapKind */
+} LdvbiGap;
+
+typedef struct LdvbiTally { /* a count that is too large is the greatest one that 64 bits hold */
+    size_t gaps;             /* how many there are, whether there was room or not */
+    uint64_t lost, held;     /* the fields lost, and those too many, at least */
+    uint64_t stood, stills;  /* the fields of stills, and how many stills: each counts once, however many gaps it has */
+    size_t still_end;        /* the field after the last still, counted from 0; 0 if there is none */
+    uint64_t back, joined;   /* how often the numbers go back, and how often another side begins */
+    uint64_t open_gaps;      /* how many gaps are LDVBI_OPEN */
+    uint64_t lost_numbers;   /* numbers that are skipped in gaps with lost fields, but for those that are undecided */
+    uint64_t undecided;      /* those of them that may be there: as many as fields between show, or as half of these
+                                fields are, if that is more; and all that are skipped in open gaps */
+    uint64_t unread;         /* numbers that are skipped between two that go on: their fields are there */
+} LdvbiTally;
+
+enum LdvbiBoth { /* of video, whether the disc has its numbers on both fields of a picture */
+    LDVBI_ON_ONE = 0,
+    LDVBI_ON_BOTH = 1,
+    LDVBI_FIND_BOTH = 3 /* it has if a quarter or more of those that are believed stand an odd count of fields after
+                           the one before */
+};
+
+enum LdvbiVerdict { LDVBI_CANNOT_TELL = 0, LDVBI_WHOLE = 1, LDVBI_NOT_WHOLE = 2 };
+
+enum LdvbiReason { /* any of the first six makes it LDVBI_NOT_WHOLE, else any of the others LDVBI_CANNOT_TELL */
+    LDVBI_IS_LOST = 1,
+    LDVBI_IS_HELD = 2,
+    LDVBI_GOES_BACK = 4,
+    LDVBI_IS_JOINED = 8,
+    LDVBI_BEGINS_LATE = 16,     /* before the first number, from lead-in or the beginning on, there are fewer fields
+                                   than the numbers before it take */
+    LDVBI_IS_SWAPPED = 32,      /* of video with numbers on one field of a picture: between two numbers that go on a
+                                   field shows one that belongs into a field beside it, and isn't there */
+    LDVBI_IS_OFF = 64,          /* numbers that go on one by one, each to within a field, don't all go on from each
+                                   other; or no gap is open, and the last number, less the stills, not from the first */
+    LDVBI_NO_NUMBERS = 128,     /* none is believed: then this is the only reason */
+    LDVBI_END_UNSEEN = 256,     /* no lead-out is believed after the last number, and `may_end` is 0 */
+    LDVBI_BEGIN_UNSEEN = 512,   /* the first number is above 1, and over 100 fields are before it, counted as above */
+    LDVBI_MANY_DOUBTFUL = 1024, /* of the numbers that were read a tenth or more is LDVBI_DOUBTFUL */
+    LDVBI_IS_OPEN = 2048        /* a gap is LDVBI_OPEN */
+};
+
+typedef struct LdvbiSide {
+    LdvbiTally tally;
+    size_t first, last; /* the first and the last field with a believed number, counted from 0; 0 if there is none */
+    size_t swap;        /* the first field of LDVBI_IS_SWAPPED, counted from 0; else 0 */
+    uint32_t verdict;   /* of enum LdvbiVerdict */
+    uint32_t reasons;   /* the sum of the reasons; 0 only if it is LDVBI_WHOLE */
+} LdvbiSide;
+
+enum LdvbiEnd { /* whether a field is of a side's end */
+    LDVBI_NO_END = 0,
+    LDVBI_IS_LEAD_OUT = 1,
+    LDVBI_DOUBTFUL_END = 2,
+    LDVBI_IS_LEAD_IN = 3
+};
+
+/* Judges which fields show lead-in or lead-out, each by its own lines 17 and 18. `ends` gets of each field
+ * LDVBI_IS_LEAD_OUT, if one of the two lines shows it in pass 1, or if both lines do, in whatever pass; else
+ * LDVBI_IS_LEAD_IN, if it is shown so; else LDVBI_DOUBTFUL_END, if a line shows either; or LDVBI_NO_END. */
+LDVBI_RESULT uint32_t ldvbi_judge_ends(const LdvbiFieldReadings *readings, size_t count, uint32_t *ends,
+    size_t end_count);
+
+/* Answers 1 if LDVBI_FIND_BOTH finds that the disc has its numbers on both fields of a picture, else 0. */
+uint32_t ldvbi_find_both(const LdvbiNumber *numbers, size_t count);
+
+/* Judges a whole side, by what ldvbi_judge saw and answered of its fields and what ldvbi_judge_ends answered; the
+ * three arrays have to be equally long. `pace` is that at which ldvbi_judge judged, LDVBI_VIDEO or LDVBI_FILM, as
+ * ldvbi_find_pace answers it; LDVBI_FIND_PACE is LDVBI_BAD_PACE here. `both` is of enum LdvbiBoth, and any other
+ * number is as LDVBI_ON_BOTH. `may_end` is not 0 if the capture may end before the disc does. `gaps` gets the first
+ * gaps, as many as it has room for; the rest of it stays as it was. */
+LDVBI_RESULT LDVBI_POINTER(14) uint32_t ldvbi_judge_side(uint32_t system, uint32_t counted, uint32_t pace,
+    uint32_t both, uint32_t may_end, const LdvbiSightings *seen, size_t seen_count, const LdvbiNumber *numbers,
+    size_t number_count, const uint32_t *ends, size_t end_count, LdvbiGap *gaps, size_t gap_room, LdvbiSide *side);
 
 /* ---- Drawing: writes the samples of a line that shows the word, in black and white, or of a blank line for 0.
  * `length` has to be ldvbi_line_bytes(system). */

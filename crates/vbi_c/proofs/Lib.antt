@@ -5,3 +5,4 @@ pub mod Marks
 pub mod MarkedLines
 pub mod Sought
 pub mod PartOfReadings
+mod Shown

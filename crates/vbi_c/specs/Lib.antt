@@ -14,3 +14,7 @@ pub mod Piling
 pub mod Seeking
 pub mod Chapters
 pub mod Stops
+pub mod Ends
+pub mod WholeSides
+pub mod Telling
+pub mod Worked

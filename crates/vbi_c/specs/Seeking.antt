@@ -6,7 +6,7 @@ use Rattle.vbi_words.specs.Geometry.{field_bytes}
 use Rattle.vbi_side.specs.declared.number.Number.{Number}
 use Rattle.vbi_side.specs.declared.pace.Pace as paces
 use Rattle.vbi_side.specs.declared.sighting.Sightings.{Sightings}
-use Rattle.vbi_side.specs.Numbers.{IsAnswer, IsKnown}
+use Rattle.vbi_side.specs.Numbers.{nothing, IsAnswer, IsKnown}
 use Rattle.vbi_c.specs.declared.probing.Seek.{Seek}
 use Rattle.vbi_c.specs.declared.seeking.LdvbiSought.{LdvbiSought}
 use Rattle.vbi_c.specs.declared.status.Refusal.{Refusal}
@@ -55,12 +55,14 @@ pub record IsFoundIn (seek : Seek) (shown : List Sightings) (number : ℕ) (soug
   pub begins : (sought.field ≡ 0)
       ⊎ ((before : ℕ) × (before + 1 ≡ sought.field) × HasOther pace shown number before)
 
--- so many fields of a side were read at most; the number is found, or the field is none of the side's
+-- so many fields of a side were read at most; the number is found, or the field is none of the side's, and then there
+-- is neither a number nor a pace
 pub record IsSoughtIn (seek : Seek) (bytes : List ℕ) (count number : ℕ) (sought : LdvbiSought) : Type 0 where
   pub few : sought.looked ≤ 400
   pub inside : sought.field ≤ count
   pub found : sought.field < count
       → (pace : paces.Pace) × IsFoundIn seek (shown_of seek bytes count) number sought pace
+  pub none : sought.field ≡ count → (sought.number ≡ nothing) × (sought.pace ≡ 0)
 
 -- the same of all fields of the side
 abbrev pub IsSought : Seek → List ℕ → ℕ → LdvbiSought → Type 0

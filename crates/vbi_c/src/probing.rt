@@ -4,10 +4,11 @@
 //! of their lines show one number together, which tells the half. A side whose player went back or stood still can lead
 //! astray, so what is found here is no more than a place to look at: seeking.rt judges the fields around it.
 
-ghost use Rattle.std.specs.Prelude.{◌≡◌, ◌+◌, ◌*◌, ◌<◌, ◌≤◌, length, map, false};
+ghost use Rattle.std.specs.Prelude.{◌≡◌, ◌↔◌, ℕ, ◌+◌, ◌-◌, ◌*◌, ◌<◌, ◌≤◌, min, length, map, false, true, IfSome, None};
 ghost use Rattle.std.specs.List.{range_with_len};
 ghost use Rattle.vbi_words.specs.Geometry.{field_bytes};
 ghost use Rattle.vbi_c.specs.Seeking.{shown_at, probe_most, probed_most};
+ghost use Rattle.vbi_c.specs.Telling.{IsTogether, TellsIn, TellsFrom, IsNarrowed};
 
 use crate::fields::read_whole;
 use crate::judging::{Judging, seen_in};
@@ -74,9 +75,11 @@ pub(crate) fn see_from(
     }
 }
 
-/// Whether enough of what is shown around a field fits the number of this sighting there, at either pace.
+/// Whether this sighting of a field has a number, and enough of what is shown around the field supports it there, at
+/// either pace.
 fn is_together(seen: &[Sightings], field: usize, sighting: &Sighting) -> bool
     requires { field < length seen.now }
+    ensures { (result ≡ true) ↔ IsTogether seen.now field sighting.now }
 {
     let number = sighting.number;
     sighting.weight > 0
@@ -84,8 +87,11 @@ fn is_together(seen: &[Sightings], field: usize, sighting: &Sighting) -> bool
             || support(seen, Pace::Film, field, number) >= TOGETHER)
 }
 
-/// The first number that enough lines of these fields show together.
-fn number_together(seen: &[Sightings]) -> Option<u32> {
+/// The first number that these fields tell together, if they tell one.
+fn number_together(seen: &[Sightings]) -> Option<u32>
+    ensures some { IfSome result (λ number. TellsIn seen.now number) }
+    ensures none { result ≡ None → (number : ℕ) → TellsIn seen.now number → ⊥ }
+{
     for field in 0..seen.len() {
         let shown = &seen[field];
         if is_together(seen, field, &shown.line_17) {
@@ -98,11 +104,16 @@ fn number_together(seen: &[Sightings]) -> Option<u32> {
     None
 }
 
-/// The number that is shown from a field on, if one is, and how many fields were read for it.
+/// The number that the fields from this one on tell together, if they tell one, and how many of them were read for it.
 fn probe(seek: &Seek, bytes: &[u8], count: usize, field: usize) -> (Option<u32>, u32)
     requires whole { count * field_bytes seek.now.setup.system ≤ length bytes.now }
     requires inside { field ≤ count }
-    ensures { result.1 ≤ probe_most }
+    ensures few { result.1 ≤ probe_most }
+    ensures inside { field + result.1 ≤ count }
+    ensures told { IfSome result.0 (λ number. TellsFrom seek.now bytes.now field result.1 number) }
+    ensures all { result.0 ≡ None → result.1 ≡ min probe_most (count - field) }
+    ensures silent { result.0 ≡ None → (k number : ℕ) → k ≤ result.1
+        → TellsFrom seek.now bytes.now field k number → ⊥ }
 {
     let mut seen = [NOTHING_SEEN; PROBE];
     let most = PROBE.min(count - field);
@@ -127,7 +138,8 @@ pub(crate) struct Between {
     pub(crate) looked: u32,
 }
 
-/// Asks what is shown at a field, whether the number is before it or behind it. Answers whether that tells.
+/// Narrows the fields between which the number is sought, by the number that the fields from this one on tell, if they
+/// tell one. Answers whether they do.
 fn narrow(
     seek: &Seek,
     bytes: &[u8],
@@ -144,7 +156,13 @@ fn narrow(
     ensures order { between.new.low ≤ between.new.high }
     ensures inside { between.new.high ≤ count }
     ensures few { between.new.looked ≤ between.old.looked + probe_most }
-    ensures kept { result ≡ false → (between.new.low ≡ between.old.low) × (between.new.high ≡ between.old.high) }
+    ensures kept { result ≡ false → between.new ≡ record between.old {
+      looked = between.old.looked + min probe_most (count - field);
+    } }
+    ensures silent { result ≡ false → (read told : ℕ) → read ≤ probe_most → field + read ≤ count
+        → TellsFrom seek.now bytes.now field read told → ⊥ }
+    ensures narrowed { result ≡ true → (read told : ℕ) × TellsFrom seek.now bytes.now field read told
+        × (read ≤ probe_most) × IsNarrowed number field read told between.old between.new }
 {
     let (shown, read) = probe(seek, bytes, count, field);
     between.looked += read;
@@ -181,7 +199,8 @@ fn is_behind(number: u32, field: usize, between: &Between) -> bool
     }
 }
 
-/// Narrows the fields between which the number is, by what is shown in the middle, or else at a quarter.
+/// Narrows the fields between which the number is sought, by what is told in the middle, or else at a quarter. About a
+/// quarter of them at least is left out.
 fn halve(seek: &Seek, bytes: &[u8], count: usize, number: u32, between: &mut Between)
     requires whole { count * field_bytes seek.now.setup.system ≤ length bytes.now }
     requires order { between.old.low ≤ between.old.high }
@@ -190,6 +209,7 @@ fn halve(seek: &Seek, bytes: &[u8], count: usize, number: u32, between: &mut Bet
     ensures order { between.new.low ≤ between.new.high }
     ensures inside { between.new.high ≤ count }
     ensures few { between.new.looked ≤ probed_most }
+    ensures narrower { 4 * (between.new.high - between.new.low) ≤ 3 * (between.old.high - between.old.low) + 3 }
 {
     let middle = between.low + (between.high - between.low) / 2;
     let earlier = between.low + (middle - between.low) / 2;

@@ -44,4 +44,5 @@ returns-in-Some c =
           begins = found.begins;
         },
       );
+      none = λ outside. absurd (omega (arith, found.inside, outside));
     }

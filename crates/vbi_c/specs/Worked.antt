@@ -1,0 +1,100 @@
+-- What the laws of the calls speak of, written down: setups, what is judged, what C is answered, readings, entries of
+-- erased columns, and what fields show.
+use Rattle.std.specs.Prelude.{ℕ, List, [], ◌∷◌, ◌++◌, ◌==◌, if◌then◌else◌, replicate, Option}
+use Rattle.vbi_words.specs.declared.system.System.{System}
+use Rattle.vbi_words.specs.declared.system.System.TheVariants.{Ntsc, Pal}
+use Rattle.vbi_near.specs.declared.near.Near.{Near}
+use Rattle.vbi_side.specs.declared.lines.Counted.{Counted}
+use Rattle.vbi_side.specs.declared.number.Number.{Number}
+use Rattle.vbi_side.specs.declared.pace.Pace.{Pace}
+use Rattle.vbi_side.specs.declared.sighting.Sightings.{Sightings}
+use Rattle.vbi_side.specs.Numbers.{believed, nothing}
+use Rattle.vbi_side.specs.Worked.{field_of, blank}
+use Rattle.vbi_c.specs.declared.code.LdvbiCode.{LdvbiCode}
+use Rattle.vbi_c.specs.declared.erased.LdvbiErased.{LdvbiErased}
+use Rattle.vbi_c.specs.declared.fields.LdvbiFieldReadings.{LdvbiFieldReadings}
+use Rattle.vbi_c.specs.declared.judging.Asked.{Asked}
+use Rattle.vbi_c.specs.declared.judging.Judging.{Judging}
+use Rattle.vbi_c.specs.declared.nearest.LdvbiNear.{LdvbiNear}
+use Rattle.vbi_c.specs.declared.reading.LdvbiReading.{LdvbiReading}
+use Rattle.vbi_c.specs.declared.setup.Setup.{Setup}
+use Rattle.vbi_c.specs.declared.whole_side.Siding.{Siding}
+
+-- black and white of ld-decode's TBC files of NTSC, and of PAL
+abbrev pub ntsc : Setup
+ntsc = record { system = Ntsc; levels = record { black = 16384; white = 51200 } }
+
+abbrev pub pal : Setup
+pal = record { system = Pal; levels = record { black = 16384; white = 54016 } }
+
+-- what is judged, and how
+abbrev pub judged_as : System → Counted → Asked → Judging
+judged_as system counted asked = record { system = system; counted = counted; asked = asked }
+
+-- a code as C sees it
+abbrev pub code_as : ℕ → ℕ → ℕ → LdvbiCode
+code_as kind first second = record { kind = kind; first = first; second = second }
+
+-- a reading as C sees it
+abbrev pub reading_as : ℕ → ℕ → ℕ → ℕ → LdvbiReading
+reading_as cause pass column word = record { cause = cause; pass = pass; column = column; word = word }
+
+-- what is found nearest, if a word is
+abbrev pub near_of : Option ℕ → ℕ → ℕ → ℕ → ℕ → ℕ → Near
+near_of word start distance rival longer shorter = record {
+  word = word;
+  start = start;
+  distance = distance;
+  rival = rival;
+  longer = longer;
+  shorter = shorter;
+}
+
+-- the same as C sees it
+abbrev pub near_as : ℕ → ℕ → ℕ → ℕ → ℕ → LdvbiNear
+near_as word start distance rival longer = record {
+  word = word;
+  start = start;
+  distance = distance;
+  rival = rival;
+  longer = longer;
+}
+
+-- the reading of a line that shows this word in pass 1; 0 stands for a blank line
+abbrev pub read_as : ℕ → LdvbiReading
+read_as word = if word == 0 then reading_as 1 0 0 0 else reading_as 0 1 0 word
+
+-- the readings of lines 16, 17 and 18
+abbrev pub lines_read_as : ℕ → ℕ → ℕ → List LdvbiReading
+lines_read_as line_16 line_17 line_18 = read_as line_16 ∷ read_as line_17 ∷ read_as line_18 ∷ []
+
+-- those of a field
+abbrev pub field_read_as : ℕ → ℕ → ℕ → LdvbiFieldReadings
+field_read_as line_16 line_17 line_18 = record { lines = lines_read_as line_16 line_17 line_18 }
+
+-- an entry that erases columns of a line of a field, from a first one to a last one
+abbrev pub columns_of : ℕ → ℕ → ℕ → ℕ → LdvbiErased
+columns_of field line first last = record { field = field; line = line; first = first; last = last }
+
+-- pictures 5, 8 and 9 of video, each on line 17 of its first field, and the last with this weight
+abbrev pub video_ending : ℕ → List Sightings
+video_ending weight = field_of 5 2 0 0 ∷ replicate 5 blank ++ field_of 8 2 0 0 ∷ blank ∷ field_of 9 weight 0 0 ∷ []
+
+-- pictures 5, 6 and 7 of film, whose second one lasts three fields, and the last with this weight
+abbrev pub film_ending : ℕ → List Sightings
+film_ending weight = field_of 5 2 0 0 ∷ blank ∷ field_of 6 2 0 0 ∷ blank ∷ blank ∷ field_of 7 weight 0 0 ∷ []
+
+-- picture 5 of video on both lines, and picture 6 on line 18 alone
+abbrev pub second_on_18 : List Sightings
+second_on_18 = field_of 5 2 5 2 ∷ blank ∷ field_of 0 0 6 2 ∷ []
+
+-- what a whole side is judged by
+abbrev pub sided_as : System → Counted → Pace → Siding
+sided_as system counted pace = record { numbering = record { system = system; counted = counted }; pace = pace }
+
+-- numbers on one field of each picture, and on both
+abbrev pub on_one : List Number
+on_one = believed 1 ∷ nothing ∷ believed 2 ∷ []
+
+abbrev pub on_both : List Number
+on_both = believed 1 ∷ believed 1 ∷ believed 2 ∷ believed 2 ∷ []

@@ -1,0 +1,120 @@
+//! The gaps of a side, and the verdict whether its capture is whole.
+
+ghost use Rattle.std.specs.Prelude.{◌≡◌, ◌≢◌, ◌≤◌, length, IfOk};
+ghost use Rattle.vbi_side.specs.declared.pace.Pace as paces;
+ghost use Rattle.vbi_side.specs.Verdicts.{IsFinding};
+ghost use Rattle.vbi_c.specs.WholeSides.{pace_given, siding_of, both_by, both_for_c, slack_by, may_end_by};
+ghost use Rattle.vbi_c.specs.Statuses.{status_of};
+
+use crate::judging::counted_of;
+use crate::setup::system_of;
+use crate::status::{DONE, Refusal};
+use vbi_side::{Finding, Gap, Number, Numbering, Pace, Rule, Sightings, is_on_both, judge_whole};
+
+/// What a side is judged by.
+#[derive(Clone, Copy)]
+pub(crate) struct Siding {
+    pub(crate) numbering: Numbering,
+    pub(crate) pace: Pace,
+}
+
+/// The pace of this number.
+fn pace_given(number: u32) -> Option<Pace>
+    ensures { result ≡ pace_given number }
+{
+    match number {
+        1 => Some(Pace::Video),
+        2 => Some(Pace::Film),
+        _ => None,
+    }
+}
+
+/// What these numbers ask for, or why they are refused: the arrays have to be equally long.
+fn siding_of(
+    system: u32,
+    counted: u32,
+    pace: u32,
+    seen: usize,
+    numbers: usize,
+    ends: usize,
+) -> Result<Siding, Refusal>
+    ensures { result ≡ siding_of system counted pace seen numbers ends }
+{
+    let system = system_of(system).ok_or(Refusal::System)?;
+    if numbers != seen || ends != seen {
+        return Err(Refusal::Length);
+    }
+    let counted = counted_of(counted).ok_or(Refusal::Counted)?;
+    let pace = pace_given(pace).ok_or(Refusal::Pace)?;
+    Ok(Siding {
+        numbering: Numbering { system, counted },
+        pace,
+    })
+}
+
+/// Whether the disc has its numbers on both fields of a picture: by what is said, or, of 3, by what is found.
+fn both_by(both: u32, numbers: &[Number]) -> bool
+    ensures { result ≡ both_by both numbers.now }
+{
+    match both {
+        0 => false,
+        3 => is_on_both(numbers),
+        _ => true,
+    }
+}
+
+/// Whether the believed numbers of a side show that its disc has them on both fields of a picture: 1 if they do, else 0.
+#[unsafe(no_mangle)]
+pub extern "C" fn ldvbi_find_both(numbers: &[Number]) -> u32
+    ensures { result ≡ both_for_c numbers.now }
+{
+    if is_on_both(numbers) { 1 } else { 0 }
+}
+
+/// By how many fields numbers may be off from each other: by one of video with numbers on both fields.
+fn slack_by(pace: Pace, both: u32, numbers: &[Number]) -> u64
+    ensures value { result ≡ slack_by pace both numbers.now }
+    ensures range { result ≤ 1 }
+{
+    match pace {
+        Pace::Video if both_by(both, numbers) => 1,
+        _ => 0,
+    }
+}
+
+/// Where the numbers and the fields of a side don't go on together, and whether its capture is whole: by what
+/// `ldvbi_judge` saw and answered of its fields, and `ldvbi_judge_ends` of its ends. `gaps` gets the first gaps, as
+/// many as it has room for.
+#[unsafe(no_mangle)]
+pub extern "C" fn ldvbi_judge_side(
+    system: u32,
+    counted: u32,
+    pace: u32,
+    both: u32,
+    may_end: u32,
+    seen: &[Sightings],
+    numbers: &[Number],
+    ends: &[u32],
+    gaps: &mut [Gap],
+    side: &mut Finding,
+) -> u32
+    ensures status { result ≡ status_of (siding_of system counted pace
+        (length seen.now) (length numbers.now) (length ends.now)) }
+    ensures judges { IfOk (siding_of system counted pace (length seen.now) (length numbers.now) (length ends.now))
+        (λ siding. IsFinding siding.pace (slack_by siding.pace both numbers.now) siding.numbering (may_end_by may_end)
+        seen.now numbers.now ends.now side.new gaps.old gaps.new) }
+    ensures unwritten { result ≢ 0 → (gaps.new ≡ gaps.old) × (side.new ≡ side.old) }
+{
+    match siding_of(system, counted, pace, seen.len(), numbers.len(), ends.len()) {
+        Ok(siding) => {
+            let rule = Rule {
+                pace: siding.pace,
+                slack: slack_by(siding.pace, both, numbers),
+                numbering: siding.numbering,
+            };
+            *side = judge_whole(seen, numbers, ends, rule, may_end != 0, gaps);
+            DONE
+        }
+        Err(refusal) => refusal.status(),
+    }
+}
