@@ -12,6 +12,7 @@
     print(numbers[7].number, numbers[7].state, ldvbi.first_of(numbers, 12345))
     print(ldvbi.first_of(ldvbi.judge_chapters(side), 3))
     print(ldvbi.seek(side, 12345))
+    print(ldvbi.judge_side(side, "NTSC").verdict)
 
 A line, a field or a stream is anything with the buffer protocol that holds samples of 16 bits, the low byte first, as
 ld-decode's TBC files do: a numpy array of uint16, an array of "H"; or the bytes of such samples: bytes, a mapped file,
@@ -25,24 +26,27 @@ package, in the one above that, or in lib/ of the folder to which `make install`
 loader finds. `classify` and `format_of` need no library. Only CPython and its standard library are needed besides.
 
 Read first `classes` (what a word says) and `codes` (on which lines), then `library` and `samples` (the calls of C and
-the memory that they get), `dropouts`, `readings`, `near`, `stream`, `judging` and `seeking` (these calls in Python), at
-last `document` and `metadata` (with `scanner` and `database`), the files beside a TBC file. What the words of a whole
-side mean is the business of the package `ldvbi_side`, which stands on this one: nothing here imports it.
+the memory that they get), `dropouts`, `readings`, `near`, `stream`, `judging`, `sides` and `seeking` (these calls in
+Python), at last `document` and `metadata` (with `scanner` and `database`), the files beside a TBC file. What the words
+of a whole side mean is the business of the package `ldvbi_side`, which stands on this one: nothing here imports it.
 """
 
 
 from .classes import Code, Format, Kind, classify, format_of
-from .judging import Number, State, find_pace, first_of, judge, judge_chapters, judge_field, judge_stops
-from .library import Counted, Pace, System
+from .judging import (End, Number, State, find_pace, first_of, judge, judge_chapters, judge_ends, judge_field,
+                      judge_stops)
+from .library import Both, Counted, Pace, System
 from .near import Near, nearest, recover_pile
 from .readings import (PACKED_FIELD, Cause, FieldReadings, Reading, draw_line, field_bytes, line_bytes, read_field,
                        read_line, read_rows)
 from .seeking import Sought, seek
+from .sides import Gap, GapKind, JudgedSide, Reason, Tally, Verdict, judge_side
 from .stream import BLOCK, Stream, fields
 
-__all__ = ["System", "Cause", "Kind", "Format", "Counted", "Pace", "State", "Reading", "FieldReadings", "Code",
-           "Number", "Near", "Sought", "Stream", "line_bytes", "field_bytes", "read_line", "read_rows", "read_field",
-           "fields", "classify", "format_of", "judge", "judge_field", "find_pace", "judge_chapters", "judge_stops",
-           "first_of", "seek", "nearest", "recover_pile", "draw_line"]
+__all__ = ["System", "Cause", "Kind", "Format", "Counted", "Pace", "Both", "State", "End", "Reading", "FieldReadings",
+           "Code", "Number", "Near", "Sought", "Verdict", "Reason", "GapKind", "Gap", "Tally", "JudgedSide", "Stream",
+           "line_bytes", "field_bytes", "read_line", "read_rows", "read_field", "fields", "classify", "format_of",
+           "judge", "judge_field", "find_pace", "judge_chapters", "judge_stops", "judge_ends", "judge_side", "first_of",
+           "seek", "nearest", "recover_pile", "draw_line"]
 
 __version__ = "0.1.0"

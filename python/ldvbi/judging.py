@@ -4,7 +4,7 @@ believed: the library's judge."""
 import ctypes
 import enum
 import struct
-from typing import Any, Callable, Iterable, List, NamedTuple, Optional, Tuple, Union
+from typing import Any, Callable, Dict, Iterable, List, NamedTuple, Optional, Tuple, Union
 
 from .library import Counted, Pace, check, counted_number, later_call, pace_number, system_number
 from .readings import PACKED_FIELD, AnySystem, FieldReadings
@@ -22,6 +22,14 @@ class State(enum.IntEnum):
     due = 3
 
 
+class End(enum.IntEnum):
+    """Whether a field is of a side's lead-in or lead-out, in doubt, or of none."""
+    none = 0
+    lead_out = 1
+    doubtful = 2
+    lead_in = 3
+
+
 class Number(NamedTuple):
     """The answer of the judge for a field. `number` is the number of a picture, from 0 to 79999, or of a chapter; of a
     time it is the count of pictures from the disc's beginning, 30 (NTSC) or 25 (PAL) a second. It is None if `state` is
@@ -30,10 +38,11 @@ class Number(NamedTuple):
     state: State
 
 
-_PACKED_NUMBER = struct.Struct("=II")  # LdvbiNumber
-_PACKED_STATE = struct.Struct("=I")
-_SIGHTINGS_BYTES = 20  # of LdvbiSightings
+PACKED_NUMBER = struct.Struct("=II")  # LdvbiNumber
+PACKED_STATE = struct.Struct("=I")
+SIGHTINGS_BYTES = 20  # of LdvbiSightings
 _STATES = dict(enumerate(State))
+_ENDS = dict(enumerate(End))
 _NOTHING = Number(None, State.nothing)  # half of the fields have it
 PART = 97  # the most fields on which the answer of one depends: 48 before it, and 48 behind it
 
@@ -61,12 +70,12 @@ def judge_field(readings: Any, field: int, system: AnySystem, counted: Union[Cou
     fields before it, or begin with the side, and 48 behind it, or end with the side, it is what `judge` answers of it
     in the whole side at the same pace, which is `video` or `film` (`find_pace`)."""
     call = later_call("ldvbi_judge_field")
-    packed, count = _packed(readings)
-    number = ctypes.create_string_buffer(_PACKED_NUMBER.size)
+    packed, count = packed_of(readings)
+    number = ctypes.create_string_buffer(PACKED_NUMBER.size)
     if not 0 <= field < count <= PART:
         raise ValueError("field %d of %d, which may be %d at most" % (field, count, PART))
     check(call(system_number(system), counted_number(counted), pace_number(pace), packed, count, field, number))
-    return _number_of(*_PACKED_NUMBER.unpack(number))
+    return _number_of(*PACKED_NUMBER.unpack(number))
 
 
 def judge_chapters(readings: Any) -> List[Number]:
@@ -89,20 +98,36 @@ def judge_stops(readings: Any) -> List[State]:
     If the disc has no stop in a field of which one is believed, a word of pass 1 was misread on its lines 16 and 17, or
     both words were. A stop that the disc has is believed where one of the two was read right in pass 1, or both were
     read right."""
-    call = later_call("ldvbi_judge_stops")
-    packed, count = _packed(readings)
-    stops = ctypes.create_string_buffer(_PACKED_STATE.size * count)
-    check(call(packed, count, stops, count))
-    return [_STATES.get(state, state) for state, in _PACKED_STATE.iter_unpack(stops)]
+    return _states(readings, later_call("ldvbi_judge_stops"), _STATES)
+
+
+def judge_ends(readings: Any) -> List[End]:
+    """Whether each field shows lead-in or lead-out, as a list of `End`: `lead_out` if line 17 or 18 shows it in pass 1,
+    or if both do, in whatever pass; else `lead_in` likewise; else `doubtful` if a line shows either; or `none`. Each
+    field is judged by itself. `readings` are as for `judge`."""
+    return _states(readings, later_call("ldvbi_judge_ends"), _ENDS)
+
+
+def _states(readings: Any, call: Callable[..., int], names: Dict[int, Any]) -> List[Any]:
+    """What a call answers of each field by itself, by these names."""
+    packed, count = packed_of(readings)
+    states = ctypes.create_string_buffer(PACKED_STATE.size * count)
+    check(call(packed, count, states, count))
+    return [names.get(state, state) for state, in PACKED_STATE.iter_unpack(states)]
 
 
 def _judged(readings: Any, call: Callable[..., int]) -> List[Number]:
     """What a call answers of each field, which takes the readings, and room for what is seen and for the answers."""
-    packed, count = _packed(readings)
-    seen = ctypes.create_string_buffer(_SIGHTINGS_BYTES * count)
-    numbers = ctypes.create_string_buffer(_PACKED_NUMBER.size * count)
+    packed, count = packed_of(readings)
+    seen = ctypes.create_string_buffer(SIGHTINGS_BYTES * count)
+    numbers = ctypes.create_string_buffer(PACKED_NUMBER.size * count)
     check(call(packed, count, seen, count, numbers, count))
-    return [_number_of(number, state) if state else _NOTHING for number, state in _PACKED_NUMBER.iter_unpack(numbers)]
+    return numbers_of(numbers)
+
+
+def numbers_of(packed: Any) -> List[Number]:
+    """The answers that the library wrote of fields."""
+    return [_number_of(number, state) if state else _NOTHING for number, state in PACKED_NUMBER.iter_unpack(packed)]
 
 
 def _number_of(number, state):
@@ -115,12 +140,12 @@ def find_pace(readings: Any, system: AnySystem, counted: Union[Counted, str] = C
     call = later_call("ldvbi_find_pace")
     asked, pace = (system_number(system), counted_number(counted)), ctypes.c_uint32()
     check(call(*asked, None, 0, None, 0, ctypes.byref(pace)))  # as above
-    packed, count = _packed(readings)
-    check(call(*asked, packed, count, ctypes.create_string_buffer(_SIGHTINGS_BYTES * count), count, ctypes.byref(pace)))
+    packed, count = packed_of(readings)
+    check(call(*asked, packed, count, ctypes.create_string_buffer(SIGHTINGS_BYTES * count), count, ctypes.byref(pace)))
     return Pace(pace.value)
 
 
-def _packed(readings: Any) -> Tuple[bytes, int]:
+def packed_of(readings: Any) -> Tuple[bytes, int]:
     """Readings as the library takes them, and how many fields they are of."""
     packed = _in_one_piece(readings)
     count, rest = divmod(len(packed), PACKED_FIELD.size)

@@ -46,6 +46,14 @@ class Pace(enum.IntEnum):
     find = 3
 
 
+class Both(enum.IntEnum):
+    """Whether a disc has its numbers on one field of each picture or on both. `find` takes them to be on both if half
+    of the believed numbers are of pairs of fields."""
+    on_one = 0
+    on_both = 1
+    find = 3
+
+
 # ---- Loading
 
 def _library_file():
@@ -80,6 +88,9 @@ _LATER = {
     "ldvbi_find_pace": ("find paces", [_NUMBER] * 2 + [_MEMORY, _SIZE] * 2 + [_MEMORY]),
     "ldvbi_judge_chapters": ("judge chapters", [_MEMORY, _SIZE] * 3),
     "ldvbi_judge_stops": ("judge stops", [_MEMORY, _SIZE] * 2),
+    "ldvbi_judge_ends": ("judge whole sides", [_MEMORY, _SIZE] * 2),
+    "ldvbi_find_both": ("judge whole sides", [_MEMORY, _SIZE]),
+    "ldvbi_judge_side": ("judge whole sides", [_NUMBER] * 5 + [_MEMORY, _SIZE] * 4 + [_MEMORY]),
     "ldvbi_nearest": ("find nearest words", _SETUP + [_MEMORY, _SIZE, _MEMORY]),
     "ldvbi_recover_rows": ("recover words", _SETUP + [_MEMORY, _SIZE, _MEMORY]),
     "ldvbi_recover_fields": ("recover words", _SETUP + [_MEMORY, _SIZE, _MEMORY, _SIZE]),
@@ -106,7 +117,7 @@ def library() -> ctypes.CDLL:
         for name, types in _ARGUMENTS.items():
             _declared(calls, name, types)
     except (OSError, AttributeError) as error:
-        raise OSError("no library to read samples with (%s): %s it, LDVBI_LIBRARY names its file"
+        raise OSError("no library to read and judge with (%s): %s it, LDVBI_LIBRARY names its file"
                       % (error, _MAKE)) from None
     if calls.ldvbi_abi() != ABI:
         raise OSError("%s has the interface %d, not %d: %s the one that fits, LDVBI_LIBRARY names its file"
@@ -158,6 +169,15 @@ def counted_number(counted: Any) -> int:
 def pace_number(pace: Any) -> int:
     """The number of a pace, given by it or by its name."""
     return _member_number(Pace, pace, _TEXTS[BAD_PACE])
+
+
+def both_of(both: Any) -> Both:
+    """The `Both` of a number or a name, of which the library refuses none."""
+    refusal = "numbers are on one field of a picture or on both, or that is to be found"
+    number = _member_number(Both, both, refusal)
+    if number not in list(Both):
+        raise ValueError(refusal)
+    return Both(number)
 
 
 def system_of(system: Any) -> System:

@@ -12,7 +12,7 @@ from .samples import Samples
 
 class Near(NamedTuple):
     """The nearest word of some lines. Distances are sums of samples: white - black is that of one column with the other
-    level, in one line. `word` is None where no word is as near as the row of none, which is black. `start` is the
+    level, in one line. `word` is None if no word is nearer than the row of none, which is black. `start` is the
     column, counted from 0, from which on the word is drawn, or 0. `distance` is that of its row, `rival` the least
     distance of a row of another word, or of none. `longer` is the least distance of this row with one more cell before
     or behind the 24 of the word: where it is far below `distance`, the signal goes on beyond the word, and is none."""

@@ -25,8 +25,8 @@ def seek(stream: Stream, number: int, counted: Union[Counted, str] = Counted.pic
     """Where a number is in a stream, of which at most 400 fields are read: the field has the number as `judge` answers
     it by what all fields of the stream show (without recovered words), and the field before it hasn't. None where none
     was found: numbers have to rise along the side, as they do where a player runs on, so to be sure that one isn't
-    there, judge the whole side. `counted` and `pace` are as for `judge`; a pace that is to be found is found by the
-    fields around the place."""
+    there, judge the whole side. `counted` and `pace` are as for `judge`. A pace that is to be found is taken by the few
+    fields that are judged; it needn't be the one that `find_pace` answers of the side."""
     call = later_call("ldvbi_seek")
     packed = ctypes.create_string_buffer(_PACKED_SOUGHT.size)
     system, black, white, address, length = stream.arguments()

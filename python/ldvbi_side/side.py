@@ -4,14 +4,14 @@ from a document that `ldvbi extract` wrote. Fields are counted from 1."""
 import functools
 from typing import Any, Callable, Dict, Iterable, Iterator, List, Optional, Tuple
 
-from ldvbi import FieldReadings, Reading, State, Stream, System, format_of, judge, read_rows
+from ldvbi import FieldReadings, Reading, Stream, System, format_of, read_rows
 from ldvbi.codes import code, codes_by_kind
 from ldvbi.document import read_document
 from ldvbi.metadata import Metadata, Settings
 from ldvbi.readings import PACKED_FIELD, Cut, Levels, PackedFields
 from ldvbi.stream import BLOCK, StreamDropouts, cut_of
-from .judge.answer import analyse
-from .judge.readings import Answer, Fields, Judge
+from .judge.answer import Analysis, analysed
+from .judge.readings import Answer, Fields
 from .levels import tried_on
 from .near import nearest_word_in
 from .seek import seek, wanted_of
@@ -24,9 +24,8 @@ class Side:
     """The whole fields of a side in their order, and the field in which it was cut. `readings` are kept as the library
     writes them, and each field's are made when they are asked for. `first` says of each field whether
     it is the first one of its frame, or is None where that isn't known. `expected` is the number of fields that the
-    metadata has, or None; with `is_strict` a side without lead-in or lead-out, or with an unread number, isn't whole.
-    `samples` is the stream from which words were recovered, and `judge` asks the library's judge; None where they
-    aren't at hand.
+    metadata has, or None; with `is_strict` a side without lead-in or lead-out, or with an unread number, isn't whole,
+    and with `may_end` one without lead-out may be. `samples` is the stream from which words were recovered, or None.
 
     `answer` is what the words mean, as docs/SIDES.md describes it; `pictures`, `times`, `chapters`, `stops` and
     `format` are parts of it. `codes` is what each field says, judged by nothing."""
@@ -40,9 +39,9 @@ class Side:
         self.levels = levels
         self.first = first
         self.samples = samples
-        self.judge: Optional[Judge] = None
         self.expected: Optional[int] = None
         self.is_strict = False
+        self.may_end = False
 
     def numbered(self) -> Iterable[Tuple[int, FieldReadings]]:
         """Each field's number and readings."""
@@ -54,13 +53,18 @@ class Side:
         nearest_word = functools.partial(nearest_word_in, self.samples) if self.samples else None
         try_levels = functools.partial(tried_on, self.samples) if self.samples else None
         fields = self.readings
-        return Fields(self.system.name, fields.words(), fields.passes(), fields.causes(), cut, self.first,
-                      self.expected, self.is_strict, nearest_word, self.judge, try_levels)
+        return Fields(self.system.name, fields.words(), fields.passes(), fields.causes(), fields.data, cut, self.first,
+                      self.expected, self.is_strict, self.may_end, nearest_word, try_levels)
 
     @functools.cached_property
-    def answer(self) -> Answer:
+    def analysis(self) -> Analysis:
         """What the words of the side mean, as plain data."""
-        return analyse(self.plain())
+        return analysed(self.plain())
+
+    @property
+    def answer(self) -> Answer:
+        """The answer of the analysis."""
+        return self.analysis.answer
 
     def codes(self) -> Iterator[Dict[str, Any]]:
         """For each field its number, its format, the codes of lines 16, 17 and 18, and those that stand on a line of
@@ -128,21 +132,8 @@ def side_of_stream(stream: Stream, over: Optional[Callable[[Iterable[Any], int],
     readings = PackedFields(b"".join(over(blocks, BLOCK) if over else blocks))
     if stream.recover:
         readings = _with_causes(readings, stream)
-    side = Side(stream.system, readings, cut_of(stream), Levels(stream.black, stream.white), first,
+    return Side(stream.system, readings, cut_of(stream), Levels(stream.black, stream.white), first,
                 stream if stream.recover else None)
-    side.judge = _judge_of(readings, stream.system)
-    return side
-
-
-def _judge_of(readings: PackedFields, system: System) -> Optional[Judge]:
-    """What asks the library's judge about these readings; None where the library is too old to have one."""
-    try:
-        judge((), system)
-    except OSError:
-        return None
-    believed = State.believed
-    return lambda counted, pace: {field: number for field, (number, state) in enumerate(
-        judge(readings.data, system, counted, pace), 1) if state == believed and number is not None}
 
 
 def _with_causes(readings: PackedFields, stream: Stream) -> PackedFields:

@@ -31,7 +31,7 @@ _ldvbi_side() {
             options='--help'
             ;;
         scan)
-            options='--help --jobs --csv --json --html --again'
+            options='--help --jobs --open-end --csv --json --html --again'
             case $before in
                 --html) compopt -o dirnames; return ;;
                 -j | --jobs) return ;;
@@ -39,7 +39,7 @@ _ldvbi_side() {
             ;;
         *)
             options='--help --version --meta --system --black --white --no-recover --csv --json --bad-lines --seek'
-            options="$options "'--summary --document --recovered --strict --output --svg --html --map --into'
+            options="$options "'--summary --document --recovered --strict --open-end --output --svg --html --map --into'
             case $before in
                 --system) answers='NTSC PAL' ;;
                 --meta | -o | --output | --svg | --html | --map | --into) compopt -o default; return ;;

@@ -106,7 +106,7 @@ def _side_of(source):
 def _loaded(source, metadata, options):
     """The side of a source, with what the metadata has of its fields."""
     side = _side_of(source)
-    side.is_strict = options.strict
+    side.is_strict, side.may_end = options.strict, options.open_end
     if metadata:
         _add_fields(side, _name_of(options), metadata, isinstance(source, Side))
     return side
@@ -261,9 +261,10 @@ def _scan(words):
     return scan(words, answer_of)
 
 
-def answer_of(path: str, page: Optional[str]) -> Answer:
-    """The answer for a side, which is read with what lies beside it; its page is written where one is named."""
-    options = _options([*(["--html", page] if page else []), "--", path])
+def answer_of(path: str, page: Optional[str], may_end: bool) -> Answer:
+    """The answer for a side, which is read with what lies beside it, and may end without lead-out or not; its page is
+    written where one is named."""
+    options = _options([*(["--html", page] if page else []), *["--open-end"] * may_end, "--", path])
     source, metadata = _source(options)
     side = _loaded(source, metadata, options)
     _write_files(side, options, not isinstance(source, Side))
@@ -297,16 +298,17 @@ def _answer(options):
         cut = source.cut if isinstance(source, Side) else cut_of(source)
         return _cut_status(cut, source.system, _name_of(options))
     side = _loaded(source, metadata, options)
+    answer = side.answer  # whose faults come before all that is printed
     _write_files(side, options, not isinstance(source, Side))
     if options.seek:
-        found = seek(side.answer, options.seek)
+        found = seek(answer, options.seek)
         print(text_of(found))
         return int(found is None)
     if options.summary:
-        print(*map(printable, summary(side.answer, _plot_command(side, options))), sep="\n")
-        return OF_SIDE[side.answer["whole"]]
+        print(*map(printable, summary(answer, _plot_command(side, options))), sep="\n")
+        return OF_SIDE[answer["whole"]]
     if options.json:
-        json.dump(side.answer, sys.stdout)
+        json.dump(answer, sys.stdout)
         print()
     elif options.bad_lines:
         _print_table(BAD_LINE_COLUMNS, bad_line_rows(side))

@@ -6,7 +6,7 @@ from typing import Dict
 from ldvbi import System, __version__
 from ..seek import wanted_of
 from .join import parser_of_join
-from .statuses import statuses_text
+from .statuses import OPEN_END, statuses_text
 from .summary import MOST_LINES
 
 DESCRIPTION = """Reads a side from a TBC file, or from a document that `ldvbi extract` wrote, and says what its words
@@ -59,6 +59,7 @@ def parser_of_side(program: str) -> argparse.ArgumentParser:
                         "words, too, of version 3")
     parser.add_argument("--strict", action="store_true", help="say that a side without lead-in or lead-out, or with an "
                         "unread number, isn't whole")
+    parser.add_argument("--open-end", action="store_true", help=OPEN_END + ". With --strict, too")
     parser.add_argument("-o", "--output", metavar="FILE", help="print into this file, which gets its name only when it "
                         "is complete")
     parser.add_argument("--svg", metavar="FILE", help="draw the side into this file; print only what another option "

@@ -7,10 +7,12 @@ from typing import Any, Dict, List, Optional, Sequence
 
 from ..outside import legible, printable
 
-VERSION = 1  # of the form of the JSON
-COLUMNS = ("side", "whole", "lost", "unread", "format", "from", "to", "fields", "why")
+VERSION = 2  # of the form of the JSON
+# The columns, and the members of a row
+COLUMNS = {"side": "side", "whole": "whole", "lost": "lost", "unread": "unread", "format": "format", "from": "from",
+           "to": "to", "last": "last", "lead-in": "leadIn", "lead-out": "leadOut", "fields": "fields", "why": "reasons"}
 FAULT = "fault"  # in the column `whole`, of a side that wasn't read
-_WIDTHS = (10, 6, 6, 7, 10, 10, 7)  # of the columns between the first and the last
+_WIDTHS = (10, 6, 6, 7, 10, 10, 10, 7, 8, 7)  # of the columns between the first and the last
 Row = Dict[str, Any]
 
 
@@ -18,13 +20,14 @@ def row_of(path: str, said: Dict[str, Any], page: Optional[str]) -> Row:
     """The row of a side of which its page says this; `page` is None where none is written."""
     numbers, counts = said["numbers"], said["counts"]
     return {"side": path, "whole": said["whole"], "lost": counts["lost"], "unread": counts["unread"],
-            "format": said["format"], "from": numbers["least"], "to": numbers["greatest"], "fields": said["fields"],
+            "format": said["format"], "from": numbers["least"], "to": numbers["greatest"], "last": said["last"],
+            "leadIn": said["leadIn"], "leadOut": said["leadOut"], "fields": said["fields"],
             "reasons": [one["text"] for one in said["reasons"]], "fault": None, "page": page}
 
 
 def fault_row(path: str, fault: str) -> Row:
     """The row of a side that wasn't read, and why."""
-    return {**dict.fromkeys(COLUMNS[:-1]), "side": path, "reasons": [], "fault": legible(" ".join(fault.split())),
+    return {**dict.fromkeys(COLUMNS.values()), "side": path, "reasons": [], "fault": legible(" ".join(fault.split())),
             "page": None}
 
 
@@ -32,7 +35,7 @@ def _cells(row):
     """The cells of a row, None where there is nothing to say."""
     whole = FAULT if row["fault"] is not None else row["whole"]
     why = row["fault"] if row["fault"] is not None else "; ".join(row["reasons"])
-    return [row["side"], whole, *(row[column] for column in COLUMNS[2:-1]), why]
+    return [row["side"], whole, *(row[member] for member in list(COLUMNS.values())[2:-1]), why]
 
 
 class Table:
@@ -49,8 +52,8 @@ class Text(Table):
     """Rows in columns for a reader. The first one is as wide as the longest of these names, of all sides to come."""
 
     def __init__(self, names: Sequence[str]) -> None:
-        self._width = max(len(name) for name in [*names, COLUMNS[0]])
-        self._print(COLUMNS)
+        self._width = max(len(name) for name in [*names, "side"])
+        self._print(list(COLUMNS))
 
     def add(self, row: Row) -> None:
         self._print(["-" if cell is None else printable(str(cell)) for cell in _cells(row)])

@@ -15,6 +15,7 @@ from ldvbi.metadata import beside
 from ldvbi.packed import refuse_packed
 from ..draw.index import head_of, index_of
 from ..draw.page import said_of
+from ..judge.answer import VERSION
 from ..judge.readings import Answer
 from ..outside import say
 from .faults import fault_text, no_metadata
@@ -23,7 +24,7 @@ from .outputs import drop_part, refuse_inputs, whole_file
 from .processes import Ended, SideBySide
 from .progress import SidesProgress, heard_by
 from .rows import Csv, Json, Text, fault_row, row_of
-from .statuses import FAULT, OF_SIDE, of_many, statuses_text
+from .statuses import FAULT, OF_SIDE, OPEN_END, of_many, statuses_text
 
 DESCRIPTION = """Prints a table with a row for each side in these files and folders, which are gone through whole: its
 .tbc files, with their metadata beside them, and its .vbi.json documents without a .tbc beside them. A side that can't
@@ -32,7 +33,7 @@ INDEX = "index.html"
 MOST_JOBS = 4  # where the command line doesn't say
 # About how many bytes of a file there are to a field
 _FIELD_BYTES = {True: 600000, False: 150}  # of a TBC file, of a document
-Read = Callable[[str, Optional[str]], Answer]
+Read = Callable[[str, Optional[str], bool], Answer]
 
 
 def _jobs(text):
@@ -48,6 +49,7 @@ def parser_of_scan() -> argparse.ArgumentParser:
     parser.add_argument("-j", "--jobs", metavar="N", type=_jobs, default=min(os.cpu_count() or 1, MOST_JOBS),
                         help="read so many sides at a time (as many as there are processors, at most %d; 1 is best "
                         "for one spinning disk)" % MOST_JOBS)
+    parser.add_argument("--open-end", action="store_true", help=OPEN_END)
     output = parser.add_mutually_exclusive_group()
     output.add_argument("--csv", action="store_true", help="print the table as CSV")
     output.add_argument("--json", action="store_true", help="print the table as JSON, at the end")
@@ -77,12 +79,13 @@ def scan(words: List[str], read: Read) -> int:
     pages = _pages(sides, options.html)
     index = os.path.join(options.html, INDEX) if options.html else None
     refuse_inputs([1, index, *pages], itertools.chain.from_iterable(files_of(side.path) for side in sides))
-    kept = dict(_kept(sides, pages, options.again))
+    kept = dict(_kept(sides, pages, options))
     left = [place for place in range(len(sides)) if place not in kept]
     table = Csv() if options.csv else Json() if options.json else Text([side.path for side in sides])
     rows = []
     tasks = [(sides[place].path, pages[place]) for place in left]
-    with SideBySide(functools.partial(_read_side, read), tasks, options.jobs, _drop_page) as messages, \
+    read_side = functools.partial(_read_side, read, options.open_end)
+    with SideBySide(read_side, tasks, options.jobs, _drop_page) as messages, \
             SidesProgress([_size(path) for path, _ in tasks]) as progress:
         for row, notes in _in_order(itertools.chain(kept.items(), _results(messages, progress, sides, left))):
             progress.clear()
@@ -104,24 +107,25 @@ def _pages(sides, folder):
     return [os.path.join(folder, page_name(side.path)) for side in sides]
 
 
-def _kept(sides, pages, is_again):
+def _kept(sides, pages, options):
     """The rows of those sides that aren't read, and their notes, each with the side's place."""
     for place, (side, page) in enumerate(zip(sides, pages)):
         if side.fault is not None:
             yield place, (fault_row(side.path, side.fault), [])
-        elif page and not is_again:
-            said = _said_before(side.path, page)
+        elif page and not options.again:
+            said = _said_before(side.path, page, options.open_end)
             if said:
                 yield place, (row_of(side.path, said, page), [])
 
 
-def _said_before(path, page):
-    """What the page of a side says of it, where that is newer than the side's files; else None."""
+def _said_before(path, page, may_end):
+    """What the page of a side says of it, if that is newer than the side's files, has all that a row has, and was asked
+    the same; else None."""
     try:
         written = os.stat(page).st_mtime_ns
         if all(os.stat(file).st_mtime_ns < written for file in files_of(path)):
             said = head_of(page)[1]
-            return said if "counts" in said else None  # an earlier page has none
+            return said if (said.get("version"), said.get("openEnd")) == (VERSION, may_end) else None
     except (OSError, ValueError):
         pass  # it isn't there, or isn't whole: whatever the side's files are is said when they are read
     return None
@@ -158,7 +162,7 @@ def _ended_text(status):
     return "its process ended with status %d" % status
 
 
-def _read_side(read, task, tell):
+def _read_side(read, may_end, task, tell):
     """Sends the row of a side, and what is to be noted of it, and meanwhile which part of it is read."""
     path, page = task
     begin = time.time_ns()
@@ -166,7 +170,7 @@ def _read_side(read, task, tell):
     try:
         with heard_by(lambda done, fields: tell(done / fields if fields else 1.0)), contextlib.redirect_stderr(notes):
             _refuse_others(path)
-            answer = read(path, page)
+            answer = read(path, page, may_end)
         if page:
             os.utime(page, ns=(begin, begin))  # what a file gets while it is read is newer than its page
         row = row_of(path, said_of(answer), page)

@@ -8,6 +8,8 @@ from ..judge.whole import NO, OPEN, YES
 FAULT, CUT = 2, 3
 OF_SIDE = {YES: 0, NO: 1, OPEN: 4}  # by whether it is whole
 _LIGHTEST_FIRST = (0, CUT, OF_SIDE[OPEN], OF_SIDE[NO], FAULT)
+# What the help says of the option by which a side without lead-out can be whole
+OPEN_END = "accept that there is no lead-out: the disc may go on after the last number"
 # What is asked for, and what each status says of it but for those of all
 MEANINGS: Tuple[Tuple[Tuple[str, ...], Dict[int, str]], ...] = (
     (("no option", "--summary"), {0: "the side is whole", 1: "the side isn't whole",

@@ -10,7 +10,7 @@ from ..judge.readings import Answer
 from ..judge.whole import UNITS, counted, other_file
 from ..levels import options_of
 
-MOST_LINES = 26
+MOST_LINES = 25
 MOST_LISTED = 4  # places in a line
 
 
@@ -131,15 +131,6 @@ def _doubt_lines(answer):
                                               "none" if one["taken"] is None else one["taken"]) for one in conflicts))
     for one in answer["secondRows"]:
         yield "a second row of numbers, not taken: %(first)s to %(last)s in fields %(field)d to %(lastField)d" % one
-    if answer["judged"]:
-        yield _judged_text(answer["judged"])
-
-
-def _judged_text(judged):
-    first = judged["first"]
-    where = " (field %(field)d: %(judge)s and %(package)s)" % first if first else ""
-    return "judged by the library, too: %s alike, %d believed by it alone, %d here alone, %d differ%s" % (
-        counted(judged["both"], "field"), judged["judgeAlone"], judged["packageAlone"], judged["differ"], where)
 
 
 def _part_lines(answer):

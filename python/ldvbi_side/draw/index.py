@@ -56,10 +56,11 @@ def _no_number(name):
 def _is_said(said):
     """Whether these are the members that a page has of its side."""
     try:
-        numbers, counts = said["numbers"], said.get("counts", {"lost": 0, "unread": 0})
-        known = [numbers["count"], said["fields"], counts["lost"], counts["unread"]]
+        numbers, counts = said["numbers"], said["counts"]
+        known = [numbers["count"], said["fields"], counts["lost"], counts["unread"], said["leadIn"], said["leadOut"]]
         texts = [said["format"], said["lost"], *(one["text"] for one in said["reasons"])]
         return (said["whole"] in (NO, OPEN, YES) and {"least", "greatest"} <= numbers.keys()
+                and {"last", "openEnd"} <= said.keys()
                 and all(type(one) is int for one in known) and all(isinstance(one, str) for one in texts))
     except (AttributeError, KeyError, TypeError):
         return False

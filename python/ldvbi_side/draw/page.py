@@ -65,7 +65,9 @@ def escaped(value: Any) -> str:
 def said_of(answer: Answer) -> Answer:
     """What a page says of itself: the members of the answer that a row for its side has."""
     said = {name: answer[name] for name in (
-        "version", "whole", "reasons", "system", "format", "unit", "fields", "numbers")}
+        "version", "whole", "reasons", "system", "format", "unit", "fields", "numbers", "openEnd")}
+    said["last"] = answer["showings"][-1][0] if answer["showings"] else None
+    said.update((name, sum(one["count"] for one in answer[name])) for name in ("leadIn", "leadOut"))
     return dict(said, lost=_lost_text(answer), counts={why: counted_by(answer, why) for why in ("lost", "unread")})
 
 

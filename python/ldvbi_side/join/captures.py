@@ -34,11 +34,13 @@ class Place(NamedTuple):
 
 
 class Capture(NamedTuple):
-    """A capture under its name. `places` are in the order of its fields; `first` has the first place of each number.
+    """A capture under its name. `breaks` are where its numbers and fields don't go on together, more of them than the
+    library reports. `places` are in the order of its fields; `first` has the first place of each number.
     `said` has for each kind of code, by its name, what stands beside which number. `samples` is the stream from which
     words were recovered; None where it isn't at hand."""
     name: str
     answer: Answer
+    breaks: List[Answer]
     places: List[Place]
     first: Dict[int, Place]
     said: Dict[str, Dict[int, Any]]
@@ -71,7 +73,7 @@ def capture_of(side: Side, name: str) -> Capture:
     first: Dict[int, Place] = {}
     for place in places:
         first.setdefault(place.number, place)
-    return Capture(name, side.answer, places, first, {
+    return Capture(name, side.answer, side.analysis.breaks, places, first, {
         "chapter": _chapters(side.answer, first), "programme status": _status(side, first)}, side.samples)
 
 
@@ -99,7 +101,8 @@ def _places(side):
     bad = _bad_before(answer)
     doubtful = {(one["field"], one["line"]) for one in answer["doubtful"] + answer["stray"]}
     is_of_two = answer["pace"] in ("video", "film")
-    before_break = {field for one in answer["lost"] + answer["breaks"] for field in range(one["after"], one["before"])}
+    before_break = {field for one in answer["lost"] + side.analysis.breaks
+                    for field in range(one["after"], one["before"])}
     shown = _shown(answer)
     for one, after in itertools.zip_longest(shown, shown[1:]):
         is_torn = one.field in before_break or is_of_two and after is not None and after.number == one.number

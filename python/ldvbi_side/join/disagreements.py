@@ -63,7 +63,7 @@ def _detours(one: Capture, other: Capture) -> Iterator[Disagreement]:
     if one.answer["pace"] == "minute":
         return
     pace = Pace(one.answer["pace"])
-    breaks = one.answer["breaks"]
+    breaks = one.breaks
     for before, after in zip(breaks, breaks[1:]):
         number, step = one.ordinal(before["from"]), one.ordinal(after["to"]) - one.ordinal(before["from"])
         if step < 2 or pace.least_off(after["before"] - before["after"], number, step):
@@ -129,7 +129,8 @@ def _told_before(capture: Capture) -> List[int]:
     """Of each field how many before it the capture says something of: a break, a loss, a still, a repetition, another
     speed, swapped fields, or a number that the clock leaves out."""
     answer, told = capture.answer, [0] * (capture.answer["fields"] + 2)
-    spans = [(one["after"], one["before"]) for name in ("breaks", "lost", "leftOut") for one in answer[name]]
+    spans = [(one["after"], one["before"]) for ones in (capture.breaks, answer["lost"], answer["leftOut"])
+             for one in ones]
     spans += [(one["first"], one["last"] + 1) for name in ("stills", "speeds") for one in answer[name]]
     spans += [(one["field"], one["lastField"] + 1) for one in answer["repeated"]]
     spans += [(one["field"] - 1, one["field"] + 2) for one in answer["swapped"]]

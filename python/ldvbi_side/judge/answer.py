@@ -3,17 +3,18 @@ plain data out; docs/SIDES.md has the rules and the form of the answer. Every ou
 
 Where the rules of docs/SIDES.md are: 1, 2, 4 and 7 in paces.py, 3 and 11 in readings.py, 5, 6 and 8 in chain.py, 9 in
 times.py, 10 in parts.py, 12 in places.py and missing.py, 13 in clock.py, 14, 15 and the loops of 6 in order.py, the end
-of 6 in between.py, 16 in confirmed.py, 17 in minutes.py, 18 in sparse.py."""
+of 6 in between.py, 16 in confirmed.py, 17 in minutes.py, 18 in sparse.py. What the library says of the side is taken in
+by gaps.py."""
 
-from typing import List
+from typing import List, NamedTuple
 
 from ldvbi import Kind
 from ldvbi.collector import paused
 from .confirmed import with_confirmed
 from .doubts import Doubts, read_in
-from .judged import judged_of
+from .gaps import Gaps, gaps_of, judged_of
 from .lines import bad_lines_of, levels_of, rates_of
-from .missing import lost_fields, missing_of, repeated_of
+from .missing import lost_fields, missing_of, own_breaks, repeated_of
 from .numbers import numbers_of
 from .order import pairs_of
 from .parts import chapters_of, ends_of, status_of, stops_of, users_of
@@ -21,29 +22,41 @@ from .places import Places, places_of
 from .readings import Answer, Codes, Fields, codes_of
 from .whole import reasons_of, whole_of
 
-VERSION = 2  # of the answer's form
+VERSION = 3  # of the answer's form
+
+
+class Analysis(NamedTuple):
+    """The answer, and where the numbers that are believed in it have breaks: more of these than the library reports."""
+    answer: Answer
+    breaks: List[Answer]
+
+
+def analyse(fields: Fields) -> Answer:
+    """The answer for these fields of a side."""
+    return analysed(fields).answer
 
 
 @paused()
-def analyse(fields: Fields) -> Answer:
-    """The answer for these fields of a side."""
+def analysed(fields: Fields) -> Analysis:
+    """The analysis of these fields of a side."""
     codes = codes_of(fields)
     numbers, doubts = numbers_of(codes)
     places = with_confirmed(places_of(numbers, codes), fields.nearest_word)
+    gaps = gaps_of(places, judged_of(numbers, fields, codes.format == "clv"), codes.kinds[Kind.picture])
     begin = 2 if fields.first and not fields.first[0] else 1
     answer: Answer = {
         "version": VERSION, "system": fields.system, "format": codes.format, "unit": numbers.unit.name,
         "fields": len(fields.words), "cutField": fields.cut, "frameBegin": begin,
         "pace": numbers.pace.kind if numbers.pace else None}
-    answer.update(_of_numbers(places, doubts))
-    answer.update(_of_losses(places, fields))
+    answer.update(_of_numbers(places, gaps, doubts))
+    answer.update(_of_losses(places, gaps, fields))
     answer.update(_of_parts(codes, places, doubts, begin))
     bad, rates = bad_lines_of(fields), rates_of(fields)
     answer.update({"badLines": bad, "lines": rates, "levels": levels_of(rates, bad, fields),
-                   "metadataFields": fields.expected, "judged": judged_of(numbers, fields.judge)})
-    reasons = reasons_of(answer, fields.is_strict)
+                   "metadataFields": fields.expected, "openEnd": fields.may_end})
+    reasons = reasons_of(answer, gaps, numbers.unit, fields.is_strict, fields.may_end)
     answer.update({"whole": whole_of(reasons), "reasons": reasons})
-    return answer
+    return Analysis(answer, _breaks(places, own_breaks(places)))
 
 
 def frame_of(field: int, begin: int) -> int:
@@ -52,7 +65,7 @@ def frame_of(field: int, begin: int) -> int:
     return max((field - begin) // 2 + 1, 0)
 
 
-def _of_numbers(places: Places, doubts: Doubts) -> Answer:
+def _of_numbers(places: Places, gaps: Gaps, doubts: Doubts) -> Answer:
     """The numbers, and where they stand."""
     text_of = places.numbers.unit.text_of
     read = read_in(doubts.doubtful, {field for _, field in places.due})
@@ -64,18 +77,24 @@ def _of_numbers(places: Places, doubts: Doubts) -> Answer:
         "completed": sorted(places.numbers.completed), "confirmed": list(places.confirmed),
         "unread": [{"number": text_of(number), "field": field, "read": read.get(field)}
                    for number, field in places.due],
-        "breaks": [dict(one, **{"from": text_of(one["from"]), "to": text_of(one["to"])}) for one in places.breaks],
+        "breaks": _breaks(places, gaps.breaks),
         "stills": [dict(one, number=text_of(one["number"])) for one in places.stills],
         "repeated": repeated_of(places)}
 
 
-def _of_losses(places: Places, fields: Fields) -> Answer:
+def _breaks(places, breaks):
+    """Breaks with the texts of their numbers."""
+    text_of = places.numbers.unit.text_of
+    return [dict(one, **{"from": text_of(one["from"]), "to": text_of(one["to"])}) for one in breaks]
+
+
+def _of_losses(places: Places, gaps: Gaps, fields: Fields) -> Answer:
     """What isn't there, or isn't in the disc's order."""
     numbers = places.numbers
-    missing, left_out = missing_of(places, fields)
+    missing, left_out = missing_of(places, gaps, fields)
     return {
         "missing": missing, "leftOut": left_out,
-        "lost": lost_fields(places, (fields.first or ())[:len(fields.words)]),
+        "lost": lost_fields(places, gaps, (fields.first or ())[:len(fields.words)]),
         "speeds": [{"first": one.first, "last": one.last, "numbers": one.line.name()} for one in numbers.speeds],
         "swapped": [{"field": begin, "number": places.number_at(field)}
                     for begin, field in pairs_of(numbers.swapped).items()]}

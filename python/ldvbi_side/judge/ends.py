@@ -1,9 +1,10 @@
 """The two ends of a side: whether it has fields for the numbers before its first one, and how far it goes on without
-numbers. By the answer's other members alone."""
+numbers. By the answer's other members, and the library's reasons."""
 
 from typing import Any, NamedTuple, Optional, Tuple
 
-from .paces import RATES
+from ldvbi import JudgedSide, Reason
+from .paces import RATES, Unit
 from .readings import Answer
 
 # The numbers with which a disc may begin
@@ -13,25 +14,40 @@ LEFT_OUT = 2  # numbers that the clock of an NTSC disc leaves out in a minute, a
 
 
 class Begin(NamedTuple):
-    """How a side begins whose first number isn't the disc's: whether it lacks fields for the numbers before that, or
-    else the first and the last of the fields there, where that can't be told."""
-    lacks: bool
+    """How a side begins whose first number isn't the disc's: the number before which it lacks fields, or else the first
+    and the last of the fields there, where that can't be told."""
+    lacks: Any = None
     unread: Optional[Tuple[int, int]] = None
 
 
-def begin_of(answer: Answer, is_strict: bool = False) -> Optional[Begin]:
-    """How a side begins; None where its least number is one with which a disc may begin, or where the few fields before
-    the first one have room for all from there on. With `is_strict` these have to be read, too."""
+def begin_of(answer: Answer, judged: Optional[JudgedSide], unit: Unit, is_strict: bool = False) -> Optional[Begin]:
+    """How a side begins, by the library, or of minutes alone by the fields before the first one; None where nothing is
+    to be said. With `is_strict` all from the disc's first number on have to be read, too."""
     least = answer["numbers"]["least"]
-    if least is None or least in FIRST[answer["unit"]]:
+    if least is None:
         return None
     number, field, _ = answer["showings"][0]
-    last = max((one["last"] for one in answer["leadIn"] if one["last"] < field), default=0)
-    fewest, most = _fields_before(number, answer)
-    if is_strict or number != least or field - 1 - last < fewest:
-        return Begin(True)
-    is_open = field - 1 - last < most or field - 1 - last > LONGEST
-    return Begin(False, (last + 1, field - 1)) if is_open else None
+    is_first = least in FIRST[answer["unit"]]
+    if judged is None:
+        if is_first:
+            return None
+        fewest, most = _fields_before(number, answer)
+        there = _fields_there(answer, field)
+        is_late, is_open = number != least or there < fewest, there < most or there > LONGEST
+    else:
+        if judged.first is not None:
+            field, number = judged.first + 1, unit.text_of(judged.numbers[judged.first].number or 0)
+        is_short = bool(judged.reasons & Reason.begins_late)  # the library knows of no clock
+        is_late = is_short and _fields_there(answer, field) < _fields_before(number, answer)[0]
+        is_open = is_short or bool(judged.reasons & Reason.begin_unseen)
+    if is_late or is_strict and not is_first:
+        return Begin(number)
+    return Begin(unread=(field - _fields_there(answer, field), field - 1)) if is_open else None
+
+
+def _fields_there(answer, field):
+    """How many fields stand before this one, from the lead-in on."""
+    return field - 1 - max((one["last"] for one in answer["leadIn"] if one["last"] < field), default=0)
 
 
 def end_of(answer: Answer) -> Optional[Tuple[int, int]]:
@@ -42,6 +58,12 @@ def end_of(answer: Answer) -> Optional[Tuple[int, int]]:
     shown = answer["showings"][-1][2]
     last = min((one["first"] - 1 for one in answer["leadOut"] if one["first"] > shown), default=answer["fields"])
     return (shown + 1, last) if last - shown > LONGEST else None
+
+
+def is_end_seen(answer: Answer) -> bool:
+    """Whether lead-out, or another side's lead-in, stands after the last number."""
+    last = answer["showings"][-1][2] if answer["showings"] else 0
+    return any(one["last"] > last for one in answer["leadOut"] + answer["leadIn"])
 
 
 def _fields_before(number, answer):

@@ -1,11 +1,14 @@
 """Numbers that no field has, and whether each is lost or unread, by the fields that are there for it; fields that are
-lost; numbers that are shown again."""
+lost, by the gaps; numbers that are shown again."""
 
 import bisect
 from typing import Any, Dict, Iterable, Iterator, List, NamedTuple, Optional, Sequence, Set, Tuple
 
-from .believed import Numbers, stretch_at
+from ldvbi import Reason
+from .believed import stretch_at
+from .gaps import Gaps
 from .order import pairs_of
+from .paces import RATES
 from .places import Places
 from .readings import Answer, Fields
 
@@ -13,18 +16,18 @@ _BLANK = frozenset(["blank"])
 FAR = 10  # numbers passed over to one that fields may be there for: from here on most of them are sure to be lost
 
 
-def missing_of(places: Places, fields: Fields) -> Tuple[List[Answer], List[Answer]]:
+def missing_of(places: Places, gaps: Gaps, fields: Fields) -> Tuple[List[Answer], List[Answer]]:
     """The numbers between the least and the greatest that no field has, in stretches of one reason; and those that were
     left out by the disc's clock. A gap of more than 4 numbers to each field of the side isn't looked at number by
-    number."""
+    number. None is lost but in a gap."""
     firsts = _first_fields(places.showings)
     numbers = sorted(firsts)
-    gaps = [(one, other) for one, other in zip(numbers, numbers[1:]) if other - one > 1]
+    steps = [(one, other) for one, other in zip(numbers, numbers[1:]) if other - one > 1]
     passed, unread = _passed_over(places, fields), {number for number, _ in places.due} | places.without_field
     known = unread.union(places.unshown, places.open, places.clock.judged, places.clock.open)
     missing: List[List[Any]] = []
     left_out: List[List[Any]] = []
-    for one, other in gaps:
+    for one, other in steps:
         ends = firsts[one], firsts[other]
         if other - one > 4 * len(fields.words):
             if passed.why(one + 1) != "unshown":
@@ -40,7 +43,59 @@ def missing_of(places: Places, fields: Fields) -> Tuple[List[Answer], List[Answe
             else:
                 stretches.append([number, number, why, ends])
     unit = places.numbers.unit
+    missing = _in_gaps(missing, places, gaps) if gaps.judged else missing
     return [_stretch(one, unit) for one in missing], [_stretch(one, unit) for one in left_out]
+
+
+def _in_gaps(missing: List[List[Any]], places: Places, gaps: Gaps) -> List[List[Any]]:
+    """The same stretches, of whose lost numbers those are undecided for which no gap there lacks fields, and those that
+    a field in such a gap shows in pass 1 on both lines."""
+    passed = sorted((one for one in gaps.breaks + gaps.at_speed if one["kind"] == "lost"),
+                    key=lambda one: one["after"])
+    ends = [one["after"] for one in passed], [one["before"] for one in passed]
+    firm = places.numbers.firm
+    shown = {firm[field] for one in passed for field in range(one["after"] + 1, one["before"]) if field in firm}
+    numbers = [(one["from"] + 1, one["to"] - 1) for one in passed]
+    early = _before_first(gaps.judged, places.numbers.unit)
+    everywhere = _merged(numbers + early)
+    found: List[List[Any]] = []
+    for first, last, why, (after, before) in missing:
+        if why != "lost":
+            found.append([first, last, why, (after, before)])
+            continue
+        spans = everywhere
+        if after < before:  # else the numbers go back somewhere, and the fields around are no place
+            spans = _merged(numbers[bisect.bisect(ends[1], after):bisect.bisect_left(ends[0], before)] + early)
+        for begin, end in _parts(first, last, spans, shown):
+            is_lost = bisect.bisect(spans, begin) % 2 and begin not in shown
+            found.append([begin, end, "lost" if is_lost else "undecided", (after, before)])
+    return _joined(found)
+
+
+def _parts(first, last, spans, shown):
+    """The numbers from the first to the last in parts, each of which is in one of the spans or in none, and one of
+    those that are shown or none of them."""
+    cuts = {begin for begin in spans if first < begin <= last}
+    cuts.update(cut for number in shown for cut in (number, number + 1) if first < cut <= last)
+    begins = [first, *sorted(cuts)]
+    return zip(begins, [begin - 1 for begin in begins[1:]] + [last])
+
+
+def _before_first(judged, unit):
+    """The numbers before the first one, if there are no fields for them. An NTSC disc's clock may leave out times."""
+    is_late = judged.reasons & Reason.begins_late and (unit.name, unit.rate) != ("time", RATES["NTSC"])
+    return [(0, judged.numbers[judged.first].number - 1)] if is_late else []
+
+
+def _joined(stretches: List[List[Any]]) -> List[List[Any]]:
+    """These stretches, of which one that follows another and has the same reason and ends goes on with it."""
+    found: List[List[Any]] = []
+    for one in stretches:
+        if found and found[-1][1:] == [one[0] - 1, *one[2:]]:
+            found[-1][1] = one[1]
+        else:
+            found.append(one)
+    return found
 
 
 def _first_fields(showings):
@@ -149,38 +204,40 @@ def _fate(one, numbers, fields):
 
 # ---- Lost fields
 
-def lost_fields(places: Places, first: Sequence[bool]) -> List[Answer]:
-    """Where fields are lost: by numbers that come too early, and between the first number and the last by two fields of
-    one parity in a row, where `first` says of each field whether it is the first one of its frame."""
-    lost = [{"after": one["after"], "before": one["before"], "fields": one["fields"],
-             "by": "undecided" if one["from"] + 1 in places.clock.open and one["fields"] == 2 else "number"}
-            for one in places.breaks if one["kind"] == "lost"]
-    pace = places.numbers.pace
-    if pace and pace.kind == "both":
-        for one in lost:
-            if one["fields"] == 1:
-                _widen(one, places.numbers)
+def lost_fields(places: Places, gaps: Gaps, first: Sequence[bool]) -> List[Answer]:
+    """Where fields are lost: by the gaps, and between the first number and the last by two fields of one parity in a
+    row, where `first` says of each field whether it is the first one of its frame."""
+    lost = [{"after": one["after"], "before": one["before"], "fields": one["fields"], "by": by}
+            for by, ones in (("number", gaps.breaks), ("undecided", gaps.open))
+            for one in ones if one["kind"] == "lost"]
+    lost.sort(key=lambda one: one["after"])
     swapped, numbered = _swapped_parity(places.numbers, first), places.numbers.fields
     fields = [field for field in range(numbered[0] + 1, min(numbered[-1], len(first)) + 1)
               if first[field - 1] == first[field - 2]] if numbered else []
     return _with_parity(lost, [field for field in fields if field not in swapped and
-                               not _is_between_sides(places, field)])
+                               not _is_between_sides(places, gaps, field)])
 
 
-def _is_between_sides(places, field):
+def _is_between_sides(places, gaps, field):
     """Whether a field stands between the numbers of two sides."""
-    return any(before.field < field <= after.field for before, after in places.joins)
+    return any(before.field < field <= after.field for before, after in places.joins) or any(
+        one["after"] < field <= one["before"] for one in gaps.joins)
 
 
-def _widen(one, numbers):
-    """Of a picture that was read in one of its two fields it isn't known in which. So where one field is lost, such
-    pictures before the loss may stand behind it, if their field is taken for the first one. (The chain of numbers has
-    the break as late as it can be.)"""
-    believed, fields = numbers.believed, numbers.fields
-    place = bisect.bisect(fields, one["after"]) - 1
-    while place > 0 and believed[place].variant == 0 and numbers.off(believed[place - 1], believed[place]) == 0:
-        place -= 1
-    one["after"] = fields[place]
+def own_breaks(places: Places) -> List[Answer]:
+    """The breaks of the numbers that are believed here. Of a picture that was read in one of its two fields it isn't
+    known in which. So where one field is lost, such pictures before the loss may stand behind it, if their field is
+    taken for the first one. (The chain of numbers has the break as late as it can be.)"""
+    numbers = places.numbers
+    breaks = [dict(one) for one in places.breaks]
+    for one in breaks if numbers.pace and numbers.pace.kind == "both" else ():
+        if one["kind"] == "lost" and one["fields"] == 1:
+            place = bisect.bisect(numbers.fields, one["after"]) - 1
+            while place > 0 and numbers.believed[place].variant == 0 and numbers.off(
+                    numbers.believed[place - 1], numbers.believed[place]) == 0:
+                place -= 1
+            one["after"] = numbers.fields[place]
+    return breaks
 
 
 def _swapped_parity(numbers, first):

@@ -140,11 +140,11 @@ AnyPace = Union[Pace, MinutePace, ChapterPace]
 def pace_of(readings: List[Reading], may_be_film: bool) -> Pace:
     """The numbers stand on both fields where a tenth of the steps from reading to reading is to the same number in the
     next field: of a worn disc few pictures are read in both. Such steps in a row are one, since that is a field which
-    was frozen. A disc that may be film is one where at least one picture in ten has 3 fields."""
+    was frozen, or a still. A disc that may be film is one where at least one picture in ten has 3 fields."""
     fields, numbers = [one.field for one in readings], [one.number for one in readings]
     each = list(zip(map(operator.sub, fields[1:], fields), map(operator.sub, numbers[1:], numbers)))
     same, two, three = map(each.count, ((1, 0), (2, 1), (3, 1)))
     in_a_row = sum(one == other == (1, 0) for one, other in zip(each, each[1:])) if same else 0
-    if 10 * (same - in_a_row) > len(readings):
+    if 10 * (same - in_a_row) > len(readings) - in_a_row:
         return Pace("both")
     return Pace("film" if may_be_film and FILM * three >= max(two + three, 1) else "video")

@@ -13,29 +13,28 @@ Values = Dict[Any, Lines]  # what a field says by codes of one kind, each value 
 ByField = Dict[int, Values]
 # Of a field, and the first and the last of some of its lines, the word that is nearer to them than any other, or None
 NearestWord = Callable[[int, int, int], Optional[int]]
-# Of what is counted, `pictures` or `times`, and of the pace, `video` or `film`, the numbers that the library's judge
-# believes, by field
-Judge = Callable[[str, str], Dict[int, int]]
 
 
 class Fields(NamedTuple):
     """The whole fields of a side as plain data: of each field the words, passes and causes of lines 16, 17 and 18, as
-    the document of `ldvbi extract` has them. A recovered word has pass 3, and the cause for which its line shows none
-    of its own. `cut` is the document's `cutField`. `first` says of each field whether it
-    is the first one of its frame (`isFirstField` of ld-decode's metadata), or is None where that isn't known.
-    `expected` is the number of fields that the metadata has, or None; `is_strict` says that a side without lead-in or
-    lead-out, or with an unread number, isn't whole. `nearest_word` finds the nearest words of lines where their samples
-    are at hand, and `try_levels` what other levels would read; `judge` asks the library's judge where that is."""
+    the document of `ldvbi extract` has them, and all of them as the library takes them, in `packed`. A recovered word
+    has pass 3, and the cause for which its line shows none of its own. `cut` is the document's `cutField`. `first` says
+    of each field whether it is the first one of its frame (`isFirstField` of ld-decode's metadata), or is None where
+    that isn't known. `expected` is the number of fields that the metadata has, or None; `is_strict` says that a side
+    without lead-in or lead-out, or with an unread number, isn't whole, and `may_end` that it may end without lead-out.
+    `nearest_word` finds the nearest words of lines where their samples are at hand, and `try_levels` what other levels
+    would read."""
     system: str
     words: List[Tuple[int, int, int]]
     passes: List[Tuple[int, int, int]]
     causes: List[Tuple[str, str, str]]
+    packed: bytes
     cut: Optional[Dict[str, int]] = None
     first: Optional[List[bool]] = None
     expected: Optional[int] = None
     is_strict: bool = False
+    may_end: bool = False
     nearest_word: Optional[NearestWord] = None
-    judge: Optional[Judge] = None
     try_levels: Optional[Callable[[], Answer]] = None
 
 

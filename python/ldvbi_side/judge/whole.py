@@ -1,11 +1,14 @@
 """Whether a capture is whole: `yes`, `no`, or `can't tell`, of which the last two have reasons in order of weight. They
-are found by the answer's other members alone."""
+are the library's reasons, and what the answer's other members say beyond gaps."""
 
 import bisect
 from collections import Counter, defaultdict
 from typing import List
 
-from .ends import begin_of, end_of
+from ldvbi import Reason, State
+from .ends import begin_of, end_of, is_end_seen, ordinal_of
+from .gaps import Gaps
+from .paces import Unit
 from .lines import words_of
 from .readings import Answer
 
@@ -16,18 +19,20 @@ NEAR = 2  # fields from one code of the other format to the next, where they are
 SHARE = 10  # numbers to one that is set aside, at most, where what was read shows whether a side is whole
 
 
-def reasons_of(answer: Answer, is_strict: bool = False) -> List[Answer]:
-    """Why a side with this answer isn't whole, or why that can't be told, in order of weight: `why` is a word for
-    programs, `text` says it, and `whole` is what the reason alone would make of the side. Numbers that weren't read
-    while their fields are there are no reason, nor is it that there is no lead-in or no lead-out, unless `is_strict`.
-    """
-    begin = begin_of(answer, is_strict)
-    known = [_lost(answer), _jumps(answer), _speed(answer), _missing(answer), _swapped(answer),
-             begin and begin.lacks and ("begins", "begins at %(least)s, ends at %(greatest)s" % answer["numbers"])]
-    known += [_unread(answer), *_ends(answer)] if is_strict else []
-    known += [_joined(answer), _other_format(answer), _fewer(answer), _cut(answer)]
-    open_ = [_no_numbers(answer), _undecided(answer), _unread_at(begin and begin.unread), _unread_at(end_of(answer)),
-             _order(answer), _judged(answer), _lines(answer), _doubtful(answer)]
+def reasons_of(answer: Answer, gaps: Gaps, unit: Unit, is_strict: bool = False, may_end: bool = False) -> List[Answer]:
+    """Why a side with this answer and these gaps isn't whole, or why that can't be told, in order of weight: `why` is a
+    word for programs, `text` says it, and `whole` is what the reason alone would make of the side. Each reason that the
+    library has is among them, if nothing explains it. Numbers that weren't read while their fields are there are no
+    reason, nor is it that there is no lead-in, unless `is_strict`; nor that there is no lead-out, if it `may_end`."""
+    begin = begin_of(answer, gaps.judged, unit, is_strict)
+    known = [_lost(answer), _jumps(answer), _speed(answer), _missing(answer), _swapped(answer, gaps.judged),
+             _begins(answer, begin)]
+    known += [_unread(answer), *_ends(answer, may_end)] if is_strict else []
+    known += [_joined(answer, gaps), _other_format(answer), _fewer(answer), _cut(answer)]
+    open_ = [_no_numbers(answer, gaps.judged), _open(answer, gaps), _off(gaps), _undecided(answer, gaps),
+             _unread_at(begin and begin.unread), _unread_at(end_of(answer)),
+             _end_unseen(answer, gaps.judged, may_end or is_strict and not answer["leadOut"]), _minutes(answer),
+             _order(answer), _lines(answer), _doubtful(answer, gaps.judged)]
     return [{"why": one[0], "whole": whole, "text": one[1]}
             for whole, found in ((NO, known), (OPEN, open_)) for one in found if one]
 
@@ -81,6 +86,18 @@ def _jumps(answer):
     return "jumps", "%s (%s)" % (counted(back + ahead, "jump"), how)
 
 
+def _off(gaps):
+    """Numbers don't count to each other, and no gap says where that comes from: a field may be lost, or the film cut.
+    """
+    if gaps.more is None:
+        return None
+    where = "fields %d to %d" % (gaps.judged.first + 1, gaps.judged.last + 1)
+    if not gaps.more:
+        return "off", "a field may be lost or too many in " + where
+    return "off", "%s are %s %s than their numbers count to" % (
+        where, counted(abs(gaps.more), "field"), "more" if gaps.more > 0 else "fewer")
+
+
 def _missing(answer):
     count = counted_by(answer, "lost")
     return ("missing", "%s lost" % counted(count, answer["unit"])) if count else None
@@ -99,18 +116,38 @@ def _speed(answer):
     return "speed", "played at another speed in " + where
 
 
-def _swapped(answer):
+def _swapped(answer, judged):
     count = len(answer["swapped"])
-    return ("swapped", "%s of fields swapped" % counted(count, "pair")) if count else None
+    if count:
+        return "swapped", "%s of fields swapped" % counted(count, "pair")
+    is_swapped = judged and judged.reasons & Reason.is_swapped
+    return ("swapped", "field %d swapped with one beside it" % (judged.swap + 1)) if is_swapped else None
 
 
-def _ends(answer):
+def _begins(answer, begin):
+    """Fields are lost before the first number that is believed: the least one, or one after numbers that the library
+    doesn't believe."""
+    if not begin or begin.lacks is None:
+        return None
+    if answer["numbers"]["least"] == begin.lacks:
+        return "begins", "begins at %(least)s, ends at %(greatest)s" % answer["numbers"]
+    return "begins", "fields lost before %s %s" % (answer["unit"], begin.lacks)
+
+
+def _ends(answer, may_end):
     return [(name, "no " + name) for name, member in (("lead-in", "leadIn"), ("lead-out", "leadOut"))
-            if not answer[member]]
+            if not answer[member] and not (may_end and member == "leadOut")]
 
 
-def _joined(answer):
+def _joined(answer, gaps):
     """Lead-in behind a number, or lead-out before one: two sides in one capture, or two runs of one."""
+    found = _end_between(answer)
+    if not found and gaps.joins:
+        found = "joined", "another side begins after field %(after)d" % gaps.joins[0]
+    return found
+
+
+def _end_between(answer):
     fields = [field for _, *span in answer["showings"] for field in span]
     if not fields:
         return None
@@ -146,13 +183,48 @@ def _cut(answer):
 
 # ---- What leaves it open
 
-def _no_numbers(answer):
-    return None if answer["numbers"]["count"] else ("numbers", "no picture number and no time")
+def _no_numbers(answer, judged):
+    if not answer["numbers"]["count"]:
+        return "numbers", "no picture number and no time"
+    return ("numbers", "too few numbers to judge by") if judged and judged.reasons & Reason.no_numbers else None
 
 
-def _undecided(answer):
-    count = counted_by(answer, "undecided")
+def _open(answer, gaps):
+    """Gaps in which the disc itself may skip."""
+    if not gaps.open:
+        return None
+    one = gaps.open[0]
+    what = "%s may be %s after field %d" % (
+        counted(one["fields"], "field"), "lost" if one["kind"] == "lost" else "too many", one["after"])
+    more = " and in %s" % counted(len(gaps.open) - 1, "more place") if len(gaps.open) > 1 else ""
+    why = ("the disc's clock left out a number" if answer["unit"] == "time" else
+           "the film is cut there" if answer["pace"] == "film" else "lines 17 and 18 count apart there")
+    return "open", "%s%s, or %s" % (what, more, why)
+
+
+def _undecided(answer, gaps):
+    """Numbers that are undecided elsewhere than in open gaps."""
+    count = sum(one["count"] for one in answer["missing"] if one["why"] == "undecided" and not any(
+        gap["after"] <= one["after"] and one["before"] <= gap["before"] for gap in gaps.open))
     return ("undecided", "%s undecided" % counted(count, answer["unit"])) if count else None
+
+
+def _end_unseen(answer, judged, is_accepted):
+    """No end of a side after the last number: the capture may end before the disc does."""
+    if is_accepted or not answer["showings"] or judged and judged.reasons & Reason.no_numbers:
+        return None
+    is_unseen = judged.reasons & Reason.end_unseen if judged else not is_end_seen(answer)
+    return ("lead-out", "no lead-out: the disc may go on behind %s %s" % (answer["unit"], answer["showings"][-1][0])
+            ) if is_unseen else None
+
+
+def _minutes(answer):
+    """Minutes alone, of which none stands between two others: of none the length is known."""
+    if answer["unit"] != "minute":
+        return None
+    minutes = [ordinal_of(number, 1) for number, _, _ in answer["showings"]]
+    is_known = any(after - one == one - before == 1 for before, one, after in zip(minutes, minutes[1:], minutes[2:]))
+    return None if is_known else ("minutes", "no minute is between two others")
 
 
 def _unread_at(fields):
@@ -180,11 +252,6 @@ def _order(answer):
     return "order", text + " may be swapped"
 
 
-def _judged(answer):
-    count = answer["judged"]["differ"] if answer["judged"] else 0
-    return ("judged", "the library's judge has another number in %s" % counted(count, "field")) if count else None
-
-
 def _lines(answer):
     """A line without any code, beside one that shows some."""
     unknown = Counter(str(one["line"]) for one in answer["unknown"])
@@ -193,8 +260,21 @@ def _lines(answer):
     return ("line", "line %s shows no code" % silent[0]) if len(silent) == 1 else None
 
 
-def _doubtful(answer):
-    """A tenth or more of the fields that show a number have one that was set aside."""
+def _doubtful(answer, judged):
+    """A tenth or more of the fields that show a number have one that was set aside, here or by the library, which
+    doesn't believe those at another speed."""
+    found = _set_aside(answer)
+    if found or answer["speeds"] or not judged or not judged.reasons & Reason.many_doubtful:
+        return found
+    states = Counter(number.state for number in judged.numbers)
+    return _doubtful_text(states[State.doubtful], states[State.doubtful] + states[State.believed])
+
+
+def _doubtful_text(count, shown):
+    return "doubtful", "numbers set aside in %d of %s" % (count, counted(shown, "field"))
+
+
+def _set_aside(answer):
     doubtful = {one["field"] for one in answer["doubtful"] if one["kind"] != "chapter"}
     shown = sum(last - first + 1 for _, first, last in answer["showings"])
     begins = [first for _, first, _ in answer["showings"]]
@@ -203,4 +283,4 @@ def _doubtful(answer):
         shown += place == 0 or answer["showings"][place - 1][2] < field
     if not doubtful or SHARE * len(doubtful) < shown:
         return None
-    return "doubtful", "numbers set aside in %d of %s" % (len(doubtful), counted(shown, "field"))
+    return _doubtful_text(len(doubtful), shown)

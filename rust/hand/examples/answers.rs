@@ -1,9 +1,9 @@
 //! Prints all that the crate answers of a side: of each field, counted from 0, what its lines show, its picture, its
-//! time, its chapter and its stop, then where places are found.
+//! time, its chapter and its stop, then where places are found, whether the side is whole, and its gaps.
 //!
 //!     cargo run --example answers -- side.tbc NTSC 16384 51200 12345 0:59:29.07 'chapter 3'
 
-use ldvbi::{Counted, Feeder, Levels, Number, Outcome, Place, Reading, Side, System};
+use ldvbi::{Counted, Feeder, Levels, Number, Outcome, Place, Reading, Reason, Side, SideOptions, System};
 use std::error::Error;
 use std::io::{self, Write};
 
@@ -37,6 +37,22 @@ fn place_of(text: &str) -> Result<Place, Box<dyn Error>> {
         [hours, minutes, seconds, picture] => Ok(Place::Time(hours, minutes, seconds, picture)),
         _ => Err(format!("no place: {text}").into()),
     }
+}
+
+/// Whether the side is whole, if it may end before the disc does or has to show its lead-out, and its gaps: of its
+/// pictures, or of its times if none of those is believed.
+fn print_whole(side: &Side, out: &mut dyn Write) -> io::Result<()> {
+    let options = SideOptions { may_end: true, ..SideOptions::new(Counted::Pictures) };
+    let has_pictures = side.whole(options).reasons != [Reason::NoNumbers];
+    let counted = if has_pictures { Counted::Pictures } else { Counted::Times };
+    let options = SideOptions { counted, ..options };
+    writeln!(out, "whole: {:?}", side.whole(options).verdict)?;
+    writeln!(out, "whole to lead-out: {:?}", side.whole(SideOptions::new(counted)).verdict)?;
+    for gap in side.gaps(options) {
+        let ldvbi::Gap { kind, after, before, from, to, fields, .. } = gap;
+        writeln!(out, "gap: {kind:?} {fields}: field {after} has {from}, field {before} has {to}")?;
+    }
+    Ok(())
 }
 
 /// The fields of the same bytes in pieces, each a little longer than the one before.
@@ -78,6 +94,7 @@ fn print(
         let found = side.seek(place_of(text)?).map(|field| field.index);
         writeln!(out, "{text}: {}", found.map_or("none".to_owned(), |index| index.to_string()))?;
     }
+    print_whole(&side, out)?;
     let is_same = fed(bytes, system, levels) == (side.fields().collect(), side.cut_bytes());
     Ok(writeln!(out, "{} bytes are cut, the same in pieces: {is_same}", side.cut_bytes())?)
 }

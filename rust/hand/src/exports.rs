@@ -4,12 +4,15 @@
 //! or to one value; only where the length is 0 it may be null.
 #![allow(clippy::missing_safety_doc)]
 use crate::c::{self, LdvbiCode, LdvbiErased, LdvbiFieldReadings, LdvbiNear, LdvbiReading, LdvbiRecord, LdvbiSought};
-use crate::side::{Number, Sightings};
+use crate::side::{Finding, Gap, Number, Sightings};
 use std::mem::size_of;
 use std::slice::{from_raw_parts, from_raw_parts_mut};
 
 /// The most bytes that a slice may have. A length past that is never right, nor is this one.
 const MOST: usize = isize::MAX as usize;
+
+// LdvbiSide, as include/ldvbi.h has it. Of the other structs the source says so.
+const _: () = assert!(size_of::<Finding>() == 128);
 
 unsafe fn values<'a, T>(start: *const T, count: usize) -> &'a [T] {
     if count == 0 {
@@ -305,6 +308,45 @@ pub unsafe extern "C" fn ldvbi_judge_stops(
     stop_count: usize,
 ) -> u32 {
     c::ldvbi_judge_stops(values(readings, count), room(stops, stop_count))
+}
+
+#[no_mangle]
+pub unsafe extern "C" fn ldvbi_judge_ends(
+    readings: *const LdvbiFieldReadings,
+    count: usize,
+    ends: *mut u32,
+    end_count: usize,
+) -> u32 {
+    c::ldvbi_judge_ends(values(readings, count), room(ends, end_count))
+}
+
+#[no_mangle]
+pub unsafe extern "C" fn ldvbi_find_both(numbers: *const Number, count: usize) -> u32 {
+    c::ldvbi_find_both(values(numbers, count))
+}
+
+#[no_mangle]
+#[allow(clippy::too_many_arguments)]
+pub unsafe extern "C" fn ldvbi_judge_side(
+    system: u32,
+    counted: u32,
+    pace: u32,
+    both: u32,
+    may_end: u32,
+    seen: *const Sightings,
+    seen_count: usize,
+    numbers: *const Number,
+    number_count: usize,
+    ends: *const u32,
+    end_count: usize,
+    gaps: *mut Gap,
+    gap_room: usize,
+    side: *mut Finding,
+) -> u32 {
+    let (seen, numbers, ends) = (values(seen, seen_count), values(numbers, number_count), values(ends, end_count));
+    c::ldvbi_judge_side(
+        system, counted, pace, both, may_end, seen, numbers, ends, room(gaps, gap_room), &mut *side,
+    )
 }
 
 #[no_mangle]

@@ -1,11 +1,11 @@
 //! The biphase code words of LaserDiscs (IEC 60857 and IEC 60856), from fields in ld-decode's TBC format.
 //!
 //! A [`Side`] is the samples of a capture in memory: its fields, the number of its disc that each one shows, where a
-//! picture, a time or a chapter is found, and where a player stops. A [`Feeder`] takes a stream in pieces. [`classify`]
-//! says what a word is, [`draw_line`] draws one.
+//! picture, a time or a chapter is found, where a player stops, and whether the capture is whole. A [`Feeder`] takes a
+//! stream in pieces. [`classify`] says what a word is, [`draw_line`] draws one.
 //!
 //! ```
-//! use ldvbi::{classify, draw_line, Code, Counted, Levels, Number, Place, Side, System, Word24};
+//! use ldvbi::{classify, draw_line, Code, Counted, Levels, Number, Place, Side, SideOptions, System, Verdict, Word24};
 //!
 //! # fn main() -> Result<(), Box<dyn std::error::Error>> {
 //! // Black and white are black16bIre and white16bIre of the .tbc.json. Read or map a TBC file for the samples.
@@ -34,6 +34,10 @@
 //!
 //! // From there the player stops at picture 25.
 //! assert_eq!(side.stops(41).next().map(|field| field.index), Some(50));
+//!
+//! // The capture is whole. It may end before the disc does, so it needn't show lead-out.
+//! let options = SideOptions { may_end: true, ..SideOptions::new(Counted::Pictures) };
+//! assert_eq!(side.whole(options).verdict, Verdict::Yes);
 //! # Ok(())
 //! # }
 //! ```
@@ -89,13 +93,15 @@ mod near;
 #[allow(dead_code, unused_imports)]
 mod side;
 mod sides;
+mod whole;
 #[allow(dead_code, unused_imports)]
 mod words;
 
 pub use crate::lines::{Error, Feeder};
 pub use crate::near::Near;
-pub use crate::side::Counted;
+pub use crate::side::{Counted, Tally};
 pub use crate::sides::{Field, Number, Place, Side};
+pub use crate::whole::{Gap, GapKind, Reason, SideOptions, Verdict, Whole};
 pub use crate::words::{
     classify, draw_line, format_of, Code, Format, Levels, LevelsFault, Outcome, Reading, System, Word24, WordFault,
 };

@@ -139,22 +139,36 @@ impl<'a> Side<'a> {
     }
 
     /// The readings of the fields from this one on, as the library's other calls take them.
-    fn read(&self, from: usize) -> impl ExactSizeIterator<Item = LdvbiFieldReadings> + DoubleEndedIterator + 'a {
+    pub(crate) fn read(
+        &self,
+        from: usize,
+    ) -> impl ExactSizeIterator<Item = LdvbiFieldReadings> + DoubleEndedIterator + 'a {
         let (Side { bytes, system, levels }, size) = (*self, self.system.field_bytes());
         let fields = bytes[from.saturating_mul(size).min(bytes.len())..].chunks_exact(size);
         fields.map(move |field| recover(system, levels, &field[rows_of(system)]))
     }
 
+    /// The system as the library's calls take it.
+    pub(crate) fn system_number(&self) -> u32 {
+        self.system as u32 + 1
+    }
+
     /// Judges the numbers of all fields, or, where none are named, their chapters.
     fn judge(&self, counted: Option<Counted>) -> Vec<side::Number> {
-        let (readings, none): (Vec<_>, _) = (self.read(0).collect(), Sighting { number: 0, weight: 0 });
-        let mut seen = vec![Sightings { line_17: none, line_18: none, instead: 0 }; readings.len()];
-        let mut judged = vec![side::Number { number: 0, state: 0 }; readings.len()];
-        let (system, found_pace) = (self.system as u32 + 1, 3);
+        let readings: Vec<_> = self.read(0).collect();
+        let ((mut seen, mut judged), found_pace) = (rooms(readings.len()), 3);
+        let system = self.system_number();
         done(match counted.map(|counted| counted as u32 + 1) {
             Some(counted) => c::ldvbi_judge(system, counted, found_pace, &readings, &mut seen, &mut judged),
             None => c::ldvbi_judge_chapters(&readings, &mut seen, &mut judged),
         });
         judged
     }
+}
+
+/// Room for what so many fields show, and for their numbers.
+pub(crate) fn rooms(fields: usize) -> (Vec<Sightings>, Vec<side::Number>) {
+    let none = Sighting { number: 0, weight: 0 };
+    let seen = Sightings { line_17: none, line_18: none, instead: 0 };
+    (vec![seen; fields], vec![side::Number { number: 0, state: 0 }; fields])
 }

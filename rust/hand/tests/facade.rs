@@ -1,6 +1,9 @@
 //! The crate's own interface, on drawn sides. What is expected was drawn, or follows from include/ldvbi.h's rules.
 
-use ldvbi::{classify, draw_line, format_of, Code, Counted, Error, Feeder, Field, Format, Levels, LevelsFault, Near};
+mod drawn;
+
+use drawn::{digits, draw, levels, picture, time};
+use ldvbi::{classify, format_of, Code, Counted, Error, Feeder, Field, Format, Levels, LevelsFault, Near};
 use ldvbi::{Number, Outcome, Place, Reading, Side, System, Word24, WordFault};
 
 const STOP: u32 = 0x82CFFF;
@@ -11,40 +14,8 @@ const BLANK: Reading = Reading { outcome: Outcome::Blank, pass: 0 };
 const SYSTEMS: [(System, usize, usize, u32, u32); 2] =
     [(System::Ntsc, 1820, 1820 * 263, 150, 30), (System::Pal, 2270, 2270 * 313, 190, 25)];
 
-fn levels() -> Levels {
-    Levels::new(16384, 51200).unwrap()
-}
-
-/// A decimal number as the hexadecimal one with the same digits.
-fn digits(number: u32) -> u32 {
-    u32::from_str_radix(&number.to_string(), 16).unwrap()
-}
-
-fn picture(number: u32) -> u32 {
-    0xF00000 + digits(number)
-}
-
 fn chapter(number: u32) -> u32 {
     0x800DDD + digits(number) * 0x1000
-}
-
-/// The words of lines 16 and 17 of a picture of a CLV disc.
-fn time(hours: u32, minutes: u32, seconds: u32, picture: u32) -> [u32; 2] {
-    let second = 0x80E000 + (10 + seconds / 10) * 0x10000 + seconds % 10 * 0x100 + digits(picture);
-    [second, 0xF0DD00 + hours * 0x10000 + digits(minutes)]
-}
-
-/// Draws a field for each row of the words of lines 16, 17 and 18, of which 0 is a blank line.
-fn draw(system: System, rows: &[[u32; 3]]) -> Vec<u8> {
-    let (line, field) = (system.line_bytes(), system.field_bytes());
-    let mut bytes = vec![0; rows.len() * field];
-    for (place, row) in rows.iter().enumerate() {
-        for (y, word) in (15..).zip(row) {
-            let begin = place * field + y * line;
-            draw_line(system, levels(), Word24::new(*word).ok(), &mut bytes[begin..begin + line]);
-        }
-    }
-    bytes
 }
 
 /// What a drawn line shows: its word in pass 1, or nothing.

@@ -1,0 +1,76 @@
+/* Says whether a TBC file has a whole side, or why it hasn't, and where its numbers and fields don't go on together:
+ * of each gap what it is, how many fields, and the two between which it lies, from 1, with their numbers: pictures,
+ * or times as pictures from the disc's beginning. With the word `cut` the capture may end before the disc does.
+ * Status 0: it is whole; 1: it isn't; 4: it can't be told; 2: something can't be read, and standard error says what.
+ *
+ *     cc -o whole whole.c -lldvbi && ./whole side.tbc NTSC 16384 51200
+ *
+ * It is C++ as well: c++ -x c++ -o whole whole.c -lldvbi */
+#include <fcntl.h>
+#include <ldvbi.h>
+#include <stdio.h>
+#include <stdlib.h>
+#include <string.h>
+#include <sys/mman.h>
+#include <unistd.h>
+
+enum { ROOM = 10, REASONS = 12, KINDS = 7 };
+static const char *const reasons[REASONS] = {
+    "fields are lost", "too many fields", "numbers go back", "another side begins", "it begins late",
+    "fields are swapped", "first and last number don't fit", "no numbers", "no lead-out", "its beginning isn't seen",
+    "many numbers are in doubt", "fields may be lost"};
+static const char *const kinds[KINDS] = {"unknown", "lost", "held", "back", "still", "joined", "open"};
+
+static void require(int holds, const char *fault) {
+    if (!holds) exit((fprintf(stderr, "whole: %s\n", fault), 2));
+}
+static void check(uint32_t status) { require(status == LDVBI_DONE, ldvbi_status_text(status)); }
+
+static uint32_t parse_number(const char *text) {
+    size_t length = strspn(text, "0123456789");
+    require(0 < length && length < 10 && text[length] == '\0', "a level is not a whole number");
+    return (uint32_t)strtoul(text, NULL, 10);
+}
+
+/* Prints the answer, and the gaps that there was room for. Returns the program's status. */
+static int print(const LdvbiSide *found, const LdvbiGap *gaps) {
+    int is_whole = found->verdict == LDVBI_WHOLE, is_told = found->verdict != LDVBI_CANNOT_TELL;
+    printf("whole: %s", is_whole ? "yes" : is_told ? "no" : "can't tell");
+    for (int i = 0, said = 0; i < REASONS; i++) /* a later library may have more */
+        if (found->reasons >> i & 1) printf("%s %s", said++ == 0 ? ":" : ",", reasons[i]);
+    putchar('\n');
+    for (size_t i = 0; i < found->tally.gaps && i < ROOM; i++)
+        printf("%s %llu: field %zu has %u, field %zu has %u\n", kinds[gaps[i].kind < KINDS ? gaps[i].kind : 0],
+               (unsigned long long)gaps[i].fields, gaps[i].after + 1, (unsigned)gaps[i].from, gaps[i].before + 1,
+               (unsigned)gaps[i].to);
+    if (found->tally.gaps > ROOM) printf("gaps left out: %zu\n", found->tally.gaps - ROOM);
+    return is_whole ? 0 : is_told ? 1 : 4;
+}
+
+int main(int count, char **words) {
+    int may_end = count == 6 && strcmp(words[5], "cut") == 0;
+    require(count == 5 || may_end, "usage: whole FILE NTSC|PAL BLACK WHITE [cut]");
+    uint32_t system = strcmp(words[2], "NTSC") == 0 ? LDVBI_NTSC : strcmp(words[2], "PAL") == 0 ? LDVBI_PAL : 0;
+    uint32_t black = parse_number(words[3]), white = parse_number(words[4]), pace;
+    check(ldvbi_recover_fields(system, black, white, NULL, 0, NULL, 0)); /* of no field: the numbers alone */
+    int file = open(words[1], O_RDONLY);
+    size_t bytes = ldvbi_field_bytes(system), fields = (size_t)lseek(file, 0, SEEK_END) / bytes;
+    void *side = mmap(NULL, fields * bytes, PROT_READ, MAP_SHARED, file, 0);
+    LdvbiFieldReadings *read = (LdvbiFieldReadings *)calloc(fields, sizeof *read);
+    LdvbiSightings *seen = (LdvbiSightings *)calloc(fields, sizeof *seen);
+    LdvbiNumber *numbers = (LdvbiNumber *)calloc(fields, sizeof *numbers);
+    uint32_t *ends = (uint32_t *)calloc(fields, sizeof *ends);
+    require(side != MAP_FAILED && read && seen && numbers && ends, "no field of the file can be mapped");
+    check(ldvbi_recover_fields(system, black, white, side, fields * bytes, read, fields));
+    check(ldvbi_judge_ends(read, fields, ends, fields));
+    LdvbiGap gaps[ROOM];
+    LdvbiSide found;
+    found.reasons = LDVBI_NO_NUMBERS;
+    for (uint32_t counted = LDVBI_PICTURES; counted <= LDVBI_TIMES && found.reasons == LDVBI_NO_NUMBERS; counted++) {
+        check(ldvbi_find_pace(system, counted, read, fields, seen, fields, &pace));
+        check(ldvbi_judge(system, counted, pace, read, fields, seen, fields, numbers, fields));
+        check(ldvbi_judge_side(system, counted, pace, LDVBI_FIND_BOTH, (uint32_t)may_end, seen, fields, numbers,
+                               fields, ends, fields, gaps, ROOM, &found));
+    }
+    return print(&found, gaps);
+}

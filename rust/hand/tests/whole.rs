@@ -1,0 +1,139 @@
+//! Whether drawn sides are whole, and where their gaps are. What is expected follows from include/ldvbi.h's rules.
+
+mod drawn;
+
+use drawn::{draw, levels, picture, time};
+use ldvbi::{Counted, Gap, GapKind, Reason, Side, SideOptions, System, Verdict, Whole};
+
+type Rows = Vec<[u32; 3]>;
+
+const BLANK: [u32; 3] = [0; 3];
+const LEAD_OUT: [u32; 3] = [0, 0x80EEEE, 0x80EEEE];
+const SYSTEMS: [System; 2] = [System::Ntsc, System::Pal];
+
+/// These pictures, of two fields each, the first of which has the number.
+fn pictures(first: u32, last: u32) -> Rows {
+    (first..=last).flat_map(|number| [[0, picture(number), picture(number)], BLANK]).collect()
+}
+
+/// These times of the first second of a CLV disc.
+fn times(first: u32, last: u32) -> Rows {
+    let rows = (first..=last).flat_map(|number| {
+        let [second, minutes] = time(0, 0, 0, number);
+        [[second, 0x87FFFF, minutes], BLANK]
+    });
+    rows.collect()
+}
+
+/// A disc that counts so, and a capture that may end before it.
+fn cut_off(counted: Counted) -> SideOptions {
+    SideOptions { may_end: true, ..SideOptions::new(counted) }
+}
+
+fn judged(system: System, rows: &Rows, options: SideOptions) -> (Whole, Vec<Gap>) {
+    let bytes = draw(system, rows);
+    let side = Side::new(&bytes, system, levels()).unwrap();
+    (side.whole(options), side.gaps(options))
+}
+
+#[test]
+fn a_whole_side() {
+    let mut rows = pictures(1, 20);
+    rows[18] = BLANK;
+    for system in SYSTEMS {
+        let (whole, gaps) = judged(system, &rows, cut_off(Counted::Pictures));
+        assert_eq!((whole.verdict, whole.reasons, gaps), (Verdict::Yes, vec![], vec![]));
+        assert_eq!((whole.ends, whole.swap, whole.tally.unread), (Some((0, 38)), None, 1));
+        assert_eq!(judged(system, &vec![], cut_off(Counted::Times)).0.ends, None);
+    }
+}
+
+/// A gap between these fields and numbers, in which no field shows a number.
+fn gap(kind: GapKind, [after, before]: [usize; 2], [from, to]: [u32; 2], fields: u64) -> Gap {
+    Gap { kind, after, before, from, to, fields, shown: 0 }
+}
+
+#[test]
+fn a_gap_of_each_kind() {
+    let (first, held, end) = (pictures(1, 20), vec![BLANK; 3], vec![LEAD_OUT; 2]);
+    let lost = gap(GapKind::Lost, [38, 40], [20, 24], 6);
+    let cases = [
+        (vec![first.clone(), pictures(24, 40)], lost, Reason::IsLost),
+        (vec![first.clone(), held, pictures(21, 40)], gap(GapKind::Held, [38, 43], [20, 21], 3), Reason::IsHeld),
+        (vec![first.clone(), pictures(11, 30)], gap(GapKind::Back, [38, 40], [20, 11], 0), Reason::GoesBack),
+        (vec![first.clone(), end, first.clone()], gap(GapKind::Joined, [38, 42], [20, 1], 0), Reason::IsJoined),
+    ];
+    for system in SYSTEMS {
+        for (parts, wanted, reason) in &cases {
+            let (whole, gaps) = judged(system, &parts.concat(), cut_off(Counted::Pictures));
+            assert_eq!((whole.verdict, whole.reasons), (Verdict::No, vec![*reason, Reason::IsOff]));
+            assert_eq!(gaps, [*wanted]);
+        }
+        // Picture 20 is there four times: three gaps of two fields, and one still
+        let rows = [first.clone(), pictures(20, 20), pictures(20, 20), pictures(20, 40)].concat();
+        let (whole, gaps) = judged(system, &rows, cut_off(Counted::Pictures));
+        let wanted = [38, 40, 42].map(|after| gap(GapKind::Still, [after, after + 2], [20, 20], 2));
+        assert_eq!((whole.verdict, gaps), (Verdict::Yes, wanted.to_vec()));
+        assert_eq!((whole.tally.stills, whole.tally.stood, whole.tally.still_end), (1, 6, 45));
+        // The clock of an NTSC disc leaves out one time or two.
+        let (whole, gaps) = judged(system, &[times(0, 10), times(13, 24)].concat(), cut_off(Counted::Times));
+        let (kind, verdict, reasons) = match system {
+            System::Ntsc => (GapKind::Open, Verdict::CannotTell, vec![Reason::IsOpen]),
+            System::Pal => (GapKind::Lost, Verdict::No, vec![Reason::IsLost, Reason::IsOff]),
+        };
+        assert_eq!(gaps, [gap(kind, [20, 22], [10, 13], 4)]);
+        assert_eq!((whole.verdict, whole.reasons), (verdict, reasons));
+    }
+}
+
+#[test]
+fn reasons_without_a_gap() {
+    let (mut swapped, mut doubtful) = (pictures(1, 20), pictures(1, 20));
+    swapped.swap(20, 21);
+    for field in [11, 21, 31] {
+        doubtful[field] = [0, picture(700), 0];
+    }
+    let cases = [
+        (pictures(2, 20), Verdict::No, Reason::BeginsLate, None),
+        (swapped, Verdict::No, Reason::IsSwapped, Some(21)),
+        (vec![BLANK; 3], Verdict::CannotTell, Reason::NoNumbers, None),
+        ([vec![BLANK; 101], pictures(2, 20)].concat(), Verdict::CannotTell, Reason::BeginUnseen, None),
+        (doubtful, Verdict::CannotTell, Reason::ManyDoubtful, None),
+    ];
+    for system in SYSTEMS {
+        for (rows, verdict, reason, swap) in &cases {
+            let (whole, gaps) = judged(system, rows, cut_off(Counted::Pictures));
+            assert_eq!((whole.verdict, whole.reasons, whole.swap), (*verdict, vec![*reason], *swap));
+            assert_eq!(gaps, []);
+        }
+        // Lead-out, or none
+        let (mut rows, options) = (pictures(1, 20), SideOptions::new(Counted::Pictures));
+        let whole = judged(system, &rows, options).0;
+        assert_eq!((whole.verdict, whole.reasons), (Verdict::CannotTell, vec![Reason::EndUnseen]));
+        rows.push(LEAD_OUT);
+        let whole = judged(system, &rows, options).0;
+        assert_eq!((whole.verdict, whole.reasons), (Verdict::Yes, vec![]));
+    }
+}
+
+#[test]
+fn film_and_numbers_on_both_fields() {
+    // Pictures with an odd number last three fields, the others two.
+    let mut rows = Vec::new();
+    for number in 1..40 {
+        rows.push([0, picture(number), picture(number)]);
+        rows.resize(rows.len() + 1 + number as usize % 2, BLANK);
+    }
+    let (whole, gaps) = judged(System::Ntsc, &rows, cut_off(Counted::Pictures));
+    assert_eq!((whole.verdict, whole.reasons, gaps), (Verdict::Yes, vec![], vec![]));
+    // Of 20 pictures with their numbers on both fields each second field has one too many, and each first one is early.
+    let rows: Rows = (1..=20).flat_map(|number| [[0, picture(number), picture(number)]; 2]).collect();
+    for (on_both, verdict, lost, held) in
+        [(None, Verdict::Yes, 0, 0), (Some(true), Verdict::Yes, 0, 0), (Some(false), Verdict::No, 19, 20)]
+    {
+        let options = SideOptions { on_both, ..cut_off(Counted::Pictures) };
+        let (whole, gaps) = judged(System::Ntsc, &rows, options);
+        assert_eq!((whole.verdict, whole.tally.lost, whole.tally.held), (verdict, lost, held));
+        assert_eq!((gaps.len() as u64, whole.tally.gaps), (lost + held, gaps.len()));
+    }
+}
