@@ -101,7 +101,7 @@ class Comparison:
             self.counts["lost"] += 1
             count, hidden = (sum(find(after) for after in inside)
                              for find in (truth.lost.get, lambda after: len(truth.hidden[after])))
-            is_least = answer["unit"] == "minute" and (one["fields"] or 0) <= self._lost_in(one)
+            is_least = answer["pace"] != "video" and (one["fields"] or 0) <= self._lost_in(one)
             if count == one["fields"] or is_least:
                 self.counts["lost found"] += 1
             elif count + 2 * hidden == one["fields"]:

@@ -14,7 +14,7 @@ from collections import Counter
 
 import ldvbi
 from ldvbi import Counted, Pace, State
-from judged_truth import JudgedTruth, packed_of
+from judged_truth import JudgedTruth
 from ldvbi_side.judge.answer import analyse
 from measure import fields_of
 from simulate import simulated
@@ -161,7 +161,7 @@ def judged(seed, kind=None, tell=lambda text: None, count=None):
     side = simulated(seed, kind, count=count)
     fields = fields_of(side)
     answer = analyse(fields)
-    package, packed = Package(fields, answer), packed_of(fields)
+    package, packed = Package(fields, answer), fields.packed
     counted = Counted.times if answer["format"] == "clv" else Counted.pictures
     judge = functools.lru_cache(maxsize=None)(lambda pace: ldvbi.judge(packed, fields.system, counted, pace))
     found = {}

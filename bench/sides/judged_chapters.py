@@ -12,7 +12,7 @@ from collections import Counter
 import ldvbi
 from ldvbi import Kind, State
 from judged import FINDERS
-from judged_truth import ENOUGH, REACH, packed_of
+from judged_truth import ENOUGH, REACH
 from ldvbi_side.judge.answer import analyse
 from measure import fields_of
 from simulate import simulated
@@ -90,7 +90,7 @@ def judged(seed, kind=None, tell=lambda text: None, count=None):
     side = simulated(seed, kind, count=count)
     fields = fields_of(side)
     truth = ChapterTruth(side, fields)
-    chapters = ldvbi.judge_chapters(packed_of(fields))
+    chapters = ldvbi.judge_chapters(fields.packed)
     found = {"judge": [{one.number} if one.state == State.believed else set() for one in chapters],
              "package": list(of_package(fields, analyse(fields))),
              "lines": [{chapter for chapter, _ in shown} for shown in truth.shown]}

@@ -8,20 +8,6 @@ from truth import said_by
 REACH, ENOUGH, FIELD_MOST = 24, 10, 4
 
 
-def packed_of(fields):
-    """Plain data as readings of the library. What a line shows instead of a word isn't judged."""
-    return b"".join(ldvbi.PACKED_FIELD.pack(*(part for word, of_pass in zip(words, passes)
-                                              for part in (0 if word else 1, of_pass, 0, word)))
-                    for words, passes in zip(fields.words, fields.passes))
-
-
-def judge_of(fields):
-    """What asks the library's judge about plain data, as the answer of a TBC file does."""
-    return lambda counted, pace: {
-        field: one.number for field, one in enumerate(ldvbi.judge(packed_of(fields), fields.system, counted, pace), 1)
-        if one.state == State.believed}
-
-
 def number_in(counted, rate, line_16, line):
     """The number that the words of line 16 and of line 17 or 18 tell, or None."""
     kind, value, _ = said_by(line)

@@ -10,8 +10,8 @@ each field, too; --show prints the first N differences, --into writes the rows o
 import operator
 import time
 
+import ldvbi
 from comparison import Comparison
-from judged_truth import judge_of
 from ldvbi_side.judge.answer import analyse
 from ldvbi_side.judge.readings import Fields
 from simulate import simulated
@@ -36,8 +36,15 @@ def fields_of(side, parity=False):
     records = side.document["fields"]
     words, passes, causes = ([tuple(of(record)) for record in records] for of in (
         lambda record: record["vbi"]["vbiData"], operator.itemgetter("vbiPass"), operator.itemgetter("vbiCause")))
-    return Fields(side.document["videoParameters"]["system"], words, passes, causes, None,
-                  side.first if parity else None)
+    return Fields(side.document["videoParameters"]["system"], words, passes, causes, _packed(words, passes), None,
+                  side.first if parity else None, may_end=True)
+
+
+def _packed(words, passes):
+    """The same as readings of the library. What a line shows instead of a word isn't judged."""
+    return b"".join(ldvbi.PACKED_FIELD.pack(*(part for word, of_pass in zip(*field)
+                                              for part in (0 if word else 1, of_pass, 0, word)))
+                    for field in zip(words, passes))
 
 
 def measured(seed, kind=None, parity=False, tell=lambda text: None, count=None, sound=True):
@@ -45,14 +52,12 @@ def measured(seed, kind=None, parity=False, tell=lambda text: None, count=None, 
     can be asked for, and what holds of every answer can be left out."""
     side = simulated(seed, kind, count=count)
     fields = fields_of(side, parity)
-    fields = fields._replace(judge=judge_of(fields))
     begin = time.process_time()
     answer = analyse(fields)
     spent = time.process_time() - begin
     counts = Comparison(Truth(side), answer, lambda name, text: tell(
         "seed %d, %s, %s: %s: %s" % (seed, side.kind, side.settings, name, text))).counts
     counts["microseconds"] = round(1e6 * spent)
-    counts["judged otherwise"] = answer["judged"]["differ"] if answer["judged"] else 0
     for fault in faults_of(fields, answer) if sound else ():
         counts["faults"] += 1
         tell("seed %d, %s, %s: %s" % (seed, side.kind, side.settings, fault))
@@ -66,8 +71,7 @@ def print_table(totals):
                            for name in SHARES if counts[name])
         print("%s: %d sides; exact: %s; faults %d" % (kind, counts["sides"], exact, counts["faults"]))
         print("    found: %s; %.1f us a field" % (shares, counts["microseconds"] / counts["fields"]))
-        print("    said: yes %(said yes)d, no %(said no)d, can't tell %(said can't tell)d; fields in which the "
-              "library's judge has another number: %(judged otherwise)d" % counts)
+        print("    said: yes %(said yes)d, no %(said no)d, can't tell %(said can't tell)d" % counts)
         print("    undecided %(undecided)d, of these unread %(undecided, unread)d and lost %(undecided, lost)d; but "
               "for the clock's numbers inside a loss: missing exact %(missing but for hidden)d, left out exact "
               "%(left out but for hidden)d, lost %(lost and hidden)d more" % counts)

@@ -64,6 +64,19 @@ def captures(seed, count):
     return [_captured(rng, kind, rows, rng.choice((0, 0.0001, 0.001, 0.005))) for _ in range(count)]
 
 
+def played_through(seed, kind, count=None):
+    """The side of this seed that a player plays once from the disc's first picture to its last, of which the capture
+    loses nothing. Its count of pictures can be asked for."""
+    rng = random.Random("played through %s %d" % (kind, seed))
+    count = count or rng.randrange(200, 1500)
+    rows = disc(rng, kind, count)
+    while _numbers_in(rows)[0] > 1:
+        rows = disc(rng, kind, count)
+    lost = dict.fromkeys((16, 17, 18), rng.choice((0, 0.001, 0.02, 0.1)))
+    damage = Damage(rng, rng.choice((0, 0.0001, 0.001, 0.005)), lost, rng.choice((0, 0.01, 0.1)))
+    return _side(kind, kind, damage, rows, list(range(len(rows))), _numbers_in(rows))
+
+
 def _captured(rng, kind, rows, wrong):
     """A capture of these fields of a disc."""
     lost_rate = rng.choice((0, 0, 0.0005, 0.002, 0.01))

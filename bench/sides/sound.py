@@ -3,6 +3,7 @@
 import bisect
 import math
 
+import ldvbi
 from ldvbi import Kind
 from ldvbi.codes import LINES
 from truth import NUMBER_KINDS, number_of, said_by
@@ -141,10 +142,13 @@ class Sound:
         return 1 in passes or len(passes) == 2
 
     def _look_at_places(self):
-        """Nothing is lost before the first number or behind the last one, or between two sides. A still has no other
-        number in between. No number is due where both lines say another one in pass 1."""
+        """Nothing is lost before the first number or behind the last one, or between two sides, but that minute 0 may
+        lack fields after lead-in. A still has no other number in between. No number is due where both lines say
+        another one in pass 1."""
         for one in self.answer["lost"]:
-            if not self.numbered or not self.numbered[0] <= one["after"] < one["before"] <= self.numbered[-1]:
+            is_minute = self.unit == "minute" and one["after"] in self.ends
+            if not self.numbered or not is_minute and self.numbered[0] > one["after"] or not (
+                    one["after"] < one["before"] <= self.numbered[-1]):
                 self.faults.append("lost beside the numbers, behind field %d" % one["after"])
             if any(one["after"] < field < one["before"] for field in self.ends):
                 self.faults.append("lost between two sides, behind field %d" % one["after"])
@@ -194,11 +198,17 @@ class Sound:
         jumps = [(one["after"], one["before"]) for one in self.answer["breaks"] if one["kind"] != "lost"]
         jumps += [(one["first"] - 1, one["last"] + 1) for one in self.answer["speeds"]]
         for (begin, end), least in found.items():
-            if any(begin < before and after < end for after, before in jumps):
+            if end <= self._late_begin() or any(begin < before and after < end for after, before in jumps):
                 continue  # more may be passed over there
             there = [count for after, before, count in lost if begin < before and after < end]
             if None not in there and sum(there) < least:
                 self.faults.append("numbers are lost between fields %d and %d, and too few fields" % (begin, end))
+
+    def _late_begin(self):
+        """The first field of the number before which fields are lost that no list has; else 0."""
+        late = [one["text"].rpartition(" ")[2] for one in self.answer["reasons"]
+                if one["text"].startswith("fields lost before ")]
+        return min((field for number, field, _ in self.answer["showings"] if str(number) in late), default=0)
 
     def _look_at_minutes(self):
         """The minute of each time was said within a minute, or the minutes that were are those which this time has
@@ -239,14 +249,21 @@ class Sound:
         lacking += [one for one in answer["breaks"] if one["kind"] != "lost"]
         if lacking and answer["whole"] != "no":
             self.faults.append("something is lacking, and whole is: %s" % answer["whole"])
+        if answer["whole"] == "yes" and answer["unit"] != "minute" and self._verdict() == ldvbi.Verdict.not_whole:
+            self.faults.append("the library says that the side isn't whole, and whole is: yes")
         if answer["whole"] == "yes" and any(one["why"] == "undecided" for one in answer["missing"]):
             self.faults.append("a number is undecided, and the side is whole")
         said = {one["whole"] for one in answer["reasons"]}
         if answer["whole"] != ("no" if "no" in said else "can't tell" if said else "yes"):
             self.faults.append("whole is %s, and the reasons are %s" % (answer["whole"], answer["reasons"]))
-        differ = answer["judged"]["differ"] if answer["judged"] else 0
-        if bool(differ) != any(one["why"] == "judged" for one in answer["reasons"]):
-            self.faults.append("the judges differ in %d fields, and the reasons are %s" % (differ, answer["reasons"]))
+
+    def _verdict(self):
+        """What the library says of the side at the pace of the answer."""
+        counted = "times" if self.answer["format"] == "clv" else "pictures"
+        pace = {"film": "film", None: "find"}.get(self.answer["pace"], "video")
+        both = {"both": "on_both", None: "find"}.get(self.answer["pace"], "on_one")
+        return ldvbi.judge_side(self.fields.packed, self.fields.system, counted, pace, both,
+                                self.fields.may_end).verdict
 
     def _is_seen(self, field):
         """Whether a line of a field isn't blank, and none shows a code that stands where no number does."""

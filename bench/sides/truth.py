@@ -196,6 +196,8 @@ class Reasons:
 
     def _begins(self):
         """Of the numbers before the least that can be read, from the disc's first one on, the capture lacks some."""
+        if self.side.second or self._joined():
+            return None  # the first side may begin late, and the other one have its numbers
         first = 0 if self.side.layout == "clv-minutes" else 1
         captured, on_disc = set(self.side.numbers), set(self.side.on_disc)
         return any(number not in captured and (number in on_disc or number < min(on_disc))
@@ -227,6 +229,8 @@ class Reasons:
         order = self.side.order
         if any(off > 0 for off in self.truth.searches):
             return True
+        if self._joined():
+            return None  # which looks like another side
         if self.side.layout == "clv-minutes" and any(after <= before for before, after in zip(order, order[1:])):
             return None
         if any(abs(order[place] - order[place - 1]) > 2 for place in self.truth.backs):
