@@ -74,13 +74,13 @@ if [ "$(awk '/^MemAvailable/ { print $2 }' /proc/meminfo)" -lt "$memory_of_both"
 fi
 make JOBS=1 ldvbi lib || fails 'program and library are not built'
 part 'program and library'
+python3 tests/public_functions.py || fails 'a public function has no wrong body'
 python3 tests/wrong_bodies.py > "$work/wrong" || { cat "$work/wrong"; fails 'a wrong body was not refused'; }
 cat "$work/wrong"
 sed -n 's,^\(\w*/\w*\): refused by a .*,wrong body \1,p' "$work/wrong" > "$work/bodies"
 # The last line says by what they were refused.
 tail -n 1 "$work/wrong" | cat "$work/bodies" - >> "$work/ran"
 python3 tests/wrong_bodies_trials.py || fails 'the script that tries wrong bodies takes what it has to refuse'
-python3 tests/public_functions.py || fails 'a public function has no wrong body'
 part 'wrong bodies'
 if [ -n "$proofs" ]; then
     ends_proofs

@@ -34,6 +34,8 @@ SECTIONS = {mark: [tuple(one.split()) for one in text.split(";")] for mark, text
     "chapters": "vbi_side/src/chapters.rt chapters_shown judge_chapters; vbi_side/src/chapter_laws.rt chapters_sound",
     "field": "vbi_side/src/laws.rt same_in_part; vbi_side/src/answers.rt judge_one",
     "stops": "vbi_side/src/stops.rt judge_stop; vbi_side/src/stop_laws.rt stops_in_words",
+    "whole": "vbi_side/src/verdict.rt judge_whole; vbi_side/src/ends.rt judge_end; "
+             "vbi_side/src/gap_laws.rt cut_found whole_yes nearly_whole lost_sound",
 }.items()}
 PRINTED = "line"
 # By function, the relation that stands for it, and the law by which they are one

@@ -67,12 +67,12 @@ def columns_of_map() -> str:
 
 
 def columns_of_scan() -> str:
-    """The columns of the table of many sides are the members that its JSON has, but for the last one."""
+    """The columns of the table of many sides are members that its JSON has, but for the last one."""
     from ldvbi_side.command.rows import COLUMNS
     whole = read_schema(SCAN)
     members = whole["$defs"]["read"]["properties"]
-    members["why"] = {"description": "Why it isn't whole, or why that can't be told, or its fault."}
-    return columns({name: member_row(name, members[name], whole)[1] for name in COLUMNS})
+    members["reasons"] = {"description": "Why it isn't whole, or why that can't be told, or its fault."}
+    return columns({name: member_row(member, members[member], whole)[1] for name, member in COLUMNS.items()})
 
 
 # ---- schemas

@@ -115,7 +115,7 @@ def package() -> Dict[str, Any]:
     numbers.update(("pictures." + system.lower(), rate) for system, rate in paces.RATES.items())
     (least, _, most), pal = paces.MINUTE_FIELDS["NTSC"], paces.MINUTE_FIELDS["PAL"][1]
     # one field with a picture, and one with a mark of CLV
-    even = readings.Fields("PAL", [(0, 0xF00001, 0), (0, 0x87FFFF, 0)], [(0, 1, 0)] * 2, [])
+    even = readings.Fields("PAL", [(0, 0xF00001, 0), (0, 0x87FFFF, 0)], [(0, 1, 0)] * 2, [], b"")
     return {
         **numbers, "minute.pal": pal, "minute.least": least, "minute.most": most, "version": answer.VERSION,
         "summary.lines": summary.MOST_LINES, "summary.listed": summary.MOST_LISTED, "page.plots": page.MOST_PLOTS,

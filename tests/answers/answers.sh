@@ -1,6 +1,6 @@
 #!/bin/sh
 # Asks the examples in C, C++ and Python, the Python package and `ldvbi-side` for pictures, times, chapters and stops of
-# drawn sides: each has to answer what the table answers.txt has.
+# drawn sides, whether they are whole, and for their gaps: each has to answer what the table answers.txt has.
 # Needs libldvbi.so.1 beside the program, or at the top of the repository (`make lib`).
 # usage: sh tests/answers/answers.sh PROGRAM
 # runs: library rust
@@ -20,6 +20,8 @@ check 'seek is built' does $cc -std=c99 $strict -o seek_c "$top/examples/seek.c"
 check 'seek is built as C++' does $cxx -x c++ -std=c++17 $strict -o seek_cpp "$top/examples/seek.c" $linked
 check 'stops is built' does $cc -std=c99 $strict -o stops_c "$top/examples/stops.c" $linked
 check 'stops is built in C++' does $cxx -std=c++17 $strict -o stops_cpp "$top/examples/stops.cpp" $linked
+check 'whole is built' does $cc -std=c99 $strict -o whole_c "$top/examples/whole.c" $linked
+check 'whole is built as C++' does $cxx -x c++ -std=c++17 $strict -o whole_cpp "$top/examples/whole.c" $linked
 check 'player is built' does $cc -std=c99 $strict -o player_c "$top/examples/player.c" $linked
 check 'player is built in C++' does $cxx -std=c++17 $strict -o player_cpp "$top/examples/player.cpp" $linked
 cat > stops.py << 'END_OF_PYTHON'
@@ -30,6 +32,22 @@ with ldvbi.Stream(path, system, int(black), int(white), recover=True) as side:
     for field, stop in enumerate(ldvbi.judge_stops(side), 1):
         if stop == ldvbi.State.believed:
             print("field", field)
+END_OF_PYTHON
+# What examples/whole.c says, by the package
+cat > whole.py << 'END_OF_PYTHON'
+import sys
+import ldvbi
+path, system, black, white, *cut = sys.argv[1:]
+with ldvbi.Stream(path, system, int(black), int(white), recover=True) as side:
+    readings = list(side)
+for counted in ldvbi.Counted:
+    found = ldvbi.judge_side(readings, system, counted, may_end=bool(cut))
+    if found.reasons != ldvbi.Reason.no_numbers:
+        break
+print("whole:", {"whole": "yes", "not_whole": "no", "cannot_tell": "can't tell"}[found.verdict.name])
+for gap in found.gaps:
+    print("%s %d: field %d has %d, field %d has %d" % (gap.kind.name, gap.fields, gap.after + 1, gap.from_,
+                                                      gap.before + 1, gap.to))
 END_OF_PYTHON
 # A picture or a time by ldvbi_seek alone
 cat > call.py << 'END_OF_PYTHON'
@@ -54,7 +72,11 @@ draws_sides
 
 # The answerers, as `asks` takes them: the examples in a language, the players, `ldvbi-side`, and ldvbi_seek
 searches() {
+    cut='cut'
+    [ "$4" != 'whole to lead-out' ] || cut=
     case "$1 $4" in
+        python\ whole* | 'python gaps') says python3 whole.py "$2.tbc" $3 $cut ;;
+        *\ whole* | *' gaps') says ./whole_$1 "$2.tbc" $3 $cut ;;
         'python stops') lists python3 stops.py "$2.tbc" $3 ;;
         python*) finds python3 "$top/examples/seek.py" "$2.tbc" $3 $4 ;;
         *' stops') lists ./stops_$1 $3 < "$2.tbc" ;;
@@ -73,17 +95,19 @@ by_call() {
 by_side() {
     set -- "$1.tbc" $2
     set -- "$1" --system "$2" --black "$3" --white "$4"
-    if [ "$question" = stops ]; then
-        lists sh -c 'python3 "$0"/python/ldvbi-side "$@" --json | jq -r ".stops[] | \"field \(.field)\""' "$top" "$@"
-    else
-        finds python3 "$top/python/ldvbi-side" "$@" --seek "$question"
-    fi
+    case $question in
+        stops) lists sh -c 'python3 "$0"/python/ldvbi-side "$@" --json | jq -r ".stops[] | \"field \(.field)\""' \
+            "$top" "$@" ;;
+        whole) says python3 "$top/python/ldvbi-side" "$@" --open-end ;;
+        whole*) says python3 "$top/python/ldvbi-side" "$@" ;;
+        *) finds python3 "$top/python/ldvbi-side" "$@" --seek "$question" ;;
+    esac
 }
 
 for pair in c:c c++:cpp python:python; do
     asks ${pair%:*} "searches ${pair#*:}"
     asks player "plays ${pair#*:}" '[0-9]*'
 done
-asks side by_side
+asks side by_side '[0-9csw].*'
 asks call by_call '[0-9:]*[.]*[0-9]*'
 finish

@@ -1,6 +1,7 @@
 #!/bin/sh
-# Asks the crate of `make rust` for pictures, times, chapters and stops of drawn sides, by the player in examples/rust
-# and the example `answers` of the crate: each answer has to be that of the table answers.txt.
+# Asks the crate of `make rust` for pictures, times, chapters and stops of drawn sides, whether they are whole, and for
+# their gaps, by the player in examples/rust and the example `answers` of the crate: each answer has to be that of the
+# table answers.txt.
 # usage: sh tests/answers/rust_answers.sh PROGRAM
 # runs: rust
 # fails where: tests/answers/answers.txt|s/field 29 /field 27 /
@@ -35,12 +36,19 @@ cp "$CARGO_TARGET_DIR/debug/player" . || exit 1
 cat > stops.sh << 'END_OF_SHELL'
 ./answers "$@" | awk '/ true$/ && $2 != "bytes" { print "field " $1 + 1 }'
 END_OF_SHELL
+# What the example says of the whole side, as examples/whole.c says it
+cat > whole.sh << 'END_OF_SHELL'
+./answers "$@" | sed "s/Yes/yes/; s/No/no/; s/CannotTell/can't tell/" | awk -v question="$QUESTION" '
+    index($0, question ": ") == 1 { print "whole: " substr($0, length(question) + 3) }
+    $1 == "gap:" { print tolower($2), $3, "field", $5 + 1, "has", $7, "field", $9 + 1, "has", $11 }'
+END_OF_SHELL
 draws_sides
 
 # in_rust SIDE ON QUESTION: as `asks` takes it
 in_rust() {
     case $3 in
         stops) lists sh stops.sh "$1.tbc" $2 ;;
+        whole* | gaps) says env QUESTION="$3" sh whole.sh "$1.tbc" $2 ;;
         'chapter '*) plays_rust "$1" "$2" chapter "${3#chapter }" ;;
         *) plays_rust "$1" "$2" search "$3" ;;
     esac

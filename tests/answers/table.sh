@@ -53,7 +53,7 @@ is_answered() {
 is_none() {
     [ ! -s answer ] || return
     case "$question $status" in
-        'stops 0' | *[0-9]' 1') ;;
+        'stops 0' | 'gaps '[014] | 'whole'*' '[04] | *[0-9]' 1') ;;
         *' 2') [ -s err ] ;;
         *) false ;;
     esac
@@ -71,4 +71,15 @@ lists() {
     bounded "$@" > out 2> err || status=$?
     [ "$status" != 0 ] || sed -n 's/^field \([0-9]*\).*/\1/p' out | paste -s -d ' ' |
         sed -n 's/^[0-9]/field &/p' > answer
+}
+
+# says COMMAND..: leaves as the answer what examples/whole.c says, or a program that says the same: whether the side is
+# whole, or nothing where it can't tell; or its gaps
+says() {
+    does "$@"
+    gap='^\([a-z]*\) \([0-9]*\): field \([0-9]*\) has [0-9]*, field \([0-9]*\) has [0-9]*$'
+    case $question in
+        whole*) sed -n '1s/^whole: \(yes\|no\)\b.*/\1/p' out > answer ;;
+        *) sed -n "s/$gap/\1 \3 \4 \2/p" out | paste -s -d , | sed -n 's/,/, /g; /./p' > answer ;;
+    esac
 }

@@ -1,7 +1,7 @@
 #!/bin/sh
 # Runs the examples in C, C++ and Python on drawn sides, beside what the table answers.txt asks of them: sides that few
-# numbers are judged of, stops, cut fields, worn lines, long sides and want of memory; what they refuse; and those in
-# Python where nobody reads what they print.
+# numbers are judged of, stops, gaps, cut fields, worn lines, long sides and want of memory; what they refuse; and those
+# in Python where nobody reads what they print.
 # Needs libldvbi.so.1 beside the program, or at the top of the repository (`make lib`).
 # usage: sh tests/library/examples.sh PROGRAM
 # runs: library rust
@@ -21,12 +21,14 @@ with_python
 seek='seek seek.py'
 stops='stops stops_cpp'
 player='player player_cpp player.py'
-for name in seek.c stops.c player.c; do
+whole='whole whole_cpp'
+for name in seek.c stops.c player.c whole.c; do
     check "$name is built" does $cc -std=c99 $strict -o ${name%.c} "$top/examples/$name" $linked
 done
 for name in stops player; do
     check "$name.cpp is built" does $cxx -std=c++17 $strict -o ${name}_cpp "$top/examples/$name.cpp" $linked
 done
+check 'whole.c is built as C++' does $cxx -x c++ -std=c++17 $strict -o whole_cpp "$top/examples/whole.c" $linked
 for name in player.c player.cpp player.py; do
     check "$name has at most 60 lines" [ "$(wc -l < "$top/examples/$name")" -le 60 ]
 done
@@ -41,6 +43,7 @@ usage_of() {
         stops*) echo 'usage: stops NTSC|PAL BLACK WHITE < FILE' ;;
         seek*) echo "usage: $on NUMBER|H:MM:SS.PP|chapter N" ;;
         player*) echo "usage: $on search N|play .." ;;
+        whole*) echo "usage: $on [cut]" ;;
     esac
 }
 # called NAME [SIDE WORD..]: makes `command` of what runs this example, on this side
@@ -89,6 +92,11 @@ tr ' ' '\n' << 'WORDS' | sed 's/@/82CFFF @170-171L/' | signal NTSC 1 | ntsc_samp
 -|F00001|F00001 -|800DDD|800DDD @|F00002|F00002 -|800DDD|800DDD 82CFFF|82CFFF|F00003 82CFFF|82CFFF|800DDD
 -|F00004|F00004 -|800DDD|800DDD 82CFFF|82CFFF|F00005 82CFFF|82CFFF|800DDD -|F00006|F00006
 WORDS
+# Sides of ten pictures in order, and of twelve parts of five pictures, with a gap between two of these
+seq -f 'F%05g' 10 | sed 's/.*/- & &\n- - -/' | bounded "$program" draw $ntsc - > ten.tbc
+awk 'BEGIN { for (part = 0; part < 12; part++) for (picture = 1; picture <= 5; picture++)
+    printf "- F%05d F%05d\n- - -\n", 100 * part + picture, 100 * part + picture }' |
+    bounded "$program" draw $ntsc - > gaps.tbc
 # A worn side, where no line shows its word: whoever finds one has recovered it. A stop on line 16 alone isn't enough.
 awk 'BEGIN { for (picture = 1; picture <= 24; picture++) {
     worn = " @170-174L"
@@ -102,6 +110,7 @@ check 'a worn side: no line shows its word' [ "$(jq -c '[.fields[].vbi.vbiData[]
 mkdir folder.tbc
 ln -s /dev/null null.tbc
 draw_side misread 30 "$ntsc" > misread.tbc
+draw_side clock 30 "$ntsc" > clock.tbc
 bounded sh "$top/examples/side.sh" "$program"
 # Parts of a side: so many fields, and bytes of the next one
 for part in 4_478659 5_1 8_32760; do
@@ -112,6 +121,10 @@ done
 # @ stand the side's system and levels, and in that of & what the example is asked that is told no other words. `stops`
 # says nothing of pictures.
 cut='the last field is cut: field'
+off="first and last number don't fit"
+gaps=$(awk 'BEGIN { for (part = 0; part < 10; part++)
+    printf "lost 190: field %d has %d, field %d has %d;", 10 * part + 9, 100 * part + 5, 10 * part + 11, \
+        100 * part + 101 }')
 few='of this side is supported by those around it, so this is what the lines say'
 is_a_picture='neither a picture from 0 to 79999, a time as 0:59:29.07, nor a chapter from 0 to 79'
 awk -F '|' -v OFS='|' '{ split($4, sides, ";"); count = split($5, words, ";")
@@ -165,9 +178,20 @@ $player|1|search: not found|clv|@ search 3|
 $player|1|play: not found|stops_4_478659|@ play|
 $player|2||cav|@|usage
 $player|2||cav|@ search 3x;@ search;@ stop|*
-$seek $stops $player|2||cav|NTSC 51200 16384 &;SECAM 16384 51200 &;pal 1 2 &;NTSC 16384 81920 &;NTSC -1 51200 &|*
-$seek $stops $player|2||cav|NTSC 16384 xyz &;NTSC 16384 4294967297 &;NTSC 16384 99999999999999999999 &|*
+$seek $stops $player $whole|2||cav|NTSC 51200 16384 &;SECAM 16384 51200 &;pal 1 2 &;NTSC 16384 81920 &;NTSC -1 51200 &|*
+$seek $stops $player $whole|2||cav|NTSC 16384 xyz &;NTSC 16384 4294967297 &;NTSC 16384 99999999999999999999 &|*
 $player|2||nowhere;empty;folder|@ play|*
+$whole|0|whole: yes|cav|@;@ cut|
+$whole|0|whole: yes|ten;worn|@ cut|
+$whole|4|whole: can't tell: no lead-out|ten|@|
+$whole|4|whole: can't tell: no numbers|clv;stops_4_478659|@|
+$whole|1|whole: no: fields are lost, $off;lost 8: field 25 has 9, field 27 has 14\
+;still 2: field 41 has 21, field 43 has 21;still 2: field 43 has 21, field 45 has 21\
+;still 2: field 45 has 21, field 47 has 21|side|@;@ cut|
+$whole|1|whole: no: it begins late, fields may be lost;open 4: field 23 has 107999, field 25 has 108002|clock|@ cut|
+$whole|1|whole: no: fields are lost, $off, no lead-out;${gaps}gaps left out: 1|gaps|@|
+$whole|2||cav|NTSC 16384;@ cut cut;@ whole|usage
+$whole|2||nowhere;empty;folder|@|*
 END
 while IFS='|' read -r examples ended text side words said; do
     on=$on_cav

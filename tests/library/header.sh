@@ -67,7 +67,8 @@ check 'the first declaration stands before line 60' \
 called_as() {
     taken='const void *samples, void *drawn, LdvbiReading *reading, LdvbiFieldReadings *readings, LdvbiCode *code,
 LdvbiNear *near, uint32_t *format, const LdvbiFieldReadings *read, LdvbiSightings *seen, LdvbiNumber *numbers,
-LdvbiSought *sought, const LdvbiErased *erased, LdvbiRecord *record'
+LdvbiSought *sought, const LdvbiErased *erased, LdvbiRecord *record, const uint32_t *ends, LdvbiGap *gaps,
+LdvbiSide *side'
     printf '%s\n' '#include <ldvbi.h>' "uint32_t called($taken);" "uint32_t called($taken) { $1; return 0; }" > called.c
 }
 # Calls, and where the last pointer of one mustn't be null, the word null before it
@@ -102,5 +103,7 @@ null ldvbi_judge_field(1, 1, 1, read, 9, 4, numbers)
 null ldvbi_seek(1, 1, 2, 1, 1, samples, 478660, 7, sought)
 - ldvbi_judge_chapters(read, 9, seen, 9, numbers, 9)
 - ldvbi_judge_stops(read, 9, format, 9)
+- ldvbi_judge_ends(read, 9, format, 9)
+null ldvbi_judge_side(1, 1, 1, 3, 0, seen, 9, numbers, 9, ends, 9, gaps, 9, side)
 END
 finish

@@ -13,6 +13,7 @@ from discs import chapter, minutes, picture, second
 from ldvbi import Counted, Pace, State, System
 
 NOTHING, BELIEVED, DOUBTFUL, DUE = State
+ENDS = {"no end": 0, "lead-out": 1, "doubtful end": 2, "lead-in": 3}  # of enum LdvbiEnd
 ALL = {"=": BELIEVED, "?": DOUBTFUL}  # answers of each number of a side
 RATES = {"NTSC": 30, "PAL": 25}
 REACH, PART, MOST = 24, 97, 2000
@@ -26,10 +27,10 @@ PARTS = re.compile(r"(\(?)(\w*)(?:\.\.(\d+))?\)?([=~^?]*)(?:/(\w+)([~^]?))?(?:\*
 
 # ---- Sides and answers from text
 
-def tables():
-    """Of each table of judged.txt its kind, its settings, and its rows with their two columns."""
+def tables(name):
+    """Of each table of this file its kind, its settings, and its rows with their columns."""
     found = []
-    with open(os.path.join(os.path.dirname(__file__), "judged.txt")) as file:
+    with open(os.path.join(os.path.dirname(__file__), name)) as file:
         text = file.read().replace("\n    ", " ")
     for line in text.split("\n"):
         if line.startswith("= "):
@@ -103,7 +104,7 @@ def answered(name, asked, fields, before, answer=NUMBER):
     """What is answered, which may be of each field, and what was seen. What is read stays as it is."""
     count, read = len(fields), b"".join(fields)
     length = 1 if name == "find_pace" else count
-    room = () if name == "judge_stops" else (ROOM.put(bytes([before]) * SEEN.size * count), count)
+    room = () if name in ("judge_stops", "judge_ends") else (ROOM.put(bytes([before]) * SEEN.size * count), count)
     found = [FOUND.put(bytes([before]) * answer.size * length)] + [count] * (name != "find_pace")
     expect(call(name)(*asked, READINGS.put(read), count, *room, *found) == 0, name, asked, "refused")
     expect(READINGS.get(len(read)) == read, name, asked, "has changed what it read")
@@ -167,12 +168,12 @@ def test_shown(setting, text, wanted):
         expect(seen == SEEN.pack(*lines[0], *lines[1], len(instead)), setting, text, "shows", SEEN.unpack(seen))
 
 
-def test_stops(rows):
-    """Each field alone, and all of them as a side."""
+def test_alone(name, rows):
+    """Of a call that judges each field by itself: each field alone, and all of them as a side."""
     for part in [[row] for row in rows] + [rows]:
         for before in BEFORE:
-            answers = answered("judge_stops", (), [lines_of(text) for text, _ in part], before, STATE)[0]
-            compare(("stops", part), answers, [(State[state], ) for _, state in part])
+            answers = answered(name, (), [lines_of(text) for text, _ in part], before, STATE)[0]
+            compare((name, part), answers, [(ENDS[state] if state in ENDS else State[state], ) for _, state in part])
 
 
 # ---- The first of some numbers
@@ -195,10 +196,10 @@ def test_first_of():
 def main():
     tests = {"numbers": test_numbers, "found": functools.partial(test_numbers, is_found=True),
              "chapters": test_chapters, "shown": test_shown}
-    expect(sum(len(rows) for _, _, rows in tables()) == 211, "judged.txt has more rows, or fewer")
-    for kind, settings, rows in tables():
-        if kind == "stops":
-            test_stops(rows)
+    expect(sum(len(rows) for _, _, rows in tables("judged.txt")) == 236, "judged.txt has more rows, or fewer")
+    for kind, settings, rows in tables("judged.txt"):
+        if kind in ("stops", "ends"):
+            test_alone("judge_" + kind, rows)
         for setting in settings:
             for row in rows:
                 tests[kind](setting, *row)

@@ -27,6 +27,23 @@ static void test_numbers(void)
     CHECK(LDVBI_BAD_LINE == 8 && LDVBI_BAD_KNOWN == 9);
     CHECK(LDVBI_UNFINISHED == 2 && LDVBI_CHANGE == 3 && LDVBI_CAV == 1 && LDVBI_CLV == 2);
     CHECK(LDVBI_NOTHING == 0 && LDVBI_BELIEVED == 1 && LDVBI_DOUBTFUL == 2 && LDVBI_DUE == 3);
+    CHECK(LDVBI_NO_END == 0 && LDVBI_IS_LEAD_OUT == 1 && LDVBI_DOUBTFUL_END == 2 && LDVBI_IS_LEAD_IN == 3);
+}
+
+/* Of whole sides, of which tests/library/whole.py has the names of its own. */
+static void test_numbers_of_sides(void)
+{
+    static const uint32_t kinds[] = {LDVBI_LOST, LDVBI_HELD, LDVBI_BACK, LDVBI_STILL, LDVBI_JOINED, LDVBI_OPEN};
+    static const uint32_t reasons[] = {
+        LDVBI_IS_LOST, LDVBI_IS_HELD, LDVBI_GOES_BACK, LDVBI_IS_JOINED, LDVBI_BEGINS_LATE, LDVBI_IS_SWAPPED,
+        LDVBI_IS_OFF, LDVBI_NO_NUMBERS, LDVBI_END_UNSEEN, LDVBI_BEGIN_UNSEEN, LDVBI_MANY_DOUBTFUL, LDVBI_IS_OPEN};
+
+    for (uint32_t i = 0; i < sizeof kinds / sizeof *kinds; i++)
+        CHECK(kinds[i] == i + 1);
+    for (uint32_t i = 0; i < sizeof reasons / sizeof *reasons; i++)
+        CHECK(reasons[i] == 1u << i);
+    CHECK(LDVBI_CANNOT_TELL == 0 && LDVBI_WHOLE == 1 && LDVBI_NOT_WHOLE == 2);
+    CHECK(LDVBI_ON_ONE == 0 && LDVBI_ON_BOTH == 1 && LDVBI_FIND_BOTH == 3);
 }
 
 /* ---- Layout: structs whose members hold the bytes 1, 2, 3 and so on, where the library has them */
@@ -59,6 +76,25 @@ static void test_layout(void)
     has_bytes(&sought, sizeof sought, 24);
     CHECK(sizeof(LdvbiFieldReadings) == 24 && offsetof(LdvbiFieldReadings, lines[2]) == 16);
     CHECK(sizeof(LdvbiRecord) == 452 && offsetof(LdvbiRecord, text) == 4);
+}
+
+/* A number of 64 bits of the eight bytes that begin at this place, whose bytes are 1, 2, 3 and so on. */
+#define EIGHT(place) (0x0706050403020100 + 0x0101010101010101 * (UINT64_C(1) + (place)))
+
+static void test_layout_of_sides(void)
+{
+    LdvbiGap gap = {.after = EIGHT(0), .before = EIGHT(8), .fields = EIGHT(16), .shown = EIGHT(24),
+                    .from = (uint32_t)EIGHT(32), .to = (uint32_t)EIGHT(36), .kind = (uint32_t)EIGHT(40)};
+    LdvbiTally tally = {.gaps = EIGHT(0), .lost = EIGHT(8), .held = EIGHT(16), .stood = EIGHT(24), .stills = EIGHT(32),
+                        .still_end = EIGHT(40), .back = EIGHT(48), .joined = EIGHT(56), .open_gaps = EIGHT(64),
+                        .lost_numbers = EIGHT(72), .undecided = EIGHT(80), .unread = EIGHT(88)};
+    LdvbiSide side = {.tally = tally, .first = EIGHT(96), .last = EIGHT(104), .swap = EIGHT(112),
+                      .verdict = (uint32_t)EIGHT(120), .reasons = (uint32_t)EIGHT(124)};
+
+    has_bytes(&gap, offsetof(LdvbiGap, kind) + sizeof gap.kind, 44);
+    CHECK(sizeof gap == 48);
+    has_bytes(&tally, sizeof tally, 96);
+    has_bytes(&side, sizeof side, 128);
 }
 
 /* ---- Texts by their numbers' names, of which one is the last, and that of any other number */
@@ -160,7 +196,9 @@ int main(void)
 {
     test_version();
     test_numbers();
+    test_numbers_of_sides();
     test_layout();
+    test_layout_of_sides();
     test_texts();
     test_threads();
     test_cut_file();

@@ -16,7 +16,7 @@ CUT_OFF = (256, 257, 258, 259, 65536, 65537, 65538, 65539, 0x80000001, MOST)
 BAD_PAIRS = ((2, 2), (65535, 0), (65535, 65535), (65536, 65537), (65536, 51200), (0, 65536), (16384, 65536 + 51200),
              (256, 1 << 31), (1 << 31, MOST), (0, MOST), (MOST, MOST))
 PAIRS = ((0, 1), (0, 65535), (65534, 65535), (0, 256), (256, 257))
-SIGHTINGS, READINGS, NEAR, RECORD = 20, 24, 32, 452  # bytes
+SIGHTINGS, READINGS, NEAR, RECORD, GAP, SIDE = 20, 24, 32, 452, 48, 128  # bytes
 ROOM = 2 * 2270 * 313 + 8
 OPEN, CLOSED, ANSWER, SEEN, NUMBERS, LIST = map(Guarded, (ROOM, ROOM, RECORD, 4 * SIGHTINGS, 4 * 8, 4096))
 
@@ -159,16 +159,35 @@ def test_judged(asked, lengths, status):
         found.add(call("find_pace")(*asked[:2], *read, *seen, before[2]))
     if status == BAD_LENGTH:
         found.add(call("judge_chapters")(*read, *seen, *numbers))
-    if count != seen_count:
-        expect(call("judge_stops")(*read, *seen) == BAD_LENGTH, "judge_stops", lengths)
+    for name in ("judge_stops", "judge_ends") if count != seen_count else ():
+        expect(call(name)(*read, *seen) == BAD_LENGTH, name, lengths)
     is_kept = SEEN.get(80) == b"\xAA" * 80 and NUMBERS.get(32) == b"\xAA" * 32 and ANSWER.get(NEAR) == b"\x55" * NEAR
     expect(found == {status} and is_kept, asked, lengths, found)
+
+
+# The same of a whole side, with the lengths of its three arrays. The pace has to be given.
+WHOLE = {
+    BAD_SYSTEM: "000 300, 334 333, 334 000",
+    BAD_LENGTH: "100 323, 234 343, 122 332, 222 334, 111 344, 211 322, 211 300, 111 303, 111 330, 134 010, 234 001",
+    BAD_COUNTED: "100 333, 233 333, 234 000",
+    BAD_PACE: "110 333, 224 333, 123 333, 223 000, 113 000"}
+
+
+def test_whole(asked, lengths, status):
+    """Nothing that is refused is looked at: arrays of another length, or of a wrong number, can be touched nowhere."""
+    arrays = [word for length in lengths for word in (CLOSED.end - SIGHTINGS * 4, length)]
+    side = ANSWER.put(b"\x55" * SIDE)
+    for both, may_end in ((0, 0), (3, 1), (MOST, MOST)):
+        found = call("judge_side")(*asked, both, may_end, *arrays, CLOSED.end - GAP, 1, side)
+        is_kept = ANSWER.get(SIDE) == b"\x55" * SIDE
+        expect(found == status and is_kept, "judge_side", asked, lengths, found)
 
 
 def test_numbers(bad):
     """A number that is wrong for a system, for what is counted and for a pace; calls that take one field or none."""
     for asked, status in (((bad, 1, 1), BAD_SYSTEM), ((1, bad, 1), BAD_COUNTED), ((1, 1, bad), BAD_PACE)):
         test_judged(asked, (3, 3, 3), status)
+        test_whole(asked, (3, 3, 3), status)
     answer = ANSWER.put(b"\x55" * NEAR)
     for asked, count, field, status in (
             ((bad, bad, bad), 0, 0, BAD_SYSTEM), ((PAL, bad, bad), 0, 0, BAD_LENGTH),
@@ -189,7 +208,8 @@ def test_nothing():
     """What is answered of a side without fields, and of readings without a word."""
     seen, video = SEEN.put(b"\xAA" * 3 * SIGHTINGS), b"\1\0\0\0"
     expect(call("judge_chapters")(None, 0, None, 0, None, 0) == DONE, "chapters of none")
-    expect(call("judge_stops")(None, 0, None, 0) == DONE, "stops of none")
+    for name in ("judge_stops", "judge_ends"):
+        expect(call(name)(None, 0, None, 0) == DONE, name, "of none")
     for name, words, wanted in (
             ("find_pace", (PAL, TIMES, None, 0, None, 0), video),
             ("find_pace", (NTSC, PICTURES, at(OPEN, 2 * READINGS), 2, seen, 2), video),
@@ -210,6 +230,11 @@ def main():
     for status, rows in JUDGED.items():
         for asked, lengths in map(str.split, rows.split(", ")):
             test_judged(tuple(map(int, asked)), map(int, lengths), status)
+    for status, rows in WHOLE.items():
+        for asked, lengths in map(str.split, rows.split(", ")):
+            test_whole(tuple(map(int, asked)), tuple(map(int, lengths)), status)
+    for lengths in ((3, MOST_BYTES, 3), (MOST_BYTES, 3, 3), (3, 3, MOST_BYTES), (MOST_BYTES, MOST_BYTES, 0)):
+        test_whole((PAL, TIMES, FILM), lengths, BAD_LENGTH)
     for bad in (0, 4, *CUT_OFF):
         test_numbers(bad)
     test_words()

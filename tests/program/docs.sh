@@ -166,6 +166,7 @@ while read -r page kind source; do
     check "the example of $page is of $source" [ ! -s err ]
 done << 'END'
 README.md c examples/say.c
+docs/LIBRARY.md c examples/whole.c
 crates/vbi_words/CALLING.md rust crates/vbi_line_tests/src/calling.rt
 crates/vbi_line/CALLING.md rust crates/vbi_line_tests/src/calling.rt
 crates/vbi_near/CALLING.md rust crates/vbi_line_tests/src/calling.rt
@@ -183,7 +184,7 @@ done
 page ldvbi trial
 check 'the words of the drawn field of the manual page' [ "$(tail -n 1 out)" = '[8572927,15803205,15803205]' ]
 mkdir trial/captures
-seq -f 'F%05g' 16 | sed 's/.*/- & &\n- - -/' > whole.words
+{ seq -f 'F%05g' 16 | sed 's/.*/- & &\n- - -/' && echo '- 80EEEE 80EEEE'; } > whole.words
 output_of draw $ntsc whole.words > trial/side.tbc
 for name in side first second captures/side; do
     output_of extract $ntsc trial/side.tbc > trial/$name.vbi.json

@@ -223,7 +223,8 @@ def compare_judges(call, choose):
     seen = (size(count), slice(20 * count, None), size(count + off))
     yield call("ldvbi_judge", system, counted, pace, readings, size(count), ..., *seen, room=28 * count + 16)
     yield call("ldvbi_judge_chapters", readings, size(count), ..., *seen, room=28 * count + 16)
-    yield call("ldvbi_judge_stops", readings, size(count), ..., size(count + off), room=4 * count + 16)
+    for name in ("ldvbi_judge_stops", "ldvbi_judge_ends"):
+        yield call(name, readings, size(count), ..., size(count + off), room=4 * count + 16)
     yield call("ldvbi_find_pace", system, counted, readings, size(count), slice(4, None),
                size(count + off), ..., room=20 * count + 64)
     few = choose.choice([count, 97, 97, 98])
@@ -232,6 +233,38 @@ def compare_judges(call, choose):
                size(choose.randrange(few + 1)), ..., room=8)
     numbers = b"".join(struct.pack("<II", choose.randrange(4), choose.randrange(6)) for _ in range(count))
     yield call("ldvbi_first_of", numbers, size(count), number(choose.randrange(4)))
+
+
+def random_judged(choose):
+    """What could be seen and answered of a side's fields, and of their ends: numbers that run on, with jumps and
+    stills, some of which are shown and not believed; and lead-out here and there."""
+    seen, numbers, ends = bytearray(), bytearray(), bytearray()
+    film, both = choose.random() < 0.3, choose.random() < 0.2
+    count = choose.choice([0, 1, 2 ** 32 - 2, choose.randrange(79999)])
+    for field in range(choose.choice([0, 1, 2, choose.randrange(150), choose.randrange(400)])):
+        first = field % 5 in (0, 2) if film else field % 2 == 0
+        count += first * (choose.random() < 0.95) + (choose.random() < 0.03 and choose.randrange(-3, 5))
+        shown = max(0, min(count + choose.choice([0, 0, 0, 1, -1]), 2 ** 32 - 1)) if first or both else 0
+        state = choose.choice([1, 1, 1, 1, 0, 2, 3, choose.randrange(2 ** 32)]) if first or both else 0
+        weights = choose.choice([(2, 2), (2, 0), (0, 1)]) if shown else (0, 0)
+        seen += struct.pack("<5I", shown * (weights[0] > 0), weights[0], shown * (weights[1] > 0), weights[1], 0)
+        numbers += struct.pack("<2I", max(0, min(count, 2 ** 32 - 1)), state)
+        ends += struct.pack("<I", rarely(choose, (1, 1, 2, 257), 0))
+    return bytes(seen), bytes(numbers), bytes(ends)
+
+
+def compare_sides(call, choose):
+    """A side of which anything was answered, judged whole, with room for some of its gaps."""
+    arrays = random_judged(choose)
+    yield call("ldvbi_find_both", arrays[1], size(len(arrays[1]) // 8))
+    lengths = [len(part) // width for part, width in zip(arrays, (20, 8, 4))]
+    lengths[choose.randrange(3)] -= rarely(choose, (1, 2 ** 40), 0)
+    asked = [number(rarely(choose, (0, 4, 257), choose.choice([1, 2]))) for _ in range(3)]
+    asked += [number(choose.choice([0, 1, 3, 3, 2 ** 32 - 1])), number(choose.choice([0, 1, 256]))]
+    given = [word for part, length in zip(arrays, lengths) for word in (part, size(length % 2 ** 64))]
+    gaps = choose.choice([0, 1, 2, 9])
+    yield call("ldvbi_judge_side", *asked, *given, slice(128, None), size(gaps), ..., room=128 + 48 * gaps,
+               padding=[slice(128 + 48 * gap + 44, 128 + 48 * gap + 48) for gap in range(gaps)])
 
 
 def compare_seek(call, choose, draw):
@@ -307,7 +340,7 @@ def compare_library(paths, choose, count):
     """Each call, with arguments of which most fit: what is answered, and what is written over a pattern."""
     libraries = [ctypes.CDLL(path) for path in paths]
 
-    def call(name, *arguments, room=0):
+    def call(name, *arguments, room=0, padding=()):
         def answer(library):
             written = ctypes.create_string_buffer(b"\xa5" * room, room)
             function = getattr(library, name)
@@ -315,7 +348,10 @@ def compare_library(paths, choose, count):
             # A slice is a place in what is written.
             places = {slice: lambda part: ctypes.byref(written, part.start), type(...): lambda _: written}
             done = function(*[places.get(type(argument), lambda same: same)(argument) for argument in arguments])
-            return done, written.raw
+            raw = bytearray(written.raw)
+            for part in padding:  # between the members of structs, where anything may stand
+                raw[part] = bytes(part.stop - part.start)
+            return done, bytes(raw)
         return (name, *arguments), [answer(library) for library in libraries]
 
     for name in ("ldvbi_abi", "ldvbi_version"):
@@ -327,6 +363,7 @@ def compare_library(paths, choose, count):
         yield from compare_lines(call, choose, libraries[0].ldvbi_draw_line)
         yield from compare_words_alone(call, choose)
         yield from compare_judges(call, choose)
+        yield from compare_sides(call, choose)
 
 
 def main(what, proved, other, count, seed, *runner):

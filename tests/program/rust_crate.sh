@@ -71,7 +71,7 @@ it is laid out by rustfmt|cargo fmt --check
 bits_above is the plain loop|rustc --edition 2021 --test -A dead_code -O -o $work/bits_above src/bits_above.rs
 at every position and of every value|$work/bits_above
 the example in its documents|cargo test --doc --quiet
-its interface on drawn sides|cargo test --quiet --test facade
+its interface on drawn sides|cargo test --quiet --test facade --test whole
 END
 # The way of 64-bit ARM, with functions that do what its five instructions do
 sed 's/"x86_64"/"none"/; s/"aarch64"/"x86_64"/; s/std::arch::aarch64/crate::neon/' src/bits_above.rs > "$work/neon.rs"

@@ -41,7 +41,7 @@ def hand_made():
     yield "cut", answer(pictures([1, 2]), cut={"seqNo": 5, "bytes": 7}, first=[False, True, True, False])
     yield "second row", made(" ".join("-/#%d/#%d B" % (number, number + 1000) for number in range(60)))
     yield "confirmed", analyse(made("1..2 ? B 4..6", plain)._replace(nearest_word=lambda *_: 0xF00003))
-    yield "judged", analyse(made("1..8", plain)._replace(judge=lambda *_: {1: 1, 3: 2, 5: 4}))
+    yield "open end", analyse(made("1..8", plain)._replace(may_end=False))
     yield "levels", analyse(made("Bx3", plain)._replace(try_levels=lambda: {
         "lines": 6, "read": 0, "black": 16384, "white": 51200,
         "best": {"system": "NTSC", "black": None, "white": 30000, "read": 6}}))

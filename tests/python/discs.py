@@ -7,7 +7,7 @@ one that was recovered from a line that is `change 170`), or a line without a wo
 import functools
 
 from ldvbi import Cause, FieldReadings, Reading, System
-from ldvbi.readings import Levels
+from ldvbi.readings import Levels, PackedFields
 from ldvbi_side.join.captures import capture_of
 from ldvbi_side.join.joined import join
 from ldvbi_side.judge.answer import analyse
@@ -74,10 +74,20 @@ def item(text):
 
 
 def plain(rows, system="PAL", first=None, cut=None):
-    """The plain data of a side with these rows."""
+    """The plain data of a side with these rows, which may end without lead-out."""
     fields = [list(zip(*map(item, row.split(" ")))) for row in rows]
     words, passes, causes = ([field[part] for field in fields] for part in range(3))
-    return Fields(system, words, passes, causes, cut, first)
+    return Fields(system, words, passes, causes, _packed(rows), cut, first, may_end=True)
+
+
+def _packed(rows):
+    """The readings of these rows as the library takes them."""
+    return b"".join(map(_packed_row, rows))
+
+
+@functools.lru_cache(maxsize=None)
+def _packed_row(row):
+    return PackedFields.of([FieldReadings(*map(_reading, row.split(" ")))]).data
 
 
 def answer(rows, system="PAL", first=None, cut=None):
@@ -92,9 +102,11 @@ def _reading(text):
 
 
 def side(rows, system="PAL", first=None, cut=None):
-    """The `Side` with these rows, read with the levels 16384 and 51200."""
+    """The `Side` with these rows, read with the levels 16384 and 51200, which may end without lead-out."""
     readings = [FieldReadings(*map(_reading, row.split(" "))) for row in rows]
-    return Side(System[system], readings, cut, Levels(16384, 51200), first)
+    one = Side(System[system], readings, cut, Levels(16384, 51200), first)
+    one.may_end = True
+    return one
 
 
 def joined(*sides):

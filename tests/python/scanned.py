@@ -13,36 +13,36 @@ from streams import NTSC, write_stream
 # White is less than the middle of the metadata's levels.
 DARK = ("NTSC", 16384, 30000)
 # A folder with a side of every kind, in the order of the table: the side's name, its fields, of which a document and
-# what is packed has none, and its row behind the name: whole, lost, unread, format, from, to, fields, and how `why`
-# begins; - is nothing
+# what is packed has none, and its row behind the name: whole, lost, unread, format, from, to, last, lead-in, lead-out,
+# fields, and how `why` begins; - is nothing
 TWELVE = """
-    a/broken.vbi.json | - | fault | - | - | - | - | - | - | not JSON:
-    a/cut.tbc | 1..30 | no | 0 | 0 | cav | 1 | 30 | 60 | field 61 is cut
-    a/database.tbc | 1..30 | yes | 0 | 0 | cav | 1 | 30 | 60 | -
-    a/joined.tbc | Lx2 1..30 Ox2 Lx2 1..30 Ox2 | no | 0 | 0 | cav | 1 | 30 | 128 | two sides joined
-    a/levels.tbc | 1..30 | can't tell | 0 | 0 | neither | - | - | 60 | no picture number and no time
-    a/lost.tbc | 1..11 14..30 | no | 2 | 0 | cav | 1 | 30 | 56 | 4 fields lost; 2 pictures lost
-    b/minutes.vbi.json | - | yes | 0 | 0 | clv | 0:00 | 0:02 | 9000 | -
-    b/missing.tbc | 1..30 | fault | - | - | - | - | - | - | no missing.tbc.json or missing.tbc.db beside it
-    b/no codes.tbc | Bx60 | can't tell | 0 | 0 | neither | - | - | 60 | no picture number and no time
-    b/packed.tbc | - | fault | - | - | - | - | - | - | it is compressed (gzip): unpack it first
-    b/unread.tbc | 1..30 23=B | yes | 0 | 1 | cav | 1 | 30 | 60 | -
-    b/whole.tbc | 1..30 | yes | 0 | 0 | cav | 1 | 30 | 60 | -
+    a/broken.vbi.json | - | fault | - | - | - | - | - | - | - | - | - | not JSON:
+    a/cut.tbc | 1..30 O | no | 0 | 0 | cav | 1 | 30 | 30 | 0 | 1 | 61 | field 62 is cut
+    a/database.tbc | 1..30 O | yes | 0 | 0 | cav | 1 | 30 | 30 | 0 | 1 | 61 | -
+    a/joined.tbc | Lx2 1..30 Ox2 Lx2 1..25 Ox2 | no | 0 | 0 | cav | 1 | 30 | 25 | 4 | 4 | 118 | two sides joined
+    a/levels.tbc | 1..30 | can't tell | 0 | 0 | neither | - | - | - | 0 | 0 | 60 | no picture number and no time
+    a/lost.tbc | 1..11 14..30 O | no | 2 | 0 | cav | 1 | 30 | 30 | 0 | 1 | 57 | 4 fields lost; 2 pictures lost
+    b/minutes.vbi.json | - | yes | 0 | 0 | clv | 0:00 | 0:02 | 0:02 | 0 | 1 | 9001 | -
+    b/missing.tbc | 1..30 | fault | - | - | - | - | - | - | - | - | - | no missing.tbc.json or missing.tbc.db beside it
+    b/no codes.tbc | Bx60 | can't tell | 0 | 0 | neither | - | - | - | 0 | 0 | 60 | no picture number and no time
+    b/packed.tbc | - | fault | - | - | - | - | - | - | - | - | - | it is compressed (gzip): unpack it first
+    b/unread.tbc | 1..30 23=B O | yes | 0 | 1 | cav | 1 | 30 | 30 | 0 | 1 | 61 | -
+    b/whole.tbc | 1..30 O | yes | 0 | 0 | cav | 1 | 30 | 30 | 0 | 1 | 61 | -
 """
 ROWS = {name: row for name, _, *row in cells_of(TWELVE)}
 
 
 class Scans(Commands):
-    def add(self, name, fields="1..30", rest=0, setup=NTSC):
+    def add(self, name, fields="1..30 O", rest=0, setup=NTSC):
         """A TBC file of these fields, or lines, with its metadata beside it, in a folder that is made."""
         os.makedirs(os.path.dirname(self.named(name)), exist_ok=True)
         write_stream(self.named(name), setup, words_of(fields) if isinstance(fields, str) else fields, rest)
         self.metadata(name + ".json")
 
     def add_minutes(self, name, count):
-        """The document of a PAL side that has so many minutes from 0 on, up to 9, and no other numbers."""
-        records = [RECORD % (field + 1, 0, 0x87FFFF, 0xF0DD00 + field // 3000, "blank", "word", "word", 0, 1, 1)
-                   for field in range(3000 * count)]
+        """The document of a PAL side that has so many minutes from 0 on, up to 9, no other numbers, and lead-out."""
+        words = [(0x87FFFF, 0xF0DD00 + field // 3000) for field in range(3000 * count)] + [(0x80EEEE, 0x80EEEE)]
+        records = [RECORD % (field, 0, *two, "blank", "word", "word", 0, 1, 1) for field, two in enumerate(words, 1)]
         self.write(name, head_of(2, System.PAL, 16384, 54016) + ",\n".join(records) + tail_of(None))
 
     def add_twelve(self):

@@ -55,7 +55,7 @@ says valid side 28 answers
     sed -n 's/^text  *//p' "$top/codes/classes.txt" | sed 's/ {.*//; s/.*/"&"/; $d' | paste -s -d ' ' | sed 's/^/KIND /'
     cat "$here/side_schema.txt"
 } > table
-places side answers table '235 places, 3950 documents'
+places side answers table '227 places, 3820 documents'
 
 # The document with recovered words, and what it may not be
 signal NTSC 1 << 'WORDS' | ntsc_samples > worn.tbc
@@ -108,7 +108,7 @@ told scan --json side.tbc
 cp out tables/one.json
 says valid scan 2 tables
 refuses scan tables/pages.json << 'END'
-.version = 2
+.version = 1
 .more = 1
 .sides = {}
 .sides[2].more = 1
@@ -121,6 +121,11 @@ del(.sides[2].page)
 .sides[2].format = "CAV"
 .sides[2].from = "1"
 .sides[2].to = -1
+.sides[2].last = -1
+.sides[2].leadIn = null
+.sides[2].leadOut = 0.5
+del(.sides[2].leadOut)
+.sides[0].leadIn = 0
 .sides[2].fields = null
 .sides[2].reasons = "x"
 .sides[2].fault = "x"

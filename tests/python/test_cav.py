@@ -72,14 +72,9 @@ class Cav(unittest.TestCase):
     fields that come twice | 1..60 +41=20 | stills 20@39-41 | no missing doubtful
     """)
 
-    def test_a_lost_field_beside_pictures_that_were_read_in_one_field(self):
-        """Of what was read in one field it isn't known which field it is: with one lost behind it, or before it."""
-        check(self, """
-    the first one of 13, behind 9 and 10 | b1..30 18=? 20=? -25 | lost 24-26 1 number
-    the first one of 11 | b1..30 18=? 20=? -21 | lost 16-22 1 number
-    the second one of 11, before 12 and 13 | b1..30 23=? 25=? -22 | lost 20-26 1 number
-    picture 21, of which 20 has one, and 19 is no part | b1..30 40=? -41:42 | lost 39-41 2 number
-    """)
+    def test_fields_lost_where_both_have_the_number(self):
+        """A picture is lost before one of which one field was read."""
+        check(self, "picture 21, of 20 one field is read, 19 is no part | b1..30 40=? -41:42 | lost 39-41 2 number")
 
     def test_other_formats_and_lines(self):
         check(self, """
@@ -109,7 +104,7 @@ class Cav(unittest.TestCase):
     and in these once more | PAL/41,42 1..30 -41:43 | lost 39-42 3 both
     without parity | 1..30 -41:43 | lost 39-42 3 number
     beside another field | PAL/20,41 1..30 -41:43 | lost 19-20 None parity, 39-42 3 both
-    a clock may have left out a number | NTSC/5 t0..1 t3..4 | lost 3-5 2 undecided
+    a clock may have left out a number | NTSC/43 t0..20 t22..40 | lost 41-43 2 undecided
     no number is near | PAL/4 1 Bx4 4 | lost 3-4 None parity
     at the beginning | PAL/2 b1..30 | lost 1-2 None parity
     at the end | PAL/60 b1..30 | lost 59-60 None parity

@@ -8,7 +8,6 @@ from collections import Counter
 import ldvbi
 from compact import made
 from discs import plain, side
-from judged import packed_of
 from judged_chapters import ChapterTruth, chapter_in, judged, of_package
 from ldvbi import State
 from ldvbi_side.judge.answer import analyse
@@ -54,7 +53,7 @@ class Beside(unittest.TestCase):
         fields = made("0..299 1:600/2.18=- 2:200/2=-/c0/- 202:400/2=-/c1/- 402:600/2=-/c2/- 102=-/c48/-", plain)
         found = list(of_package(fields, analyse(fields)))
         self.assertEqual((found[99], found[100], found[101]), ({0}, set(), set()))
-        self.assertEqual(ldvbi.judge_chapters(packed_of(fields))[101], (48, State.doubtful))
+        self.assertEqual(ldvbi.judge_chapters(fields.packed)[101], (48, State.doubtful))
         self.assertEqual((chapter_in(0x812DDD), chapter_in(0xF00012), chapter_in(0)), (12, None, None))
 
 

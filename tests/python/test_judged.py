@@ -8,7 +8,7 @@ from collections import Counter
 import ldvbi
 from compact import made
 from discs import plain
-from judged import Judged, Package, judged, packed_of
+from judged import Judged, Package, judged
 from judged_truth import JudgedTruth
 from ldvbi import Counted, Number, Pace, State
 from ldvbi_side.judge.answer import analyse
@@ -133,7 +133,7 @@ class Planted(unittest.TestCase):
         """What is counted where other answers stand in these fields of 40 pictures, of which one is damaged."""
         text += " 21=B"
         fields = made(text, plain)
-        known = ldvbi.judge(packed_of(fields), "PAL", "pictures", "video")
+        known = ldvbi.judge(fields.packed, "PAL", "pictures", "video")
         for field, number in changes.items():
             known[field] = number
         told = []

@@ -100,7 +100,7 @@ def run(code, **variables):
 
 
 MAKE, NAMES = "`make lib` or `make rust` builds", "LDVBI_LIBRARY names its file\n"
-NONE = "no library to read samples with (%s: cannot open shared object file: No such file or directory): " + MAKE + \
+NONE = "no library to read and judge with (%s: cannot open shared object file: No such file or directory): " + MAKE + \
        " it, " + NAMES
 TRY = "import ldvbi\ntry:\n    print(%s)\nexcept (OSError, ValueError) as error:\n    print(error)\n"
 READ = TRY % 'ldvbi.read_line(bytes(1820), "NTSC", 16384, 51200).cause.name'
@@ -136,8 +136,8 @@ class Library(InFolder):
                 (READ, {"LDVBI_LIBRARY": file},
                  "%s has the interface 2, not 1: %s the one that fits, %s" % (file, MAKE, NAMES))):
             self.assertEqual(run(code, **variables), wanted)
-        self.assertRegex(run(READ, LDVBI_LIBRARY="libc.so.6"), r"^no library to read samples with \(.*undefined symbol"
-                         r": ldvbi_abi\): %s it, %s\Z" % (MAKE, NAMES))
+        self.assertRegex(run(READ, LDVBI_LIBRARY="libc.so.6"), r"^no library to read and judge with \(.*undefined "
+                         r"symbol: ldvbi_abi\): %s it, %s\Z" % (MAKE, NAMES))
 
     def test_numbers_that_a_later_library_adds(self):
         """Causes stay numbers, in lines and in fields, and so do states; statuses are refusals."""
@@ -159,6 +159,8 @@ class Library(InFolder):
                                     ("judge_field([], 0, 'NTSC')", "judge one field", "judge_field"),
                                     ("judge_chapters([])", "judge chapters", "judge_chapters"),
                                     ("judge_stops([])", "judge stops", "judge_stops"),
+                                    ("judge_ends([])", "judge whole sides", "judge_ends"),
+                                    ("judge_side([], 'NTSC')", "judge whole sides", "judge_side"),
                                     ("nearest(b'', 'NTSC', 1, 2)", "find nearest words", "nearest"),
                                     ("recover_pile(b'', 'NTSC', 1, 2, 17)", "recover words of piles", "recover_pile"),
                                     ("Stream(b'', 'NTSC', 1, 2, True)", "recover words", "recover_fields"),

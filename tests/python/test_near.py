@@ -164,5 +164,6 @@ class Confirmed(InFolder):
             write_stream(self.path, setup, fields)
             for recover in (True, False):
                 one = side_of_tbc(self.path, ldvbi.System[setup[0]], *setup[1:], recover=recover)
+                one.may_end = True
                 self.assertEqual(one.readings[8].second.word, 0)
                 self.check(one.answer, is_nearest and recover)

@@ -23,11 +23,11 @@ class Read(unittest.TestCase):
         """Of the times behind a skip one has its minute, in its field or in the next one."""
         check(self, """
     of 1000 pictures | t1200..1209 u2210..2221 33=s28.16/@0:01/@0:01 | numbers 22 0:00:48.00 to 0:01:28.21
-        | breaks lost 19-21 0:00:48.09 to 0:01:28.10, 2000 | no doubtful
+        | missing 0:00:48.10-0:01:28.09 undecided | no doubtful
     of more | t1200..1209 u31360..31371 33=s54.16/@0:20/@0:20 | no doubtful
-        | breaks lost 19-21 0:00:48.09 to 0:20:54.10..
+        | missing 0:00:48.10-0:20:54.09 undecided
     with two misread seconds | t1200..1209 u2210..2239 25=s28.12/@0:01/@0:01 33=s3.3/-/- 53=s3.3/-/- | aside 33, 53
-        | breaks lost 19-21 0:00:48.09 to 0:01:28.10, 2000
+        | missing 0:00:48.10-0:01:28.09 undecided, ..
     in a field of its own | t1200..1209 u2210..2221 34=-/@0:01/@0:01 | numbers 22 0:00:48.00 to 0:01:28.21
     """)
 
@@ -50,10 +50,10 @@ class Read(unittest.TestCase):
     def test_sparse(self):
         """Something was seen on line 16 of a picture, say, or the fields of pictures 54 to 63 are lost."""
         check(self, """
-    blank lines | {0} | no missing unread | whole yes | count 40
+    blank lines | {0} | no missing unread | count 40
     a time not read | {0} 101.16=? | unread 0:00:02.00@101
     something seen | {0} 101.16=? 103.16=? | unread 0:00:02.00@101, 0:00:02.01@103
-    lost | {0} -109:128 | lost 101-111 20 number | no unread | missing 0:00:02.01-0:00:02.14..
+    lost | {0} -109:128 | lost 81-131 20 number | no unread | missing 0:00:02.01-0:00:02.14..
     """.format(SPARSE))
         fields = [7, 9, 17, 19, 23, 31, 33, 35, 45, 49, 57, 59, 61, 69, 71, 81, 83, 91, 101, 103]  # a worn disc is none
         found = made("t0..59 " + " ".join("%d.16=-" % field for field in fields))
@@ -115,7 +115,7 @@ class Lost(unittest.TestCase):
                 check(self, "%s %d | Lx10 1..59 %s %d..%d | no lost missing breaks | reasons joined" % (
                     between, begin, between, begin, begin + 59))
         check(self, """
-    again | Lx10 1..59 Ox10 1..79 | no lost missing | reasons jumps, joined
+    again | Lx10 1..59 Ox10 1..79 | no lost missing breaks | reasons joined
     lower numbers | 500..559 Ox10 1..59 | no lost missing
     the same number on both | Lx10 1..59 Ox10 59..98 | no lost missing stills | reasons joined
     lost within one | Lx10 1..59 Ox10 560..619 -41:44 | missing 16-17 lost | lost 39-41 4 number
@@ -130,7 +130,7 @@ class Lost(unittest.TestCase):
         those around leave 1.05 or 59.14: three digits are others, and not one or two. Where more fields passed than the
         time needs, it stands between no two losses."""
         check(self, """
-    two times | t0..29 t80..81 t140..169 | count 62 | lost 59-61 100 number, 63-65 116 number | no doubtful
+    two times | t0..29 t80..81 t140..169 | count 62 | lost 59-65 216 number | no doubtful
     outside | t0..29 t20..21 t140..169 | showings x60
     one time | t0..29 t292 t1490..1519 | showings x61
     between two searches | t0..29 Bx300 t200..201 Bx300 t500..529 | showings x62 | no doubtful
@@ -147,20 +147,22 @@ class Stood(unittest.TestCase):
         """In fields 95 to 99 stand the times 98 and 99; a round ends before 98 comes again."""
         side = rows("t50..139")
         found = answer(side[:100] + 12 * side[95:100] + side[100:])
-        self.assertEqual(len(found["breaks"]), 12)
-        self.assertEqual({(one["kind"], one["from"], one["to"], one["fields"]) for one in found["breaks"]},
-                         {("back", "0:00:03.24", "0:00:03.23", 5)})
+        self.assertEqual({(one["kind"], one["from"], one["to"]) for one in found["breaks"]},
+                         {("back", "0:00:03.24", "0:00:03.23")})
+        self.assertEqual(sum(one["fields"] for one in found["breaks"]), 12 * 5)
         for length in range(4, 12):
             for side in (rows("t50..139"), rows("50..139")):
                 found = answer(side[:100] + 9 * side[100 - length:100] + side[100:])
                 self.assertEqual([found["stills"], found["doubtful"]], [[], []], length)
                 self.assertEqual({one["kind"] for one in found["breaks"]}, {"back"}, length)
+                self.assertEqual(sum(one["fields"] for one in found["breaks"]), 9 * length)
 
     def test_stills(self):
         """One frozen field is no number on both fields, and a still with a wrong number in it stays one."""
         check(self, """
     a wrong number in one | 1..29 30x20 31..59 75=31 | stills 30@59-97 | doubtful 75/17 31.. | aside 75, 75
-    a frozen field | 1..59 -/#60/#60x60 B 61..99 | pace video | stills 60@119-178 | whole yes
+    a frozen field | 1..59 -/#60/#60x60 B 61..99 | pace video | stills 60@119-178
+        | breaks held 119-178 60 to 60, 59
     and a frozen field | b1..59 -/#60/#60x60 | pace both
     one field between two | 1..29 -/#30/#30x41 -/#31/#31 -/#32/#32x41 B 33..59 | no doubtful missing
         | stills 30@59-99, 32@101-141

@@ -77,7 +77,8 @@ class LongNames(InFolder):
 WRONG = {
     "whole": ("perhaps", None, ["yes"]), "fields": (None, True, 1.5), "reasons": (None, ["lost"], [{"text": 1}], 5),
     "numbers": (None, [], {"count": 1, "least": 1}, {"count": "1", "least": 1, "greatest": 1}), "lost": (None,),
-    "format": (1,), "counts": ([], {"lost": 1})}
+    "format": (1,), "counts": ([], {"lost": 1}),
+    "leadIn": (None, True), "leadOut": ("1",)}
 META = '<meta name="%s" content="%%s">' % MARK
 
 
@@ -99,7 +100,7 @@ class Pages(InFolder):
         for name, value in ((name, value) for name, values in WRONG.items() for value in values):
             with self.subTest((name, value)):
                 self.refused(self.page_saying(dict(self.said, **{name: value})))
-        for name in self.said.keys() - {"version", "system", "unit", "counts"}:
+        for name in self.said.keys() - {"version", "system", "unit"}:
             self.refused(self.page_saying({one: value for one, value in self.said.items() if one != name}))
         self.said["reasons"] = [{"why": "x", "whole": "no", "text": "a reason" * 20000}]
         self.assertGreater(len(json.dumps(self.said)), 2 * PART)

@@ -84,7 +84,7 @@ class Pages(unittest.TestCase):
         self.assertLessEqual({"numbers lost, undecided or unread: 2", "unread, and their fields: 1"},
                              set(read.texts["summary"]))
         self.assertIn("%(count)d, from %(least)d to %(greatest)d" % one.answer["numbers"], read.texts["dd"])
-        for text, kind, whole in (("1..2", "yes", "yes"), ("7..8", "no", "no<ul><li>begins at 7, ends at 8</li></ul>"),
+        for text, kind, whole in (("1..3", "yes", "yes"), ("7..9", "no", "no<ul><li>begins at 7, ends at 9</li></ul>"),
                                   ("", "open", "can&#x27;t tell<ul><li>no picture number and no time</li></ul>")):
             self.assertIn('<div class="%s">whole: %s</div>' % (kind, whole), page(side(rows(text))))
 
@@ -157,7 +157,7 @@ class Plots(Calls):
 class Indexes(InFolder):
     def test_an_index(self):
         names = [self.write(title + " #1.html", page(side(rows(text)), title=title))
-                 for title, text in (("one & two.tbc", "1..2"), ("none", ""), ("other", "7..9 12..14"))]
+                 for title, text in (("one & two.tbc", "1..3"), ("none", ""), ("other", "7..9 12..14"))]
         read = Page(index_of(self.named("index.html"), names))
         self.assertEqual(read.texts["h1"], ["3 sides, whole: 1 yes, 1 no, 1 can't tell"])
         self.assertEqual(read.texts["a"], ["other", "none", "one & two.tbc"])
@@ -168,11 +168,11 @@ class Indexes(InFolder):
             ["no", "12", "6, 7 to 14", "2 pictures, 4 fields",
              "4 fields lost; 2 pictures lost; begins at 7, ends at 14"],
             ["can't tell", "0", "none", "none", "no picture number and no time"],
-            ["yes", "4", "2, 1 to 2", "none", ""]])
+            ["yes", "6", "3, 1 to 3", "none", ""]])
         known, none = '<meta name="ldvbi-side" content="%s">', "no page that --html wrote"
         other = "a page of another version: write it again"
         for text, why in ((known % "{}", other), (known % "{&quot;version&quot;: 1}", other), (known % "[]", none),
-                          (known % "{&quot;version&quot;: 2}", none), ('<meta name="ldvbi-side">', none),
+                          (known % "{&quot;version&quot;: 3}", none), ('<meta name="ldvbi-side">', none),
                           ("<meta name=x>", none), (b"<title>\xff\xfe</title>", none)):
             self.assertEqual(reason(index_of, "index.html", [self.write("other.html", text)]),
                              "%s is %s" % (self.named("other.html"), why))

@@ -69,7 +69,8 @@ class Parts(unittest.TestCase):
     a picture | Lx5 1 Lx3 | leadIn 1-5 5, 8-10 3
     between numbers that fit | 1..30 12=-/-/80EEEE 21=-/88FFFF/#11 | no leadIn leadOut
         | stray 12/18 lead-out place, 21/17 lead-in place
-    within a minute | n0 C n0 C n0 C Lx4 n0 C n0 C n0 C | unit minute | leadIn 7-10 4 | no stray | reasons joined
+    within a minute | n0 C n0 C n0 C Lx4 n0 C n0 C n0 C | unit minute | leadIn 7-10 4 | no stray
+        | reasons joined, minutes
     a single one there | n0 C n0 C n0 C L n0 C n0 C n0 C | no leadIn | stray 7/17 lead-in place, 7/18 lead-in place
     in a field with a number | -/88FFFF/#1 B -/-/#2 | stray 1/17 lead-in place | no leadIn
     alone | Lx12 | format neither | unit None | count 0 | leadIn 1-12 12 | levels

@@ -68,14 +68,14 @@ run: 3-13 6 188 484 338 439; 15-27 7 368 412 548 377; 31-33 2 608 359 638 350; 3
 
 
 # 40 fields, 24 pixels each, from 0:59:59.15 on. The minutes of two fields are wrong, those of a third no clock shows,
-# the picture of a fourth no clock shows, and three times are lost.
+# the picture of a fourth no clock shows. Whether the three times before the last four are lost isn't known, since the
+# library doesn't believe as few as these.
 TIMES = "t89990..90005 t90009..90012 2:40/2=-/M/c3 9.18=@0:58 13.18=@9:59 17.18=@0:61 25.16=s0.25"
 CLOCKS = """\
 number-label: 140 487 0:59:59.15; 140 435 0:59:59.20; 140 382 1:00:00; 140 330 1:00:00.05; 140 278 1:00:00.10
-axis: 36 368 time; 630 692 field
-lost: 33-33 918-942
+axis: 36 368 time; 630 710 field
+undecided: 33-33 918-942
 unread: 24-26 702-774
-lost-fields: 33-33 918-942
 doubtful: 9-9 342-366; 13-13 438-462; 17-17 534-558; 25-25 726-750
 run: 1-23 12 162 483 690 368; 27-31 3 786 347 882 326; 33-39 4 930 284 1074 253
 doubt: 9 M354.0 493.0; 13 M450.0 243.0

@@ -3,29 +3,24 @@ writes, never in the place of an input."""
 
 import json
 import os
-from unittest import mock
 
-import ldvbi
 from calls import Calls
 from command_runs import IN_PLACE
 from compact import words_of
-from ldvbi_side.side import side_of_tbc
 from streams import NTSC, PAL, pictures, write_stream
 
-NO_LIBRARY = "ldvbi-side: no library to read samples with (/absent: cannot open shared object file: No such file or " \
-             "directory): `make lib` or `make rust` builds it, LDVBI_LIBRARY names its file\n"
+NO_LIBRARY = "ldvbi-side: no library to read and judge with (/absent: cannot open shared object file: No such file " \
+             "or directory): `make lib` or `make rust` builds it, LDVBI_LIBRARY names its file\n"
 
 
 class WithoutLibrary(Calls):
-    def test_of_documents_all_else_is_the_same(self):
+    def test_it_is_needed(self):
+        """By what judges, of a document, too; one sentence says how to get it."""
         absent = dict(os.environ, LDVBI_LIBRARY="/absent")
-        for words in ("--csv", "--summary --svg svg --map map --html html", "--help"):
-            found = self.run_command("side.vbi.json " + words, env=absent)
-            files = self.files()
-            # a number in each field is no whole side
-            self.assertEqual((found[0], found[2]), (int("--summary" in words), ""), words)
-            self.assertEqual((self.run_command("side.vbi.json " + words), self.files()), (found, files), words)
-        self.assertEqual(self.run_command("side.tbc LEVELS --document", env=absent), (2, b"", NO_LIBRARY))
+        for words in ("side.vbi.json --csv", "side.vbi.json --summary --svg svg --map map --html html",
+                      "side.vbi.json", "side.tbc LEVELS --document", "join side.vbi.json side.vbi.json"):
+            self.assertEqual(self.run_command(words, env=absent), (2, b"", NO_LIBRARY), words)
+        self.assertEqual(self.run_command("--help", env=absent), self.run_command("--help"))
 
 
 class Documents(Calls):
@@ -82,7 +77,10 @@ class Metadata(Calls):
 
     def test_strict(self):
         write_stream(self.named("side.tbc"), NTSC, words_of("1..4"))
-        for words, status, wanted in (("", 0, b"whole: yes"), ("--strict", 1, b"whole: no: no lead-in; no lead-out")):
+        for words, status, wanted in (
+                ("", 4, b"whole: can't tell: no lead-out: the disc may go on behind picture 4"),
+                ("--open-end", 0, b"whole: yes"), ("--strict", 1, b"whole: no: no lead-in; no lead-out"),
+                ("--strict --open-end", 1, b"whole: no: no lead-in")):
             found = self.run_command("side.tbc LEVELS --summary " + words)
             self.assertEqual((found[0], found[1].split(b"\n")[0]), (status, wanted))
 
@@ -94,24 +92,6 @@ class Metadata(Calls):
             "b": [{"first": 0, "last": 3, "count": 4}], "same": [{"first": 4, "last": 11, "count": 8}], "betterA": [],
             "betterB": [], "numbers": {"count": 16, "least": 0, "greatest": 15}, "missing": [], "leftOut": []})
         self.assertEqual(self.run_command("compare side.vbi.json")[0], 2)
-
-
-class Judged(Calls):
-    """The library's judge beside the package, of TBC files, where the library has one; not of documents."""
-
-    def test_a_misread_number(self):
-        write_stream(self.named("side.tbc"), NTSC, words_of("1..30 19=-/#79999/#79999"))  # picture 10
-        wanted = {"both": 29, "judgeAlone": 0, "packageAlone": 0, "differ": 0, "first": None}
-        for more in ("", " --no-recover"):
-            self.assertEqual(json.loads(self.printed("side.tbc LEVELS --json" + more))["judged"], wanted)
-        self.write("side.vbi.json", self.extracted("side.tbc"))
-        self.assertIsNone(json.loads(self.printed("side.vbi.json --json"))["judged"])
-
-    def test_a_library_without_a_judge(self):
-        write_stream(self.named("side.tbc"), NTSC, words_of("1..30"))
-        with mock.patch("ldvbi_side.side.judge", side_effect=OSError("too old")):
-            answer = side_of_tbc(self.named("side.tbc"), ldvbi.System.NTSC, 16384, 51200, recover=False).answer
-        self.assertEqual((answer["judged"], answer["whole"], answer["numbers"]["count"]), (None, "yes", 30))
 
 
 class Files(Calls):

@@ -11,8 +11,9 @@ from command_runs import IN_PLACE
 from scanned import ROWS, Scans
 from streams import TOP
 
-HEAD = ["side", "whole", "lost", "unread", "format", "from", "to", "fields", "why"]
-YES, NO = "side.tbc,yes,0,0,cav,1,30,60,", "side.tbc,no,2,0,cav,1,8,12,4 fields lost; 2 pictures lost"
+HEAD = ["side", "whole", "lost", "unread", "format", "from", "to", "last", "lead-in", "lead-out", "fields", "why"]
+YES, NO = "side.tbc,yes,0,0,cav,1,30,30,0,1,61,", "side.tbc,no,2,0,cav,1,8,8,0,1,13,4 fields lost; 2 pictures lost"
+MEMBERS = {"lead-in": "leadIn", "lead-out": "leadOut"}  # of the JSON, whose names are others
 
 
 class Tables(Scans, Calls):
@@ -42,7 +43,7 @@ class Tables(Scans, Calls):
             *wanted, begin = [cell.strip("-") for cell in ROWS[name]]
             with self.subTest(name):
                 self.assertEqual((found, why == ""), (wanted, begin == ""))
-                if name == "a/joined.tbc":  # where the losses come first that the joint looks like
+                if name == "a/joined.tbc":  # where the first lead-in is named before
                     self.assertIn(begin, why)
                 else:
                     self.assertTrue(why.startswith(begin), why)
@@ -50,10 +51,11 @@ class Tables(Scans, Calls):
 
     def check_json(self, known, rows):
         """These rows as JSON. The answer is the page of each side."""
-        self.assertEqual((known["version"], len(known)), (1, 2))
+        self.assertEqual((known["version"], len(known)), (2, 2))
         self.assertEqual([[
             one["side"], "fault" if one["whole"] is None else one["whole"],
-            *("" if one[column] is None else str(one[column]) for column in HEAD[2:-1]),
+            *("" if one[member] is None else str(one[member])
+              for member in (MEMBERS.get(column, column) for column in HEAD[2:-1])),
             "; ".join(one["reasons"]) if one["fault"] is None else one["fault"]] for one in known["sides"]], rows)
         self.assertIn(["4 fields lost", "2 pictures lost"], [one["reasons"] for one in known["sides"]])
         return {one["side"]: one["page"] for one in known["sides"]}
@@ -62,8 +64,9 @@ class Tables(Scans, Calls):
         """These rows in columns, of which those behind the first two are written to the right."""
         head, *lines = text.splitlines()
         self.assertEqual(
-            head, "side                whole         lost  unread   format        from          to   fields  why")
-        form = "%-18s  %-10s  %6s  %6s  %7s  %10s  %10s  %7s  "
+            head, "side                whole         lost  unread   format        from          to        last  lead-in"
+            "  lead-out   fields  why")
+        form = "%-18s  %-10s  %6s  %6s  %7s  %10s  %10s  %10s  %7s  %8s  %7s  "
         self.assertEqual(lines, [(form % tuple(cell or "-" for cell in cells) + why).rstrip()
                                  for *cells, why in rows])
 
@@ -103,7 +106,7 @@ class Statuses(Scans, Calls):
     def test_names_that_are_no_text(self):
         name = os.fsdecode(b"side \xff\n.tbc")
         self.add("d/" + name)
-        self.assertEqual(self.row("d"), '"d/%s",yes,0,0,cav,1,30,60,' % name)
+        self.assertEqual(self.row("d"), '"d/%s",yes,0,0,cav,1,30,30,0,1,61,' % name)
         self.assertEqual(self.scan("d")[1].split("\n")[1][:25], "d/side ??.tbc  yes       ")
 
 
@@ -122,13 +125,13 @@ class Pages(Scans, Calls):
         self.add("side.tbc")
         page = self.page()
         before = self.time_of("side.tbc")
-        self.add("side.tbc", "1..3 6..8")
+        self.add("side.tbc", "1..3 6..8 O")
         for name in ("side.tbc", "side.tbc.json"):
             os.utime(self.named(name), ns=(before, before))
         for words, wanted in (("", YES), ("--again", NO), ("", NO)):
             self.assertEqual(self.row("--html pages side.tbc " + words), wanted)
         self.assertIn("from 1 to 8", self.text(page))
-        self.assertIn('<a href="%s">side.tbc</a></td><td>no</td><td>12</td>' % os.path.basename(page),
+        self.assertIn('<a href="%s">side.tbc</a></td><td>no</td><td>13</td>' % os.path.basename(page),
                       self.text("pages/index.html"))
 
     def test_a_page_that_is_older(self):
@@ -143,6 +146,14 @@ class Pages(Scans, Calls):
                 os.utime(self.named(name), ns=(self.time_of(page), self.time_of(page)))
                 self.assertEqual(self.page(), page)
                 self.assertEqual(self.read(page), whole)
+
+    def test_an_open_end(self):
+        """A page that was written with --open-end says nothing to who asks without it, and the other way round."""
+        self.add("side.tbc", "1..30")
+        row = "side.tbc,%s,0,0,cav,1,30,30,0,0,60,%s"
+        unseen = row % ("can't tell", "no lead-out: the disc may go on behind picture 30")
+        for words, wanted in (("", unseen), ("--open-end", row % ("yes", "")), ("", unseen)):
+            self.assertEqual(self.row("--html pages side.tbc " + words), wanted)
 
     def test_a_file_that_grows_while_it_is_read(self):
         """Its page has the time at which it began to be read, before its metadata came."""
@@ -163,6 +174,6 @@ class Pages(Scans, Calls):
         self.add("side.tbc")
         page = self.page()
         whole = self.text(page)
-        self.write(page, whole.replace("&quot;counts&quot;", "&quot;other&quot;"))
+        self.write(page, whole.replace("&quot;openEnd&quot;", "&quot;other&quot;"))
         self.page()
         self.assertEqual(self.text(page), whole)

@@ -43,12 +43,12 @@ def until(found):
     raise AssertionError("it never came")
 
 
-def fails(path, page):
+def fails(path, page, may_end):
     """Reads no side: what it raises isn't what a file is to blame for."""
     raise KeyError("a fault of the program")
 
 
-def leaves(path, page):
+def leaves(path, page, may_end):
     """Ends its process."""
     os._exit(3)
 
@@ -58,9 +58,9 @@ class Failing(Scans):
         """What a scan that reads sides by one of these functions prints of a folder."""
         self.add("1.tbc")
         for sides, read, row in (
-                (sides_in, fails, self.named("1.tbc") + ",fault,,,,,,,KeyError: 'a fault of the program'"),
-                (sides_in, leaves, self.named("1.tbc") + ",fault,,,,,,,its process ended with status 3"),
-                (lambda _: [Found("d", "Permission denied")], fails, "d,fault,,,,,,,Permission denied")):
+                (sides_in, fails, self.named("1.tbc") + ",fault,,,,,,,,,,KeyError: 'a fault of the program'"),
+                (sides_in, leaves, self.named("1.tbc") + ",fault,,,,,,,,,,its process ended with status 3"),
+                (lambda _: [Found("d", "Permission denied")], fails, "d,fault,,,,,,,,,,Permission denied")):
             with mock.patch("ldvbi_side.command.scan.sides_in", sides), \
                     contextlib.redirect_stdout(io.StringIO()) as printed:
                 self.assertEqual(scan(["--csv", self.folder], read), 2)
@@ -92,11 +92,11 @@ class Ends(Scans):
             self.add(name)
         self.add_waiting("2.tbc")
         process, lines = self.scanning("--csv -j 1 --html pages .", 2)
-        self.assertEqual(lines, ["side,whole,lost,unread,format,from,to,fields,why\n",
-                                 "./1.tbc,yes,0,0,cav,1,30,60,\n"])
+        self.assertEqual(lines, ["side,whole,lost,unread,format,from,to,last,lead-in,lead-out,fields,why\n",
+                                 "./1.tbc,yes,0,0,cav,1,30,30,0,1,61,\n"])
         os.kill(until(lambda: children(process.pid))[0], signal.SIGKILL)
-        self.ended(process, 2, b"./2.tbc,fault,,,,,,,its process was ended by SIGKILL\n"
-                               b"./3.tbc,yes,0,0,cav,1,30,60,\n")
+        self.ended(process, 2, b"./2.tbc,fault,,,,,,,,,,its process was ended by SIGKILL\n"
+                               b"./3.tbc,yes,0,0,cav,1,30,30,0,1,61,\n")
         self.assertEqual(len(os.listdir(self.named("pages"))), 3)
 
     def test_while_sides_are_read(self):
@@ -129,7 +129,7 @@ class Ends(Scans):
                 (lambda one: os.killpg(one, signal.SIGHUP), 129, b""),
                 (lambda one: os.kill(one, signal.SIGTERM), 143, b""),
                 (lambda one: os.kill(children(one)[0], signal.SIGKILL), 2,
-                 b"1.tbc,fault,,,,,,,its process was ended by SIGKILL\n")):
+                 b"1.tbc,fault,,,,,,,,,,its process was ended by SIGKILL\n")):
             with self.subTest(status):
                 process, _ = self.scanning("--csv --html pages 1.tbc", 1, start_new_session=True)
                 until(lambda: os.path.exists(self.named("pages")) and os.listdir(self.named("pages")))

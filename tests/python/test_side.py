@@ -243,25 +243,14 @@ class Summaries(unittest.TestCase):
                 line = lines_of(one)[6]
                 self.assertEqual((text in line, "black and white may be" in line), (is_other, not is_other), line)
 
-    def test_beside_the_judge_of_the_library(self):
-        known = made("1..30")
-        begin = "judged by the library, too: "
-        self.assertEqual([line for line in summary(known, lambda *line: "dd") if line.startswith(begin)], [])
-        for counts, text in (((29, 0, 1, 0, None), "29 fields alike, 0 believed by it alone, 1 here alone, 0 differ"),
-                             ((1, 2, 3, 4, {"field": 5, "judge": 6, "package": 7}),
-                              "1 field alike, 2 believed by it alone, 3 here alone, 4 differ (field 5: 6 and 7)")):
-            known["judged"] = dict(zip(("both", "judgeAlone", "packageAlone", "differ", "first"), counts))
-            self.assertIn(begin + text, list(summary(known, lambda *line: "dd")))
-
-    def test_at_most_26_lines(self):
+    def test_at_most_25_lines(self):
         # a second row of numbers on line 17
         known = made("NTSC t0..8999!400%1001 -101:110 1:17972/2.17=@2:20")
         self.assertTrue(known["secondRows"] and known["leftOut"])
         known.update(levels={"shows": "bad", "words": 1, "bad": 9, "blank": 1, "field": 1, "line": 17, "tried": None},
-                     judged={"both": 9, "judgeAlone": 0, "packageAlone": 0, "differ": 0, "first": None},
                      swapped=[{"field": 1, "number": "2:20:00.00"}])
         lines = list(summary(known, lambda *line: "dd"))
-        self.assertEqual((len(lines), MOST_LINES), (26, 26))
+        self.assertEqual((len(lines), MOST_LINES), (25, 25))
         self.assertTrue([line for line in lines if line.startswith("a second row of numbers, not taken: 2:20:")])
 
 

@@ -55,14 +55,17 @@ class Bounds(Sides):
 
     def test_lost_fields_and_jumps_back(self):
         self.within(self.all, """
-            lost places: 330; lost places - lost places found: 0; backs: 189; backs - backs found: 0; lost: 301..;
+            lost places: 330; backs: 189; backs - backs found: 0; lost: 231..;
             lost - lost found: 0""")
+        # single fields of a disc with a number on both fields of its pictures, or of film, are no gap
+        self.within(self.all - self.totals["cav-both"] - self.totals["cav-film"],
+                    "lost places: 201..; lost places - lost places found: 0")
 
     def test_lists_that_are_exact(self):
-        """And it is seldom left open whether a side is whole."""
+        """And it is seldom left open whether a side is whole, but of few minutes alone."""
         self.within(self.all, """
             stops: 42..; missing: 41..; left out: 42..; first fields: 41..; chapter table: 42..; whole: 42..;
-            reasons: 42..; judged otherwise: 0; said yes: 6..; said can't tell: ..1""")
+            reasons: 41..; said yes: 2..; said can't tell: ..5""")
         self.assertEqual(sum(self.all["said " + word] for word in ("yes", "no", "can't tell")), 42)
 
 
@@ -72,7 +75,7 @@ class Played(Sides):
 
     # the pictures of a side, and how many of three at least have exact missing numbers, exact first fields, and just
     # the reasons why they aren't whole
-    EXACT = {"skips": (None, 2, 2, 3), "worn": (300, 3, 3, 3), "swapped": (200, 3, 3, 2), "speeds": (1100, 3, 3, 2),
+    EXACT = {"skips": (None, 2, 2, 0), "worn": (300, 3, 3, 3), "swapped": (200, 3, 3, 2), "speeds": (1100, 3, 3, 2),
              "joined": (150, 3, 3, 3), "losses": (600, 1, 1, 3), "restarts": (150, 3, 3, 3)}
     # The truth of two discs whose numbers are far apart takes long.
     SEEDS = {"joined": (0, 2, 3), "sides": (0, 3, 5)}
@@ -97,9 +100,11 @@ class Played(Sides):
         self.within(self.all, """
             wrong: 71; wrong found: 71; right: 23001..; right found: ..10; numbers: 13701..;
             numbers - numbers found: ..1; due: 801..; due - due found: ..1; unread numbers: 781..;
-            unread numbers - unread numbers found: ..1; lost places: 96; lost places - lost places found: 0;
-            backs: 27; backs - backs found: 0; swaps: 4; swaps found: 3..; speeds: 3; speeds found: 3""")
-        for kind in ("skips", "losses", "worn", "restarts"):
+            unread numbers - unread numbers found: ..1; lost places: 96; backs: 27; backs - backs found: ..2;
+            swaps: 4; swaps found: 3..; speeds: 3; speeds found: 3""")
+        # where few times have their minute, the library believes few of them
+        self.within(self.all - self.totals["skips"], "lost places: 81..; lost places - lost places found: 0")
+        for kind in ("losses", "worn", "restarts"):
             counts = self.totals[kind]
             self.assertGreaterEqual(counts["lost found"] + counts["lost and hidden"], counts["lost"] - 1, self.told)
 
@@ -107,7 +112,7 @@ class Played(Sides):
 class ByHand(Played):
     """Sides of a player at hand, and minutes alone: three of each kind."""
 
-    EXACT = {"loops": (300, 0, 3, 3), "turned": (300, 0, 3, 2), "searched": (500, 0, 2, 0), "sides": (200, 0, 3, 3),
+    EXACT = {"loops": (300, 0, 3, 2), "turned": (300, 0, 3, 2), "searched": (500, 0, 2, 0), "sides": (200, 0, 3, 3),
              "minutes": (None, 0, 3, 3)}
 
     def test_counts(self):
@@ -120,7 +125,8 @@ class ByHand(Played):
         for name in ("loops", "turned"):
             counts = self.totals[name]
             self.assertGreater(counts["backs"], 10)
-            self.assertGreaterEqual(20 * counts["backs found"], 19 * counts["backs"], self.told)
+            self.assertGreaterEqual(10 * counts["backs found"], 9 * counts["backs"], self.told)
         for name in ("sides", "minutes"):
-            self.within(self.totals[name], "lost - lost found: 0; lost places - lost places found: 0")
+            self.within(self.totals[name], "lost - lost found: 0")
+        self.within(self.totals["minutes"], "lost places - lost places found: 0")
         self.within(self.totals["minutes"], "lost places: 1..")

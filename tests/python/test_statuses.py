@@ -22,13 +22,14 @@ OPTIONS = {"": (0, 1, 4, 1), "--summary": (0, 1, 4, 1), "--seek 12": (0, 1, 1, 0
 COMMANDS = {"scan": (0, 1, 4, 1), "join whole.tbc": (0, 0, 2, 3), "compare whole.tbc": (0, 0, 2, 3)}
 PRINTED = ("index", "--help", "--version")
 # What goes with options, and has no status of its own
-WITH_OTHERS = {"--meta", "--system", "--black", "--white", "--no-recover", "--recovered", "--strict", "--output"}
+WITH_OTHERS = {"--meta", "--system", "--black", "--white", "--no-recover", "--recovered", "--strict", "--open-end",
+               "--output"}
 
 
 class Statuses(Scans, Calls):
     def setUp(self):
         super().setUp()
-        for name, fields, rest in zip(SIDES, ("1..30", "1..11 14..30", "Bx60", "1..30"), (0, 0, 0, 12345)):
+        for name, fields, rest in zip(SIDES, ("1..30 O", "1..11 14..30 O", "Bx60", "1..30 O"), (0, 0, 0, 12345)):
             self.add(name, fields, rest)
             # --into copies as many fields as there are
             self.metadata(name + ".json", count=os.stat(self.named(name)).st_size // ldvbi.field_bytes("NTSC"))

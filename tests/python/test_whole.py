@@ -2,9 +2,12 @@
 
 import unittest
 
-from compact import check, made, said_of
-from discs import plain
-from ldvbi_side.judge.answer import analyse
+import ldvbi
+from compact import check, made
+from discs import side
+from ldvbi import Reason
+from ldvbi_side.judge.gaps import Gaps
+from ldvbi_side.judge.paces import Unit
 from ldvbi_side.judge.whole import counted_by, reasons_of
 
 
@@ -14,9 +17,9 @@ class Whole(unittest.TestCase):
         check(self, """
     second fields lost | 1..30 -46 -26 -12 | said no: 3 fields lost
     pictures lost | 1..30 -41:44 | said no: 4 fields lost; 2 pictures lost
-    joined | Lx4 1..30 Ox4 Lx4 1..30 Ox4 | said no: 1 jump (back); lead-in again in field 69 (two sides joined)
+    joined | Lx4 1..30 Ox4 Lx4 1..30 Ox4 | said no: lead-in again in field 69 (two sides joined)
     without lead-in | Lx4 1..30 Ox4 1..30
-        | said no: 1 jump (back); lead-out in field 65, and numbers behind it (two sides joined)
+        | said no: lead-out in field 65, and numbers behind it (two sides joined)
     CLV behind CAV | Lx4 1..30 Ox4 t0..9 | said no: codes of CLV in 20 fields, from field 69 on
     jumps of both kinds | 1..30 Bx6 31..60 41..80 | said no: 2 jumps (1 back, 1 with fields too many)
     of one | 1..30 Bx6 31..60 | said no: 1 jump (with fields too many)
@@ -38,7 +41,7 @@ class Whole(unittest.TestCase):
         check(self, """
     CAV | Lx4 1..30 Ox4 | said yes
     from 0 on | 0..30 | said yes
-    a picture | 1 | said yes
+    three pictures | 1..3 | said yes
     CLV, whose first number may be left out | t1..39 | said yes
     numbers that weren't read | 1..30 5=? 21:25/2=? 51=? | said yes
     a chapter set aside | 1..5 6=-/c7/c7 | said yes
@@ -52,34 +55,35 @@ class Whole(unittest.TestCase):
     and losses | 1..30 5=? 21:25/2=? 51=? -41:44
         | said no: 4 fields lost; 2 pictures lost; 5 pictures unread; no lead-in; no lead-out
     first ones that weren't | Lx9 ?x6 4..30 O | said no: begins at 4, ends at 30
-    """, is_strict=True)
+    """, is_strict=True, may_end=False)
 
     def test_ends(self):
         """Pictures 1 to 3 need six fields before picture 4. Time 0:00:00.04 is the fourth after 0:00:00.01, the last
-        one that may be the first. Of pictures 1 and 2 of film one has three fields. The clock of NTSC leaves out two
+        one that may be the first. Of pictures 1 and 2 of film one has three fields; a field of film may be
+        another picture's. The clock of NTSC leaves out two
         numbers a minute at most, so of three times before the first one one is sure to have its fields. Before picture
         1 there is nothing to read, and the last picture has one field behind its number."""
         check(self, """
     pictures | 2401..2440 | said no: begins at 2401, ends at 2440
     times | t3000..3039 | said no: begins at 0:02:00.00, ends at 0:02:01.14
-    minutes | m9x3000 m10x3000 | said no: begins at 0:09, ends at 0:10
+    minutes | m9x3000 m10x3000 m11 | said no: begins at 0:09, ends at 0:11
     6 fields behind lead-in | Lx9 ?x6 4..30 | said yes
     5 fields behind lead-in | Lx9 ?x5 4..30 | said no: begins at 4, ends at 30
     6 fields | ?x6 4..30 | said yes
     5 fields | ?x5 4..30 | said no: begins at 4, ends at 30
     6 before times | ?x6 t4..39 | said yes
     5 before times | ?x5 t4..39 | said no: begins at 0:00:00.04, ends at 0:00:01.14
-    5 before film | NTSC ?x5 f3..39 | said yes
-    4 before film | NTSC ?x4 f3..39 | said no: begins at 3, ends at 39
+    4 before film | NTSC ?x4 f3..39 | said yes
+    3 before film | NTSC ?x3 f3..39 | said no: begins at 3, ends at 39
     6 of a clock | NTSC ?x6 t4..39 | said yes
     5 of a clock | NTSC ?x5 t4..39 | said can't tell: no number in fields 1 to 5
     2 of a clock | NTSC ?x2 t4..39 | said can't tell: no number in fields 1 to 2
     1 of a clock | NTSC ? t4..39 | said no: begins at 0:00:00.04, ends at 0:00:01.09
-    a minute of a clock | NTSC ?x3592 m1x3600 m2x3600 | said can't tell: no number in fields 1 to 3592
-    a field less | NTSC ?x3591 m1x3600 m2x3600 | said no: begins at 0:01, ends at 0:02
-    a minute | ?x3000 m1x3000 m2x3000 | said can't tell: no number in fields 1 to 3000
-    one less | ?x2999 m1x3000 m2x3000 | said no: begins at 0:01, ends at 0:02
-    back to the least number | ?x40 11..30 5..40 | said no: 1 jump (back); begins at 5, ends at 40
+    a minute of a clock | NTSC ?x3592 m1x3600 m2x3600 m3 | said can't tell: no number in fields 1 to 3592
+    a field less | NTSC ?x3591 m1x3600 m2x3600 m3 | said no: begins at 0:01, ends at 0:03
+    a minute | ?x3000 m1x3000 m2x3000 m3 | said can't tell: no number in fields 1 to 3000
+    one less | ?x2999 m1x3000 m2x3000 m3 | said no: begins at 0:01, ends at 0:03
+    back to the least number | ?x40 11..30 5..40 | said no: 1 jump (back)
     as many as a scratch has | ?x100 21..40 | said yes
     one more | ?x101 21..40 | said can't tell: no number in fields 1 to 101
     behind lead-in | Lx9 ?x101 21..40 | said can't tell: no number in fields 10 to 110
@@ -96,7 +100,13 @@ class Whole(unittest.TestCase):
         check(self, """
     nothing |  | said can't tell: no picture number and no time
     no number | L B | said can't tell: no picture number and no time
-    left out, or lost | NTSC t0..1 t3..4 | said can't tell: 1 time undecided | lost 3-5 2 undecided
+    left out, or lost | NTSC t0..20 t22..40
+        | said can't tell: 2 fields may be lost after field 41, or the disc's clock left out a number
+        | lost 41-43 2 undecided
+    twice | NTSC t0..20 t22..40 t42..60
+        | said can't tell: 2 fields may be lost after field 41 and in 1 more place, or the disc's clock left out a
+        number
+    two numbers | 1..2 | said can't tell: too few numbers to judge by
     film that may be swapped | NTSC e1..40 ~48 | said can't tell: fields 48 and 49 may be swapped
     twice | NTSC e1..80 ~48 ~148 | said can't tell: 2 pairs of fields may be swapped
     film that is cut once | NTSC e1..20 f21..40 | said yes
@@ -107,35 +117,8 @@ class Whole(unittest.TestCase):
     one of ten | 1..9 -/F70000/- | said can't tell: numbers set aside in 1 of 10 fields
     all, on one line | 1..30 1:60/2.17=#40000 | said ..numbers set aside in 30 of 30 fields
     """)
-        known = made("NTSC t0..1 t3..4")
+        known = made("NTSC t0..20 t22..40")
         self.assertEqual([counted_by(known, why) for why in ("undecided", "lost")], [1, 0])
-
-
-class Judged(unittest.TestCase):
-    """The library's judge, in whose place a function stands here. It isn't asked of minutes, nor where there are no
-    numbers."""
-
-    # Sides, what the judge answers, and how many fields both have, either alone has, and in how many they differ, and
-    # the first of these; what is asked for, and what is said
-    ROWS = (
-        ("1..10", {1: 1, 3: 2, 5: 4, 9: 5, 11: 7, 2: 9}, (3, 1, 5, 2, {"field": 5, "judge": 4, "package": 3}),
-         ("pictures", "video"), "can't tell: the library's judge has another number in 2 fields"),
-        ("1..10", {1: 1, 2: 9}, (1, 1, 9, 0, None), ("pictures", "video"), "yes"),
-        ("NTSC t0..8", {1: 0, 3: 31}, (1, 0, 7, 1, {"field": 3, "judge": "0:00:01.01", "package": "0:00:00.01"}),
-         ("times", "video"), "can't tell: the library's judge has another number in 1 field"),
-        ("NTSC f1..39", {}, (0, 0, 39, 0, None), ("pictures", "film"), "yes"),
-        ("b1..8", {1: 1, 2: 1}, (2, 0, 14, 0, None), ("pictures", "video"), "yes"),
-        ("m9x9", {}, None, None, "no: begins at 0:09, ends at 0:09"),
-        ("B", {}, None, None, "can't tell: no picture number and no time"))
-
-    def test_rows(self):
-        for side, theirs, counts, asked, said in self.ROWS:
-            calls = []
-            known = analyse(made(side, plain)._replace(judge=lambda *words: calls.append(words) or theirs))
-            self.assertEqual(known["judged"], counts and dict(zip(
-                ("both", "judgeAlone", "packageAlone", "differ", "first"), counts)), side)
-            self.assertEqual((calls, said_of(known)), ([asked] if asked else [], said), side)
-        self.assertIsNone(made("1..30")["judged"])
 
 
 class Order(unittest.TestCase):
@@ -148,15 +131,26 @@ class Order(unittest.TestCase):
             speeds=[{"first": 9, "last": 49}], leadIn=[{"first": 40, "last": 40}],
             missing=[dict(place, count=1, why=why) for why in ("undecided", "unread", "lost")],
             stray=[{"field": field, "why": "format"} for field in (9, 10)], metadataFields=999, fields=500,
-            cutField={"seqNo": 501}, judged={"differ": 1},
+            cutField={"seqNo": 501},
             doubtful=[{"field": field, "kind": "picture"} for field in range(9, 50, 3)])
         known["numbers"]["least"] = 11
         known["lines"]["18"].update(pass1=0, pass2=0)
-        reasons = reasons_of(known, True)
+        judged = ldvbi.judge_side(made("5..30", side).readings, "PAL")
+        gaps = Gaps(judged._replace(reasons=judged.reasons | Reason.no_numbers), [], more=4,
+                    open=[{"kind": "lost", "after": 30, "before": 32, "fields": 2}], joins=[{"after": 9}])
+        unit = Unit("picture", 30)
+        reasons = reasons_of(known, gaps, unit, True)
         no = ["lost", "jumps", "speed", "missing", "swapped", "begins", "unread", "lead-out", "joined", "format",
               "metadata", "cut"]
         self.assertEqual([one["why"] for one in reasons if one["whole"] == "no"], no)
         self.assertEqual([one["why"] for one in reasons][len(no):],
-                         ["undecided", "ends", "order", "judged", "line", "doubtful"])
+                         ["numbers", "open", "off", "undecided", "ends", "order", "line", "doubtful"])
         known["leadIn"] = []
-        self.assertEqual([one["why"] for one in reasons_of(known, True)][7:9], ["lead-in", "lead-out"])
+        reasons = reasons_of(known, gaps, unit, True)
+        self.assertEqual([one["why"] for one in reasons][7:9], ["lead-in", "lead-out"])
+        self.assertIn("another side begins after field 9", [one["text"] for one in reasons])
+        reasons = reasons_of(known, gaps._replace(judged=judged), unit)
+        self.assertEqual([one["why"] for one in reasons if one["whole"] != "no"],
+                         ["open", "off", "undecided", "ends", "lead-out", "order", "line", "doubtful"])
+        self.assertIn("a field may be lost or too many in fields 1 to 51", [
+            one["text"] for one in reasons_of(known, gaps._replace(more=0), unit)])

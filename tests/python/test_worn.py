@@ -96,8 +96,7 @@ class Documents(Calls):
         self.assertIn(',"vbiCause":["blank","change ', found[1])
         self.printed("side.tbc LEVELS --document --recovered --svg side.svg -o again.json")
         known = json.loads(self.printed("side.tbc LEVELS --json"))
-        # a document is not judged by the library
-        self.assertEqual(json.loads(self.printed("again.json --json")), dict(known, judged=None))
+        self.assertEqual(json.loads(self.printed("again.json --json")), known)
 
     def test_as_the_program_writes_it(self):
         """With the metadata beside the file or without, where that has no dropouts."""
