@@ -479,8 +479,8 @@ typedef struct LdvbiTally { /* a count that is too large is the greatest one tha
 enum LdvbiBoth { /* of video, whether the disc has its numbers on both fields of a picture */
     LDVBI_ON_ONE = 0,
     LDVBI_ON_BOTH = 1,
-    LDVBI_FIND_BOTH = 3 /* it has if a quarter or more of those that are believed stand an odd count of fields after
-                           the one before */
+    LDVBI_FIND_BOTH = 3 /* it has if a quarter or more of the believed numbers that follow another one stand an odd
+                           count of fields after it */
 };
 
 enum LdvbiVerdict { LDVBI_CANNOT_TELL = 0, LDVBI_WHOLE = 1, LDVBI_NOT_WHOLE = 2 };

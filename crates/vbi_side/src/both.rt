@@ -1,76 +1,123 @@
 //! Whether a disc has its numbers on both fields of a picture.
 
-ghost use Rattle.std.specs.Prelude.{◌≡◌, ◌+◌, ◌<◌, ◌≤◌, ◌^◌, length, slice_get, IfSome};
-ghost use Rattle.vbi_side.specs.Both.{is_known, last_known, is_odd_step, odd_steps, is_on_both};
+ghost use Rattle.std.specs.Prelude.{◌≡◌, suc, ◌+◌, ◌<◌, ◌≤◌, ◌^◌, ◌&&◌, if◌then◌else◌, length, Some, IfSome};
+ghost use Rattle.vbi_side.specs.Both.{place_or, last_known, is_turn, is_odd, turns, odd_turns, is_on_both};
 
-use crate::number::{BELIEVED, Number};
-use crate::verdict::count_of;
+use crate::gap::Place;
+use crate::number::Number;
 
-/// Whether a field stands an odd count of fields behind another one, if there is one.
-fn is_odd_step(last: Option<usize>, field: usize) -> bool
-    requires far { field < 2 ^ 60 }
-    requires before { IfSome last (λ one. one < field) }
-    ensures { result ≡ is_odd_step last field }
+/// The field with its number, if that is believed, else another place.
+fn place_or(other: Option<Place>, field: usize, answer: Number) -> Option<Place>
+    requires { IfSome other (λ place. place.field < field) }
+    ensures value { result ≡ place_or other field (Some answer) }
+    ensures earlier { IfSome result (λ place. place.field < field + 1) }
+{
+    if answer.is_believed() {
+        Some(Place {
+            field,
+            number: answer.number,
+        })
+    } else {
+        other
+    }
+}
+
+/// Whether the number is believed, and another than the one before.
+fn is_turn(last: Option<Place>, answer: Number) -> bool
+    ensures { result ≡ is_turn last (Some answer) }
 {
     match last {
-        Some(one) => (one + field) % 2 == 1,
+        Some(place) => answer.is_believed() && answer.number != place.number,
         None => false,
     }
 }
 
-/// The last field before the next one of which a number is believed.
-fn last_with(numbers: &[Number], field: usize, last: Option<usize>) -> Option<usize>
-    requires inside { field < length numbers.now }
-    requires last { last ≡ last_known numbers.now field }
-    requires before { IfSome last (λ one. one < field) }
-    ensures last { result ≡ last_known numbers.now (field + 1) }
-    ensures before { IfSome result (λ one. one < field + 1) }
+/// Whether the field stands an odd count of fields behind the last one with a number, if there is one.
+fn is_odd(last: Option<Place>, field: usize) -> bool
+    requires far { field < 2 ^ 60 }
+    requires before { IfSome last (λ place. place.field < field) }
+    ensures { result ≡ is_odd last field }
 {
-    if numbers[field].is_believed() {
-        Some(field)
-    } else {
-        last
+    match last {
+        Some(place) => (place.field + field) % 2 == 1,
+        None => false,
     }
 }
 
-/// How many of the believed numbers before the next field stand an odd count of fields behind the one before them.
-fn odd_with(numbers: &[Number], field: usize, last: Option<usize>, odd: usize) -> usize
-    requires inside { field < length numbers.now }
-    requires last { last ≡ last_known numbers.now field }
-    requires before { IfSome last (λ one. one < field) }
-    requires odd { odd ≡ odd_steps numbers.now field }
-    requires few { odd ≤ field }
-    ensures odd { result ≡ odd_steps numbers.now (field + 1) }
-    ensures few { result ≤ field + 1 }
+/// Whether the number is believed, and another than the one before, an odd count of fields behind it.
+fn is_odd_turn(last: Option<Place>, field: usize, answer: Number) -> bool
+    requires far { field < 2 ^ 60 }
+    requires before { IfSome last (λ place. place.field < field) }
+    ensures { result ≡ is_turn last (Some answer) && is_odd last field }
 {
-    if !numbers[field].is_believed() {
-        return odd;
-    }
-    if is_odd_step(last, field) {
-        odd + 1
-    } else {
-        odd
+    is_turn(last, answer) && is_odd(last, field)
+}
+
+/// A count, and one more if that holds.
+fn counted(count: usize, holds: bool) -> usize
+    requires { count < 2 ^ 60 }
+    ensures value { result ≡ if holds then suc count else count }
+    ensures few { result ≤ count + 1 }
+{
+    if holds { count + 1 } else { count }
+}
+
+/// How the numbers before the next field follow each other.
+#[derive(Clone, Copy)]
+struct Steps {
+    /// The last one that is believed.
+    last: Option<Place>,
+    /// How many are others than the one before them.
+    all: usize,
+    /// How many of these stand an odd count of fields behind it.
+    odd: usize,
+}
+
+/// The same with one field more.
+fn with_field(numbers: &[Number], field: usize, before: Steps) -> Steps
+    requires inside { field < length numbers.now }
+    requires last { before.last ≡ last_known numbers.now field }
+    requires earlier { IfSome before.last (λ place. place.field < field) }
+    requires all { before.all ≡ turns numbers.now field }
+    requires odd { before.odd ≡ odd_turns numbers.now field }
+    requires few { before.all ≤ field }
+    requires fewer { before.odd ≤ field }
+    ensures last { result.last ≡ last_known numbers.now (field + 1) }
+    ensures earlier { IfSome result.last (λ place. place.field < field + 1) }
+    ensures all { result.all ≡ turns numbers.now (field + 1) }
+    ensures odd { result.odd ≡ odd_turns numbers.now (field + 1) }
+    ensures few { result.all ≤ field + 1 }
+    ensures fewer { result.odd ≤ field + 1 }
+{
+    let answer = numbers[field];
+    Steps {
+        last: place_or(before.last, field, answer),
+        all: counted(before.all, is_turn(before.last, answer)),
+        odd: counted(before.odd, is_odd_turn(before.last, field, answer)),
     }
 }
 
-/// How many believed numbers stand an odd count of fields behind the one before them.
-fn odd_steps(numbers: &[Number]) -> usize
-    ensures { result ≡ odd_steps numbers.now (length numbers.now) }
+/// How all numbers follow each other.
+fn turns(numbers: &[Number]) -> Steps
+    ensures all { result.all ≡ turns numbers.now (length numbers.now) }
+    ensures odd { result.odd ≡ odd_turns numbers.now (length numbers.now) }
 {
-    let mut last: Option<usize> = None;
-    let mut odd = 0;
+    let mut found = Steps {
+        last: None,
+        all: 0,
+        odd: 0,
+    };
     for field in 0..numbers.len() {
-        odd = odd_with(numbers, field, last, odd);
-        last = last_with(numbers, field, last);
+        found = with_field(numbers, field, found);
     }
-    odd
+    found
 }
 
-/// Whether numbers stand on both fields of a picture: a quarter of the believed ones or more stand an odd count of
-/// fields behind the one before.
+/// Whether numbers stand on both fields of a picture: a quarter or more of those that follow another one stand an odd
+/// count of fields behind it.
 pub fn is_on_both(numbers: &[Number]) -> bool
     ensures { result ≡ is_on_both numbers.now }
 {
-    let odd = odd_steps(numbers);
-    odd > 0 && count_of(numbers, BELIEVED) as u128 <= 4 * odd as u128
+    let found = turns(numbers);
+    found.odd > 0 && found.all as u128 <= 4 * found.odd as u128
 }

@@ -191,17 +191,20 @@ pub fn worked_verdicts()
         (5 ∷ 4 ∷ []) ≡ false ∷ true ∷ [] }
     ensures beside_next { map (λ n. is_stray (nothing ∷ believed 5 ∷ nothing ∷ believed n ∷ []) 1 5 2
         (Some (field_of 0 0 6 2))) (6 ∷ 7 ∷ []) ≡ false ∷ true ∷ [] }
-    ensures ends { map (λ outs. map (end_by outs) (0 ∷ 1 ∷ 2 ∷ [])) (0 ∷ 1 ∷ 2 ∷ []) ≡ (0 ∷ 2 ∷ 3 ∷ []) ∷ (2 ∷ 2 ∷ 3 ∷ [])
-        ∷ (1 ∷ 1 ∷ 1 ∷ []) ∷ [] }
-    ensures unseen { map (λ ends. is_end_unseen false ends 0) ((1 ∷ 0 ∷ []) ∷ (0 ∷ 1 ∷ []) ∷ (0 ∷ 3 ∷ []) ∷ (0 ∷ 2 ∷ []) ∷ [])
-        ≡ true ∷ false ∷ true ∷ true ∷ [] }
+    ensures ends { map (λ outs. map (end_by outs) (0 ∷ 1 ∷ 2 ∷ [])) (0 ∷ 1 ∷ 2 ∷ [])
+        ≡ (0 ∷ 2 ∷ 3 ∷ []) ∷ (2 ∷ 2 ∷ 3 ∷ []) ∷ (1 ∷ 1 ∷ 1 ∷ []) ∷ [] }
+    ensures unseen { map (λ ends. is_end_unseen false ends 0)
+        ((1 ∷ 0 ∷ []) ∷ (0 ∷ 1 ∷ []) ∷ (0 ∷ 3 ∷ []) ∷ (0 ∷ 2 ∷ []) ∷ []) ≡ true ∷ false ∷ true ∷ true ∷ [] }
     ensures both { map is_on_both ((believed 1 ∷ believed 1 ∷ believed 2 ∷ nothing ∷ []) ∷
         (believed 1 ∷ nothing ∷ believed 2 ∷ [])
         ∷ (believed 1 ∷ nothing ∷ nothing ∷ believed 2 ∷ []) ∷ (doubtful 1 ∷ doubtful 1 ∷ []) ∷ [])
         ≡ true ∷ false ∷ true ∷ false ∷ [] }
-    ensures few { map is_on_both ((believed 1 ∷ believed 1 ∷ nothing ∷ believed 2 ∷ nothing ∷ believed 3 ∷ [])
-        ∷ (believed 1 ∷ believed 1 ∷ nothing ∷ believed 2 ∷ nothing ∷ believed 3 ∷ nothing ∷ believed 4 ∷ []) ∷ [])
-        ≡ true ∷ false ∷ [] }
+    ensures few { map is_on_both
+        ((believed 1 ∷ nothing ∷ believed 2 ∷ nothing ∷ believed 3 ∷ nothing ∷ believed 4 ∷ believed 5 ∷ [])
+        ∷ (believed 1 ∷ nothing ∷ believed 2 ∷ nothing ∷ believed 3 ∷ nothing ∷ believed 4 ∷ nothing ∷ believed 5
+        ∷ believed 6 ∷ []) ∷ []) ≡ true ∷ false ∷ [] }
+    ensures frozen { map is_on_both ((believed 1 ∷ believed 1 ∷ believed 1 ∷ nothing ∷ believed 2 ∷ [])
+        ∷ (believed 1 ∷ believed 1 ∷ believed 1 ∷ believed 2 ∷ []) ∷ []) ≡ false ∷ true ∷ [] }
     ensures verdicts { map verdict_of (0 ∷ 1 ∷ 32 ∷ 64 ∷ 128 ∷ 256 ∷ 257 ∷ 1024 ∷ 2048 ∷ 4032 ∷ []) ≡ yes ∷ no ∷ no
         ∷ cannot_tell ∷ cannot_tell ∷ cannot_tell ∷ no ∷ cannot_tell ∷ cannot_tell ∷ cannot_tell ∷ [] }
     ensures late { map (λ fields. too_few Video fields 5) (7 ∷ 8 ∷ []) ≡ true ∷ false ∷ [] }
