@@ -47,8 +47,8 @@ class Pace(enum.IntEnum):
 
 
 class Both(enum.IntEnum):
-    """Whether a disc has its numbers on one field of each picture or on both. `find` takes them to be on both if half
-    of the believed numbers are of pairs of fields."""
+    """Whether a disc of video has its numbers on one field of each picture or on both. `find` takes them to be on both
+    if a quarter or more of the believed numbers that follow another one stand an odd count of fields after it."""
     on_one = 0
     on_both = 1
     find = 3

@@ -121,7 +121,8 @@ def judge_side(readings: Any, system: AnySystem, counted: Union[Counted, str] = 
                            for size in (SIGHTINGS_BYTES, PACKED_NUMBER.size, PACKED_STATE.size))
     check(judge(*asked, found, packed, count, seen, count, numbers, count))
     check(judge_ends(packed, count, ends, count))
-    on_both = bool(find_both(numbers, count)) if both == Both.find else both == Both.on_both
+    # of film the library doesn't ask
+    on_both = found == Pace.video and bool(find_both(numbers, count) if both == Both.find else both)
     side, room, is_told = ctypes.create_string_buffer(_PACKED_SIDE.size), _ROOM, False
     while not is_told:
         gaps = ctypes.create_string_buffer(_PACKED_GAP.size * room)
