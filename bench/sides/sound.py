@@ -41,6 +41,7 @@ class Sound:
         self._look_at_whole()
         self._look_at_places()
         if self.unit in OTHERS:
+            self._look_at_judged()
             self._look_at_unread()
             self._look_at_doubtful()
             self._look_at_lost()
@@ -105,6 +106,14 @@ class Sound:
             return self.unit == "time" and number is not None and (
                 value == divmod(number % self.minute, self.minute // 60))
         return number is not None and value == number
+
+    def _look_at_judged(self):
+        """What the library believes of a field is believed."""
+        counted = ldvbi.Counted.times if self.unit == "time" else ldvbi.Counted.pictures
+        pace = ldvbi.Pace.film if self.answer["pace"] == "film" else ldvbi.Pace.video
+        for field, (number, state) in enumerate(ldvbi.judge(self.fields.packed, self.fields.system, counted, pace), 1):
+            if state == ldvbi.State.believed and self.believed.get(field) != number:
+                self.faults.append("field %d: the library believes another number" % field)
 
     def _look_at_conflicts(self):
         """Each field whose lines 17 and 18 have two numbers is named as that, with the one that is believed."""

@@ -88,8 +88,7 @@ def _number_lines(answer):
     if answer["leftOut"]:
         yield "%s: %d" % (SKIPPED, sum(one["count"] for one in answer["leftOut"]))
     lost = answer["lost"]
-    yield "lost fields: " + listed(sum(one["fields"] or 1 for one in lost), (
-        "%s after field %d" % (one["fields"] or "1 or more", one["after"]) for one in lost))
+    yield "lost fields: " + listed(sum(one["fields"] or 1 for one in lost), (_lost_text(one, unit) for one in lost))
     jumps = [one for one in answer["breaks"] if one["kind"] != "lost"]
     yield "jumps: " + listed(len(jumps), (
         "%s %s to %s in field %d" % (unit, one["from"], one["to"], one["before"]) for one in jumps))
@@ -99,6 +98,13 @@ def _number_lines(answer):
         "%s %s in fields %d to %d" % (unit, one["number"], one["first"], one["last"]) for one in answer["stills"]))
     yield "shown again: " + listed(len(answer["repeated"]), (
         "%s in field %d" % (named(unit, one["first"], one["last"]), one["field"]) for one in answer["repeated"]))
+
+
+def _lost_text(one, unit):
+    """Lost fields with their place. Those of a minute may be lost anywhere in it, and be more."""
+    if unit == "minute":
+        return "at least %d, between fields %d and %d" % (one["fields"], one["after"] + 1, one["before"] - 1)
+    return "%s after field %d" % (one["fields"] or "1 or more", one["after"])
 
 
 def _order_text(answer):

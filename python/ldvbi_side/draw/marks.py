@@ -73,7 +73,7 @@ def marks_of(answer: Answer) -> Dict[str, List[Mark]]:
     """The marks of each lane, by field."""
     found = {
         **{why: [_missing(one) for one in answer["missing"] if one["why"] == why] for why in _MISSING},
-        "lost fields": [_lost(one) for one in answer["lost"]],
+        "lost fields": [_lost(one, answer["unit"]) for one in answer["lost"]],
         "jumps": [_jump(one) for one in answer["breaks"] if one["kind"] != "lost"],
         "swapped fields": [Mark(one["field"], one["field"] + 1, "fields %d and %d are swapped: %s" % (
             one["field"], one["field"] + 1, one["number"])) for one in answer["swapped"]],
@@ -119,10 +119,15 @@ def _missing(one):
         one["why"], span(one["first"], one["last"]), one["after"], one["before"], _MISSING[one["why"]]))
 
 
-def _lost(one):
+def _lost(one, unit):
+    """Lost fields, where the numbers go on. Those of a minute may be lost anywhere in it, and be more."""
     count = "one or more fields" if one["fields"] is None else "%d field%s" % (one["fields"], "s" * (one["fields"] > 1))
-    return Mark(one["before"], one["before"], "lost: %s between fields %d and %d, %s" % (
-        count, one["after"], one["before"], _LOST[one["by"]]))
+    after, before = one["after"], one["before"]
+    if unit == "minute":
+        first, last = after + 1, before - 1
+        return Mark(first, last, "lost: at least %s between fields %d and %d, by the minute's length" % (
+            count, first, last))
+    return Mark(before, before, "lost: %s between fields %d and %d, %s" % (count, after, before, _LOST[one["by"]]))
 
 
 def _jump(one):

@@ -12,7 +12,7 @@ from ldvbi import Kind
 from ldvbi.collector import paused
 from .confirmed import with_confirmed
 from .doubts import Doubts, read_in
-from .gaps import Gaps, gaps_of, judged_of
+from .gaps import Gaps, gaps_of
 from .lines import bad_lines_of, levels_of, rates_of
 from .missing import lost_fields, missing_of, own_breaks, repeated_of
 from .numbers import numbers_of
@@ -42,7 +42,7 @@ def analysed(fields: Fields) -> Analysis:
     codes = codes_of(fields)
     numbers, doubts = numbers_of(codes)
     places = with_confirmed(places_of(numbers, codes), fields.nearest_word)
-    gaps = gaps_of(places, judged_of(numbers, fields, codes.format == "clv"), codes.kinds[Kind.picture])
+    gaps = gaps_of(places, codes.kinds[Kind.picture])
     begin = 2 if fields.first and not fields.first[0] else 1
     answer: Answer = {
         "version": VERSION, "system": fields.system, "format": codes.format, "unit": numbers.unit.name,

@@ -6,6 +6,7 @@ import math
 import types
 from typing import FrozenSet, List, Mapping, NamedTuple, Optional, Set, Tuple, Union
 
+from ldvbi import JudgedSide
 from .paces import RATES, MinutePace, Pace, Unit
 from .readings import Reading
 
@@ -52,7 +53,7 @@ class Numbers(NamedTuple):
     number is due, since their lines show a code that stands there instead of one, and `firm` those that show a number
     in pass 1 on both lines, each with that: no other one is due there; `swapped` are the fields with a number that a
     capture has written one field off, each with the field in which that is due, and `speeds` the stretches at another
-    speed."""
+    speed. `judged` is what the library answers of the side, None of minutes alone."""
     unit: Unit
     pace: Union[Pace, MinutePace, None]
     believed: List[Reading]
@@ -62,6 +63,7 @@ class Numbers(NamedTuple):
     completed: FrozenSet[int] = frozenset()
     swapped: Mapping[int, int] = _NONE
     speeds: Tuple[Stretch, ...] = ()
+    judged: Optional[JudgedSide] = None
 
     def believing(self, readings: List[Reading]) -> "Numbers":
         """The same with these readings in the place of those that were believed."""
@@ -103,14 +105,15 @@ class Numbers(NamedTuple):
         return "neighbours" if self.fit(around) else "alone"
 
 
-def numbers_of_readings(unit: Unit, pace: Union[Pace, MinutePace, None], believed: List[Reading],
-                        others: Set[int]) -> Numbers:
+def numbers_of_readings(unit: Unit, pace: Union[Pace, MinutePace, None], believed: List[Reading], others: Set[int],
+                        judged: Optional[JudgedSide] = None) -> Numbers:
     """The numbers of these believed readings, each in its own place and at the disc's own speed."""
-    return Numbers(unit, pace, believed, [reading.field for reading in believed], others)
+    return Numbers(unit, pace, believed, [reading.field for reading in believed], others, judged=judged)
 
 
-def no_numbers(system: str) -> Numbers:
-    return numbers_of_readings(Unit(None, RATES[system]), None, [], set())
+def no_numbers(system: str, judged: Optional[JudgedSide] = None) -> Numbers:
+    """Those of a side without any, of which the library answers this."""
+    return numbers_of_readings(Unit(None, RATES[system]), None, [], set(), judged)
 
 
 # ---- At another speed

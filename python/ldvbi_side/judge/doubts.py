@@ -4,10 +4,10 @@ in the form of the answer."""
 import bisect
 from typing import Any, Collection, Dict, Iterable, List, Mapping, NamedTuple, Optional, Tuple
 
-from ldvbi import Kind
+from ldvbi import Counted, Kind, Pace as JudgedPace, State, judge
 from ldvbi.codes import LINES, name_of
+from ldvbi.readings import PACKED_FIELD, PACKED_LINE
 from .believed import Numbers
-from .chain import chain
 from .paces import price
 from .readings import Answer, Codes, Lines, Reading
 
@@ -136,17 +136,16 @@ def _aside(readings, taken):
     return said
 
 
-def second_rows(numbers: Numbers, readings: List[Reading]) -> List[Answer]:
-    """Readings that aren't believed, but fit each other for long: as of a line on which one digit is always read wrong,
-    or of a second disc. Which of two rows is the right one isn't known where their weights are near. A few of many
-    wrong numbers always fit, so a row has at least a tenth of the readings that are believed beside it."""
+def second_rows(codes: Codes, numbers: Numbers, readings: List[Reading]) -> List[Answer]:
+    """Readings that aren't believed, but of which the library believes a row where it is shown these alone: as of a
+    line on which one digit is always read wrong, or of a second disc. Which of two rows is the right one isn't known
+    where their weights are near. A few of many wrong numbers always fit, so a row weighs more than the widest break,
+    and has at least a tenth of the readings that are believed beside it."""
     taken = {(reading.field, reading.number) for reading in numbers.believed}
     rest = [one for one in readings if (one.field, one.number) not in taken]
-    if numbers.pace is None or not rest or not numbers.believed:
-        return []  # where none is believed, the chain has found no row
-    row = chain(rest, numbers.pace)
+    row = _row_of(codes, numbers, rest) if sum(one.weight for one in rest) > WIDEST else []
     weight = sum(one.weight for one in row)
-    if weight - sum(price(numbers.off(*pair)) for pair in zip(row, row[1:])) <= WIDEST:
+    if weight <= WIDEST:
         return []
     beside = bisect.bisect(numbers.fields, row[-1].field) - bisect.bisect_left(numbers.fields, row[0].field)
     if SHARE * len(row) < beside:
@@ -157,3 +156,18 @@ def second_rows(numbers: Numbers, readings: List[Reading]) -> List[Answer]:
         "first": text_of(row[0].number), "last": text_of(row[-1].number), "field": row[0].field,
         "lastField": row[-1].field, "count": len(row), "weight": weight,
         "against": sum(one.weight for one in numbers.believed if one.field in fields)}]
+
+
+def _row_of(codes, numbers, rest):
+    """Those of these readings that the library believes of a side on which nothing else was read."""
+    fields, size = codes.fields, PACKED_FIELD.size
+    packed = bytearray(PACKED_FIELD.pack(*(1, 0, 0, 0) * len(LINES)) * len(fields.words))
+    for one in rest:
+        for line in one.lines:
+            place = line - LINES[0]
+            word, of_pass = fields.words[one.field - 1][place], fields.passes[one.field - 1][place]
+            PACKED_LINE.pack_into(packed, size * (one.field - 1) + PACKED_LINE.size * place, 0, of_pass, 0, word)
+    pace = JudgedPace.film if numbers.pace.kind == "film" else JudgedPace.video
+    counted = Counted.pictures if numbers.unit.name == "picture" else Counted.times
+    answers = judge(packed, fields.system, counted, pace)
+    return [one for one in rest if answers[one.field - 1] == (one.number, State.believed)]

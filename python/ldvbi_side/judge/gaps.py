@@ -5,10 +5,9 @@ field of a picture was read where both have its number. A gap is left out only i
 import bisect
 from typing import Dict, List, NamedTuple, Optional, Tuple
 
-from ldvbi import Both, Counted, Gap, GapKind, JudgedSide, Pace as JudgedPace, Reason, State, judge_side
-from .believed import Numbers
+from ldvbi import Gap, GapKind, JudgedSide, Pace as JudgedPace, Reason, State
 from .places import Places
-from .readings import Answer, ByField, Fields
+from .readings import Answer, ByField
 
 # Reasons of gaps, which say why the first number and the last don't count to each other
 _BY_GAPS = Reason.is_lost | Reason.is_held | Reason.goes_back | Reason.is_joined
@@ -31,19 +30,10 @@ class Gaps(NamedTuple):
     at_speed: List[Answer] = []
 
 
-def judged_of(numbers: Numbers, fields: Fields, is_clv: bool) -> Optional[JudgedSide]:
-    """What the library answers of the side, at the pace of its numbers; None of minutes alone."""
-    if numbers.unit.name == "minute":
-        return None
-    kind = numbers.pace.kind if numbers.pace else None
-    return judge_side(fields.packed, fields.system, Counted.times if is_clv else Counted.pictures,
-                      JudgedPace.film if kind == "film" else JudgedPace.video if kind else JudgedPace.find,
-                      Both.on_both if kind == "both" else Both.on_one if kind else Both.find, fields.may_end)
-
-
-def gaps_of(places: Places, judged: Optional[JudgedSide], shown: ByField) -> Gaps:
+def gaps_of(places: Places, shown: ByField) -> Gaps:
     """The gaps that the library reports, less those that are explained; of minutes alone the breaks that are known
     here. `shown` are the picture numbers that fields show, with their lines."""
+    judged = places.numbers.judged
     if judged is None:
         return Gaps(None, places.breaks)
     found: Dict[str, List[Answer]] = {name: [] for name in ("breaks", "open", "joins", "at_speed")}

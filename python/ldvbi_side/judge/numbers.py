@@ -3,8 +3,8 @@
 Pictures are found here, and times in times.py, as a time is joined of two words. The steps are the same:
 
 1. The codes become readings: a number of a field, with its weight.
-2. These say at which pace the numbers go on (`pace_of`).
-3. `chain` chooses the readings that are believed at this pace, each in its own field.
+2. The library says at which pace the numbers go on, and which it believes (`judged_of`).
+3. `anchored` has these, and chooses among the other readings, each in its own field.
 4. `with_loops`, `with_pictures_between`, `with_rest_between`, `with_speeds`, `with_turned` and `with_swaps` find what
    the chain takes for stills or for breaks, or sets aside: a few pictures that were played again and again, pictures
    that were stepped over between two stills, what is left between two losses, stretches that were played at another
@@ -20,37 +20,36 @@ pace belongs to paces.py, and places.py says in which fields its numbers are due
 
 from typing import Tuple
 
-from ldvbi import Kind
+from ldvbi import Counted, Kind
+from .anchors import anchored, judged_of, pace_of
 from .believed import Numbers, no_numbers, numbers_of_readings
 from .between import with_pictures_between, with_rest_between
-from .chain import chain
 from .doubts import Doubts, numbers_aside, second_rows
 from .order import with_loops, with_phases, with_speeds, with_swaps, with_turned
-from .paces import RATES, Unit, pace_of
+from .paces import RATES, Unit
 from .readings import WEIGHTS, Codes
 from .times import times_of
 
 
 def numbers_of(codes: Codes) -> Tuple[Numbers, Doubts]:
     """The believed numbers of these codes, and those that are set aside."""
-    if codes.format == "neither":
-        return no_numbers(codes.fields.system), Doubts([], [], [])
-    return pictures_of(codes) if codes.format == "cav" else times_of(codes)
+    return times_of(codes) if codes.format == "clv" else pictures_of(codes)
 
 
 def pictures_of(codes: Codes) -> Tuple[Numbers, Doubts]:
-    """The picture numbers of a CAV side."""
-    system = codes.fields.system
+    """The picture numbers of a CAV side, or of one without codes of either format."""
+    system, judged = codes.fields.system, judged_of(codes.fields, Counted.pictures)
     readings = codes.readings(Kind.picture)
     if not readings:
-        return no_numbers(system), Doubts([], [], [])
-    pace = pace_of(readings, system == "NTSC")
+        return no_numbers(system, judged), Doubts([], [], [])
+    pace = pace_of(judged)
     # a field with a chapter is the second one of its picture, unless both have the number
     others = set() if pace.kind == "both" else codes.sure_fields(Kind.chapter)
-    numbers = numbers_of_readings(Unit("picture", RATES[system]), pace, chain(readings, pace), others)
+    unit, believed = Unit("picture", RATES[system]), anchored(readings, pace, judged)
+    numbers = numbers_of_readings(unit, pace, believed, others, judged)
     numbers = numbers._replace(firm={one.field: one.number for one in readings if one.weight == 2 * WEIGHTS[1]})
     numbers = with_pictures_between(with_loops(numbers, readings), readings)
     numbers = with_rest_between(numbers, readings)
     numbers = with_phases(with_turned(with_speeds(numbers, readings), readings))
     numbers = with_swaps(numbers, readings, {reading.field for reading in readings})
-    return numbers, numbers_aside(codes, numbers, readings)._replace(second_rows=second_rows(numbers, readings))
+    return numbers, numbers_aside(codes, numbers, readings)._replace(second_rows=second_rows(codes, numbers, readings))

@@ -2,16 +2,11 @@
 more or fewer. Numbers that are alike modulo a pace's `period` stand in the same way."""
 
 import functools
-import operator
-from typing import Any, List, NamedTuple, Optional, Union
-
-from .readings import Reading
+from typing import Any, NamedTuple, Optional, Union
 
 RATES = {"NTSC": 30, "PAL": 25}  # numbers of a second
 # Fields of a minute: at least, in the middle, at most. NTSC has 59.94 in a second, and its clock isn't exact.
 MINUTE_FIELDS = {"NTSC": (3590, 3596, 3600), "PAL": (3000, 3000, 3000)}
-FILM = 10  # pictures to one of 3 fields, at most
-FIT = 16  # fields: a break as wide costs more than any reading weighs, even if it is one of two in the place of a third
 
 
 class Unit(NamedTuple):
@@ -76,15 +71,6 @@ class Pace:
         """How many numbers as many fields have at least, one after the other."""
         return (2 * fields + 1) // 5 if self.kind == "film" else fields // 2
 
-    def places(self, readings: List[Reading]) -> List[List[int]]:
-        """By the fields in which the disc's first picture would stand, in units of FIT: those of two readings that fit,
-        or have less than FIT fields too many or too few, are the same, or one beside the other. Of film there are two
-        such lists, since it may have stretches of video."""
-        found = [[(one.field - 2 * one.number) // FIT for one in readings]]
-        if self.kind == "film":
-            found.append([(2 * one.field - 5 * one.number) // (2 * FIT + 1) for one in readings])
-        return found
-
 
 class MinutePace:
     """The pace of minutes, each of which stands on all its fields. It has about `fields` of them, at least `shortest`
@@ -135,16 +121,3 @@ class ChapterPace:
 
 
 AnyPace = Union[Pace, MinutePace, ChapterPace]
-
-
-def pace_of(readings: List[Reading], may_be_film: bool) -> Pace:
-    """The numbers stand on both fields where a tenth of the steps from reading to reading is to the same number in the
-    next field: of a worn disc few pictures are read in both. Such steps in a row are one, since that is a field which
-    was frozen, or a still. A disc that may be film is one where at least one picture in ten has 3 fields."""
-    fields, numbers = [one.field for one in readings], [one.number for one in readings]
-    each = list(zip(map(operator.sub, fields[1:], fields), map(operator.sub, numbers[1:], numbers)))
-    same, two, three = map(each.count, ((1, 0), (2, 1), (3, 1)))
-    in_a_row = sum(one == other == (1, 0) for one, other in zip(each, each[1:])) if same else 0
-    if 10 * (same - in_a_row) > len(readings) - in_a_row:
-        return Pace("both")
-    return Pace("film" if may_be_film and FILM * three >= max(two + three, 1) else "video")

@@ -5,13 +5,14 @@ minutes that are read in a run say together which one it is."""
 import bisect
 from typing import Callable, Dict, List, NamedTuple, Optional, Set, Tuple
 
-from ldvbi import Kind
+from ldvbi import Counted, Kind
+from .anchors import anchored, judged_of, pace_of
 from .believed import Line, Numbers, no_numbers, numbers_of_readings
 from .between import with_rest_between
 from .chain import chain
 from .doubts import AllBeside, Beside, Doubts, conflict_of, doubts_of, numbers_aside, second_rows
 from .order import with_loops, with_speeds, with_swaps
-from .paces import RATES, MinutePace, Unit, minute_text, pace_of
+from .paces import RATES, MinutePace, Unit, minute_text
 from .readings import WEIGHTS, Answer, ByField, Codes, Lines, Reading
 
 CARRIED = 1  # seconds that are lost at most where a minute is carried over although others were read
@@ -93,7 +94,7 @@ def _minutes_alone(times):
     doubtful = [one for field in times.parts
                 for one in doubts_of(codes, Kind.clv_picture, field, (16,), None, Beside("minute"))]
     if not readings:
-        return no_numbers(system), Doubts(doubtful, [], [])
+        return no_numbers(system, judged_of(codes.fields, Counted.times)), Doubts(doubtful, [], [])
     pace = MinutePace(system)
     numbers = numbers_of_readings(Unit("minute", RATES[system]), pace, chain(readings, pace), set())
     doubts = numbers_aside(codes, numbers, readings)
@@ -103,20 +104,23 @@ def _minutes_alone(times):
 def _believed(times, readings):
     """The numbers of these times. Fields without a minute that is believed get the one that brings them nearest to the
     believed times around them, and the chain is drawn again."""
-    codes, pace = times.codes, pace_of(readings, False)
+    codes = times.codes
+    judged = judged_of(codes.fields, Counted.times)
+    pace = pace_of(judged)
     others = set().union(*map(codes.sure_fields, (Kind.chapter, Kind.cx_on, Kind.cx_off)))
-    numbers = numbers_of_readings(Unit("time", times.rate), pace, chain(readings, pace), others)
+    believed = anchored(readings, pace, judged)
+    numbers = numbers_of_readings(Unit("time", times.rate), pace, believed, others, judged)
     more, known = _completions(times, numbers, readings), readings
     if more:
         known = sorted(readings + more, key=lambda one: one.field)
-        numbers = numbers.believing(chain(known, pace))
+        numbers = numbers.believing(anchored(known, pace, judged))
     numbers = with_rest_between(with_loops(numbers, known), readings)
     numbers = with_speeds(numbers, readings, times.of_line)
     numbers = with_swaps(numbers, readings, times.parts)
     numbers = numbers._replace(
         completed=frozenset(reading.field for reading in numbers.believed if reading.lines == (16,)))
     doubtful, conflicts = _times_aside(times, numbers)
-    return numbers, Doubts(doubtful, conflicts, second_rows(numbers, readings))
+    return numbers, Doubts(doubtful, conflicts, second_rows(codes, numbers, readings))
 
 
 # ---- Fields without a minute

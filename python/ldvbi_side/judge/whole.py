@@ -60,10 +60,11 @@ def counted_by(answer: Answer, why: str) -> int:
 
 
 def lost_fields_text(answer: Answer) -> str:
-    """How many fields are lost for sure; nothing where none is."""
+    """How many fields are lost for sure; nothing where none is. Of minutes alone the least is known."""
     lost = [one for one in answer["lost"] if one["by"] != "undecided"]
+    least = "at least " if answer["unit"] == "minute" else ""
     more = " or more" if any(one["fields"] is None for one in lost) else ""
-    return counted(sum(one["fields"] or 1 for one in lost), "field") + more if lost else ""
+    return least + counted(sum(one["fields"] or 1 for one in lost), "field") + more if lost else ""
 
 
 # ---- What is known not to be in the capture, or not as the disc has it
