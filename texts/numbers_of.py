@@ -108,8 +108,8 @@ def package() -> Dict[str, Any]:
     from ldvbi_side import levels
     from ldvbi_side.command import summary
     from ldvbi_side.draw import page
-    from ldvbi_side.judge import answer, believed, chain, clock, ends, lines, missing, order, paces, parts, readings
-    from ldvbi_side.judge import sparse, times, whole
+    from ldvbi_side.judge import anchors, answer, believed, chain, clock, ends, lines, missing, order, paces, parts
+    from ldvbi_side.judge import readings, sparse, times, whole
     numbers = {"price.%d" % fields: paces.price(fields) for fields in (1, 2, 20, 20000)}
     numbers.update(("weight.%d" % one, readings.WEIGHTS[one]) for one in (1, 2, 3))
     numbers.update(("pictures." + system.lower(), rate) for system, rate in paces.RATES.items())
@@ -119,8 +119,9 @@ def package() -> Dict[str, Any]:
     return {
         **numbers, "minute.pal": pal, "minute.least": least, "minute.most": most, "version": answer.VERSION,
         "summary.lines": summary.MOST_LINES, "summary.listed": summary.MOST_LISTED, "page.plots": page.MOST_PLOTS,
-        "chain.reach": chain.REACH, "film": paces.FILM, "carried": times.CARRIED, "chapter.all": paces.ChapterPace.ALL,
-        "chapter.many": paces.ChapterPace.MANY, "chapter.share": parts.LEAST_SHARE, "missing.far": missing.FAR,
+        "chain.reach": chain.REACH, "chain.near": chain.NEAR, "pairs": anchors.PAIRS, "carried": times.CARRIED,
+        "chapter.all": paces.ChapterPace.ALL, "chapter.many": paces.ChapterPace.MANY,
+        "chapter.share": parts.LEAST_SHARE, "missing.far": missing.FAR,
         "clock.places": clock.LEAST_PLACES, "clock.spacing": clock.SPACINGS[0], "clock.dropping": clock.SPACINGS[1],
         "clock.off": clock.OFF, "clock.kept": clock.KEPT[0], "clock.of": clock.KEPT[1], "clock.wide": clock.WIDE // 2,
         "clock.tenth": clock.TENTH_MINUTE // clock.MINUTE, "clock.short": clock.SHORT, "order.least": order.LEAST,

@@ -140,7 +140,7 @@ def main():
             if kind == "both":
                 test_both(*row)
         count += len(rows) * max(1, len(settings))
-    expect(count == 294, "whole.txt has more rows, or fewer")
+    expect(count == 298, "whole.txt has more rows, or fewer")
     test_other_numbers()
     test_other_states()
     test_no_side()

@@ -86,6 +86,18 @@ class Commands(InFolder):
         """Checks how a run ends, what it printed by then, and that it says nothing."""
         self.assertEqual((*process.communicate(timeout=DEADLINE), process.returncode), (text, b"", status))
 
+    def stopped(self, process, number, status):
+        """Checks how a run ends that gets this signal, again until it ends: one that comes right before a run begins to
+        wait for its input is heeded only behind that."""
+        for _ in range(DEADLINE):
+            process.send_signal(number)
+            try:
+                process.wait(1)
+                break
+            except subprocess.TimeoutExpired:
+                pass
+        self.ended(process, status)
+
     def on_terminal(self, status, *words, is_output_on_it=False):
         """What a run writes to the terminal, and what to standard output where that is none."""
         ours, theirs = pty.openpty()

@@ -20,10 +20,11 @@ class Cav(unittest.TestCase):
     one picture | NTSC 1 | pace video
     """)
 
-    def test_film_has_a_picture_of_3_fields_in_ten_at_least(self):
-        for every, pace in ((10, "film"), (11, "video"), (15, "video")):
+    def test_film_is_what_the_library_takes_for_film(self):
+        """Of pictures in a row that have 2 fields each, the library believes the numbers at the pace of video."""
+        for every, pace in ((2, "film"), (5, "video"), (10, "video")):
             # the last picture's fields don't count: none comes behind it
-            side = " ".join("%d%s" % (number, " C" * (number % every == 0)) for number in range(1, 6 * every + 2))
+            side = " ".join("%d%s" % (number, " C" * (number % every == 0)) for number in range(1, 6 * every + 32))
             self.assertEqual(made("NTSC " + side)["pace"], pace, every)
 
     def test_damage(self):
@@ -37,9 +38,6 @@ class Cav(unittest.TestCase):
     but pass 1 does | -/#4/#5* | conflicts 1 4|5 4
     a scratch | 1..100 61:74=-/?/! | missing 31-37 unread | no lost | badLines x28
         | unread 31@61, 32@63, 33@65, 34@67, 35@69, 36@71, 37@73
-    a scratch that makes other words, which fit one another | 1..100 61=-/#71/? 63=-/#72/? 65=-/#73/? 67=-/#74/?
-        69=-/#75/? | missing 31-35 unread | doubtful 61/17 71 neighbours, 63/17 72 neighbours, 65/17 73 neighbours,
-        67/17 74 neighbours, 69/17 75 neighbours
     line 18 without words | 1..100 1:200.18=? | count 100 | no missing | levels
     line 17 of film | NTSC f1..400 1:1000.17=! | pace film | count 400 | no missing lost breaks doubtful
     """)
@@ -52,6 +50,10 @@ class Cav(unittest.TestCase):
         self.assertEqual((found["count"], found["weight"], found["against"]), (100, 200, 200))
         # with line 18 read on half of the side alone, line 17 has the greater weight
         check(self, "half | %s 101:200.18=- | numbers 100 1 to 100 | secondRows 1001-1050@1-99 50 100:100" % side)
+
+    def test_two_short_rows_that_lie_far_apart_are_no_second_row(self):
+        rows = ["%d=-/#%d/#%d" % (2 * number - 1, number, number + 1000) for number in (*range(1, 7), *range(295, 301))]
+        check(self, "two | 1..300 %s | no secondRows | count 300" % " ".join(rows))
 
     def test_random_wrong_numbers_are_no_second_row(self):
         wrong = ["%d=%d" % (2 * number - 1, number + (2, 200, -7, 5000, 40, 8)[place % 6])

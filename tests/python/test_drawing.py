@@ -69,10 +69,15 @@ def entry(name, **other):
 
 
 def answer_with(**lists):
-    return dict({name: [] for name in LISTS}, **lists)
+    return dict({name: [] for name in LISTS}, **{"unit": "picture", **lists})
 
 
 class Marks(unittest.TestCase):
+    def test_fields_lost_of_a_minute_may_be_lost_anywhere_in_it(self):
+        answer = answer_with(unit="minute", lost=[entry("lost", after=3610, before=7111, fields=90)])
+        self.assertEqual(marks_of(answer)["lost fields"], [
+            (3611, 7110, "lost: at least 90 fields between fields 3611 and 7110, by the minute's length")])
+
     def test_each(self):
         for name, other, lane, first, last, text in MARKS:
             with self.subTest((name, other)):

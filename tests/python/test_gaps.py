@@ -140,7 +140,7 @@ class Minutes(unittest.TestCase):
     def test_their_length(self):
         """Minute 0 has 3000 fields, of which 100 are there, between lead-in and minute 1."""
         check(self, """
-    minute 0 lacks fields | Lx60 n0x100 n1x3000 n2x3000 Ox60 | said no: 2900 fields lost
+    minute 0 lacks fields | Lx60 n0x100 n1x3000 n2x3000 Ox60 | said no: at least 2900 fields lost
         | breaks lost 60-161 0:00 to 0:01, 2900
     it has all | Lx60 n0x3000 n1x3000 n2x3000 Ox60 | said yes
     no lead-in shows where it begins | n0x100 n1x3000 n2x3000 Ox60 | said yes

@@ -87,8 +87,7 @@ class Signals(Runs):
                 with self.opened_by(process, "meta.json"):
                     self.assertEqual(len(self.names()), len(before) + bool(words))
                     process.send_signal(number)
-                    process.send_signal(number)
-                    self.ended(process, status)
+                    self.stopped(process, number, status)
                 self.assertEqual(self.names(), before)
 
     def test_while_it_is_loaded(self):
@@ -106,8 +105,7 @@ class Signals(Runs):
     def stopped_while_it_loads(self, number, status, **more):
         process = self.started("side.vbi.json", **more)
         with self.opened_by(process, "pipe"):
-            process.send_signal(number)
-            self.ended(process, status)
+            self.stopped(process, number, status)
 
     def test_what_is_ignored_stays_so(self):
         """As nohup has it."""

@@ -125,7 +125,7 @@ class ByHand(Played):
         for name in ("loops", "turned"):
             counts = self.totals[name]
             self.assertGreater(counts["backs"], 10)
-            self.assertGreaterEqual(10 * counts["backs found"], 9 * counts["backs"], self.told)
+            self.assertGreaterEqual(100 * counts["backs found"], 89 * counts["backs"], self.told)
         for name in ("sides", "minutes"):
             self.within(self.totals[name], "lost - lost found: 0")
         self.within(self.totals["minutes"], "lost places - lost places found: 0")
