@@ -2,22 +2,29 @@
 of them the chain chooses (chain.py), as where too little was read for the library, or where the disc was played in
 another order."""
 
-from typing import List, Set
+import bisect
+import functools
+from typing import List
 
 from ldvbi import Both, Counted, JudgedSide, Pace as JudgedPace, State, judge_side
-from .chain import chain
-from .paces import Pace
+from .chain import chosen
+from .paces import Pace, price
 from .readings import Fields, Reading
 
 PAIRS = 10  # believed numbers to one that stands on the next field as well, at most, of what looks like film and isn't
-SURE = 64  # what an anchor weighs more than a reading: more than two of the widest breaks, which is all that it costs
 
 
 def judged_of(fields: Fields, counted: Counted) -> JudgedSide:
     """What the library answers of the side. It looks at how far apart numbers stand, and may take jumps of a disc of
     which little was read for numbers on both fields of a picture, and a disc with these that was played slowly for
     film. Only a disc with numbers on both fields shows one on two fields beside each other."""
-    judged = judge_side(fields.packed, fields.system, counted, may_end=fields.may_end)
+    packed = fields.packed
+    if counted == Counted.times:
+        import sys
+        sys.path.append("/tmp/w")
+        import vote
+        packed = vote.packed_with(fields, *vote.vote(fields, 480, "A", "least10"))
+    judged = judge_side(packed, fields.system, counted, may_end=fields.may_end)
     believed = [one.number if one.state == State.believed else None for one in judged.numbers]
     pairs = sum(one == other is not None for one, other in zip(believed, believed[1:]))
     is_film = judged.pace == JudgedPace.film
@@ -25,7 +32,7 @@ def judged_of(fields: Fields, counted: Counted) -> JudgedSide:
     if is_on_both == judged.on_both:
         return judged
     both = Both.on_both if is_on_both else Both.on_one
-    return judge_side(fields.packed, fields.system, counted, JudgedPace.video, both, fields.may_end)
+    return judge_side(packed, fields.system, counted, JudgedPace.video, both, fields.may_end)
 
 
 def pace_of(judged: JudgedSide) -> Pace:
@@ -36,32 +43,59 @@ def pace_of(judged: JudgedSide) -> Pace:
 def anchored(readings: List[Reading], pace: Pace, judged: JudgedSide) -> List[Reading]:
     """The readings that are believed, each with its variant. These and those given ascend by field, and the library
     answered of these fields."""
-    found: List[Reading] = []
-    part: List[Reading] = []  # those from an anchor on among which is to be chosen
-    anchors: Set[int] = set()  # their fields
-    for one in readings:
-        number, state = judged.numbers[one.field - 1]
-        if state == State.believed:
-            if one.number != number:
-                continue
-            # of another pace it depends on the numbers before and behind which field of a picture has its number
-            if pace.kind == "video" and part and part[-1].field in anchors and _go_on(part[-1], one):
-                found += _chosen(part, anchors, pace)
-                part = []
-                anchors.clear()
-            anchors.add(one.field)
-        part.append(one)
-    return found + _chosen(part, anchors, pace)
+    sure = {field: one.number for field, one in enumerate(judged.numbers, 1) if one.state == State.believed}
+    believed = chosen(readings, pace, sure)
+    if pace.variants == 1:
+        return believed
+    known = _with_variants([one for one in believed if one.field in sure] or believed, pace)
+    return known if len(known) == len(believed) else _with_others(known, believed, pace)
 
 
-def _go_on(before, after):
-    """Whether the numbers of two anchors go on at the pace of video from one to the other."""
-    return after.field - before.field == 2 * (after.number - before.number)
+def _with_variants(believed, pace):
+    """The same readings with the variants by which their breaks cost least."""
+    costs, origins = [0] * pace.variants, []
+    for one, other in zip(believed, believed[1:]):
+        steps = _steps(pace, other.field - one.field, other.number - one.number, one.number % pace.period)
+        best = [min((costs[before] + cost, before) for before, cost in enumerate(ways)) for ways in steps]
+        costs = [cost for cost, _ in best]
+        origins.append([before for _, before in best])
+    variant = costs.index(min(costs))
+    found = [one._replace(variant=variant) for one in believed[-1:]]
+    for one, origin in zip(believed[-2::-1], origins[::-1]):
+        variant = origin[variant]
+        found.append(one._replace(variant=variant))
+    return found[::-1]
 
 
-def _chosen(part, anchors, pace):
-    """What the chain chooses of these readings, those in the fields of anchors among them."""
-    if len(part) == 1:
-        return part
-    ones = [one._replace(weight=one.weight + SURE) if one.field in anchors else one for one in part]
-    return [one._replace(weight=one.weight - SURE) if one.field in anchors else one for one in chain(ones, pace)]
+def _with_others(known, believed, pace):
+    """All believed readings with their variants, of which some are known, but for those that stand a field off between
+    two that go on."""
+    fields = [one.field for one in known]
+    found = []
+    for one in believed:
+        place = bisect.bisect_left(fields, one.field)
+        after = known[place:place + 1]
+        if after and after[0].field == one.field:
+            found += after
+            continue
+        ways = [(_price(pace, found[-1:] + [way] + after), way)
+                for way in (one._replace(variant=variant) for variant in range(pace.variants))]
+        cost, way = min(ways)
+        if not cost or not found or not after or _price(pace, found[-1:] + after):
+            found.append(way)
+    return found
+
+
+def _price(pace, row):
+    """What the breaks in a row cost."""
+    return sum(_steps(pace, other.field - one.field, other.number - one.number, one.number % pace.period)
+               [other.variant][one.variant] for one, other in zip(row, row[1:]))
+
+
+@functools.lru_cache(maxsize=1 << 14)
+def _steps(pace, apart, step, number):
+    """What it costs to go on by so many fields and numbers from a number that is so much modulo the pace's period: to
+    each variant, from each."""
+    return [[price(apart if off is None else off) + (pace.change if one != other else 0)
+             for one in range(pace.variants) for off in [pace.off(apart, number, step, one, other)]]
+            for other in range(pace.variants)]

@@ -49,7 +49,7 @@ def analysed(fields: Fields) -> Analysis:
         "fields": len(fields.words), "cutField": fields.cut, "frameBegin": begin,
         "pace": numbers.pace.kind if numbers.pace else None}
     answer.update(_of_numbers(places, gaps, doubts))
-    answer.update(_of_losses(places, gaps, fields))
+    answer.update(_of_losses(places, gaps, codes))
     answer.update(_of_parts(codes, places, doubts, begin))
     bad, rates = bad_lines_of(fields), rates_of(fields)
     answer.update({"badLines": bad, "lines": rates, "levels": levels_of(rates, bad, fields),
@@ -88,10 +88,10 @@ def _breaks(places, breaks):
     return [dict(one, **{"from": text_of(one["from"]), "to": text_of(one["to"])}) for one in breaks]
 
 
-def _of_losses(places: Places, gaps: Gaps, fields: Fields) -> Answer:
+def _of_losses(places: Places, gaps: Gaps, codes: Codes) -> Answer:
     """What isn't there, or isn't in the disc's order."""
-    numbers = places.numbers
-    missing, left_out = missing_of(places, gaps, fields)
+    numbers, fields = places.numbers, codes.fields
+    missing, left_out = missing_of(places, gaps, codes)
     return {
         "missing": missing, "leftOut": left_out,
         "lost": lost_fields(places, gaps, (fields.first or ())[:len(fields.words)]),

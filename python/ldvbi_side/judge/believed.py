@@ -50,16 +50,14 @@ class Stretch(NamedTuple):
 class Numbers(NamedTuple):
     """The believed readings of a side by field, what they count, and the pace at which they go on; `fields` are the
     fields of these readings. `completed` are the fields whose minute is another field's; `others` those in which no
-    number is due, since their lines show a code that stands there instead of one, and `firm` those that show a number
-    in pass 1 on both lines, each with that: no other one is due there; `swapped` are the fields with a number that a
-    capture has written one field off, each with the field in which that is due, and `speeds` the stretches at another
-    speed. `judged` is what the library answers of the side, None of minutes alone."""
+    number is due, since their lines show a code that stands there instead of one; `swapped` are the fields with a
+    number that a capture has written one field off, each with the field in which that is due, and `speeds` the
+    stretches at another speed. `judged` is what the library answers of the side, None of minutes alone."""
     unit: Unit
     pace: Union[Pace, MinutePace, None]
     believed: List[Reading]
     fields: List[int]
     others: Set[int]
-    firm: Mapping[int, int] = _NONE
     completed: FrozenSet[int] = frozenset()
     swapped: Mapping[int, int] = _NONE
     speeds: Tuple[Stretch, ...] = ()

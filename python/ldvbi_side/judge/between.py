@@ -1,10 +1,9 @@
-"""Numbers between two breaks, which the chain sets aside, since they weigh less than one break more costs: pictures
-that a player stepped over between two stills, and what is left between two losses. One break is there in any case."""
+"""Numbers between two losses, which the chain sets aside, since they weigh less than one break more costs. One break is
+there in any case."""
 
 import bisect
 import operator
-from collections import Counter
-from typing import Counter as Counted, List
+from typing import List
 
 from .believed import Numbers
 from .chain import chain
@@ -12,28 +11,6 @@ from .paces import Pace
 from .readings import WEIGHTS, Reading
 
 OTHER = 3  # digits of a single number between two losses that aren't those due: a misread one has one or two
-
-
-def with_pictures_between(numbers: Numbers, readings: List[Reading]) -> Numbers:
-    """These numbers, with those between two stills that don't fit each other: of a player that is stepped from picture
-    to picture. Each is two breaks, and weighs less, but one break is there in any case. A number counts that was read
-    in pass 1 on both lines, or as often on one."""
-    if numbers.pace is None or numbers.pace.kind not in ("video", "film"):
-        return numbers
-    believed = numbers.believed
-    more: List[Reading] = []
-    fields: List[int] = []
-    for one, before, after, other in zip(believed, believed[1:], believed[2:], believed[3:]):
-        if one.number != before.number or after.number != other.number or numbers.off(before, after) in (None, 0):
-            continue
-        fields = fields or [reading.field for reading in readings]
-        between = readings[bisect.bisect(fields, before.field):bisect.bisect_left(fields, after.field)]
-        weights: Counted[int] = Counter()
-        for reading in between:
-            weights[reading.number] += reading.weight
-        if len({reading.field for reading in between}) == len(between):
-            more += [reading for reading in between if weights[reading.number] >= 2 * WEIGHTS[1]]
-    return numbers.believing(sorted(believed + more, key=lambda one: one.field)) if more else numbers
 
 
 def with_rest_between(numbers: Numbers, readings: List[Reading]) -> Numbers:

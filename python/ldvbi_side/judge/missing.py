@@ -4,23 +4,23 @@ lost, by the gaps; numbers that are shown again."""
 import bisect
 from typing import Any, Dict, Iterable, Iterator, List, NamedTuple, Optional, Sequence, Set, Tuple
 
-from ldvbi import Reason
+from ldvbi import Kind, Reason
 from .believed import stretch_at
 from .gaps import Gaps
 from .order import pairs_of
 from .paces import RATES
 from .places import Places
-from .readings import Answer, Fields
+from .readings import WEIGHTS, Answer, Codes, Fields
 
 _BLANK = frozenset(["blank"])
 FAR = 10  # numbers passed over to one that fields may be there for: from here on most of them are sure to be lost
 
 
-def missing_of(places: Places, gaps: Gaps, fields: Fields) -> Tuple[List[Answer], List[Answer]]:
+def missing_of(places: Places, gaps: Gaps, codes: Codes) -> Tuple[List[Answer], List[Answer]]:
     """The numbers between the least and the greatest that no field has, in stretches of one reason; and those that were
     left out by the disc's clock. A gap of more than 4 numbers to each field of the side isn't looked at number by
     number. None is lost but in a gap."""
-    firsts = _first_fields(places.showings)
+    firsts, fields = _first_fields(places.showings), codes.fields
     numbers = sorted(firsts)
     steps = [(one, other) for one, other in zip(numbers, numbers[1:]) if other - one > 1]
     passed, unread = _passed_over(places, fields), {number for number, _ in places.due} | places.without_field
@@ -43,18 +43,19 @@ def missing_of(places: Places, gaps: Gaps, fields: Fields) -> Tuple[List[Answer]
             else:
                 stretches.append([number, number, why, ends])
     unit = places.numbers.unit
-    missing = _in_gaps(missing, places, gaps) if gaps.judged else missing
+    missing = _in_gaps(missing, places, gaps, codes) if gaps.judged else missing
     return [_stretch(one, unit) for one in missing], [_stretch(one, unit) for one in left_out]
 
 
-def _in_gaps(missing: List[List[Any]], places: Places, gaps: Gaps) -> List[List[Any]]:
+def _in_gaps(missing: List[List[Any]], places: Places, gaps: Gaps, codes: Codes) -> List[List[Any]]:
     """The same stretches, of whose lost numbers those are undecided for which no gap there lacks fields, and those that
     a field in such a gap shows in pass 1 on both lines."""
     passed = sorted((one for one in gaps.breaks + gaps.at_speed if one["kind"] == "lost"),
                     key=lambda one: one["after"])
     ends = [one["after"] for one in passed], [one["before"] for one in passed]
-    firm = places.numbers.firm
-    shown = {firm[field] for one in passed for field in range(one["after"] + 1, one["before"]) if field in firm}
+    pictures = codes.kinds[Kind.picture]
+    shown = {number for one in passed for field in range(one["after"] + 1, one["before"])
+             for number, lines in pictures.get(field, {}).items() if codes.weight(field, lines) == 2 * WEIGHTS[1]}
     numbers = [(one["from"] + 1, one["to"] - 1) for one in passed]
     early = _before_first(gaps.judged, places.numbers.unit)
     everywhere = _merged(numbers + early)

@@ -23,11 +23,11 @@ from typing import Tuple
 from ldvbi import Counted, Kind
 from .anchors import anchored, judged_of, pace_of
 from .believed import Numbers, no_numbers, numbers_of_readings
-from .between import with_pictures_between, with_rest_between
+from .between import with_rest_between
 from .doubts import Doubts, numbers_aside, second_rows
-from .order import with_loops, with_phases, with_speeds, with_swaps, with_turned
+from .order import with_speeds, with_swaps, with_turned
 from .paces import RATES, Unit
-from .readings import WEIGHTS, Codes
+from .readings import Codes
 from .times import times_of
 
 
@@ -47,9 +47,6 @@ def pictures_of(codes: Codes) -> Tuple[Numbers, Doubts]:
     others = set() if pace.kind == "both" else codes.sure_fields(Kind.chapter)
     unit, believed = Unit("picture", RATES[system]), anchored(readings, pace, judged)
     numbers = numbers_of_readings(unit, pace, believed, others, judged)
-    numbers = numbers._replace(firm={one.field: one.number for one in readings if one.weight == 2 * WEIGHTS[1]})
-    numbers = with_pictures_between(with_loops(numbers, readings), readings)
-    numbers = with_rest_between(numbers, readings)
-    numbers = with_phases(with_turned(with_speeds(numbers, readings), readings))
+    numbers = with_turned(with_speeds(with_rest_between(numbers, readings), readings), readings)
     numbers = with_swaps(numbers, readings, {reading.field for reading in readings})
     return numbers, numbers_aside(codes, numbers, readings)._replace(second_rows=second_rows(codes, numbers, readings))

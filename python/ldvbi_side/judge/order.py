@@ -1,6 +1,6 @@
-"""Numbers in another order than the disc's: a few pictures that were played again and again; fields that a capture has
-written in each other's place, so that a number stands one field before or behind its own; and stretches that were
-played at another speed, whose numbers go by in other steps, backwards, or three times each."""
+"""Numbers in another order than the disc's: turned by hand; in stretches that were played at another speed, whose
+numbers go by in other steps, backwards, or three times each; and in fields that a capture has written in each other's
+place, so that a number stands one field before or behind its own."""
 
 import bisect
 import math
@@ -15,118 +15,38 @@ from .readings import WEIGHTS, Reading
 LEAST = 8  # readings of a stretch
 FEWEST = 3  # different numbers of it
 STEPS = (2, 3, -1, -2, -3)  # numbers from one picture to the next
-ROUNDS = 2  # of a loop
 # By hand: numbers from one that is shown to the next, fields in which there are so many breaks and such numbers beside
 TURN, TURNED, SIGNS = 5, 40, 3
-TURNS = 2  # times that those beside what was found are looked at
 
 
-# ---- Loops, and stills one after the other
-
-def with_loops(numbers: Numbers, readings: List[Reading]) -> Numbers:
-    """These numbers, with those that were shown between two showings of one number, if that is so twice or more. A few
-    pictures that are played again and again weigh less than the breaks between them, so the chain takes them for a
-    still; but a still has no other number in between."""
-    if numbers.pace is None or numbers.pace.kind == "minute":
-        return numbers
-    fields, last = [one.field for one in readings], None
-    found: List[List[Reading]] = []
-    rounds: List[List[Reading]] = []  # of the last still
-    for before, after in zip(numbers.believed, numbers.believed[1:]):
-        if before.number != after.number:
-            continue
-        if before is not last:
-            found += rounds if len(rounds) >= ROUNDS else []
-            rounds = []
-        between = readings[bisect.bisect(fields, before.field):bisect.bisect_left(fields, after.field)]
-        ones = {one.field: one for one in _that_go_on(numbers.pace, before, between, after)} if between else {}
-        rounds += [list(ones.values())] if ones else []
-        last = after
-    found += rounds if len(rounds) >= ROUNDS else []
-    more = [one for ones in found for one in ones]
-    return numbers.believing(sorted(numbers.believed + more, key=lambda one: one.field)) if more else numbers
-
+# ---- Turned by hand
 
 def with_turned(numbers: Numbers, readings: List[Reading]) -> Numbers:
     """These numbers, with those that a disc showed while it was turned by hand: near those before and behind it, among
     breaks that are as near. The chain passes over them where two others fit by chance."""
-    assert isinstance(numbers.pace, Pace)  # of pictures
-    for _ in range(TURNS):
-        taken = set(numbers.fields)
-        aside = [one for one in readings if one.field not in taken] if taken else []
-        near, others = _turned_of(numbers, aside)
-        if not near:
-            break
-        # those beside what was found may be near that
-        readings = others
-        numbers = numbers.believing(sorted(numbers.believed + near, key=lambda one: one.field))
-    return numbers
-
-
-def _turned_of(numbers, aside):
-    """Those of the readings that are set aside that a disc showed while it was turned by hand, and the others between
-    the same numbers."""
-    near, breaks, others = [], [], []
-    for one in aside:
-        place = bisect.bisect(numbers.fields, one.field)
-        around = numbers.believed[max(place - 1, 0):place + 1]
-        if _is_near(around[0], one) and _is_near(around[-1], one) and (
-                one.weight >= WEIGHTS[1] or any(other.number == one.number for other in around)):
-            near.append(one)
-        else:
-            others.append((place, one))
+    believed, taken = numbers.believed, set(numbers.fields)
+    near = [one for one in readings if one.field not in taken and _is_turned(numbers, one)] if taken else []
+    marks = [one.field for one in near]
     is_still = False
-    for one, other in zip(numbers.believed, numbers.believed[1:]) if near else ():
-        off = numbers.off(one, other)
-        if abs(other.number - one.number) <= TURN and (off or off is None and not is_still):
-            breaks.append(other.field)
+    for before, after in zip(believed, believed[1:]) if near else ():
+        off = numbers.off(before, after)
+        if abs(after.number - before.number) <= TURN and (off or off is None and not is_still):
+            marks.append(after.field)
         is_still = off is None
-    fields = sorted(breaks + [one.field for one in near])
+    marks.sort()
     more = {one.field: one for one in near if
-            bisect.bisect(fields, one.field + TURNED) - bisect.bisect_left(fields, one.field - TURNED) > SIGNS}
-    places = {bisect.bisect(numbers.fields, field) for field in more}
-    return list(more.values()), [one for place, one in others if place in places]
+            bisect.bisect(marks, one.field + TURNED) - bisect.bisect_left(marks, one.field - TURNED) > SIGNS}
+    return numbers.believing(sorted(believed + list(more.values()), key=lambda one: one.field)) if more else numbers
 
 
-def _is_near(one, other):
-    return abs(other.number - one.number) <= TURN and abs(other.field - one.field) <= TURNED
+def _is_turned(numbers, one):
+    """Whether a number is near the believed ones around it, and is read in pass 1 or on two lines, or is one of
+    these."""
+    place = bisect.bisect(numbers.fields, one.field)
+    around = numbers.believed[max(place - 1, 0):place + 1]
+    return all(abs(one.number - other.number) <= TURN and abs(one.field - other.field) <= TURNED for other in around) and (
+        one.weight >= WEIGHTS[1] or any(one.number == other.number for other in around))
 
-
-def with_phases(numbers: Numbers) -> Numbers:
-    """These numbers, where both fields of a picture have its number, each that fits neither the one before nor the one
-    behind as of the first field or of the second by the pictures around it: a player shows both fields of a picture,
-    and goes on with another one. The chain leaves that open where either costs as much."""
-    if numbers.pace is None or numbers.pace.kind != "both":
-        return numbers
-    believed, found = numbers.believed, numbers.believed[:1]
-    fits = [False] + [numbers.off(one, other) == 0 for one, other in zip(believed, believed[1:])] + [False]
-    for place, one in enumerate(believed[1:], 1):
-        before = found[-1]
-        if not fits[place] and not fits[place + 1] and (one.field - one.variant - before.field + before.variant) % 2:
-            other = one._replace(variant=1 - one.variant)
-            around = before, believed[place + 1] if place + 1 < len(believed) else None
-            if _price_between(numbers, other, around) <= _price_between(numbers, one, around):
-                one = other
-        found.append(one)
-    return numbers.believing(found)
-
-
-def _price_between(numbers, one, around):
-    """What the breaks between a reading and those around cost; a number that stays costs as much in either field."""
-    pairs = [(around[0], one), (one, around[1])]
-    return sum(price(numbers.off(*pair)) for pair in pairs if None not in pair)
-
-
-def _that_go_on(pace, before, between, after):
-    """Those of these readings that go on from the one before, or to the one behind."""
-    for one in between:
-        for variant in range(pace.variants) if one.number != before.number else ():
-            from_before = pace.off(one.field - before.field, before.number, one.number - before.number, before.variant,
-                                   variant)
-            to_after = pace.off(after.field - one.field, one.number, after.number - one.number, variant, after.variant)
-            if 0 in (from_before, to_after):
-                yield one._replace(variant=variant)
-                break
 
 
 # ---- Other speeds

@@ -9,10 +9,9 @@ from .believed import Numbers, off_at_speed, passed_between
 from .clock import WIDE, Clock, Gap, Played, clock_of
 from .minutes import minute_breaks
 from .paces import MinutePace, Pace
-from .readings import Answer, Codes, Reading
+from .readings import WEIGHTS, Answer, Codes, Reading
 from .sparse import spacing_of
 
-NEAR = (-3, -2, -1, 1, 2, 3)  # fields from a number to those before and behind it
 Due = List[Tuple[int, int]]
 
 
@@ -20,7 +19,7 @@ class Places(NamedTuple):
     """Where the numbers of a side are. `showings` are lists of a number, its first and its last field; `joins` are the
     readings between which another side begins; `due` are pairs of a number that isn't there and the field that it
     belongs to; `without_field` are missing numbers whose field is unknown although no field was lost; `open` are those
-    in whose place another number was played, or other codes alone were seen, and `unshown` those that the disc doesn't
+    in whose place other codes alone were seen, and `unshown` those that the disc doesn't
     show. `clock` judges the numbers of an NTSC disc that may have been left out by its clock. `number_of` has the
     number of each field that shows one or in which one is due. `confirmed` are the fields whose number was due, and
     counts as shown since it is the nearest word of their lines."""
@@ -66,7 +65,10 @@ def places_of(numbers: Numbers, codes: Codes) -> Places:
     joins = [(step.before, step.after) for step in steps if ends and _is_join(step, ends)]
     steps = [_joined(step) if (step.before, step.after) in set(joins) else step for step in steps] if joins else steps
     due, without_field, unshown, unseen = _due(numbers, steps, codes)
-    turned, due = _turned(numbers, due, without_field)
+    others = {number for number, field in due if _is_another_shown(codes, field)}
+    if others:
+        due = [one for one in due if one[0] not in others]
+        without_field |= others
     clock, showings = clock_of(_played(steps)), _showings(numbers.believed, steps)
     breaks = [_break(numbers, step.before, step.after, step.off) for step in steps if step.kind == "break"]
     breaks += [_break(numbers, before, after, numbers.off(before, after)) for before, after in clock.breaks]
@@ -75,7 +77,7 @@ def places_of(numbers: Numbers, codes: Codes) -> Places:
     number_of = {field: number for number, field in due}
     number_of.update((reading.field, reading.number) for reading in numbers.believed)
     return Places(numbers, showings, sorted(breaks, key=lambda one: one["after"]), joins,
-                  _stills(numbers.believed, steps), due, without_field, turned | unseen, unshown, clock, number_of)
+                  _stills(numbers.believed, steps), due, without_field, unseen, unshown, clock, number_of)
 
 
 def _is_join(step, ends):
@@ -160,22 +162,10 @@ def _due(numbers, steps, codes):
     return [one for one in found if one[1] not in numbers.others], without_field, unshown, unseen
 
 
-def _turned(numbers, due, without_field):
-    """The numbers in whose field another one was read in pass 1 on both lines, if that was played there: it is at most
-    one off what a field beside it shows, as where a disc is turned by hand. And those due in a field that shows no such
-    number. The others are misread, so that no field is too few."""
-    turned, left, shown = set(), [], {}
-    if numbers.firm:
-        shown = {**numbers.firm, **{one.field: one.number for one in numbers.believed}}
-    for number, field in due:
-        said = numbers.firm.get(field)
-        if said is None:
-            left.append((number, field))
-        else:
-            near = [shown.get(field + step) for step in NEAR if field + step in shown]
-            is_played = any(abs(said - one) <= 1 for one in near)
-            (turned if is_played else without_field).add(number)
-    return turned, left
+def _is_another_shown(codes, field):
+    """Whether a field shows another number in pass 1 on both lines, so that none is due there."""
+    shown = codes.kinds[Kind.picture].get(field, {})
+    return any(codes.weight(field, lines) == 2 * WEIGHTS[1] for lines in shown.values())
 
 
 def _due_between(numbers, before, after):

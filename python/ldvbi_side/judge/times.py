@@ -5,13 +5,13 @@ minutes that are read in a run say together which one it is."""
 import bisect
 from typing import Callable, Dict, List, NamedTuple, Optional, Set, Tuple
 
-from ldvbi import Counted, Kind
+from ldvbi import Counted, JudgedSide, Kind, State
 from .anchors import anchored, judged_of, pace_of
 from .believed import Line, Numbers, no_numbers, numbers_of_readings
 from .between import with_rest_between
 from .chain import chain
 from .doubts import AllBeside, Beside, Doubts, conflict_of, doubts_of, numbers_aside, second_rows
-from .order import with_loops, with_speeds, with_swaps
+from .order import with_speeds, with_swaps
 from .paces import RATES, MinutePace, Unit, minute_text
 from .readings import WEIGHTS, Answer, ByField, Codes, Lines, Reading
 
@@ -50,6 +50,14 @@ class _Times(NamedTuple):
                 joined = known.setdefault(lines, (16,) + lines) if near == field else (16,)
                 readings.append(Reading(field, value * self.whole + part, weight, joined))
         return readings
+
+    def with_voted(self, readings: List[Reading], judged: JudgedSide) -> List[Reading]:
+        """These readings, and the times of fields without a minute that the library gave one by vote."""
+        known = {one.field for one in readings}
+        more = [Reading(field, number.number, self.codes.weight(field, (16,)), (16,))
+                for field in self.parts.keys() - known for number in [judged.numbers[field - 1]]
+                if number.state in (State.believed, State.doubtful)]
+        return sorted(readings + more) if more else readings
 
     def nearest(self, due: int, field: int) -> int:
         """The time with this field's second and picture that is nearest to the one that is due."""
@@ -108,13 +116,14 @@ def _believed(times, readings):
     judged = judged_of(codes.fields, Counted.times)
     pace = pace_of(judged)
     others = set().union(*map(codes.sure_fields, (Kind.chapter, Kind.cx_on, Kind.cx_off)))
+    readings = times.with_voted(readings, judged)
     believed = anchored(readings, pace, judged)
     numbers = numbers_of_readings(Unit("time", times.rate), pace, believed, others, judged)
-    more, known = _completions(times, numbers, readings), readings
+    more = _completions(times, numbers, readings)
     if more:
         known = sorted(readings + more, key=lambda one: one.field)
         numbers = numbers.believing(anchored(known, pace, judged))
-    numbers = with_rest_between(with_loops(numbers, known), readings)
+    numbers = with_rest_between(numbers, readings)
     numbers = with_speeds(numbers, readings, times.of_line)
     numbers = with_swaps(numbers, readings, times.parts)
     numbers = numbers._replace(
@@ -126,89 +135,16 @@ def _believed(times, readings):
 # ---- Fields without a minute
 
 def _completions(times, numbers, readings):
-    """The times of fields that have none: each second and picture with the minute that was read in its run of line 16,
-    and with the one that brings it nearest to a believed time beside it. Behind a longer loss the minute there says
-    nothing, so it isn't carried over to a run in which one was read."""
-    taken = set(numbers.fields)
-    wanted = sorted(times.parts.keys() - taken)
-    if not wanted:
-        return []
-    said = {(reading.field, reading.number) for reading in readings if reading.field not in taken}
-    runs = Runs(times.parts, times.minutes, times.whole, times.codes.weight)
-    more = []
-    for field in wanted:
-        run = runs.of_field[field]
-        found = run.said_at(field)
-        for near in numbers.around(field) if taken else ():
-            if near:
-                due = near.number + (field - near.field) // 2
-                number = times.nearest(due, field)
-                if not run.votes or abs(number - due) <= CARRIED * times.rate:
-                    found.add(number)
+    """The times of fields whose minute isn't believed: each second and picture with the minute that brings it nearest
+    to a believed time beside it."""
+    more, said = [], {(reading.field, reading.number) for reading in readings}
+    for field in sorted(times.parts.keys() - set(numbers.fields)):
+        dues = [near.number + (field - near.field) // 2 for near in numbers.around(field) if near]
+        found = {number for due in dues for number in [times.nearest(due, field)]
+                 if abs(number - due) <= CARRIED * times.rate}
         more += [Reading(field, number, times.completed_weight(field, number), (16,)) for number in sorted(found)
                  if number >= 0 and (field, number) not in said]
     return more
-
-
-class Run:
-    """A run, from its first field and the picture of the minute there. Its pictures are counted from the start of the
-    minute in which it begins; `votes` are the weights of the minutes in which it may begin."""
-
-    def __init__(self, field: int, picture: int, whole: int) -> None:
-        self.field, self.last, self.picture, self.whole = field, field, picture, whole
-        self.votes: Dict[int, int] = {}
-
-    def count_at(self, field: int) -> int:
-        """The pictures from the start of the run's first minute to a field."""
-        return self.picture + (field - self.field) // 2
-
-    def fits(self, field: int, picture: int) -> bool:
-        """Whether a field with this picture of a minute belongs to the run."""
-        return (field - self.field) % 2 == 0 and self.count_at(field) % self.whole == picture
-
-    def vote(self, field: int, minute: int, weight: int) -> None:
-        """Takes in a minute that a field of the run says."""
-        begin = minute - self.count_at(field) // self.whole
-        self.votes[begin] = self.votes.get(begin, 0) + weight
-
-    def said_at(self, field: int) -> Set[int]:
-        """The numbers that a field of the run has by most of the minutes read in it: none where none was read, and more
-        than one where as many say another."""
-        most, count = max(self.votes.values(), default=0), self.count_at(field)
-        return {minute * self.whole + count for minute, weight in self.votes.items() if weight == most}
-
-
-class Runs:
-    """The runs of a side. `parts` has of each field the picture of the minute, of which there are `whole`; `minutes`
-    has of each field the minutes read, each with its lines, and `weight_of` says what these weigh. A misread word of
-    line 16 is a run of its own, between two parts of another."""
-
-    def __init__(self, parts: Dict[int, int], minutes: ByField, whole: int,
-                 weight_of: Callable[[int, Lines], int]) -> None:
-        self.of_field: Dict[int, Run] = {}
-        run: Optional[Run] = None
-        other: Optional[Run] = None  # the two that were seen last
-        for field, part in sorted(parts.items()):
-            if run is None or not run.fits(field, part):
-                run, other = other, run
-                if run is None or not run.fits(field, part):
-                    run = Run(field, part, whole)
-            run.last = field
-            self.of_field[field] = run
-        fields = sorted(self.of_field)
-        for field, said in minutes.items():
-            run = self.of_field.get(field)
-            for one in [run] if run else self._runs_at(field, fields):
-                for minute, lines in said.items():
-                    one.vote(field, minute, weight_of(field, lines))
-
-    def _runs_at(self, field: int, fields: List[int]) -> List[Run]:
-        """The run of a field that has none of its own: that of the fields on both sides, or of the one beside it."""
-        place = bisect.bisect(fields, field)
-        around = [self.of_field[near] for near in fields[max(place - 1, 0):place + 1]]
-        if len(around) == 2 and around[0] is around[1]:
-            return around[:1]
-        return [run for run in around if run.last == field - 1 or run.field == field + 1][:1]
 
 
 # ---- What is set aside
