@@ -32,6 +32,7 @@ pub mod stop_laws;
 mod stops;
 mod swaps;
 mod verdict;
+mod votes;
 
 pub use answers::{PART, judge, judge_one};
 pub use belief::{ENOUGH, REACH, judge_field, support};
@@ -52,3 +53,4 @@ pub use verdict::{
     BEGIN_UNSEEN, BEGINS_LATE, CANNOT_TELL, END_UNSEEN, Finding, GOES_BACK, IS_HELD, IS_JOINED,
     IS_LOST, IS_OFF, IS_OPEN, IS_SWAPPED, MANY_DOUBTFUL, NO, NO_NUMBERS, YES, judge_whole,
 };
+pub use votes::{VOTE_REACH, elected};
