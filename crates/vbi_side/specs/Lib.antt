@@ -23,5 +23,6 @@ pub mod Swaps
 pub mod Both
 pub mod Votes
 pub mod Tallies
+pub mod WorkedVotes
 pub mod WorkedSides
 pub mod Drifts
