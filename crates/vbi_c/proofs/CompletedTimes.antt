@@ -33,7 +33,8 @@ completed_word system line_16 seen i word (part, m, completed) =
 -- the lines of a completed field tell the number that was voted rightly
 told_lines : (system : words.System) (recorded : ℕ → Option ℕ) (seen : List Sightings) (lines : List LdvbiReading)
     (i part m word : ℕ) → IsVoted system recorded seen (record { lines = lines }) i part m
-    → IsCompleted system (lines_of lines).line_16 seen i word → TellsTime system m (record { lines = with_time word lines })
+    → IsCompleted system (lines_of lines).line_16 seen i word
+    → TellsTime system m (record { lines = with_time word lines })
 told_lines system recorded seen (line_16 ∷ line_17 ∷ line_18 ∷ []) i part m word voted completed =
     ap (sighting_of system Times (shown_by line_16))
     (shown_word word line_16.pass (completed_word system (shown_by line_16) seen i word completed))
@@ -46,7 +47,8 @@ pub told_field : (system : words.System) (recorded : ℕ → Option ℕ) (seen :
     (before after : LdvbiFieldReadings) → IsVoted system recorded seen before i part m
     → IsCompletedField system seen i before after → (after ≡ before) ⊎ TellsTime system m after
 told_field system recorded seen i part m before after voted (inl (word, completed, is)) =
-    inr (subst (TellsTime system m) (sym is) (told_lines system recorded seen before.lines i part m word voted completed))
+    inr (subst (TellsTime system m) (sym is)
+    (told_lines system recorded seen before.lines i part m word voted completed))
 told_field system recorded seen i part m before after voted (inr (none, is)) = inl is
 
 -- and tells it where it shows no time
@@ -58,7 +60,8 @@ told_unseen system recorded seen i part m before after voted unseen early (inl (
     subst (TellsTime system m) (sym is) (told_lines system recorded seen before.lines i part m word voted completed)
 told_unseen system recorded seen i part m before after voted unseen early (inr (none, is)) =
     absurd (none (time_word (m / minute_of system))
-    (completed_rightly recorded system (lines_in before).line_16 seen i part m voted.part_is voted.rightly unseen early))
+    (completed_rightly recorded system (lines_in before).line_16 seen i part m voted.part_is voted.rightly unseen
+    early))
 
 -- ---- field by field
 

@@ -107,8 +107,8 @@ pub fn worked_calls()
     ensures none_on_18 { (answer : ℕ) → IsStopOf (lines_read_as 0 0 0x82CFFF) answer → answer ≡ 0 }
 {}
 
-/// What a completed field is: line 17 has the word, in the pass of line 16, and the others stay. The times that vote are
-/// those of lines 17 and 18, beside line 16.
+/// What a completed field is: line 17 has the word, in the pass of line 16, and the others stay. The times that vote
+/// are those of lines 17 and 18, beside line 16.
 #[tactic(auto, unfolding(vbi_words::specs::Codes::code_of))]
 pub fn worked_completed()
     ensures lines { with_time 0xF0DD02 (reading_as 0 2 0 0x8AE710 ∷ reading_as 1 0 0 0 ∷ reading_as 3 0 77 0 ∷ [])

@@ -62,7 +62,8 @@ completed_by system line_16 fields i part number found inside unseen has elected
         ⊎ ((nat_le 600 (number / minute_of system) ≡ false) × (number / minute_of system < 600))
         → found ≡ Some word → IsCompleted system line_16 fields i word
     to (inl (t, le)) e =
-        absurd (let none : None ≡ Some word = sym (late le) ∙ e in let clash : None ≡ Some word → ⊥ = λ h. cc in clash none)
+        absurd (let none : None ≡ Some word = sym (late le) ∙ e in
+        let clash : None ≡ Some word → ⊥ = λ h. cc in clash none)
     to (inr (f, lt)) e = (
       part,
       number,

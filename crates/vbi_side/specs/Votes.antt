@@ -37,8 +37,8 @@ part_from system _ = None
 abbrev pub part_of : System → Shown → Option ℕ
 part_of system line_16 = part_from system (code_in line_16)
 
--- number n of field j votes in field i, which shows this part of a minute: it is within reach, and goes on with the part
--- of some minute
+-- number n of field j votes in field i, which shows this part of a minute: it is within reach, and goes on with the
+-- part of some minute
 abbrev pub votes : ℕ → ℕ → ℕ → ℕ → ℕ → Bool
 votes minute i part j n =
     nat_le i (j + vote_reach) && nat_le j (i + vote_reach)

@@ -70,8 +70,8 @@ pub fn worked_parts()
         ≡ 0xF0DD00 ∷ 0xF0DD09 ∷ 0xF0DD59 ∷ 0xF1DD00 ∷ 0xF1DD23 ∷ 0xF9DD59 ∷ [] }
 {}
 
-/// Votes counted by hand: two right minutes against one wrong, one against one, and two in pass 2 against one in pass 1.
-/// A time 240 fields away votes, one 242 fields away doesn't. PAL has another minute.
+/// Votes counted by hand: two right minutes against one wrong, one against one, and two in pass 2 against one in
+/// pass 1. A time 240 fields away votes, one 242 fields away doesn't. PAL has another minute.
 #[tactic(auto, unfolding(crate::specs::Votes::weight_of_first))]
 pub fn worked_votes()
     ensures two_to_one { (votes_cast (minute_of Ntsc) two_to_one 4 700 ≡ 6)
@@ -88,8 +88,8 @@ pub fn worked_votes()
         × (votes_cast (minute_of Ntsc) (alone_behind 242) 0 579 ≡ 0) }
 {}
 
-/// Whom these votes elect: two right minutes are more than half against one wrong, one against one isn't, nor are two in
-/// pass 2 against one in pass 1.
+/// Whom these votes elect: two right minutes are more than half against one wrong, one against one isn't, nor are two
+/// in pass 2 against one in pass 1.
 pub fn worked_elections()
     ensures two { IsElected (minute_of Ntsc) two_to_one 4 700 4300 }
     ensures none { (m : ℕ) → IsElected (minute_of Ntsc) one_to_one 4 700 m → ⊥ }

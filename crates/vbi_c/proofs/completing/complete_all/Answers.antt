@@ -16,7 +16,8 @@ loop-i-preserved c =
     let system = c.args.system in
     let after = c.completed_field.result in
     let each = each_set
-    (λ k x. (before : LdvbiFieldReadings) → slice_get readings k ≡ Some before → IsCompletedField system seen k before x)
+    (λ k x. (before : LdvbiFieldReadings) → slice_get readings k ≡ Some before
+    → IsCompletedField system seen k before x)
     c.loop-i.completed i after (λ k x less there before here. c.loop-i.invariant.each k before x less here there)
     (λ before here. subst (λ f. IsCompletedField system seen i f after) (get_or_from_slice_get readings i before _ here)
     c.completed_field.ensures) in

@@ -13,5 +13,5 @@ pub returns-in-Some-elected : goal.returns-in-Some-elected
 returns-in-Some-elected c =
     completed_by c.args.system c.args.line_16.now c.args.fields.now c.args.field c.in-Some.part
     c.in-Some-elected.number c.word_of.result c.requires
-    (λ h. let clash : true ≡ false = sym (c.shows_any.ensures.1 h) ∙ c.if-shows_any.false in cc) (sym c.in-Some.ensures) c.in-Some-elected.ensures
-    c.word_of.ensures.value c.word_of.ensures.late
+    (λ h. let clash : true ≡ false = sym (c.shows_any.ensures.1 h) ∙ c.if-shows_any.false in cc)
+    (sym c.in-Some.ensures) c.in-Some-elected.ensures c.word_of.ensures.value c.word_of.ensures.late

@@ -40,7 +40,8 @@ returns-clause-all c =
     let minute = minute_of c.args.election.system in
     let i = c.args.election.field in
     let part = c.args.election.part in
-    c.loop-other.invariant.all ∙ none_later (votes minute i part) c.args.fields.now i c.min-end.result c.loop-other.other
+    c.loop-other.invariant.all
+    ∙ none_later (votes minute i part) c.args.fields.now i c.min-end.result c.loop-other.other
     (votes_near minute i part) c.min-end.ensures (omega arith)
 
 pub returns-clause-leads : goal.returns-clause-leads
@@ -48,5 +49,5 @@ returns-clause-leads c =
     let minute = minute_of c.args.election.system in
     let i = c.args.election.field in
     let part = c.args.election.part in
-    leads_alike _ _ _ (λ k. none_later (votes_by minute i part k) c.args.fields.now i c.min-end.result c.loop-other.other
-    (votes_by_near minute i part k) c.min-end.ensures (omega arith)) c.loop-other.invariant.leads
+    leads_alike _ _ _ (λ k. none_later (votes_by minute i part k) c.args.fields.now i c.min-end.result
+    c.loop-other.other (votes_by_near minute i part k) c.min-end.ensures (omega arith)) c.loop-other.invariant.leads

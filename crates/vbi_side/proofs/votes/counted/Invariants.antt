@@ -10,6 +10,7 @@ invariant-loop-other l = record {
   within : l.tally.ahead ≤ l.tally.all;
   few : l.tally.all ≤ 4 * l.other;
   leads : Leads
-      (λ k. weight_of_first (votes_by (minute_of l.election.system) l.election.field l.election.part k) l.fields l.other)
+      (λ k. weight_of_first (votes_by (minute_of l.election.system) l.election.field l.election.part k) l.fields
+      l.other)
       l.tally;
 }
