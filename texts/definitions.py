@@ -31,6 +31,8 @@ SECTIONS = {mark: [tuple(one.split()) for one in text.split(";")] for mark, text
     "judge": "vbi_side/src/answers.rt judge; vbi_side/src/found.rt found_pace; vbi_side/src/laws.rt whole_found; "
              "vbi_side/src/seek.rt first_of",
     "words": "vbi_side/src/lines.rt sightings; vbi_side/src/laws.rt misread_words",
+    "votes": "vbi_side/src/votes.rt elected; vbi_side/src/completion.rt completed_time; "
+             "vbi_side/src/vote_laws.rt elected_is_right completed_is_told completed_is_right",
     "chapters": "vbi_side/src/chapters.rt chapters_shown judge_chapters; vbi_side/src/chapter_laws.rt chapters_sound",
     "field": "vbi_side/src/laws.rt same_in_part; vbi_side/src/answers.rt judge_one",
     "stops": "vbi_side/src/stops.rt judge_stop; vbi_side/src/stop_laws.rt stops_in_words",

@@ -33,8 +33,8 @@ of a whole side mean is the business of the package `ldvbi_side`, which stands o
 
 
 from .classes import Code, Format, Kind, classify, format_of
-from .judging import (End, Number, State, find_pace, first_of, judge, judge_chapters, judge_ends, judge_field,
-                      judge_stops)
+from .judging import (End, Number, State, complete_times, find_pace, first_of, judge, judge_chapters, judge_ends,
+                      judge_field, judge_stops)
 from .library import Both, Counted, Pace, System
 from .near import Near, nearest, recover_pile
 from .readings import (PACKED_FIELD, Cause, FieldReadings, Reading, draw_line, field_bytes, line_bytes, read_field,
@@ -46,7 +46,7 @@ from .stream import BLOCK, Stream, fields
 __all__ = ["System", "Cause", "Kind", "Format", "Counted", "Pace", "Both", "State", "End", "Reading", "FieldReadings",
            "Code", "Number", "Near", "Sought", "Verdict", "Reason", "GapKind", "Gap", "Tally", "JudgedSide", "Stream",
            "line_bytes", "field_bytes", "read_line", "read_rows", "read_field", "fields", "classify", "format_of",
-           "judge", "judge_field", "find_pace", "judge_chapters", "judge_stops", "judge_ends", "judge_side", "first_of",
-           "seek", "nearest", "recover_pile", "draw_line"]
+           "judge", "judge_field", "complete_times", "find_pace", "judge_chapters", "judge_stops", "judge_ends",
+           "judge_side", "first_of", "seek", "nearest", "recover_pile", "draw_line"]
 
 __version__ = "0.1.0"

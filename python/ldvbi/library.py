@@ -86,6 +86,7 @@ _LATER = {
     "ldvbi_judge_field": ("judge one field", [_NUMBER] * 3 + [_MEMORY, _SIZE, _SIZE, _MEMORY]),
     "ldvbi_seek": ("seek numbers", _SETUP + [_NUMBER] * 2 + [_MEMORY, _SIZE, _NUMBER, _MEMORY]),
     "ldvbi_find_pace": ("find paces", [_NUMBER] * 2 + [_MEMORY, _SIZE] * 2 + [_MEMORY]),
+    "ldvbi_complete_times": ("complete times", [_NUMBER] + [_MEMORY, _SIZE] * 3),
     "ldvbi_judge_chapters": ("judge chapters", [_MEMORY, _SIZE] * 3),
     "ldvbi_judge_stops": ("judge stops", [_MEMORY, _SIZE] * 2),
     "ldvbi_judge_ends": ("judge whole sides", [_MEMORY, _SIZE] * 2),

@@ -15,7 +15,7 @@ _CALLS = dict.fromkeys(("read_line", "read_rows", "read_field", "nearest", "reco
 _CALLS.update(dict.fromkeys(_SIZES, "N"), first_of="PSN", read_fields="NNNPSPS", recover_fields="NNNPSPS",
               recover_rows_without="NNNPSPSP", recover_fields_without="NNNPSPSPS", draw_line="NNNNPS", classify="NP",
               format="NNNP", judge="NNNPSPSPS", judge_field="NNNPSSP", judge_chapters="PSPSPS", judge_stops="PSPS",
-              judge_ends="PSPS", judge_side="NNNNNPSPSPSPSP", find_both="PS",
+              judge_ends="PSPS", complete_times="NPSPSPS", judge_side="NNNNNPSPSPSPSP", find_both="PS",
               find_pace="NNPSPSP", seek="NNNNNPSNP", recover_pile="NNNNNPSPSP", recovered_record="NNNNPSPSP")
 _wrong = []
 

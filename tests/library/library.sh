@@ -40,7 +40,7 @@ check 'the interface of the header is that of make' \
 # Calls over the border, from Python, and from C with the sanitizers. Worn lines are read without these, which would
 # take their time over the noise.
 PYTHONPATH=$PYTHONPATH:$tests/python
-for part in lines worn pile fields refusals judged whole ruled; do
+for part in lines worn pile fields refusals judged completed whole ruled; do
     check "the tests of $part" prints 0 '0 wrong' python3 "$here/$part.py"
 done
 while read -r name sanitizers; do

@@ -223,6 +223,8 @@ def compare_judges(call, choose):
     seen = (size(count), slice(20 * count, None), size(count + off))
     yield call("ldvbi_judge", system, counted, pace, readings, size(count), ..., *seen, room=28 * count + 16)
     yield call("ldvbi_judge_chapters", readings, size(count), ..., *seen, room=28 * count + 16)
+    yield call("ldvbi_complete_times", system, readings, size(count), ..., size(count), slice(20 * count, None),
+               size(count + off), room=44 * count + 48)
     for name in ("ldvbi_judge_stops", "ldvbi_judge_ends"):
         yield call(name, readings, size(count), ..., size(count + off), room=4 * count + 16)
     yield call("ldvbi_find_pace", system, counted, readings, size(count), slice(4, None),

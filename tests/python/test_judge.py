@@ -6,7 +6,7 @@ import unittest
 import ldvbi
 from cases import InFolder, reason
 from compact import made
-from discs import side
+from discs import minutes, second, side
 from ldvbi import Counted, Number, Pace, State
 from streams import NTSC, write_stream
 from test_refusals import WIDE
@@ -80,6 +80,58 @@ class Forms(InFolder):
             self.assertIs(ldvbi.find_pace(one, "NTSC"), Pace.video)
 
 
+BLANK = (1, 0, 0, 0)
+
+
+def fields_of(numbers, without=(), misread=()):
+    """The readings of the two fields of each of these PAL times: some without their minute, some a minute too late."""
+    fields = []
+    for number in numbers:
+        seconds, part = divmod(number, 25)
+        minute = minutes(*divmod(seconds // 60 + (number in misread), 60))
+        lines = [(0, 1, 0, int(word, 16)) for word in (second(seconds % 60, part), minute)]
+        fields += [[lines[0], BLANK if number in without else lines[1], BLANK], [BLANK] * 3]
+    return fields
+
+
+def packed(fields):
+    return b"".join(ldvbi.PACKED_FIELD.pack(*sum(map(tuple, field), ())) for field in fields)
+
+
+class Completed(InFolder):
+    """Times without their minute. More rows of what the library completes has tests/library/completed.py."""
+
+    def test_minutes(self):
+        """The minute that the others say, over a minute's end too; a misread one stands alone. Without any there is
+        none."""
+        numbers, some = range(1496, 1504), (1498, 1499, 1500)
+        whole, none = packed(fields_of(numbers)), packed(fields_of(numbers, numbers))
+        for fields, wanted in ((fields_of(numbers, some), whole), (fields_of(numbers), whole),
+                               (fields_of(numbers, numbers), none),
+                               (fields_of(numbers, numbers[:-1]), whole),
+                               (fields_of(numbers, some, (1496,)), packed(fields_of(numbers, misread=(1496,)))),
+                               (fields_of(numbers[:3], (1497,), (1496,)),
+                                packed(fields_of(numbers[:3], (1497,), (1496,))))):
+            for form in (fields, packed(fields), iter(fields), bytearray(packed(fields))):
+                self.assertEqual(ldvbi.complete_times(form, ldvbi.System.PAL), wanted)
+        self.assertEqual(ldvbi.complete_times([], "NTSC"), b"")
+
+    def test_judged(self):
+        """What is completed is judged as what was read: by itself no field here would be believed."""
+        fields = fields_of(range(1496, 1504), range(1497, 1504))
+        before, after = (ldvbi.judge(one, "PAL", "times") for one in (fields, ldvbi.complete_times(fields, "PAL")))
+        self.assertEqual([one.state for one in before[::2]], [State.doubtful] + [State.nothing] * 7)
+        self.assertEqual(after[::2], [Number(number, State.believed) for number in range(1496, 1504)])
+        self.assertEqual(ldvbi.judge_side(ldvbi.complete_times(fields, "PAL"), "PAL", "times").numbers, after)
+
+    def test_a_stream(self):
+        write_stream(self.path, NTSC, [[0x8AE710, 0xF0DD02, 0], [0, 0, 0], [0x8AE711, 0, 0xF12345]])
+        with ldvbi.Stream(self.path, *NTSC) as stream:
+            completed = ldvbi.complete_times(stream, "NTSC")
+            self.assertEqual(completed[:48], b"".join(stream.packed(0, 2)))
+        self.assertEqual(completed[48:], packed([[(0, 1, 0, 0x8AE711), (0, 1, 0, 0xF0DD02), (0, 1, 0, 0xF12345)]]))
+
+
 class Refusals(unittest.TestCase):
     def test_rows(self):
         system, counted = "system is neither NTSC nor PAL", "neither pictures nor times are counted"
@@ -97,6 +149,8 @@ class Refusals(unittest.TestCase):
                     self.assertEqual(reason(ldvbi.judge, readings, *words), text)
                     if text != pace:
                         self.assertEqual(reason(ldvbi.find_pace, readings, *words[:2]), text)
+                    if text == system:
+                        self.assertEqual(reason(ldvbi.complete_times, readings, words[0]), text)
 
     def test_readings(self):
         line = (0, 0, 0, 0)
@@ -107,8 +161,8 @@ class Refusals(unittest.TestCase):
                                ([[line, line, (0, 0, 0)]], "readings[0] is not three readings"),
                                ([[line, line, (0, 0, 0, 2 ** 32)]], "readings[0] is not three readings"),
                                ("ab", "readings[0] is not three readings")):
-            for call, *words in ((ldvbi.judge, "PAL"), (ldvbi.find_pace, "PAL"), (ldvbi.judge_chapters,),
-                                 (ldvbi.judge_stops,)):
+            for call, *words in ((ldvbi.judge, "PAL"), (ldvbi.find_pace, "PAL"), (ldvbi.complete_times, "PAL"),
+                                 (ldvbi.judge_chapters,), (ldvbi.judge_stops,)):
                 self.assertEqual(reason(call, readings, *words), text)
 
 

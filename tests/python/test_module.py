@@ -157,6 +157,7 @@ class Library(InFolder):
         for call, purpose, name in (("judge([], 'NTSC')", "judge numbers", "judge"),
                                     ("find_pace([], 'NTSC')", "find paces", "find_pace"),
                                     ("judge_field([], 0, 'NTSC')", "judge one field", "judge_field"),
+                                    ("complete_times([], 'NTSC')", "complete times", "complete_times"),
                                     ("judge_chapters([])", "judge chapters", "judge_chapters"),
                                     ("judge_stops([])", "judge stops", "judge_stops"),
                                     ("judge_ends([])", "judge whole sides", "judge_ends"),

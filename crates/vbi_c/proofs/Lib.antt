@@ -6,3 +6,5 @@ pub mod MarkedLines
 pub mod Sought
 pub mod PartOfReadings
 mod Shown
+pub mod CompletedTimes
+pub mod Placed

@@ -17,4 +17,5 @@ pub mod Stops
 pub mod Ends
 pub mod WholeSides
 pub mod Telling
+pub mod Completing
 pub mod Worked

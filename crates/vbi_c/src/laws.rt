@@ -17,6 +17,7 @@ ghost use Rattle.vbi_c.specs.declared.record.LdvbiRecord.{LdvbiRecord};
 ghost use Rattle.vbi_c.specs.declared.seeking.LdvbiSought.{LdvbiSought};
 ghost use Rattle.vbi_c.specs.Chapters.{chapters_in};
 ghost use Rattle.vbi_c.specs.Codes.{code_for_c, format_for_c};
+ghost use Rattle.vbi_c.specs.Completing.{times_of, with_time, TellsTime};
 ghost use Rattle.vbi_c.specs.Fields.{field_in, field_reading, fields_reading, rows_reading};
 ghost use Rattle.vbi_c.specs.Judging.{counted_of, asked_of, given_of, pace_for_c, seen_in, IsGiven};
 ghost use Rattle.vbi_c.specs.Nearest.{near_for_c};
@@ -104,6 +105,19 @@ pub fn worked_calls()
     ensures stop_on_16 { (answer : ℕ) → IsStopOf (lines_read_as 0x82CFFF 0 0) answer → answer ≡ 1 }
     ensures stop_on_17 { (answer : ℕ) → IsStopOf (lines_read_as 0 0x82CFFF 0) answer → answer ≡ 1 }
     ensures none_on_18 { (answer : ℕ) → IsStopOf (lines_read_as 0 0 0x82CFFF) answer → answer ≡ 0 }
+{}
+
+/// What a completed field is: line 17 has the word, in the pass of line 16, and the others stay. The times that vote
+/// are those of lines 17 and 18, beside line 16.
+#[tactic(auto, unfolding(vbi_words::specs::Codes::code_of))]
+pub fn worked_completed()
+    ensures lines { with_time 0xF0DD02 (reading_as 0 2 0 0x8AE710 ∷ reading_as 1 0 0 0 ∷ reading_as 3 0 77 0 ∷ [])
+        ≡ reading_as 0 2 0 0x8AE710 ∷ reading_as 0 2 0 0xF0DD02 ∷ reading_as 3 0 77 0 ∷ [] }
+    ensures seen { seen_in (times_of Pal) (field_read_as 0x8AE501 0xF0DD00 0xF0DD01) ≡ field_of 126 2 1626 2 }
+    ensures tells { TellsTime Ntsc 3610 (record {
+      lines
+          = with_time 0xF0DD02 (reading_as 0 2 0 0x8AE010 ∷ reading_as 1 0 0 0 ∷ reading_as 1 0 0 0 ∷ []);
+    }) }
 {}
 
 /// What is asked of the judge of whole sides, and what it is told of numbers on both fields: the system is looked at

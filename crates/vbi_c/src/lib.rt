@@ -11,6 +11,7 @@
 
 mod chapters;
 mod code;
+mod completing;
 mod drawing;
 mod ends;
 mod erased;
@@ -39,6 +40,7 @@ mod word;
 
 pub use chapters::ldvbi_judge_chapters;
 pub use code::{LdvbiCode, ldvbi_classify};
+pub use completing::ldvbi_complete_times;
 pub use drawing::ldvbi_draw_line;
 pub use ends::ldvbi_judge_ends;
 pub use erased::LdvbiErased;

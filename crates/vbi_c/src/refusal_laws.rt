@@ -9,6 +9,7 @@ ghost use Rattle.vbi_c.specs.declared.judging.Asked.TheVariants.{Given, Found};
 ghost use Rattle.vbi_c.specs.declared.status.Refusal.TheVariants.{System, Levels, Length, Word, Counted, Pace};
 ghost use Rattle.vbi_c.specs.declared.status.Refusal.TheVariants.{Erased, Line, Known};
 ghost use Rattle.vbi_c.specs.Chapters.{chapters_status};
+ghost use Rattle.vbi_c.specs.Completing.{completing_of};
 ghost use Rattle.vbi_c.specs.Drawing.{drawing_of};
 ghost use Rattle.vbi_c.specs.Erased.{is_code_line, is_entry, may_follow, is_taken, with_erased, erases, erased_of};
 ghost use Rattle.vbi_c.specs.Judging.{judging_of, one_judging_of, shown_by};
@@ -89,6 +90,14 @@ pub fn worked_judging()
     ensures sought { seek_of 2 16384 54016 1 3 ≡ Ok (record { setup = pal; judging = judged_as Pal Pictures Found }) }
     ensures sought_order { (seek_of 3 1 0 0 0 ≡ Err System) × (seek_of 1 1 0 0 0 ≡ Err Levels)
         × (seek_of 1 0 1 0 0 ≡ Err Counted) × (seek_of 1 0 1 1 0 ≡ Err Pace) }
+{}
+
+/// What is asked of the completing of times: the system is looked at first, then the lengths.
+pub fn worked_completing()
+    ensures taken { (completing_of 1 5 5 5 ≡ Ok Ntsc) × (completing_of 2 0 0 0 ≡ Ok Pal) }
+    ensures order { (completing_of 3 5 4 4 ≡ Err System) × (completing_of 0 5 5 5 ≡ Err System)
+        × (completing_of 1 5 4 5 ≡ Err Length) × (completing_of 1 5 5 4 ≡ Err Length)
+        × (completing_of 2 5 6 6 ≡ Err Length) }
 {}
 
 /// Which lists of erased columns are taken. A list is looked at after all else.

@@ -52,7 +52,7 @@ sighting_narrower few more sighting passes = go (few sighting.number) (more sigh
     go true true h = omega arith
     go true false h = absurd (false_true (h refl))
 
-field_narrower : (few more : ℕ → Bool) (field : Option Sightings) → ((n : ℕ) → few n ≡ true → more n ≡ true)
+pub field_narrower : (few more : ℕ → Bool) (field : Option Sightings) → ((n : ℕ) → few n ≡ true → more n ≡ true)
     → field_weight few field ≤ field_weight more field
 field_narrower few more None passes = omega arith
 field_narrower few more (Some field) passes =
@@ -123,7 +123,7 @@ sighting_split test some rest sighting passes =
     go true false true h = omega arith
     go true false false h = absurd (elim (h refl) [ inl e ↦ false_true e | inr e ↦ false_true e ])
 
-field_split : (test some rest : ℕ → Bool) (field : Option Sightings)
+pub field_split : (test some rest : ℕ → Bool) (field : Option Sightings)
     → ((n : ℕ) → test n ≡ true → (some n ≡ true) ⊎ (rest n ≡ true))
     → field_weight test field ≤ field_weight some field + field_weight rest field
 field_split test some rest None passes = omega arith

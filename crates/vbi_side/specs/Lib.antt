@@ -21,5 +21,8 @@ pub mod Gaps
 pub mod Verdicts
 pub mod Swaps
 pub mod Both
+pub mod Votes
+pub mod Tallies
+pub mod WorkedVotes
 pub mod WorkedSides
 pub mod Drifts

@@ -12,6 +12,7 @@ mod belief;
 mod both;
 pub mod chapter_laws;
 mod chapters;
+mod completion;
 mod drift;
 mod due;
 mod ends;
@@ -32,11 +33,14 @@ pub mod stop_laws;
 mod stops;
 mod swaps;
 mod verdict;
+pub mod vote_laws;
+mod votes;
 
 pub use answers::{PART, judge, judge_one};
 pub use belief::{ENOUGH, REACH, judge_field, support};
 pub use both::is_on_both;
 pub use chapters::{chapters_shown, judge_chapters};
+pub use completion::completed_time;
 pub use ends::{DOUBTFUL_END, LEAD_IN, LEAD_OUT, NO_END, judge_end};
 pub use extent::{Extent, extent_of};
 pub use found::found_pace;
@@ -52,3 +56,4 @@ pub use verdict::{
     BEGIN_UNSEEN, BEGINS_LATE, CANNOT_TELL, END_UNSEEN, Finding, GOES_BACK, IS_HELD, IS_JOINED,
     IS_LOST, IS_OFF, IS_OPEN, IS_SWAPPED, MANY_DOUBTFUL, NO, NO_NUMBERS, YES, judge_whole,
 };
+pub use votes::{VOTE_REACH, elected};

@@ -59,7 +59,7 @@ impl Shown {
 }
 
 /// The pictures of a second.
-fn rate(system: System) -> u32
+pub(crate) fn rate(system: System) -> u32
     ensures value { result ≡ rate_of system }
     ensures range { result ≤ 30 }
 {

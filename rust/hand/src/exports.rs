@@ -288,6 +288,20 @@ pub unsafe extern "C" fn ldvbi_find_pace(
 }
 
 #[no_mangle]
+pub unsafe extern "C" fn ldvbi_complete_times(
+    system: u32,
+    readings: *const LdvbiFieldReadings,
+    count: usize,
+    seen: *mut Sightings,
+    seen_count: usize,
+    completed: *mut LdvbiFieldReadings,
+    completed_count: usize,
+) -> u32 {
+    let (seen, completed) = (room(seen, seen_count), room(completed, completed_count));
+    c::ldvbi_complete_times(system, values(readings, count), seen, completed)
+}
+
+#[no_mangle]
 pub unsafe extern "C" fn ldvbi_judge_chapters(
     readings: *const LdvbiFieldReadings,
     count: usize,

@@ -1,0 +1,72 @@
+-- The completing of times, as C asks for it: first the system is looked at, then the lengths of the arrays.
+use Rattle.std.specs.Prelude.{◌≡◌, ℕ, ◌/◌, ◌<◌, ◌==◌, ◌&&◌, ◌⊎◌, List, [], ◌∷◌, length, slice_get, Option, Some}
+use Rattle.std.specs.Prelude.{Result}
+use Rattle.vbi_words.specs.declared.system.System as words
+use Rattle.vbi_side.specs.declared.lines.Counted.TheVariants.{Times}
+use Rattle.vbi_side.specs.declared.sighting.Sighting.{Sighting}
+use Rattle.vbi_side.specs.declared.sighting.Sightings.{Sightings}
+use Rattle.vbi_side.specs.Sightings.{Shows}
+use Rattle.vbi_side.specs.Lines.{pass_weight}
+use Rattle.vbi_side.specs.Misread.{numbers_in}
+use Rattle.vbi_side.specs.Votes.{minute_of, part_of, IsCompleted, IsVotedRightly}
+use Rattle.vbi_c.specs.declared.fields.LdvbiFieldReadings.{LdvbiFieldReadings}
+use Rattle.vbi_c.specs.declared.judging.Judging.{Judging}
+use Rattle.vbi_c.specs.declared.judging.Asked.TheVariants.{Found}
+use Rattle.vbi_c.specs.declared.reading.LdvbiReading.{LdvbiReading}
+use Rattle.vbi_c.specs.declared.status.Refusal.{Refusal}
+use Rattle.vbi_c.specs.Judging.{with_lengths, lines_in}
+use Rattle.vbi_c.specs.Setups.{system_of}
+
+-- the system of a call, with arrays that are both as long as that of the readings
+abbrev pub completing_of : ℕ → ℕ → ℕ → ℕ → Result words.System Refusal
+completing_of system count seen completed =
+    with_lengths (system_of system) (seen == count && completed == count)
+
+-- what asks for the times that fields show; the pace says nothing there
+abbrev pub times_of : words.System → Judging
+times_of system = record { system = system; counted = Times; asked = Found }
+
+-- a word that was read in this pass
+abbrev pub read_as : ℕ → ℕ → LdvbiReading
+read_as word pass = record { cause = 0; pass = pass; column = 0; word = word }
+
+-- three lines, the second of which has this word, as it would be read in the pass of the first
+abbrev pub with_time : ℕ → List LdvbiReading → List LdvbiReading
+with_time word (line_16 ∷ line_17 ∷ line_18 ∷ []) = line_16 ∷ read_as word line_16.pass ∷ line_18 ∷ []
+with_time word other = other
+
+-- the time of field i is completed, on line 17, or there is none that completes it, and nothing is changed
+abbrev pub IsCompletedField : words.System → List Sightings → ℕ → LdvbiFieldReadings → LdvbiFieldReadings → Type 0
+IsCompletedField system seen i before after =
+    ((word : ℕ) × IsCompleted system (lines_in before).line_16 seen i word
+    × (after ≡ record { lines = with_time word before.lines }))
+    ⊎ (((word : ℕ) → IsCompleted system (lines_in before).line_16 seen i word → ⊥) × (after ≡ before))
+
+-- field i was voted rightly: on the disc, which ran on around it, it counts number m, line 16 has its second and
+-- picture, and more of the weight of the votes is right than wrong
+pub record IsVoted (system : words.System) (recorded : ℕ → Option ℕ) (seen : List Sightings)
+    (before : LdvbiFieldReadings) (i part m : ℕ) : Type 0 where
+  pub part_is : part_of system (lines_in before).line_16 ≡ Some part
+  pub rightly : IsVotedRightly recorded (minute_of system) seen i part m
+
+-- line 17 then shows the number m, with the weight of line 16
+abbrev pub TellsTime : words.System → ℕ → LdvbiFieldReadings → Type 0
+TellsTime system m after =
+    (numbers_in system Times (lines_in after)).line_17
+    ≡ record { number = m; weight = pass_weight (lines_in after).line_16.pass }
+
+-- each field is completed, or as it was; where more votes are right than wrong a field that shows no time gets the one
+-- on the disc, if it has an hour of one digit, and none gets another
+pub record AreCompleted (system : words.System) (readings : List LdvbiFieldReadings) (seen : List Sightings)
+    (completed : List LdvbiFieldReadings) : Type 0 where
+  pub count : length completed ≡ length readings
+  pub each : (i : ℕ) (before after : LdvbiFieldReadings) → slice_get readings i ≡ Some before
+      → slice_get completed i ≡ Some after → IsCompletedField system seen i before after
+  pub right : (recorded : ℕ → Option ℕ) (i part m : ℕ) (before after : LdvbiFieldReadings)
+      → slice_get readings i ≡ Some before → slice_get completed i ≡ Some after
+      → IsVoted system recorded seen before i part m
+      → (after ≡ before) ⊎ TellsTime system m after
+  pub whole : (recorded : ℕ → Option ℕ) (i part m : ℕ) (before after : LdvbiFieldReadings)
+      → slice_get readings i ≡ Some before → slice_get completed i ≡ Some after
+      → IsVoted system recorded seen before i part m
+      → ((n : ℕ) → Shows (slice_get seen i) n → ⊥) → m / minute_of system < 600 → TellsTime system m after

@@ -1,0 +1,312 @@
+-- Sums of votes over the first fields, and who leads.
+use Rattle.std.proofs.Common.{◌≡◌, ◌≢◌, ℕ, zero, suc, ◌+◌, ◌-◌, ◌<◌, ◌≤◌, Bool, true, false, List, length}
+use Rattle.std.proofs.Common.{refl, arith, ap, subst, ◌*◌, add-one, inl, inr, sym, ◌∙◌}
+use Rattle.std.specs.Prelude.{Option, Some, None, slice_get, if◌then◌else◌, ◌⊎◌, ◌&&◌, nat_le, min, ◌%◌}
+use Rattle.std.proofs.Common.{get_or, eq-eqb}
+use Rattle.std.proofs.lemmas.Option.{slice_get-get_or}
+use Rattle.std.proofs.lemmas.Bool.{leb-true, eqb-true, and_parts, and_from}
+use Rattle.std.proofs.lemmas.Bool.Decides.{leb_tells, eqb_tells}
+use Rattle.std.proofs.Math.Dec.{eqb}
+use Rattle.vbi_side.specs.declared.sighting.Sighting.{Sighting}
+use Rattle.vbi_side.specs.declared.sighting.Sightings.{Sightings}
+use Rattle.vbi_side.specs.Sightings.{weight_of}
+use Rattle.vbi_side.specs.Beliefs.{sighting_weight, field_weight}
+use Rattle.vbi_side.specs.declared.votes.Tally.{Tally}
+use Rattle.vbi_side.specs.Votes.{vote_reach, IsVoter, votes, weight_of_first, votes_cast, votes_as, votes_for}
+use Rattle.vbi_side.specs.Votes.{IsElected}
+use Rattle.vbi_side.specs.Tallies.{key_of, votes_by, Leads}
+use Rattle.vbi_side.proofs.Weights.{field_narrower, field_split}
+
+-- a field that shows nothing
+abbrev pub no_sightings : Sightings
+no_sightings = record {
+  line_17 = record { number = 0; weight = 0 };
+  line_18 = record { number = 0; weight = 0 };
+  instead = 0;
+}
+
+pub first_zero : (test : ℕ → ℕ → Bool) (fields : List Sightings) → weight_of_first test fields 0 ≡ 0
+unfolding weight_of_first
+first_zero test fields = refl
+
+pub first_more : (test : ℕ → ℕ → Bool) (fields : List Sightings) (k : ℕ)
+    → weight_of_first test fields (k + 1)
+    ≡ weight_of_first test fields k + field_weight (test k) (slice_get fields k)
+unfolding weight_of_first
+first_more test fields k = ap (weight_of_first test fields) (add-one k)
+
+-- ---- what no sighting passes weighs nothing
+
+false_true : false ≡ true → ⊥
+false_true e = cc
+
+sighting_none : (test : ℕ → Bool) (sighting : Sighting) → ((n : ℕ) → test n ≡ true → ⊥)
+    → sighting_weight test sighting ≡ 0
+sighting_none test sighting fails = go (test sighting.number) (fails sighting.number)
+  where
+    go : (b : Bool) → (b ≡ true → ⊥) → (if b then weight_of sighting else 0) ≡ 0
+    go false h = refl
+    go true h = absurd (h refl)
+
+field_none : (test : ℕ → Bool) (field : Option Sightings) → ((n : ℕ) → test n ≡ true → ⊥)
+    → field_weight test field ≡ 0
+field_none test None fails = refl
+field_none test (Some field) fails =
+    omega (arith, sighting_none test field.line_17 fails, sighting_none test field.line_18 fails)
+
+-- fields of which none passes weigh nothing
+pub first_none : (test : ℕ → ℕ → Bool) (fields : List Sightings) (k : ℕ)
+    → ((j n : ℕ) → j < k → test j n ≡ true → ⊥) → weight_of_first test fields k ≡ 0
+unfolding weight_of_first
+first_none test fields zero fails = refl
+first_none test fields (suc k) fails =
+    omega (
+      arith,
+      first_none test fields k (λ j n less. fails j n (omega arith)),
+      field_none (test k) (slice_get fields k) (λ n. fails k n (omega arith)),
+    )
+
+-- and so do those behind field k
+behind_by : (test : ℕ → ℕ → Bool) (fields : List Sightings) (k more : ℕ)
+    → ((j n : ℕ) → k ≤ j → test j n ≡ true → ⊥)
+    → weight_of_first test fields (k + more) ≡ weight_of_first test fields k
+behind_by test fields k zero fails =
+    let same : k + zero ≡ k = omega arith in ap (weight_of_first test fields) same
+behind_by test fields k (suc more) fails =
+    let next : k + suc more ≡ k + more + 1 = omega (arith, add-one more) in
+    ap (weight_of_first test fields) next ∙ omega (
+      arith,
+      first_more test fields (k + more),
+      behind_by test fields k more fails,
+      field_none (test (k + more)) (slice_get fields (k + more)) (λ n. fails (k + more) n (omega arith)),
+    )
+
+pub first_behind : (test : ℕ → ℕ → Bool) (fields : List Sightings) (k l : ℕ) → k ≤ l
+    → ((j n : ℕ) → k ≤ j → test j n ≡ true → ⊥)
+    → weight_of_first test fields l ≡ weight_of_first test fields k
+first_behind test fields k l less fails =
+    let whole : l ≡ k + (l - k) = omega (arith, less) in
+    ap (weight_of_first test fields) whole ∙ behind_by test fields k (l - k) fails
+
+-- ---- tests that pass more, and less
+
+pub first_narrower : (few more : ℕ → ℕ → Bool) (fields : List Sightings) (k : ℕ)
+    → ((j n : ℕ) → few j n ≡ true → more j n ≡ true)
+    → weight_of_first few fields k ≤ weight_of_first more fields k
+unfolding weight_of_first
+first_narrower few more fields zero passes = omega arith
+first_narrower few more fields (suc k) passes =
+    omega (
+      arith,
+      first_narrower few more fields k passes,
+      field_narrower (few k) (more k) (slice_get fields k) (passes k),
+    )
+
+pub first_alike : (one other : ℕ → ℕ → Bool) (fields : List Sightings) (k : ℕ)
+    → ((j n : ℕ) → one j n ≡ true → other j n ≡ true) → ((j n : ℕ) → other j n ≡ true → one j n ≡ true)
+    → weight_of_first one fields k ≡ weight_of_first other fields k
+first_alike one other fields k here there =
+    omega (arith, first_narrower one other fields k here, first_narrower other one fields k there)
+
+pub first_split : (test some rest : ℕ → ℕ → Bool) (fields : List Sightings) (k : ℕ)
+    → ((j n : ℕ) → test j n ≡ true → (some j n ≡ true) ⊎ (rest j n ≡ true))
+    → weight_of_first test fields k ≤ weight_of_first some fields k + weight_of_first rest fields k
+unfolding weight_of_first
+first_split test some rest fields zero passes = omega arith
+first_split test some rest fields (suc k) passes =
+    omega (
+      arith,
+      first_split test some rest fields k passes,
+      field_split (test k) (some k) (rest k) (slice_get fields k) (passes k),
+    )
+
+-- ---- two tests of which never both pass
+
+sighting_apart : (one other all : ℕ → Bool) (sighting : Sighting)
+    → ((n : ℕ) → one n ≡ true → all n ≡ true) → ((n : ℕ) → other n ≡ true → all n ≡ true)
+    → ((n : ℕ) → one n ≡ true → other n ≡ true → ⊥)
+    → sighting_weight one sighting + sighting_weight other sighting ≤ sighting_weight all sighting
+sighting_apart one other all sighting here there apart =
+    go (one sighting.number) (other sighting.number) (all sighting.number) (here sighting.number)
+    (there sighting.number) (apart sighting.number)
+  where
+    go : (a b c : Bool) → (a ≡ true → c ≡ true) → (b ≡ true → c ≡ true) → (a ≡ true → b ≡ true → ⊥)
+        → (if a then weight_of sighting else 0) + (if b then weight_of sighting else 0)
+        ≤ (if c then weight_of sighting else 0)
+    go true true c h g f = absurd (f refl refl)
+    go true false true h g f = omega arith
+    go true false false h g f = absurd (false_true (h refl))
+    go false true true h g f = omega arith
+    go false true false h g f = absurd (false_true (g refl))
+    go false false c h g f = omega arith
+
+field_apart : (one other all : ℕ → Bool) (field : Option Sightings)
+    → ((n : ℕ) → one n ≡ true → all n ≡ true) → ((n : ℕ) → other n ≡ true → all n ≡ true)
+    → ((n : ℕ) → one n ≡ true → other n ≡ true → ⊥)
+    → field_weight one field + field_weight other field ≤ field_weight all field
+field_apart one other all None here there apart = omega arith
+field_apart one other all (Some field) here there apart =
+    omega (
+      arith,
+      sighting_apart one other all field.line_17 here there apart,
+      sighting_apart one other all field.line_18 here there apart,
+    )
+
+pub first_apart : (one other all : ℕ → ℕ → Bool) (fields : List Sightings) (k : ℕ)
+    → ((j n : ℕ) → one j n ≡ true → all j n ≡ true) → ((j n : ℕ) → other j n ≡ true → all j n ≡ true)
+    → ((j n : ℕ) → one j n ≡ true → other j n ≡ true → ⊥)
+    → weight_of_first one fields k + weight_of_first other fields k ≤ weight_of_first all fields k
+unfolding weight_of_first
+first_apart one other all fields zero here there apart = omega arith
+first_apart one other all fields (suc k) here there apart =
+    omega (
+      arith,
+      first_apart one other all fields k here there apart,
+      field_apart (one k) (other k) (all k) (slice_get fields k) (here k) (there k) (apart k),
+    )
+
+-- ---- who leads
+
+pub leads_alike : (of other : ℕ → ℕ) (tally : Tally) → ((k : ℕ) → of k ≡ other k) → Leads of tally → Leads other tally
+leads_alike of other tally same leads = record {
+  leading = omega (arith, leads.leading, same tally.key);
+  others = λ k apart. omega (arith, leads.others k apart, same k);
+}
+
+-- a vote for a key
+pub vote_for : (does is : Bool) (weight whole : ℕ) → weight ≡ (if does then whole else 0)
+    → (if is then weight else 0) ≡ (if does && is then whole else 0)
+vote_for true true weight whole e = e
+vote_for true false weight whole e = refl
+vote_for false true weight whole e = e
+vote_for false false weight whole e = refl
+
+-- none leads before the first vote
+pub none_leads : (of : ℕ → ℕ) → ((k : ℕ) → of k ≡ 0) → Leads of (record { key = 0; ahead = 0; all = 0 })
+none_leads of none = record {
+  leading = omega (arith, none 0);
+  others = λ k apart. omega (arith, none k);
+}
+
+-- who has more than half leads
+pub only_leads : (of : ℕ → ℕ) (tally : Tally) (k : ℕ) → Leads of tally → tally.all < 2 * of k → k ≡ tally.key
+only_leads of tally k leads most = go (eqb_tells k tally.key)
+  where
+    go : ((eqb k tally.key ≡ true) × (k ≡ tally.key)) ⊎ ((eqb k tally.key ≡ false) × (k ≢ tally.key)) → k ≡ tally.key
+    go (inl (t, e)) = e
+    go (inr (f, apart)) = absurd (omega (arith, leads.others k apart, most))
+
+-- ---- which fields vote
+
+pub votes_near : (minute i part j n : ℕ) → votes minute i part j n ≡ true → IsVoter i j
+votes_near minute i part j n e =
+    let p = and_parts _ _ (and_parts _ _ e).0 in
+    (leb-true i (j + vote_reach) p.0, leb-true j (i + vote_reach) p.1)
+
+pub votes_by_near : (minute i part key j n : ℕ) → votes_by minute i part key j n ≡ true → IsVoter i j
+votes_by_near minute i part key j n e = votes_near minute i part j n (and_parts _ _ e).0
+
+-- the first fields' weight before reach, and behind it
+pub none_before : (test : ℕ → ℕ → Bool) (fields : List Sightings) (i : ℕ)
+    → ((j n : ℕ) → test j n ≡ true → IsVoter i j) → weight_of_first test fields (i - vote_reach) ≡ 0
+none_before test fields i near =
+    first_none test fields (i - vote_reach) (λ j n less e. omega (arith, less, (near j n e).0))
+
+pub none_behind : (test : ℕ → ℕ → Bool) (fields : List Sightings) (i end : ℕ)
+    → ((j n : ℕ) → test j n ≡ true → IsVoter i j) → end ≡ min (length fields) (i + vote_reach + 1)
+    → weight_of_first test fields (length fields) ≡ weight_of_first test fields end
+none_behind test fields i end near is = go (leb_tells (length fields) end)
+  where
+    go : ((nat_le (length fields) end ≡ true) × (length fields ≤ end))
+        ⊎ ((nat_le (length fields) end ≡ false) × (end < length fields))
+        → weight_of_first test fields (length fields) ≡ weight_of_first test fields end
+    go (inl (t, le)) =
+        let same : length fields ≡ end = omega (arith, is, le) in ap (weight_of_first test fields) same
+    go (inr (f, lt)) =
+        first_behind test fields end (length fields) (omega (arith, lt))
+        (λ j n less e. omega (arith, is, lt, less, (near j n e).1))
+
+-- a field that is there
+pub first_next : (test : ℕ → ℕ → Bool) (fields : List Sightings) (k : ℕ) → k < length fields
+    → weight_of_first test fields (k + 1)
+    ≡ weight_of_first test fields k + field_weight (test k) (Some (get_or fields k no_sightings))
+first_next test fields k inside =
+    let at : slice_get fields k ≡ Some (get_or fields k no_sightings) = slice_get-get_or fields k no_sightings inside in
+    first_more test fields k ∙ ap (λ f. weight_of_first test fields k + field_weight (test k) f) at
+
+-- ---- the number that is elected
+
+fits_key : (minute i part m j n : ℕ) → votes_as minute i part m j n ≡ true
+    → votes_by minute i part (2 * m + vote_reach) j n ≡ true
+fits_key minute i part m j n e =
+    let p = and_parts _ _ e in
+    let near : IsVoter i j = votes_near minute i part j n p.0 in
+    let same : j + 2 * m ≡ i + 2 * n = eqb-true _ _ p.1 in
+    let key : key_of i j n ≡ 2 * m + vote_reach = omega (arith, near, same) in
+    and_from _ _ p.0 (eq-eqb _ _ key)
+
+key_fits : (minute i part m j n : ℕ) → votes_by minute i part (2 * m + vote_reach) j n ≡ true
+    → votes_as minute i part m j n ≡ true
+key_fits minute i part m j n e =
+    let p = and_parts _ _ e in
+    let near : IsVoter i j = votes_near minute i part j n p.0 in
+    let key : key_of i j n ≡ 2 * m + vote_reach = eqb-true _ _ p.1 in
+    let same : j + 2 * m ≡ i + 2 * n = omega (arith, near, key) in
+    and_from _ _ p.0 (eq-eqb _ _ same)
+
+-- the votes for a number are those for its key
+pub votes_for_key : (minute : ℕ) (fields : List Sightings) (i part m : ℕ)
+    → votes_for minute fields i part m
+    ≡ weight_of_first (votes_by minute i part (2 * m + vote_reach)) fields (length fields)
+votes_for_key minute fields i part m =
+    first_alike (votes_as minute i part m) (votes_by minute i part (2 * m + vote_reach)) fields (length fields)
+    (fits_key minute i part m) (key_fits minute i part m)
+
+-- where these are the weights of all votes of each key
+abbrev pub AreCounted : ℕ → List Sightings → ℕ → ℕ → Tally → Type 0
+AreCounted minute fields i part tally =
+    (tally.all ≡ votes_cast minute fields i part)
+    × Leads (λ k. weight_of_first (votes_by minute i part k) fields (length fields)) tally
+
+-- an elected number has the leading key
+pub elected_leads : (minute : ℕ) (fields : List Sightings) (i part : ℕ) (tally : Tally) (m : ℕ)
+    → AreCounted minute fields i part tally → IsElected minute fields i part m → 2 * m + vote_reach ≡ tally.key
+elected_leads minute fields i part tally m (all, leads) elected =
+    only_leads _ tally (2 * m + vote_reach) leads
+    (omega (arith, all, elected.majority, votes_for_key minute fields i part m))
+
+-- and more than half of the votes are for that
+pub elected_most : (minute : ℕ) (fields : List Sightings) (i part : ℕ) (tally : Tally) (m : ℕ)
+    → AreCounted minute fields i part tally → IsElected minute fields i part m
+    → tally.all < 2 * weight_of_first (votes_by minute i part tally.key) fields (length fields)
+elected_most minute fields i part tally m counted elected =
+    subst (λ key. tally.all < 2 * weight_of_first (votes_by minute i part key) fields (length fields))
+    (elected_leads minute fields i part tally m counted elected)
+    (omega (arith, counted.0, elected.majority, votes_for_key minute fields i part m))
+
+-- the number of a key with more than half of the votes is elected
+pub most_elected : (minute : ℕ) (fields : List Sightings) (i part : ℕ) (tally : Tally) (m : ℕ)
+    → AreCounted minute fields i part tally
+    → tally.all < 2 * weight_of_first (votes_by minute i part tally.key) fields (length fields)
+    → tally.key ≡ 2 * m + vote_reach → m % minute ≡ part → IsElected minute fields i part m
+most_elected minute fields i part tally m (all, leads) most is has = record {
+  part_is = has;
+  majority = omega (
+    arith,
+    all,
+    votes_for_key minute fields i part m,
+    subst (λ key. tally.all < 2 * weight_of_first (votes_by minute i part key) fields (length fields)) is most,
+  );
+}
+
+-- the same where the first of two fields are those that are there
+pub none_first : (test : ℕ → ℕ → Bool) (fields : List Sightings) (i first : ℕ)
+    → ((j n : ℕ) → test j n ≡ true → IsVoter i j) → first ≡ i - vote_reach → weight_of_first test fields first ≡ 0
+none_first test fields i first near is = ap (weight_of_first test fields) is ∙ none_before test fields i near
+
+-- a sum that stands at a field's end stands at the list's
+pub none_later : (test : ℕ → ℕ → Bool) (fields : List Sightings) (i end k : ℕ)
+    → ((j n : ℕ) → test j n ≡ true → IsVoter i j) → end ≡ min (length fields) (i + vote_reach + 1) → k ≡ end
+    → weight_of_first test fields k ≡ weight_of_first test fields (length fields)
+none_later test fields i end k near is at =
+    ap (weight_of_first test fields) at ∙ sym (none_behind test fields i end near is)

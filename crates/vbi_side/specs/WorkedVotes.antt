@@ -1,0 +1,28 @@
+-- Worked elections of field 4 of an NTSC disc, which shows picture 10 of second 23: two minutes and this part are 4300
+-- pictures.
+use Rattle.std.specs.Prelude.{ℕ, List, [], ◌∷◌, ◌++◌, replicate}
+use Rattle.vbi_side.specs.declared.sighting.Sightings.{Sightings}
+use Rattle.vbi_side.specs.Worked.{field_of, blank}
+
+-- two fields show the right minute, one of them on line 18, and one a minute more; another shows another second
+abbrev pub two_to_one : List Sightings
+two_to_one =
+    field_of 4298 2 0 0 ∷ blank ∷ field_of 0 0 4299 2 ∷ blank ∷ blank ∷ blank ∷ field_of 6101 2 0 0 ∷ blank
+    ∷ field_of 4311 2 0 0 ∷ []
+
+-- one field shows the right minute, and one a minute more
+abbrev pub one_to_one : List Sightings
+one_to_one = field_of 4298 2 0 0 ∷ blank ∷ blank ∷ blank ∷ blank ∷ blank ∷ field_of 6101 2 0 0 ∷ []
+
+-- two fields show the right minute in pass 2, and one a minute more in pass 1
+abbrev pub light_to_heavy : List Sightings
+light_to_heavy =
+    field_of 4298 1 0 0 ∷ blank ∷ field_of 4299 1 0 0 ∷ blank ∷ blank ∷ blank ∷ field_of 6101 2 0 0 ∷ []
+
+-- a time in field 0, and so many fields behind it
+abbrev pub alone_before : ℕ → List Sightings
+alone_before distance = field_of 4300 2 0 0 ∷ replicate distance blank
+
+-- a time that is so many fields behind field 0
+abbrev pub alone_behind : ℕ → List Sightings
+alone_behind distance = replicate distance blank ++ field_of 4300 2 0 0 ∷ []

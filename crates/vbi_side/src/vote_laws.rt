@@ -1,0 +1,97 @@
+//! Laws of the votes. A function here does nothing: its contract is a law, which holds of every capture.
+
+ghost use Rattle.std.specs.Prelude.{◌≡◌, ℕ, ◌/◌, ◌%◌, ◌<◌, List, [], ◌∷◌, map, Option, Some, None, slice_get};
+ghost use Rattle.vbi_words.specs.declared.system.System.{System};
+ghost use Rattle.vbi_words.specs.declared.system.System.TheVariants.{Ntsc, Pal};
+ghost use Rattle.vbi_words.specs.declared.code.Code.TheVariants.{Time};
+ghost use Rattle.vbi_words.specs.Words.{IsWord};
+ghost use Rattle.vbi_words.specs.Codes.{code_of};
+ghost use Rattle.vbi_side.specs.declared.lines.Counted.TheVariants.{Times};
+ghost use Rattle.vbi_side.specs.declared.lines.Shown.{Shown};
+ghost use Rattle.vbi_side.specs.declared.sighting.Sightings.{Sightings};
+ghost use Rattle.vbi_side.specs.Sightings.{Shows};
+ghost use Rattle.vbi_side.specs.Lines.{pass_weight, sighting_of};
+ghost use Rattle.vbi_side.specs.Votes.{minute_of, part_of, votes_cast, votes_for, IsElected, time_word};
+ghost use Rattle.vbi_side.specs.Votes.{IsCompletedBy, IsCompleted, IsVotedRightly};
+ghost use Rattle.vbi_side.specs.Worked.{shown_in};
+ghost use Rattle.vbi_side.specs.WorkedVotes.{two_to_one, one_to_one, light_to_heavy, alone_before, alone_behind};
+
+/// Where the disc ran on within 240 fields of one, and there more weight of the times that go on with its second and
+/// picture was read rightly than wrongly, the number that the disc counts there is elected, and no other.
+pub fn elected_is_right()
+    ensures elected { (recorded : ℕ → Option ℕ) (minute : ℕ) (fields : List Sightings) (i part m : ℕ)
+        → IsVotedRightly recorded minute fields i part m → IsElected minute fields i part m }
+    ensures only { (recorded : ℕ → Option ℕ) (minute : ℕ) (fields : List Sightings) (i part m n : ℕ)
+        → IsVotedRightly recorded minute fields i part m → IsElected minute fields i part n → n ≡ m }
+{}
+
+/// In a field at most one number is elected.
+pub fn one_elected()
+    ensures { (minute : ℕ) (fields : List Sightings) (i part m n : ℕ)
+        → IsElected minute fields i part m → IsElected minute fields i part n → m ≡ n }
+{}
+
+/// With the word that completes a field the line shows the number that is elected, by the weight of line 16, if it is
+/// read in the pass of line 16. The word tells the hours and the minutes of its minute.
+pub fn completed_is_told()
+    ensures told { (system : System) (line_16 : Shown) (fields : List Sightings) (i part m word : ℕ)
+        → IsCompletedBy system line_16 fields i part m word
+        → sighting_of system Times line_16 (record { word = Some word; pass = line_16.pass })
+        ≡ record { number = m; weight = pass_weight line_16.pass } }
+    ensures code { (minute : ℕ) → minute < 600 → code_of (time_word minute) ≡ Time (minute / 60) (minute % 60) }
+    ensures word { (minute : ℕ) → minute < 600 → IsWord (time_word minute) }
+{}
+
+/// Where the disc ran on within 240 fields of one that shows no time, line 16 has the disc's second and picture, and
+/// there more weight of the times that go on with these was read rightly than wrongly, the field is completed by the
+/// word of the disc's minute, if it has an hour of one digit, and by no other.
+pub fn completed_is_right()
+    ensures completed { (recorded : ℕ → Option ℕ) (system : System) (line_16 : Shown) (fields : List Sightings)
+        (i part m : ℕ) → part_of system line_16 ≡ Some part
+        → IsVotedRightly recorded (minute_of system) fields i part m
+        → ((n : ℕ) → Shows (slice_get fields i) n → ⊥) → m / minute_of system < 600
+        → IsCompleted system line_16 fields i (time_word (m / minute_of system)) }
+    ensures only { (recorded : ℕ → Option ℕ) (system : System) (line_16 : Shown) (fields : List Sightings)
+        (i part m word : ℕ) → part_of system line_16 ≡ Some part
+        → IsVotedRightly recorded (minute_of system) fields i part m → IsCompleted system line_16 fields i word
+        → sighting_of system Times line_16 (record { word = Some word; pass = line_16.pass })
+        ≡ record { number = m; weight = pass_weight line_16.pass } }
+{}
+
+/// Which part of a minute line 16 shows: of NTSC 30 pictures a second, of PAL 25. The word of a minute.
+#[tactic(auto, unfolding(vbi_words::specs::Codes::code_of))]
+pub fn worked_parts()
+    ensures ntsc { map (λ word. part_of Ntsc (shown_in 1 word))
+        (0x8AE000 ∷ 0x8AE710 ∷ 0x8FE929 ∷ 0x8AE030 ∷ 0xF0DD00 ∷ 0 ∷ [])
+        ≡ Some 0 ∷ Some 220 ∷ Some 1799 ∷ None ∷ None ∷ None ∷ [] }
+    ensures pal { map (λ word. part_of Pal (shown_in 2 word)) (0x8AE000 ∷ 0x8AE710 ∷ 0x8FE924 ∷ 0x8AE025 ∷ [])
+        ≡ Some 0 ∷ Some 185 ∷ Some 1499 ∷ None ∷ [] }
+    ensures words { map time_word (0 ∷ 9 ∷ 59 ∷ 60 ∷ 83 ∷ 599 ∷ [])
+        ≡ 0xF0DD00 ∷ 0xF0DD09 ∷ 0xF0DD59 ∷ 0xF1DD00 ∷ 0xF1DD23 ∷ 0xF9DD59 ∷ [] }
+{}
+
+/// Votes counted by hand: two right minutes against one wrong, one against one, and two in pass 2 against one in
+/// pass 1. A time 240 fields away votes, one 242 fields away doesn't. PAL has another minute.
+#[tactic(auto, unfolding(crate::specs::Votes::weight_of_first))]
+pub fn worked_votes()
+    ensures two_to_one { (votes_cast (minute_of Ntsc) two_to_one 4 700 ≡ 6)
+        × (votes_for (minute_of Ntsc) two_to_one 4 700 4300 ≡ 4)
+        × (votes_for (minute_of Ntsc) two_to_one 4 700 6100 ≡ 2) }
+    ensures one_to_one { (votes_cast (minute_of Ntsc) one_to_one 4 700 ≡ 4)
+        × (votes_for (minute_of Ntsc) one_to_one 4 700 4300 ≡ 2) }
+    ensures light { (votes_cast (minute_of Ntsc) light_to_heavy 4 700 ≡ 4)
+        × (votes_for (minute_of Ntsc) light_to_heavy 4 700 4300 ≡ 2) }
+    ensures pal { votes_cast (minute_of Pal) two_to_one 4 700 ≡ 0 }
+    ensures before { (votes_cast (minute_of Ntsc) (alone_before 240) 240 820 ≡ 2)
+        × (votes_cast (minute_of Ntsc) (alone_before 242) 242 821 ≡ 0) }
+    ensures behind { (votes_cast (minute_of Ntsc) (alone_behind 240) 0 580 ≡ 2)
+        × (votes_cast (minute_of Ntsc) (alone_behind 242) 0 579 ≡ 0) }
+{}
+
+/// Whom these votes elect: two right minutes are more than half against one wrong, one against one isn't, nor are two
+/// in pass 2 against one in pass 1.
+pub fn worked_elections()
+    ensures two { IsElected (minute_of Ntsc) two_to_one 4 700 4300 }
+    ensures none { (m : ℕ) → IsElected (minute_of Ntsc) one_to_one 4 700 m → ⊥ }
+    ensures light { (m : ℕ) → IsElected (minute_of Ntsc) light_to_heavy 4 700 m → ⊥ }
+{}

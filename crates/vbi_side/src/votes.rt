@@ -1,0 +1,247 @@
+//! A time's minute by vote.
+//!
+//! On worn discs many fields show line 16, with the second and the picture, and neither line 17 nor 18, with the
+//! minute. The disc goes on, so each time that is read nearby tells which minute stands here, if it goes on with this
+//! second and picture. A misread minute mostly stands alone. So each such time within 240 fields has a vote, of the
+//! weight of its line, and the number that has more than half of all is elected (`elected_is_right` says when it is
+//! the right one).
+//!
+//! That number is found in two passes (the vote of Boyer and Moore): the first finds the only one that can have more
+//! than half, the second weighs its votes. Votes are told apart by a **key**, from which no distance is taken off, so
+//! that it is never negative: twice the number that the field itself would have, and the reach.
+
+ghost use Rattle.std.specs.Prelude.{◌≡◌, ◌↔◌, ℕ, ◌+◌, ◌-◌, ◌*◌, ◌%◌, ◌≤◌, ◌<◌, ◌^◌, ◌==◌, if◌then◌else◌, length, Some};
+ghost use Rattle.vbi_side.specs.Beliefs.{sighting_weight, field_weight};
+ghost use Rattle.vbi_side.specs.Votes.{vote_reach, minute_of, IsVoter, votes, weight_of_first, votes_cast, IsElected};
+ghost use Rattle.vbi_side.specs.Tallies.{key_of, votes_by, Leads};
+
+use crate::lines::rate;
+use crate::sighting::{Sighting, Sightings};
+use vbi_words::System;
+
+/// The fields on either side of one whose times vote.
+pub const VOTE_REACH: usize = 240;
+
+/// In which field a number is elected, with which part of a minute.
+#[derive(Clone, Copy)]
+struct Election {
+    system: System,
+    field: usize,
+    part: u32,
+}
+
+/// What was counted of an election's votes.
+#[derive(Clone, Copy)]
+struct Tally {
+    /// The key in the lead: no other one has more than half of the votes.
+    key: u64,
+    /// By how much it may have more than half.
+    ahead: u64,
+    /// The weight of all votes.
+    all: u64,
+}
+
+/// The pictures of a minute.
+pub(crate) fn minute(system: System) -> u64
+    ensures value { result ≡ minute_of system }
+    ensures some { 1 ≤ result }
+    ensures range { result ≤ 1800 }
+{
+    60 * u64::from(rate(system))
+}
+
+/// The key of a number of another field: a number of this one fits it whose double is less by the reach.
+fn key_of(election: Election, other: usize, number: u32) -> u64
+    requires far { election.field < 2 ^ 60 }
+    requires near { IsVoter election.field other }
+    ensures value { result ≡ key_of election.field other number }
+{
+    let number = u64::from(number);
+    2 * number + (election.field + VOTE_REACH - other) as u64
+}
+
+/// Whether this key goes on with the part of some minute.
+fn goes_on(election: Election, key: u64) -> bool
+    requires { key < 2 ^ 62 }
+    ensures { result ≡ (key % (2 * minute_of election.system)
+        == (2 * election.part + vote_reach) % (2 * minute_of election.system)) }
+{
+    let round = 2 * minute(election.system);
+    key % round == (2 * u64::from(election.part) + VOTE_REACH as u64) % round
+}
+
+/// The tally with a vote of this weight for a key.
+fn with_vote(tally: Tally, key: u64, weight: u32) -> Tally
+    requires few { tally.all < 2 ^ 62 }
+    requires within { tally.ahead ≤ tally.all }
+    ensures all { result.all ≡ tally.all + weight }
+    ensures within { result.ahead ≤ result.all }
+    ensures leads { (of : ℕ → ℕ) → Leads of tally
+        → Leads (λ k. of k + (if key == k then weight else 0)) result }
+{
+    let weight = u64::from(weight);
+    let all = tally.all + weight;
+    if key == tally.key {
+        Tally {
+            key,
+            ahead: tally.ahead + weight,
+            all,
+        }
+    } else if weight <= tally.ahead {
+        Tally {
+            key: tally.key,
+            ahead: tally.ahead - weight,
+            all,
+        }
+    } else {
+        Tally {
+            key,
+            ahead: weight - tally.ahead,
+            all,
+        }
+    }
+}
+
+/// The weight of a sighting, if it votes.
+fn vote_of(election: Election, other: usize, sighting: &Sighting) -> u32
+    requires far { election.field < 2 ^ 60 }
+    requires near { IsVoter election.field other }
+    ensures value { result ≡ sighting_weight
+        (votes (minute_of election.system) election.field election.part other) sighting.now }
+    ensures range { result ≤ 2 }
+{
+    if sighting.is_seen() && goes_on(election, key_of(election, other, sighting.number)) {
+        sighting.counts()
+    } else {
+        0
+    }
+}
+
+/// The tally with a sighting of another field.
+fn with_sighting(election: Election, other: usize, tally: Tally, sighting: &Sighting) -> Tally
+    requires far { election.field < 2 ^ 60 }
+    requires near { IsVoter election.field other }
+    requires few { tally.all < 2 ^ 62 }
+    requires within { tally.ahead ≤ tally.all }
+    ensures all { result.all ≡ tally.all + sighting_weight
+        (votes (minute_of election.system) election.field election.part other) sighting.now }
+    ensures within { result.ahead ≤ result.all }
+    ensures few { result.all ≤ tally.all + 2 }
+    ensures leads { (of : ℕ → ℕ) → Leads of tally → Leads (λ k. of k + sighting_weight
+        (votes_by (minute_of election.system) election.field election.part k other) sighting.now) result }
+{
+    let key = key_of(election, other, sighting.number);
+    with_vote(tally, key, vote_of(election, other, sighting))
+}
+
+/// The tally with both sightings of another field.
+fn with_field(election: Election, other: usize, tally: Tally, seen: &Sightings) -> Tally
+    requires far { election.field < 2 ^ 60 }
+    requires near { IsVoter election.field other }
+    requires few { tally.all < 2 ^ 61 }
+    requires within { tally.ahead ≤ tally.all }
+    ensures all { result.all ≡ tally.all + field_weight
+        (votes (minute_of election.system) election.field election.part other) (Some seen.now) }
+    ensures within { result.ahead ≤ result.all }
+    ensures few { result.all ≤ tally.all + 4 }
+    ensures leads { (of : ℕ → ℕ) → Leads of tally → Leads (λ k. of k + field_weight
+        (votes_by (minute_of election.system) election.field election.part k other) (Some seen.now)) result }
+{
+    let first = with_sighting(election, other, tally, &seen.line_17);
+    with_sighting(election, other, first, &seen.line_18)
+}
+
+/// The first field within reach.
+fn first_voter(field: usize) -> usize
+    ensures { result ≡ field - vote_reach }
+{
+    field.saturating_sub(VOTE_REACH)
+}
+
+/// Who is in the lead when all votes are counted.
+fn counted(fields: &[Sightings], election: Election) -> Tally
+    requires { election.field < length fields.now }
+    ensures all { result.all ≡ votes_cast
+        (minute_of election.system) fields.now election.field election.part }
+    ensures few { result.all ≤ 4 * length fields.now }
+    ensures leads { Leads (λ k. weight_of_first (votes_by
+        (minute_of election.system) election.field election.part k) fields.now (length fields.now)) result }
+{
+    let mut tally = Tally {
+        key: 0,
+        ahead: 0,
+        all: 0,
+    };
+    let end = fields.len().min(election.field + VOTE_REACH + 1);
+    for other in first_voter(election.field)..end {
+        tally = with_field(election, other, tally, &fields[other]);
+    }
+    tally
+}
+
+/// The weight of a sighting, if it votes for this key.
+fn vote_by(election: Election, key: u64, other: usize, sighting: &Sighting) -> u32
+    requires far { election.field < 2 ^ 60 }
+    requires near { IsVoter election.field other }
+    ensures value { result ≡ sighting_weight
+        (votes_by (minute_of election.system) election.field election.part key other) sighting.now }
+    ensures range { result ≤ 2 }
+{
+    if key_of(election, other, sighting.number) == key {
+        vote_of(election, other, sighting)
+    } else {
+        0
+    }
+}
+
+/// The weight of the votes for this key.
+fn votes_by(fields: &[Sightings], election: Election, key: u64) -> u64
+    requires { election.field < length fields.now }
+    ensures value { result ≡ weight_of_first (votes_by
+        (minute_of election.system) election.field election.part key) fields.now (length fields.now) }
+    ensures few { result ≤ 4 * length fields.now }
+{
+    let mut weight = 0;
+    let end = fields.len().min(election.field + VOTE_REACH + 1);
+    for other in first_voter(election.field)..end {
+        let seen = &fields[other];
+        weight += u64::from(vote_by(election, key, other, &seen.line_17));
+        weight += u64::from(vote_by(election, key, other, &seen.line_18));
+    }
+    weight
+}
+
+/// The number of the election's field that has this key, if it has the part of a minute.
+fn number_of(election: Election, key: u64) -> Option<u64>
+    ensures { (m : ℕ) → (result ≡ Some m)
+        ↔ ((key ≡ 2 * m + vote_reach) × (m % minute_of election.system ≡ election.part)) }
+{
+    let reach = VOTE_REACH as u64;
+    if key < reach || key % 2 == 1 {
+        return None;
+    }
+    let number = (key - reach) / 2;
+    if number % minute(election.system) == u64::from(election.part) {
+        Some(number)
+    } else {
+        None
+    }
+}
+
+/// The number that is elected in a field that shows this part of a minute, if one is.
+pub fn elected(system: System, fields: &[Sightings], field: usize, part: u32) -> Option<u64>
+    requires { field < length fields.now }
+    ensures { (m : ℕ) → (result ≡ Some m) ↔ IsElected (minute_of system) fields.now field part m }
+{
+    let election = Election {
+        system,
+        field,
+        part,
+    };
+    let tally = counted(fields, election);
+    if tally.all < 2 * votes_by(fields, election, tally.key) {
+        number_of(election, tally.key)
+    } else {
+        None
+    }
+}
