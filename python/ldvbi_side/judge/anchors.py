@@ -6,7 +6,7 @@ import bisect
 import functools
 from typing import List
 
-from ldvbi import Both, Counted, JudgedSide, Pace as JudgedPace, State, judge_side
+from ldvbi import Both, Counted, JudgedSide, Pace as JudgedPace, State, complete_times, judge_side
 from .chain import chosen
 from .paces import Pace, price
 from .readings import Fields, Reading
@@ -20,10 +20,7 @@ def judged_of(fields: Fields, counted: Counted) -> JudgedSide:
     film. Only a disc with numbers on both fields shows one on two fields beside each other."""
     packed = fields.packed
     if counted == Counted.times:
-        import sys
-        sys.path.append("/tmp/w")
-        import vote
-        packed = vote.packed_with(fields, *vote.vote(fields, 480, "A", "least10"))
+        packed = complete_times(packed, fields.system)
     judged = judge_side(packed, fields.system, counted, may_end=fields.may_end)
     believed = [one.number if one.state == State.believed else None for one in judged.numbers]
     pairs = sum(one == other is not None for one, other in zip(believed, believed[1:]))
