@@ -18,85 +18,47 @@ FAR = 10  # numbers passed over to one that fields may be there for: from here o
 
 def missing_of(places: Places, gaps: Gaps, codes: Codes) -> Tuple[List[Answer], List[Answer]]:
     """The numbers between the least and the greatest that no field has, in stretches of one reason; and those that were
-    left out by the disc's clock. A gap of more than 4 numbers to each field of the side isn't looked at number by
-    number. None is lost but in a gap."""
-    firsts, fields = _first_fields(places.showings), codes.fields
+    left out by the disc's clock. None is lost but in a gap that lacks fields."""
+    firsts, losses = _first_fields(places.showings), _Losses(gaps)
+    passed, unread = _passed_over(places, losses, gaps, codes), {number for number, _ in places.due}
+    unread |= places.without_field
+    known = sorted(unread.union(places.unshown, places.open, places.clock.judged, places.clock.open))
+    found: Dict[bool, List[List[Any]]] = {False: [], True: []}
     numbers = sorted(firsts)
-    steps = [(one, other) for one, other in zip(numbers, numbers[1:]) if other - one > 1]
-    passed, unread = _passed_over(places, fields), {number for number, _ in places.due} | places.without_field
-    known = unread.union(places.unshown, places.open, places.clock.judged, places.clock.open)
-    missing: List[List[Any]] = []
-    left_out: List[List[Any]] = []
-    for one, other in steps:
+    for one, other in zip(numbers, numbers[1:]):
         ends = firsts[one], firsts[other]
-        if other - one > 4 * len(fields.words):
-            if passed.why(one + 1) != "unshown":
-                missing.append([one + 1, other - 1, "lost", ends])
-            continue
-        for number in range(one + 1, other):
-            why = _why(places, number, unread, passed) if number in known else passed.why(number)
-            if why == "unshown":
-                continue
-            stretches = left_out if why == "clock" else missing
-            if stretches and stretches[-1][1:] == [number - 1, why, ends]:
-                stretches[-1][1] = number
-            else:
-                stretches.append([number, number, why, ends])
-    unit = places.numbers.unit
-    missing = _in_gaps(missing, places, gaps, codes) if gaps.judged else missing
-    return [_stretch(one, unit) for one in missing], [_stretch(one, unit) for one in left_out]
+        for first, last in _parts(one + 1, other - 1, passed, known) if other - one > 1 else ():
+            why = _why(places, first, unread, passed)
+            if why == "lost" and ends[0] < ends[1] and not losses.are_between(*ends):
+                why = "undecided"
+            stretches = found[why == "clock"]
+            if stretches and stretches[-1][1:] == [first - 1, why, ends]:
+                stretches[-1][1] = last
+            elif why != "unshown":
+                stretches.append([first, last, why, ends])
+    missing, left_out = ([_stretch(one, places.numbers.unit) for one in ones] for ones in found.values())
+    return missing, left_out
 
 
-def _in_gaps(missing: List[List[Any]], places: Places, gaps: Gaps, codes: Codes) -> List[List[Any]]:
-    """The same stretches, of whose lost numbers those are undecided for which no gap there lacks fields, and those that
-    a field in such a gap shows in pass 1 on both lines."""
-    passed = sorted((one for one in gaps.breaks + gaps.at_speed if one["kind"] == "lost"),
-                    key=lambda one: one["after"])
-    ends = [one["after"] for one in passed], [one["before"] for one in passed]
-    pictures = codes.kinds[Kind.picture]
-    shown = {number for one in passed for field in range(one["after"] + 1, one["before"])
-             for number, lines in pictures.get(field, {}).items() if codes.weight(field, lines) == 2 * WEIGHTS[1]}
-    numbers = [(one["from"] + 1, one["to"] - 1) for one in passed]
-    early = _before_first(gaps.judged, places.numbers.unit)
-    everywhere = _merged(numbers + early)
-    found: List[List[Any]] = []
-    for first, last, why, (after, before) in missing:
-        if why != "lost":
-            found.append([first, last, why, (after, before)])
-            continue
-        spans = everywhere
-        if after < before:  # else the numbers go back somewhere, and the fields around are no place
-            spans = _merged(numbers[bisect.bisect(ends[1], after):bisect.bisect_left(ends[0], before)] + early)
-        for begin, end in _parts(first, last, spans, shown):
-            is_lost = bisect.bisect(spans, begin) % 2 and begin not in shown
-            found.append([begin, end, "lost" if is_lost else "undecided", (after, before)])
-    return _joined(found)
+class _Losses:
+    """The fields between which some are lost, by the gaps."""
+
+    def __init__(self, gaps: Gaps) -> None:
+        lost = sorted((one["after"], one["before"]) for one in gaps.breaks + gaps.at_speed if one["kind"] == "lost")
+        self.after, self.before = [after for after, _ in lost], [before for _, before in lost]
+
+    def are_between(self, first: int, last: int) -> bool:
+        """Whether some are lost in a gap that lies between these two fields, or holds some of those between them."""
+        return bisect.bisect(self.before, first) < bisect.bisect_left(self.after, last)
 
 
-def _parts(first, last, spans, shown):
-    """The numbers from the first to the last in parts, each of which is in one of the spans or in none, and one of
-    those that are shown or none of them."""
-    cuts = {begin for begin in spans if first < begin <= last}
-    cuts.update(cut for number in shown for cut in (number, number + 1) if first < cut <= last)
-    begins = [first, *sorted(cuts)]
+def _parts(first, last, passed, known):
+    """The numbers from the first to the last in parts of one reason each: those that are known are for themselves."""
+    cuts = {first, *passed.begins[bisect.bisect(passed.begins, first):bisect.bisect(passed.begins, last)]}
+    for number in known[bisect.bisect_left(known, first):bisect.bisect(known, last)]:
+        cuts |= {number, number + 1}
+    begins = sorted(cut for cut in cuts if cut <= last)
     return zip(begins, [begin - 1 for begin in begins[1:]] + [last])
-
-
-def _before_first(judged, unit):
-    """The numbers before the first one, if there are no fields for them. An NTSC disc's clock may leave out times."""
-    is_late = judged.reasons & Reason.begins_late and (unit.name, unit.rate) != ("time", RATES["NTSC"])
-    return [(0, judged.numbers[judged.first].number - 1)] if is_late else []
-
-
-def _joined(stretches: List[List[Any]]) -> List[List[Any]]:
-    """These stretches, of which one that follows another and has the same reason and ends goes on with it."""
-    found: List[List[Any]] = []
-    for one in stretches:
-        if found and found[-1][1:] == [one[0] - 1, *one[2:]]:
-            found[-1][1] = one[1]
-        else:
-            found.append(one)
-    return found
 
 
 def _first_fields(showings):
@@ -136,22 +98,19 @@ class Passed(NamedTuple):
 
 
 class PassedOver:
-    """Why numbers aren't there that were passed over here: where one was more than once, a field for it is enough."""
+    """Why numbers aren't there that were passed over, by spans of numbers in the order of their weight: of a number that
+    was passed over more than once a field for it is enough. Of one in no span it isn't known."""
 
-    def __init__(self, passed: Iterable[Passed], joins: Iterable[Tuple[int, int]] = ()) -> None:
-        spans: Dict[str, List[Tuple[int, int]]] = {"unread": [], "undecided": [], "lost": [], "unshown": list(joins)}
-        for one in passed:
-            for why, first, last in one.parts():
-                spans[why].append((first, last))
-        ends = [(why, _merged(ones)) for why, ones in spans.items()]
+    def __init__(self, spans: List[Tuple[str, List[Tuple[int, int]]]]) -> None:
+        ends = [(why, _merged(ones)) for why, ones in spans]
         # from each of these to the next one all numbers have one reason
-        self._begins = sorted({begin for _, ones in ends for begin in ones})
-        self._whys = ["lost"] + [next((why for why, ones in ends if bisect.bisect(ones, begin) % 2), "lost")
-                                 for begin in self._begins]
+        self.begins = sorted({begin for _, ones in ends for begin in ones})
+        self._whys = ["undecided", *(next((why for why, ones in ends if bisect.bisect(ones, begin) % 2), "undecided")
+                                     for begin in self.begins)]
 
     def why(self, number: int) -> str:
         """A number that is between those of two sides alone isn't one of either."""
-        return self._whys[bisect.bisect(self._begins, number)]
+        return self._whys[bisect.bisect(self.begins, number)]
 
 
 def _merged(spans):
@@ -165,12 +124,34 @@ def _merged(spans):
     return ends
 
 
-def _passed_over(places: Places, fields: Fields) -> PassedOver:
-    """Why numbers aren't there that were passed over between two believed ones, or between two sides."""
-    passed = [Passed(one["from"] + 1, one["to"] - 1, *_fate(one, places.numbers, fields))
-              for one in places.breaks if one["from"] < one["to"]]
-    joins = (sorted((before.number, after.number)) for before, after in places.joins)
-    return PassedOver(passed, [(low + 1, high - 1) for low, high in joins])
+def _passed_over(places: Places, losses: _Losses, gaps: Gaps, codes: Codes) -> PassedOver:
+    """Why numbers aren't there that were passed over between two believed ones, or between two sides. Numbers are lost
+    only in a gap that lacks fields, and none that a field in it shows in pass 1 on both lines."""
+    spans: Dict[str, List[Tuple[int, int]]] = {"unread": [], "undecided": [], "lost": []}
+    for one in places.breaks:
+        if one["from"] < one["to"] and (one["kind"] == "held" or losses.are_between(one["after"], one["before"])):
+            passed = Passed(one["from"] + 1, one["to"] - 1, *_fate(one, places.numbers, codes.fields))
+            for why, first, last in passed.parts():
+                spans[why].append((first, last))
+            spans["undecided"] += _shown_surely(codes, one)
+    between = (sorted((before.number, after.number)) for before, after in places.joins)
+    others = _before_first(gaps.judged, places.numbers.unit)
+    others += [(one["from"] + 1, one["to"] - 1) for one in gaps.at_speed if one["kind"] == "lost"]
+    return PassedOver([*spans.items(), ("unshown", [(low + 1, high - 1) for low, high in between]), ("lost", others)])
+
+
+def _shown_surely(codes, one):
+    """The numbers that the fields in a break show in pass 1 on both lines, each as a span."""
+    pictures = codes.kinds[Kind.picture]
+    return [(number, number) for field in range(one["after"] + 1, one["before"])
+            for number, lines in pictures.get(field, {}).items() if codes.weight(field, lines) == 2 * WEIGHTS[1]]
+
+
+def _before_first(judged, unit):
+    """The numbers before the first one, if there are no fields for them. An NTSC disc's clock may leave out times."""
+    if not judged or not judged.reasons & Reason.begins_late or (unit.name, unit.rate) == ("time", RATES["NTSC"]):
+        return []
+    return [(0, judged.numbers[judged.first].number - 1)]
 
 
 def _why(places: Places, number: int, unread: Set[int], passed: PassedOver) -> str:
