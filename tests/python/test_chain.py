@@ -1,19 +1,13 @@
-"""What breaks cost, how far apart numbers stand, and which readings are believed; runs of line 16, what becomes of
-numbers that are passed over, and loops, each by itself."""
+"""What breaks cost, how far apart numbers stand, which readings are believed, and what becomes of numbers that are
+passed over, each by itself."""
 
-import random
 import unittest
-import unittest.mock
 
 from compact import cells_of, check
-from ldvbi_side.judge import chain as chains
-from ldvbi_side.judge.believed import no_numbers
-from ldvbi_side.judge.chain import chain
+from ldvbi_side.judge.chain import chosen
 from ldvbi_side.judge.missing import Passed, PassedOver
-from ldvbi_side.judge.order import with_loops
 from ldvbi_side.judge.paces import ChapterPace, MinutePace, Pace, price
 from ldvbi_side.judge.readings import Reading
-from ldvbi_side.judge.times import Runs
 
 
 PACES = {"video": Pace("video"), "both": Pace("both"), "film": Pace("film"), "minutes": MinutePace("PAL"),
@@ -66,15 +60,8 @@ def readings(*numbers, weight=4, first=1):
             for place, number in enumerate(numbers) if number is not None]
 
 
-def believed(ones, kind="video"):
-    return [(one.field, one.number) for one in chain(ones, Pace(kind))]
-
-
-def walked(ones, kind):
-    """All chains of these readings, and how often they went on from an earlier one to a later one."""
-    with unittest.mock.patch.object(chains._Chains, "_go_on", autospec=True,
-                                    side_effect=chains._Chains._go_on) as looks:
-        return chains._Chains(ones, Pace(kind)), looks.call_count
+def believed(ones, sure=(), kind="video"):
+    return [(one.field, one.number) for one in chosen(ones, Pace(kind), dict(sure))]
 
 
 class Chains(unittest.TestCase):
@@ -86,15 +73,25 @@ class Chains(unittest.TestCase):
                 ([], []), (readings(5, 6, 70000, 8, 9), [5, 6, 8, 9]), (two, []),
                 (sorted(readings(5, 6, 7) + [Reading(3, 80, 2, (18,))]), [5, 6, 7]),
                 ([two[0], Reading(1, 6, 1, (18,))], [5]),
-                # a jump that many follow, and a wild number at the end; a still is one break however long
+                # a jump that many follow, and a wild number at the end; a number that stays costs nothing
                 (readings(*on, *wild), on + wild), (readings(*on, 40000), on), (readings(*still), still),
-                # it fits the still before it, and the number behind it is then as good as one that stays, but for later
+                # it fits the still before it, but the number behind it goes back
                 (readings(*[30] * 10, 31, *[30] * 10), [30] * 20)):
             self.assertEqual([number for _, number in believed(ones)], wanted)
         self.assertEqual(believed(readings(5, 70000, 7)), [(1, 5), (5, 7)])
         ones = [Reading(1, 5, 4, (17, 18)), Reading(3, 7, 2, (17,)), Reading(3, 5, 2, (18,)),
                 Reading(5, 7, 4, (17, 18))]
         self.assertNotIn(3, dict(believed(ones)))
+
+    def test_between_two_that_are_sure(self):
+        """Of a single number the two breaks cost more than it weighs, of ten they don't; a sure one is believed whatever
+        stands around it or in its field."""
+        self.assertEqual(believed(readings(1, 2, 70000, 4, 5), {3: 2, 7: 4}), [(1, 1), (3, 2), (7, 4), (9, 5)])
+        row = readings(1, 2, *range(500, 510), 13, 14)
+        self.assertEqual([number for _, number in believed(row, {3: 2, 25: 13})], [1, 2, *range(500, 510), 13, 14])
+        ones = readings(1, 2, 3, 4, 5)
+        ones[2:3] = [Reading(5, 900, 1, (17,)), Reading(5, 3, 4, (18,))]
+        self.assertEqual(believed(ones, {5: 900}), [(5, 900)])
 
     def test_a_long_row_of_wrong_numbers(self):
         """As far as the search goes back, and beyond. Those that fit one another weigh 14, and the jumps there and back
@@ -115,20 +112,6 @@ class Chains(unittest.TestCase):
             wrong += [Reading(41 + place, (place * 7919 + 30000) % 79999, 1, (18,)) for place in range(count - 1)]
             ones = believed(readings(*range(1, 21)) + wrong + readings(*range(60, 80), first=119))
             self.assertEqual([number for _, number in ones], [*range(1, 21), *astray, *range(60, 80)], count)
-
-    def test_noise_takes_no_more_looks_than_other_sides(self):
-        """For each reading a handful of earlier ones is looked at, and as many more as a side with damage needs."""
-        count, dice = 3000, random.Random(3)
-        noise = {"random": [dice.randrange(80000) for _ in range(count)], "small": [dice.randrange(50)
-                 for _ in range(count)], "one": [5] * count, "jumps": [
-                     40000 * (place // 5 % 2) + place for place in range(count)]}
-        for kind in ("video", "both", "film"):
-            for name, numbers in noise.items():
-                self.assertLessEqual(walked(readings(*numbers, weight=2), kind)[1], 4 * count + 4000, (kind, name))
-        sound = readings(*range(count))
-        self.assertLess(walked(sound, "video")[1], count)
-        sound[1000:1000] = [Reading(2000, 7, 4, (17, 18))]
-        self.assertLess(walked(sound, "video")[1], count + 20)
 
 
 class Anchors(unittest.TestCase):
@@ -154,21 +137,6 @@ class Anchors(unittest.TestCase):
     """)
 
 
-# Fields with their pictures of a second, others with their minutes, and which number is then in which field. A minute
-# in a field without a second counts for the run that the field is in, or that is right beside it.
-RUNS = """
-    inside | 1:0 3:1 7:3 | 5:4 | 1:6000 3:6001 7:6003
-    right behind | 1:0 3:1 | 4:4 | 1:6000 3:6001
-    right before | 3:1 5:2 | 2:4 | 3:6001 5:6002
-    before a run that begins with a minute: it is of the one before | 3:0 5:1 | 2:4 | 3:7500 5:7501
-    further behind | 1:0 3:1 | 5:4 | none
-    further still | 1:0 3:1 | 6:4 | none
-    further before | 3:0 5:1 | 1:4 | none
-    between two runs, right beside the one behind | 1:0 3:1 7:700 | 6:4 | 7:6700
-    beside the one before | 1:0 3:1 7:700 | 4:4 | 1:6000 3:6001
-    beside both: of the one before | 1:0 3:1 5:700 | 4:4 | 1:6000 3:6001
-    over the end of a minute | 1:1499 3:0 | 3:8 | 1:11999 3:12000
-"""
 # Which numbers were passed over, for how many of them there are fields, whether fields are lost, and why each is
 # missing. A field for a number is enough, and between two sides (50 to 200 in the last row) it is none of either.
 FATES = """
@@ -182,32 +150,19 @@ FATES = """
     it is left open | 1-100 0 None | 1-100 undecided
     with fields for all | 1-100 100 None | 1-100 undecided
     more than once | 1-100 0 True, 40-60 0 False, 55-80 0 None | 1-39 lost, 40-60 unread, 61-80 undecided, 81-100 lost,
-        101-200 unshown, 201-201 lost
+        101-200 unshown, 201-201 undecided
 """
 
 
-def pairs(text):
-    return dict(map(int, pair.split(":")) for pair in text.split() if pair != "none")
-
-
 class Rows(unittest.TestCase):
-    def test_runs(self):
-        for name, parts, minutes, wanted in cells_of(RUNS):
-            runs = Runs(pairs(parts), {field: {minute: (17, 18)} for field, minute in pairs(minutes).items()}, 1500,
-                        lambda *_: 2)
-            said = {field: runs.of_field[field].said_at(field) for field in pairs(parts)}
-            self.assertEqual({field: number for field, numbers in said.items() for number in numbers}, pairs(wanted),
-                             name)
-
     def test_fates(self):
         for name, passed, fates in cells_of(FATES):
             ones = [(*map(int, numbers.split("-")), int(fields), {"True": True, "False": False}.get(is_lost))
                     for numbers, fields, is_lost in (one.split() for one in passed.split(", "))]
-            found = PassedOver([Passed(*one) for one in ones], [(50, 200)] if len(ones) > 1 else [])
+            spans = {"unread": [], "undecided": [], "lost": [], "unshown": [(50, 200)] if len(ones) > 1 else []}
+            for why, first, last in (part for one in ones for part in Passed(*one).parts()):
+                spans[why].append((first, last))
+            found = PassedOver(list(spans.items()))
             for numbers, why in (fate.split() for fate in fates.split(", ")):
                 first, last = map(int, numbers.split("-"))
                 self.assertEqual({found.why(number) for number in range(first, last + 1)}, {why}, (name, numbers))
-
-    def test_without_numbers_nothing_is_shown_again(self):
-        none = no_numbers("PAL")
-        self.assertIs(with_loops(none, []), none)

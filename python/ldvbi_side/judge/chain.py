@@ -7,22 +7,22 @@ how many fields two readings are off, and `price` what that costs:
     number   1   2  903   4   5     without 903 the chain is worth 16, with it 20 less two breaks of 12
 
 The price of a step depends on its two readings alone. So a best chain that ends with a reading goes on from a best one
-that ends with an earlier reading, and one pass over the readings finds them all. A reading looks back until no earlier
-chain is worth more than the one that it has found. After REACH readings it asks only the best chain of all before them,
-so a better one may be missed.
+that ends with an earlier reading, and one pass over the readings finds them all. Not all earlier ones are asked, but
+the last few, the last one whose numbers go on to this one, the last one with the same number, and that at which the
+best chain of all ends: a better one may be missed.
 
 What words weigh is in readings.py, what fits and what breaks cost in paces.py. A change of these, or of the choice
 here, changes docs/SIDES.md, and what was measured."""
 
 import functools
-import itertools
-from typing import List, Mapping, Optional
+from typing import Dict, Iterator, List, Mapping, Optional
 
 from .paces import AnyPace, Pace, price
 from .readings import Reading
 
-REACH = 40  # readings back: setting aside more than these costs more than two of the widest breaks
-TIE = 2 ** -20  # of chains that are worth the same the one with more readings is taken, but for a jump back twice as many
+LAST = 4  # readings before one that are asked in any case
+TIE = 2 ** -20  # of chains that are worth the same the one with more readings is taken
+STAYS, BACK = 2 * TIE, 4 * TIE  # and, beside what their breaks cost, with fewer that stay or go back
 NEVER = -10 ** 9  # the value of a chain that doesn't begin where it has to
 
 
@@ -47,27 +47,52 @@ def chain(readings: List[Reading], pace: AnyPace) -> List[Reading]:
     return _between(readings, pace, False, False)
 
 
+class _Earlier:
+    """The earlier readings that are asked."""
+
+    def __init__(self, pace: AnyPace) -> None:
+        self.pace = pace
+        self.of_row: Dict[int, int] = {}  # of each row of numbers that go on the last reading, and of each number
+        self.of_number: Dict[int, int] = {}
+
+    def asked(self, index: int, one: Reading, top: int) -> Iterator[int]:
+        """Those that are asked before this one, by their places; `top` is that at which the best chain ends."""
+        yield from range(index - 1, max(index - 1 - LAST, -1), -1)
+        row = self.pace.row(one.field, one.number)
+        for step in self.pace.steps:
+            if row + step in self.of_row:
+                yield self.of_row[row + step]
+        if one.number in self.of_number:
+            yield self.of_number[one.number]
+        yield top
+
+    def add(self, index: int, one: Reading) -> None:
+        """Takes in a reading."""
+        self.of_row[self.pace.row(one.field, one.number)] = self.of_number[one.number] = index
+
+
 def _between(readings, pace, is_first_sure, is_last_sure):
     """The best chain that begins with the first reading, if that is sure, and ends with the last one, if that is."""
     if len(readings) < 2:
         return readings
     values: List[float] = []
     origins: List[Optional[int]] = []
-    tops: List[int] = []  # of all readings up to each the one at which the best chain ends
+    top, earlier = 0, _Earlier(pace)  # the reading at which the best chain of all ends
     for index, one in enumerate(readings):
         best, origin = (NEVER, None) if index and is_first_sure else (0, None)
-        end = max(index - REACH, 0)
-        for before in itertools.chain(range(index - 1, end - 1, -1), tops[end - 1:end]):
-            if values[tops[before]] <= best:  # none before is worth more
+        for before in earlier.asked(index, one, top) if index else ():
+            if values[top] <= best:  # none is worth more
                 break
-            other = readings[before]
-            value = values[before] - _cost(pace, one.field - other.field, other.number, one.number - other.number)
-            if value > best:
-                best, origin = value, before
+            if values[before] > best:
+                other = readings[before]
+                value = values[before] - _cost(pace, one.field - other.field, other.number, one.number - other.number)
+                if value > best:
+                    best, origin = value, before
         values.append(best + one.weight + TIE)
         origins.append(origin)
-        tops.append(index if not index or values[index] > values[tops[-1]] else tops[-1])
-    place: Optional[int] = len(readings) - 1 if is_last_sure else tops[-1]
+        earlier.add(index, one)
+        top = index if values[index] > values[top] else top
+    place: Optional[int] = len(readings) - 1 if is_last_sure else top
     found = []
     while place is not None:
         found.append(place)
@@ -84,8 +109,9 @@ def _price(pace, apart, number, step):
     """What it costs to go on by so many fields and numbers from a number that is so much modulo the pace's period."""
     if not apart:
         return -NEVER
-    off = pace.least_off(apart, number, step) if step or not isinstance(pace, Pace) else 0
-    return price(off) + (2 * TIE if off and step < 0 else 0)
+    if isinstance(pace, Pace) and step <= 0:
+        return STAYS if step == 0 else price(pace.least_off(apart, number, step)) + BACK
+    return price(pace.least_off(apart, number, step))
 
 
 def _without_ties(readings, places, pace):

@@ -46,6 +46,11 @@ class Pace:
         self.period = 2 if kind == "film" else 1
         self.change = price(1) if kind == "film" else 0
         self.least = 2 if kind == "both" else 1  # fields with which a number can be lost
+        self.steps = (0,) if kind == "video" else (0, -1, 1)  # from a row to those that go on with it
+
+    def row(self, field: int, number: int) -> int:
+        """In which row a number is: one that goes on with it is in the same row, or a step beside it."""
+        return 2 * field - 5 * number if self.kind == "film" else field - 2 * number
 
     def between(self, number: int, step: int, variant: int, other: int) -> int:
         """The fields on the disc from a reading of this number and variant to the one `step` numbers on."""
@@ -75,10 +80,14 @@ class Pace:
 class MinutePace:
     """The pace of minutes, each of which stands on all its fields. It has about `fields` of them, at least `shortest`
     and at most `longest`."""
-    kind, variants, change, period, least = "minute", 1, 0, 1, 1
+    kind, variants, change, period, least, steps = "minute", 1, 0, 1, 1, (0, -1)
 
     def __init__(self, system: str) -> None:
         self.shortest, self.fields, self.longest = MINUTE_FIELDS[system]
+
+    def row(self, field: int, number: int) -> int:
+        """As `Pace` has it."""
+        return number
 
     def least_off(self, fields: int, number: int, step: int) -> int:
         """As `Pace` has it."""
@@ -103,9 +112,13 @@ class ChapterPace:
     chapter that is passed over in many fields may have been there, and not have been read. The numbers here are 100
     times the breaks of those up to the field, and the chapter: at such a break any chapter may follow, for the least
     price."""
-    kind, variants, change, period = "chapter", 1, 0, 100
+    kind, variants, change, period, steps = "chapter", 1, 0, 100, (0, -1)
     ALL = 80  # chapters, 0 to 79
     MANY = 18  # fields
+
+    def row(self, field: int, number: int) -> int:
+        """As `Pace` has it."""
+        return number
 
     def least_off(self, fields: int, number: int, step: int) -> int:
         """As `Pace` has it."""
