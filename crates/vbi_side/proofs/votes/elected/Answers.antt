@@ -1,4 +1,4 @@
-use Rattle.std.proofs.Common.{◌≡◌, ◌∙◌, sym, subst, arith}
+use Rattle.std.proofs.Common.{sym, arith}
 use Rattle.vbi_side.specs.Votes.{minute_of}
 use Rattle.vbi_side.proofs.Voting.{AreCounted, elected_leads, elected_most, most_elected}
 use Rattle.vbi_side.proofs.votes.elected.Goals as goal
