@@ -10,7 +10,8 @@
 //! than half, the second weighs its votes. Votes are told apart by a **key**, from which no distance is taken off, so
 //! that it is never negative: twice the number that the field itself would have, and the reach.
 
-ghost use Rattle.std.specs.Prelude.{◌≡◌, ◌↔◌, ℕ, ◌+◌, ◌-◌, ◌*◌, ◌%◌, ◌≤◌, ◌<◌, ◌^◌, ◌==◌, if◌then◌else◌, length, Some, true};
+ghost use Rattle.std.specs.Prelude.{◌≡◌, ◌↔◌, ℕ, ◌+◌, ◌-◌, ◌*◌, ◌%◌, ◌≤◌, ◌<◌, ◌^◌, ◌==◌};
+ghost use Rattle.std.specs.Prelude.{if◌then◌else◌, length, Some, true};
 ghost use Rattle.vbi_side.specs.Beliefs.{sighting_weight, field_weight};
 ghost use Rattle.vbi_side.specs.Votes.{vote_reach, minute_of, IsVoter, votes, weight_of_first, votes_cast, IsElected};
 ghost use Rattle.vbi_side.specs.Tallies.{key_of, votes_by, Leads};
