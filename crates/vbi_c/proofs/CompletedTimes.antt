@@ -1,6 +1,6 @@
 -- What completed fields tell.
 use Rattle.std.proofs.Common.{◌≡◌, ◌∙◌, ℕ, ◌<◌, ◌/◌, ◌^◌, List, [], ◌∷◌, length, true, sym, ap, subst, inl, inr}
-use Rattle.std.specs.Prelude.{Option, Some, None, slice_get, ◌⊎◌, nat_le, nat_lt, ◌&&◌, if◌then◌else◌}
+use Rattle.std.specs.Prelude.{Option, Some, None, slice_get, ◌⊎◌, nat_le, nat_lt, if◌then◌else◌}
 use Rattle.std.proofs.lemmas.Bool.{le-leb, lt-ltb, and_from}
 use Rattle.vbi_words.specs.declared.system.System as words
 use Rattle.vbi_words.specs.Words.{IsWord}
@@ -8,7 +8,7 @@ use Rattle.vbi_side.specs.declared.lines.Counted.TheVariants.{Times}
 use Rattle.vbi_side.specs.declared.lines.Shown.{Shown}
 use Rattle.vbi_side.specs.declared.sighting.Sightings.{Sightings}
 use Rattle.vbi_side.specs.Sightings.{Shows}
-use Rattle.vbi_side.specs.Votes.{minute_of, part_of, time_word, IsCompleted}
+use Rattle.vbi_side.specs.Votes.{minute_of, time_word, IsCompleted}
 use Rattle.vbi_side.specs.Lines.{sighting_of}
 use Rattle.vbi_side.proofs.ToldTimes.{completed_rightly, completed_only, word_of_minute}
 use Rattle.vbi_c.specs.declared.fields.LdvbiFieldReadings.{LdvbiFieldReadings}

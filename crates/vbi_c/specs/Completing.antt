@@ -3,7 +3,6 @@ use Rattle.std.specs.Prelude.{◌≡◌, ℕ, ◌/◌, ◌<◌, ◌==◌, ◌&&�
 use Rattle.std.specs.Prelude.{Result}
 use Rattle.vbi_words.specs.declared.system.System as words
 use Rattle.vbi_side.specs.declared.lines.Counted.TheVariants.{Times}
-use Rattle.vbi_side.specs.declared.sighting.Sighting.{Sighting}
 use Rattle.vbi_side.specs.declared.sighting.Sightings.{Sightings}
 use Rattle.vbi_side.specs.Sightings.{Shows}
 use Rattle.vbi_side.specs.Lines.{pass_weight}

@@ -1,9 +1,8 @@
 -- How the numbers before a field follow each other, with one field more.
-use Rattle.std.proofs.Common.{◌≡◌, ◌∙◌, ℕ, suc, ◌+◌, ◌<◌, Bool, List, length, get_or, sym, ap, subst, arith}
-use Rattle.std.specs.Prelude.{Option, Some, slice_get, ◌&&◌, if◌then◌else◌}
+use Rattle.std.proofs.Common.{◌≡◌, ℕ, suc, ◌+◌, ◌<◌, List, length, get_or, sym, ap, subst, arith}
+use Rattle.std.specs.Prelude.{Some, slice_get, ◌&&◌, if◌then◌else◌}
 use Rattle.std.proofs.lemmas.Option.{slice_get-get_or}
 use Rattle.vbi_side.specs.declared.number.Number.{Number}
-use Rattle.vbi_side.specs.declared.gap.Place.{Place}
 use Rattle.vbi_side.specs.Numbers.{nothing}
 use Rattle.vbi_side.specs.Both.{place_or, last_known, is_turn, is_odd, turns, odd_turns}
 

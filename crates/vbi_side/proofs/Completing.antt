@@ -1,6 +1,6 @@
 -- The word that completes a time.
-use Rattle.std.proofs.Common.{◌≡◌, ◌∙◌, ℕ, ◌+◌, ◌/◌, ◌<◌, ◌≤◌, List, length, get_or, refl, sym, ap, subst, arith}
-use Rattle.std.proofs.Common.{inl, inr, Bool, true, false}
+use Rattle.std.proofs.Common.{◌≡◌, ◌∙◌, ℕ, ◌/◌, ◌<◌, ◌≤◌, List, length, get_or, refl, sym, ap, subst}
+use Rattle.std.proofs.Common.{inl, inr, true, false}
 use Rattle.std.specs.Prelude.{Option, Some, None, slice_get, ◌⊎◌, ◌↔◌, nat_le}
 use Rattle.std.proofs.lemmas.Bool.Decides.{leb_tells}
 use Rattle.std.proofs.lemmas.Option.{slice_get-get_or}
@@ -8,7 +8,7 @@ use Rattle.vbi_words.specs.declared.system.System.{System}
 use Rattle.vbi_side.specs.declared.lines.Shown.{Shown}
 use Rattle.vbi_side.specs.declared.sighting.Sightings.{Sightings}
 use Rattle.vbi_side.specs.Sightings.{IsSeen, Shows}
-use Rattle.vbi_side.specs.Votes.{minute_of, part_of, time_word, IsElected, IsCompletedBy, IsCompleted}
+use Rattle.vbi_side.specs.Votes.{minute_of, part_of, time_word, IsElected, IsCompleted}
 use Rattle.vbi_side.proofs.Voting.{no_sightings}
 
 -- a line of field i shows a time

@@ -1,16 +1,13 @@
 -- Who is elected, and when it is right.
-use Rattle.std.proofs.Common.{◌≡◌, ◌≢◌, ◌∙◌, ℕ, ◌+◌, ◌*◌, ◌<◌, ◌≤◌, List, length, refl, sym, ap, arith, inl, inr}
+use Rattle.std.proofs.Common.{◌≡◌, ◌≢◌, ℕ, ◌+◌, ◌*◌, ◌≤◌, List, length, ap, arith, inl, inr}
 use Rattle.std.proofs.Common.{Bool, true, false}
-use Rattle.std.specs.Prelude.{Option, Some, None, ◌⊎◌, ◌&&◌, not}
+use Rattle.std.specs.Prelude.{Option, ◌⊎◌, ◌&&◌, not}
 use Rattle.std.proofs.lemmas.Bool.{eqb-true, and_parts, and_from}
 use Rattle.std.proofs.lemmas.Bool.Decides.{eqb_tells}
 use Rattle.std.proofs.Math.Dec.{eqb}
-use Rattle.vbi_side.specs.declared.pace.Pace.TheVariants.{Video}
 use Rattle.vbi_side.specs.declared.sighting.Sightings.{Sightings}
-use Rattle.vbi_side.specs.Paces.{fits}
 use Rattle.vbi_side.specs.Truth.{is_recorded}
 use Rattle.vbi_side.specs.Votes.{votes, votes_as, votes_cast, votes_for, IsElected, IsVotedRightly}
-use Rattle.vbi_side.specs.Votes.{right_votes, wrong_votes}
 use Rattle.vbi_side.proofs.Truth.{recorded_is, wrong_or_right}
 use Rattle.vbi_side.proofs.Voting.{first_narrower, first_split, first_apart, votes_near}
 

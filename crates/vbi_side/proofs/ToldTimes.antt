@@ -1,5 +1,5 @@
 -- What the word of a completed field tells.
-use Rattle.std.proofs.Common.{◌≡◌, ◌∙◌, ℕ, ◌+◌, ◌*◌, ◌/◌, ◌%◌, ◌<◌, ◌≤◌, refl, sym, ap, subst, arith, inl, inr}
+use Rattle.std.proofs.Common.{◌≡◌, ◌∙◌, ℕ, ◌+◌, ◌*◌, ◌/◌, ◌%◌, ◌<◌, refl, sym, ap, subst, arith}
 use Rattle.std.proofs.Common.{Bool, true, false}
 use Rattle.std.specs.Prelude.{Option, Some, None, nat_le, nat_lt, ◌&&◌, if◌then◌else◌, min, List, slice_get}
 use Rattle.std.proofs.lemmas.Bool.{le-leb, lt-ltb}

@@ -1,5 +1,5 @@
 -- How an election is counted: for whom a vote is, and who is in the lead.
-use Rattle.std.specs.Prelude.{◌≡◌, ◌≢◌, ℕ, ◌+◌, ◌-◌, ◌*◌, ◌≤◌, ◌==◌, ◌&&◌, Bool}
+use Rattle.std.specs.Prelude.{◌≢◌, ℕ, ◌+◌, ◌-◌, ◌*◌, ◌≤◌, ◌==◌, ◌&&◌, Bool}
 use Rattle.vbi_side.specs.declared.votes.Tally.{Tally}
 use Rattle.vbi_side.specs.Votes.{vote_reach, votes}
 

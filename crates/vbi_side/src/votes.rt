@@ -10,7 +10,8 @@
 //! than half, the second weighs its votes. Votes are told apart by a **key**, from which no distance is taken off, so
 //! that it is never negative: twice the number that the field itself would have, and the reach.
 
-ghost use Rattle.std.specs.Prelude.{◌≡◌, ◌↔◌, ℕ, ◌+◌, ◌-◌, ◌*◌, ◌%◌, ◌≤◌, ◌<◌, ◌^◌, ◌==◌, if◌then◌else◌, length, Some};
+ghost use Rattle.std.specs.Prelude.{◌≡◌, ◌↔◌, ℕ, ◌+◌, ◌-◌, ◌*◌, ◌%◌, ◌≤◌, ◌<◌, ◌^◌, ◌==◌};
+ghost use Rattle.std.specs.Prelude.{if◌then◌else◌, length, Some, true};
 ghost use Rattle.vbi_side.specs.Beliefs.{sighting_weight, field_weight};
 ghost use Rattle.vbi_side.specs.Votes.{vote_reach, minute_of, IsVoter, votes, weight_of_first, votes_cast, IsElected};
 ghost use Rattle.vbi_side.specs.Tallies.{key_of, votes_by, Leads};
@@ -228,6 +229,14 @@ fn number_of(election: Election, key: u64) -> Option<u64>
     }
 }
 
+/// Whether these votes are more than half of all.
+fn are_most(votes: u64, all: u64) -> bool
+    requires { votes < 2 ^ 63 }
+    ensures { (result ≡ true) ↔ (all < 2 * votes) }
+{
+    2 * votes > all
+}
+
 /// The number that is elected in a field that shows this part of a minute, if one is.
 pub fn elected(system: System, fields: &[Sightings], field: usize, part: u32) -> Option<u64>
     requires { field < length fields.now }
@@ -239,7 +248,7 @@ pub fn elected(system: System, fields: &[Sightings], field: usize, part: u32) ->
         part,
     };
     let tally = counted(fields, election);
-    if tally.all < 2 * votes_by(fields, election, tally.key) {
+    if are_most(votes_by(fields, election, tally.key), tally.all) {
         number_of(election, tally.key)
     } else {
         None

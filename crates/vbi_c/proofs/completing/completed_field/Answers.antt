@@ -1,5 +1,4 @@
-use Rattle.std.proofs.Common.{◌≡◌, ◌∙◌, sym, subst, inl, inr, refl}
-use Rattle.std.specs.Prelude.{None, Some}
+use Rattle.std.proofs.Common.{◌∙◌, sym, subst, inl, inr, refl}
 use Rattle.vbi_side.specs.Votes.{IsCompleted}
 use Rattle.vbi_c.proofs.completing.completed_field.Goals as goal
 

@@ -1,4 +1,4 @@
-use Rattle.std.proofs.Common.{◌≡◌, ◌∙◌, ◌+◌, sym, arith}
+use Rattle.std.proofs.Common.{◌∙◌, sym, arith}
 use Rattle.vbi_side.specs.Votes.{minute_of, votes}
 use Rattle.vbi_side.specs.Tallies.{votes_by}
 use Rattle.vbi_side.proofs.Voting.{first_next, votes_near, votes_by_near, none_first, none_later, none_leads}

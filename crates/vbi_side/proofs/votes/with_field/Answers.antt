@@ -1,4 +1,4 @@
-use Rattle.std.proofs.Common.{ℕ, ◌+◌, arith}
+use Rattle.std.proofs.Common.{arith}
 use Rattle.vbi_side.proofs.Voting.{leads_alike}
 use Rattle.vbi_side.proofs.votes.with_field.Goals as goal
 

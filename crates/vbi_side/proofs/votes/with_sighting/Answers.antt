@@ -1,9 +1,8 @@
-use Rattle.std.proofs.Common.{◌≡◌, ◌∙◌, ℕ, ◌+◌, ap}
+use Rattle.std.proofs.Common.{◌∙◌, ◌+◌, ap}
 use Rattle.std.specs.Prelude.{◌==◌, if◌then◌else◌}
 use Rattle.vbi_side.specs.Sightings.{weight_of}
-use Rattle.vbi_side.specs.Beliefs.{sighting_weight}
 use Rattle.vbi_side.specs.Votes.{minute_of, votes}
-use Rattle.vbi_side.specs.Tallies.{key_of, votes_by}
+use Rattle.vbi_side.specs.Tallies.{key_of}
 use Rattle.vbi_side.proofs.Voting.{leads_alike, vote_for}
 use Rattle.vbi_side.proofs.votes.with_sighting.Goals as goal
 
