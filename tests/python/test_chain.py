@@ -104,14 +104,15 @@ class Chains(unittest.TestCase):
         ones = readings(*range(1, 21)) + wrong + readings(*range(35, 61), first=69)
         self.assertEqual([number for _, number in believed(ones)], list(range(1, 21)) + list(range(35, 61)))
 
-    def test_the_search_goes_back_over_40_numbers_set_aside(self):
+    def test_a_chain_that_went_astray(self):
         """The first of the wrong numbers weighs more than its break, so that the chain which ends there is the best one
-        so far; the jump back behind it costs more than it brings. Beyond 40 the right chain is no longer looked at."""
-        for count, astray in ((39, []), (40, []), (41, [21])):
+        so far; the jump back behind it costs more than it brings. The right chain is found by its numbers, which go
+        on."""
+        for count in (3, 39, 41):
             wrong = [Reading(40, 21, 3, (17,))]  # one field too late
             wrong += [Reading(41 + place, (place * 7919 + 30000) % 79999, 1, (18,)) for place in range(count - 1)]
             ones = believed(readings(*range(1, 21)) + wrong + readings(*range(60, 80), first=119))
-            self.assertEqual([number for _, number in ones], [*range(1, 21), *astray, *range(60, 80)], count)
+            self.assertEqual([number for _, number in ones], [*range(1, 21), *range(60, 80)], count)
 
 
 class Anchors(unittest.TestCase):

@@ -7,10 +7,11 @@ import functools
 from typing import List
 
 from ldvbi import Both, Counted, JudgedSide, Pace as JudgedPace, State, complete_times, judge_side
-from .chain import chosen
+from .chain import chosen, sure_in
 from .paces import Pace, price
-from .readings import Fields, Reading
+from .readings import WEIGHTS, Fields, Reading
 
+FEWER = 2 ** -20  # of breaks that cost as much those of fewer fields are taken
 PAIRS = 10  # believed numbers to one that stands on the next field as well, at most, of what looks like film and isn't
 
 
@@ -40,17 +41,23 @@ def pace_of(judged: JudgedSide) -> Pace:
 def anchored(readings: List[Reading], pace: Pace, judged: JudgedSide) -> List[Reading]:
     """The readings that are believed, each with its variant. These and those given ascend by field, and the library
     answered of these fields."""
-    sure = {field: one.number for field, one in enumerate(judged.numbers, 1) if one.state == State.believed}
+    sure = sure_in(judged.numbers)
     believed = chosen(readings, pace, sure)
     if pace.variants == 1:
         return believed
-    known = _with_variants([one for one in believed if one.field in sure] or believed, pace)
-    return known if len(known) == len(believed) else _with_others(known, believed, pace)
+    found = _with_variants(believed, pace)
+    # a number that one line shows may be that of the picture beside its own, misread
+    loose = {one.field for before, one, after in zip(found, found[1:], found[2:])
+             if one.field not in sure and one.weight < 2 * WEIGHTS[1] and _price(pace, [before, one, after])}
+    if not loose:
+        return found
+    known = _with_variants([one for one in believed if one.field not in loose], pace)
+    return _with_others(known, believed, pace)
 
 
 def _with_variants(believed, pace):
     """The same readings with the variants by which their breaks cost least."""
-    costs, origins = [0] * pace.variants, []
+    costs, origins = [0.0] * pace.variants, []
     for one, other in zip(believed, believed[1:]):
         steps = _steps(pace, other.field - one.field, other.number - one.number, one.number % pace.period)
         best = [min((costs[before] + cost, before) for before, cost in enumerate(ways)) for ways in steps]
@@ -93,6 +100,6 @@ def _price(pace, row):
 def _steps(pace, apart, step, number):
     """What it costs to go on by so many fields and numbers from a number that is so much modulo the pace's period: to
     each variant, from each."""
-    return [[price(apart if off is None else off) + (pace.change if one != other else 0)
-             for one in range(pace.variants) for off in [pace.off(apart, number, step, one, other)]]
+    return [[price(off) + FEWER * abs(off) + (one != other) * (pace.change and pace.change + 2 * FEWER) for one in range(pace.variants)
+             for off in [pace.off(apart, number, step, one, other)] for off in [apart if off is None else off]]
             for other in range(pace.variants)]

@@ -15,15 +15,23 @@ What words weigh is in readings.py, what fits and what breaks cost in paces.py. 
 here, changes docs/SIDES.md, and what was measured."""
 
 import functools
-from typing import Dict, Iterator, List, Mapping, Optional
+from typing import Dict, Iterator, List, Mapping
 
+from ldvbi import Number, State
 from .paces import AnyPace, Pace, price
 from .readings import Reading
 
 LAST = 4  # readings before one that are asked in any case
 TIE = 2 ** -20  # of chains that are worth the same the one with more readings is taken
-STAYS, BACK = 2 * TIE, 4 * TIE  # and, beside what their breaks cost, with fewer that stay or go back
+BACK = 4 * TIE  # and with fewer jumps back
+STILL = 2  # what it costs that numbers begin to stay
 NEVER = -10 ** 9  # the value of a chain that doesn't begin where it has to
+
+
+def sure_in(numbers: List[Number]) -> Dict[int, int]:
+    """The fields, from 1, of which the library believes a number, each with that."""
+    return {field: number for field, (number, state) in enumerate(numbers, 1)
+            if state == State.believed and number is not None}
 
 
 def chosen(readings: List[Reading], pace: AnyPace, sure: Mapping[int, int]) -> List[Reading]:
@@ -31,20 +39,24 @@ def chosen(readings: List[Reading], pace: AnyPace, sure: Mapping[int, int]) -> L
     between these the best chain from one to the next. They ascend by field."""
     found: List[Reading] = []
     part: List[Reading] = []  # from one that is sure on
-    is_first_sure = False
+    is_first_sure = is_still = False
     for one in readings:
         number = sure.get(one.field)
         if number is None:
             part.append(one)
         elif number == one.number:
-            found += _between(part + [one], pace, is_first_sure, True)[:-1] if len(part) > 1 or not is_first_sure else part
+            if is_first_sure and len(part) == 1:  # as most are
+                found += part
+            else:
+                found += _between(part + [one], pace, is_first_sure, True, is_still)[:-1]
+            is_still = bool(found) and found[-1].number == number
             part, is_first_sure = [one], True
-    return found + _between(part, pace, is_first_sure, False)
+    return found + _between(part, pace, is_first_sure, False, is_still)
 
 
 def chain(readings: List[Reading], pace: AnyPace) -> List[Reading]:
     """The best chain of these readings, which ascend by field."""
-    return _between(readings, pace, False, False)
+    return _between(readings, pace, False, False, False)
 
 
 class _Earlier:
@@ -71,46 +83,48 @@ class _Earlier:
         self.of_row[self.pace.row(one.field, one.number)] = self.of_number[one.number] = index
 
 
-def _between(readings, pace, is_first_sure, is_last_sure):
-    """The best chain that begins with the first reading, if that is sure, and ends with the last one, if that is."""
+def _between(readings, pace, is_first_sure, is_last_sure, is_still):
+    """The best chain that begins with the first reading, if that is sure, and ends with the last one, if that is.
+    `is_still` says whether the first one's number stayed."""
     if len(readings) < 2:
         return readings
-    values: List[float] = []
-    origins: List[Optional[int]] = []
+    values, origins, stays = [], [], []
     top, earlier = 0, _Earlier(pace)  # the reading at which the best chain of all ends
     for index, one in enumerate(readings):
-        best, origin = (NEVER, None) if index and is_first_sure else (0, None)
+        best, origin, stay = (0, None, is_still) if not index else (NEVER if is_first_sure else 0, None, False)
         for before in earlier.asked(index, one, top) if index else ():
             if values[top] <= best:  # none is worth more
                 break
             if values[before] > best:
-                other = readings[before]
-                value = values[before] - _cost(pace, one.field - other.field, other.number, one.number - other.number)
+                value = values[before] - _cost(pace, readings[before], one, stays[before])
                 if value > best:
-                    best, origin = value, before
+                    best, origin, stay = value, before, readings[before].number == one.number
         values.append(best + one.weight + TIE)
         origins.append(origin)
+        stays.append(stay)
         earlier.add(index, one)
         top = index if values[index] > values[top] else top
-    place: Optional[int] = len(readings) - 1 if is_last_sure else top
-    found = []
+    found, place = [], len(readings) - 1 if is_last_sure else top
     while place is not None:
         found.append(place)
         place = origins[place]
     return _without_ties(readings, found[::-1], pace)
 
 
-def _cost(pace, apart, number, step):
-    return _price(pace, apart, number % pace.period, step)
+def _cost(pace, before, after, is_still=False):
+    """What it costs to go on from one reading to another. `is_still` says whether the first one's number stayed."""
+    if before.number == after.number and is_still:
+        return 0
+    return _price(pace, after.field - before.field, before.number % pace.period, after.number - before.number)
 
 
 @functools.lru_cache(maxsize=1 << 14)
 def _price(pace, apart, number, step):
-    """What it costs to go on by so many fields and numbers from a number that is so much modulo the pace's period."""
+    """The same by the fields and numbers between two readings, and by the first one's modulo the pace's period."""
     if not apart:
         return -NEVER
     if isinstance(pace, Pace) and step <= 0:
-        return STAYS if step == 0 else price(pace.least_off(apart, number, step)) + BACK
+        return STILL if step == 0 else price(pace.least_off(apart, number, step)) + BACK
     return price(pace.least_off(apart, number, step))
 
 
@@ -129,6 +143,4 @@ def _without_ties(readings, places, pace):
 
 def _worth(pace, one, before, after):
     """What a reading is worth between these."""
-    pairs = [pair for pair in ((before, one), (one, after)) if None not in pair]
-    return one.weight - sum(_cost(pace, other.field - near.field, near.number, other.number - near.number)
-                            for near, other in pairs)
+    return one.weight - sum(_cost(pace, *pair) for pair in ((before, one), (one, after)) if None not in pair)

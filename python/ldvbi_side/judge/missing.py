@@ -8,7 +8,7 @@ from ldvbi import Kind, Reason
 from .believed import stretch_at
 from .gaps import Gaps
 from .order import pairs_of
-from .paces import RATES
+from .paces import RATES, Unit
 from .places import Places
 from .readings import WEIGHTS, Answer, Codes, Fields
 
@@ -19,7 +19,7 @@ FAR = 10  # numbers passed over to one that fields may be there for: from here o
 def missing_of(places: Places, gaps: Gaps, codes: Codes) -> Tuple[List[Answer], List[Answer]]:
     """The numbers between the least and the greatest that no field has, in stretches of one reason; and those that were
     left out by the disc's clock. None is lost but in a gap that lacks fields."""
-    firsts, losses = _first_fields(places.showings), _Losses(gaps)
+    firsts, losses = _first_fields(places.showings), _Losses(gaps, places.numbers.unit)
     passed, unread = _passed_over(places, losses, gaps, codes), {number for number, _ in places.due}
     unread |= places.without_field
     known = sorted(unread.union(places.unshown, places.open, places.clock.judged, places.clock.open))
@@ -41,10 +41,15 @@ def missing_of(places: Places, gaps: Gaps, codes: Codes) -> Tuple[List[Answer], 
 
 
 class _Losses:
-    """The fields between which some are lost, by the gaps."""
+    """The fields between which some are lost: by the gaps, and before the library's first number, if there are none for
+    those before it. An NTSC disc's clock may leave out times."""
 
-    def __init__(self, gaps: Gaps) -> None:
+    def __init__(self, gaps: Gaps, unit: Unit) -> None:
         lost = sorted((one["after"], one["before"]) for one in gaps.breaks + gaps.at_speed if one["kind"] == "lost")
+        self.begin, judged = None, gaps.judged
+        if judged and judged.reasons & Reason.begins_late and (unit.name, unit.rate) != ("time", RATES["NTSC"]):
+            self.begin = judged.numbers[judged.first or 0].number
+            lost.insert(0, (0, (judged.first or 0) + 1))
         self.after, self.before = [after for after, _ in lost], [before for _, before in lost]
 
     def are_between(self, first: int, last: int) -> bool:
@@ -135,7 +140,7 @@ def _passed_over(places: Places, losses: _Losses, gaps: Gaps, codes: Codes) -> P
                 spans[why].append((first, last))
             spans["undecided"] += _shown_surely(codes, one)
     between = (sorted((before.number, after.number)) for before, after in places.joins)
-    others = _before_first(gaps.judged, places.numbers.unit)
+    others = [(0, losses.begin - 1)] if losses.begin else []
     others += [(one["from"] + 1, one["to"] - 1) for one in gaps.at_speed if one["kind"] == "lost"]
     return PassedOver([*spans.items(), ("unshown", [(low + 1, high - 1) for low, high in between]), ("lost", others)])
 
@@ -145,13 +150,6 @@ def _shown_surely(codes, one):
     pictures = codes.kinds[Kind.picture]
     return [(number, number) for field in range(one["after"] + 1, one["before"])
             for number, lines in pictures.get(field, {}).items() if codes.weight(field, lines) == 2 * WEIGHTS[1]]
-
-
-def _before_first(judged, unit):
-    """The numbers before the first one, if there are no fields for them. An NTSC disc's clock may leave out times."""
-    if not judged or not judged.reasons & Reason.begins_late or (unit.name, unit.rate) == ("time", RATES["NTSC"]):
-        return []
-    return [(0, judged.numbers[judged.first].number - 1)]
 
 
 def _why(places: Places, number: int, unread: Set[int], passed: PassedOver) -> str:

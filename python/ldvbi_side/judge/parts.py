@@ -4,9 +4,9 @@ codes."""
 import bisect
 from typing import Dict, List, Tuple
 
-from ldvbi import Kind, State, judge_chapters
+from ldvbi import Kind, judge_chapters
 from .believed import Numbers
-from .chain import chosen
+from .chain import chosen, sure_in
 from .doubts import chapters_aside
 from .paces import ChapterPace
 from .places import Places
@@ -32,8 +32,7 @@ def chapters_of(codes: Codes, places: Places) -> Tuple[List[Answer], List[Answer
                for field in (one.first + 1, one.first + 2, one.last, one.last + 2)]
     breaks.sort()
     readings = codes.readings(Kind.chapter)
-    sure = {field: one.number for field, one in enumerate(judge_chapters(codes.fields.packed), 1)
-            if one.state == State.believed}
+    sure = sure_in(judge_chapters(codes.fields.packed))
     if breaks:  # at each any chapter may follow, so the breaks up to its field are part of a reading's number
         readings = [Reading(field, 100 * bisect.bisect(breaks, field) + chapter, weight, lines)
                     for field, chapter, weight, lines, _ in readings]

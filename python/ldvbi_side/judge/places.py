@@ -12,6 +12,7 @@ from .paces import MinutePace, Pace
 from .readings import WEIGHTS, Answer, Codes, Reading
 from .sparse import spacing_of
 
+NEAR = (-3, -2, -1, 1, 2, 3)  # fields from a number to those before and behind it
 Due = List[Tuple[int, int]]
 
 
@@ -65,10 +66,10 @@ def places_of(numbers: Numbers, codes: Codes) -> Places:
     joins = [(step.before, step.after) for step in steps if ends and _is_join(step, ends)]
     steps = [_joined(step) if (step.before, step.after) in set(joins) else step for step in steps] if joins else steps
     due, without_field, unshown, unseen = _due(numbers, steps, codes)
-    others = {number for number, field in due if _is_another_shown(codes, field)}
-    if others:
-        due = [one for one in due if one[0] not in others]
-        without_field |= others
+    others = {one: said for one in due for said in [_shown_surely(codes, one[1])] if said is not None}
+    for (number, field), said in others.items():
+        (unseen if _is_played(codes, field, said) else without_field).add(number)
+    due = [one for one in due if one not in others] if others else due
     clock, showings = clock_of(_played(steps)), _showings(numbers.believed, steps)
     breaks = [_break(numbers, step.before, step.after, step.off) for step in steps if step.kind == "break"]
     breaks += [_break(numbers, before, after, numbers.off(before, after)) for before, after in clock.breaks]
@@ -162,10 +163,16 @@ def _due(numbers, steps, codes):
     return [one for one in found if one[1] not in numbers.others], without_field, unshown, unseen
 
 
-def _is_another_shown(codes, field):
-    """Whether a field shows another number in pass 1 on both lines, so that none is due there."""
+def _shown_surely(codes, field):
+    """The number that a field shows in pass 1 on both lines, so that no other is due there; else None."""
     shown = codes.kinds[Kind.picture].get(field, {})
-    return any(codes.weight(field, lines) == 2 * WEIGHTS[1] for lines in shown.values())
+    return next((number for number, lines in shown.items() if codes.weight(field, lines) == 2 * WEIGHTS[1]), None)
+
+
+def _is_played(codes, field, said):
+    """Whether a number was played in its field, as where a disc is turned by hand: it is at most one off what a field
+    beside it shows. Else it is misread."""
+    return any(abs(said - number) <= 1 for near in NEAR for number in codes.kinds[Kind.picture].get(field + near, ()))
 
 
 def _due_between(numbers, before, after):

@@ -54,9 +54,9 @@ class _Times(NamedTuple):
     def with_voted(self, readings: List[Reading], judged: JudgedSide) -> List[Reading]:
         """These readings, and the times of fields without a minute that the library gave one by vote."""
         known = {one.field for one in readings}
-        more = [Reading(field, number.number, self.codes.weight(field, (16,)), (16,))
-                for field in self.parts.keys() - known for number in [judged.numbers[field - 1]]
-                if number.state in (State.believed, State.doubtful)]
+        more = [Reading(field, number, self.codes.weight(field, (16,)), (16,))
+                for field in self.parts.keys() - known for number, state in [judged.numbers[field - 1]]
+                if number is not None and state in (State.believed, State.doubtful)]
         return sorted(readings + more) if more else readings
 
     def nearest(self, due: int, field: int) -> int:
