@@ -15,7 +15,7 @@ from collections import Counter
 import ldvbi
 from ldvbi import Counted, Pace, State
 from judged_truth import JudgedTruth
-from ldvbi_side.judge.answer import analyse
+from ldvbi_side.answer.analysis import analyse
 from measure import fields_of
 from simulate import simulated
 from simulated_runs import parser, totals_of, write_rows

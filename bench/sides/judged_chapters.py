@@ -13,7 +13,7 @@ import ldvbi
 from ldvbi import Kind, State
 from judged import FINDERS
 from judged_truth import ENOUGH, REACH
-from ldvbi_side.judge.answer import analyse
+from ldvbi_side.answer.analysis import analyse
 from measure import fields_of
 from simulate import simulated
 from simulated_runs import parser, totals_of, write_rows

@@ -12,7 +12,7 @@ import time
 
 import ldvbi
 from comparison import Comparison
-from ldvbi_side.judge.answer import analyse
+from ldvbi_side.answer.analysis import analyse
 from ldvbi_side.judge.readings import Fields
 from simulate import simulated
 from simulated_runs import parser, totals_of, write_rows

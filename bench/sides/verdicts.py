@@ -32,7 +32,7 @@ import random
 from collections import Counter, defaultdict
 from typing import NamedTuple
 
-from ldvbi_side.judge.answer import analyse
+from ldvbi_side.answer.analysis import analyse
 from measure import fields_of
 from simulate import KINDS, PLAYED, simulated
 from simulated_faults import FAULTS, faulty, lead_in_of, lead_out_of, with_lead_out

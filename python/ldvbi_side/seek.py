@@ -3,7 +3,7 @@
 import re
 from typing import Any, Dict, NamedTuple, Optional, Tuple
 
-from .judge.answer import frame_of
+from .answer.analysis import frame_of
 from .judge.readings import Answer
 
 _WANTED = re.compile(r"(?P<picture>[0-9]+)|(?P<time>[0-9]+:[0-9]+:[0-9]+\.[0-9]+)"

@@ -10,7 +10,7 @@ from ldvbi.document import read_document
 from ldvbi.metadata import Metadata, Settings
 from ldvbi.readings import PACKED_FIELD, Cut, Levels, PackedFields
 from ldvbi.stream import BLOCK, StreamDropouts, cut_of
-from .judge.answer import Analysis, analysed
+from .answer.analysis import Analysis, analysed
 from .judge.readings import Answer, Fields
 from .levels import tried_on
 from .near import nearest_word_in

@@ -10,7 +10,7 @@ import sys
 
 from compact import cells_of, made
 from discs import answer, joined, pictures, plain, side
-from ldvbi_side.judge.answer import analyse
+from ldvbi_side.answer.analysis import analyse
 from measure import fields_of
 from simulate import KINDS, simulated
 

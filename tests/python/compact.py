@@ -31,7 +31,7 @@ import sys
 
 from discs import (BLANK, LEAD_IN, LEAD_OUT, STOP, answer, chapter, film, item, minutes, picture, pictures, plain,
                    second, times)
-from ldvbi_side.judge.answer import analyse
+from ldvbi_side.answer.analysis import analyse
 
 NAMED = {"L": LEAD_IN, "O": LEAD_OUT, "B": BLANK, "?": "- ? ?", "C": "- 800DDD 800DDD"}
 FIELDS = {

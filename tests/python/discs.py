@@ -10,7 +10,7 @@ from ldvbi import Cause, FieldReadings, Reading, System
 from ldvbi.readings import Levels, PackedFields
 from ldvbi_side.join.captures import capture_of
 from ldvbi_side.join.joined import join
-from ldvbi_side.judge.answer import analyse
+from ldvbi_side.answer.analysis import analyse
 from ldvbi_side.judge.readings import Fields
 from ldvbi_side.side import Side
 

@@ -4,7 +4,7 @@
 # Needs libldvbi.so.1 at the top of the repository (`make lib`).
 # usage: sh tests/python/python.sh PROGRAM
 # runs: library
-# fails where: python/ldvbi_side/judge/answer.py|s/^def analyse(/def analyze(/
+# fails where: python/ldvbi_side/answer/analysis.py|s/^def analyse(/def analyze(/
 
 # shellcheck source=tests/helpers.sh
 . "$(dirname "$0")/../helpers.sh"

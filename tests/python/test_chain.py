@@ -5,7 +5,7 @@ import unittest
 
 from compact import cells_of, check
 from ldvbi_side.judge.chain import chosen
-from ldvbi_side.judge.missing import Passed, PassedOver
+from ldvbi_side.answer.missing import Passed, PassedOver
 from ldvbi_side.judge.paces import ChapterPace, MinutePace, Pace, price
 from ldvbi_side.judge.readings import Reading
 
@@ -84,8 +84,8 @@ class Chains(unittest.TestCase):
         self.assertNotIn(3, dict(believed(ones)))
 
     def test_between_two_that_are_sure(self):
-        """Of a single number the two breaks cost more than it weighs, of ten they don't; a sure one is believed whatever
-        stands around it or in its field."""
+        """Of a single number the two breaks cost more than it weighs, of ten they don't; a sure one is believed
+        whatever stands around it or in its field."""
         self.assertEqual(believed(readings(1, 2, 70000, 4, 5), {3: 2, 7: 4}), [(1, 1), (3, 2), (7, 4), (9, 5)])
         row = readings(1, 2, *range(500, 510), 13, 14)
         self.assertEqual([number for _, number in believed(row, {3: 2, 25: 13})], [1, 2, *range(500, 510), 13, 14])

@@ -10,7 +10,7 @@ from compact import made
 from discs import plain, side
 from judged_chapters import ChapterTruth, chapter_in, judged, of_package
 from ldvbi import State
-from ldvbi_side.judge.answer import analyse
+from ldvbi_side.answer.analysis import analyse
 from simulate import KINDS, Simulated
 from test_judged import PICTURES, sides_of
 

@@ -4,7 +4,7 @@ import unittest
 
 from compact import check, made, of_member
 from discs import plain
-from ldvbi_side.judge.answer import analysed
+from ldvbi_side.answer.analysis import analysed
 
 SCANNED = "1..60 90 120 150 180 210 240..299"
 NO_END = "can't tell: no lead-out: the disc may go on behind picture "

@@ -11,7 +11,7 @@ from discs import plain
 from judged import Judged, Package, judged
 from judged_truth import JudgedTruth
 from ldvbi import Counted, Number, Pace, State
-from ldvbi_side.judge.answer import analyse
+from ldvbi_side.answer.analysis import analyse
 from simulate import KINDS
 from test_simulated import Sides
 

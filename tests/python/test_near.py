@@ -8,7 +8,7 @@ from cases import InFolder, reason
 from compact import check, made, of_member
 from discs import plain, second
 from ldvbi_side.command.map import map_rows
-from ldvbi_side.judge.answer import analyse
+from ldvbi_side.answer.analysis import analyse
 from ldvbi_side.seek import seek, wanted_of
 from ldvbi_side.side import side_of_tbc
 from streams import NTSC, PAL, line_with, worn_line, write_stream

@@ -7,7 +7,7 @@ import unittest
 
 from compact import check, made, rows
 from discs import answer, picture, plain
-from ldvbi_side.judge.answer import analyse
+from ldvbi_side.answer.analysis import analyse
 
 # A disc that has its seconds on each fifth picture alone
 SPARSE = "t0..199 3:400/10.16=- 5:400/10.16=- 7:400/10.16=- 9:400/10.16=-"

@@ -14,7 +14,7 @@ from ldvbi_side.command.map import map_rows
 from ldvbi_side.command.summary import MOST_LINES, summary
 from ldvbi_side.command.tables import bad_line_rows, field_rows
 from ldvbi_side.draw.plot import plot_command, tbc_name
-from ldvbi_side.judge.lines import SIZES
+from ldvbi_side.answer.lines import SIZES
 from ldvbi_side.seek import seek, text_of, wanted_of
 
 AROUND = ", by the numbers around it: "

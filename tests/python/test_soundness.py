@@ -6,7 +6,7 @@ import unittest
 from comparison import Comparison
 from compact import made
 from discs import plain
-from ldvbi_side.judge.answer import analyse
+from ldvbi_side.answer.analysis import analyse
 from measure import fields_of
 from simulate import KINDS, PLAYED, simulated
 from sound import faults_of

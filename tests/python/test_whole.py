@@ -6,9 +6,9 @@ import ldvbi
 from compact import check, made
 from discs import side
 from ldvbi import Reason
-from ldvbi_side.judge.gaps import Gaps
+from ldvbi_side.answer.gaps import Gaps
 from ldvbi_side.judge.paces import Unit
-from ldvbi_side.judge.whole import counted_by, reasons_of
+from ldvbi_side.answer.whole import counted_by, reasons_of
 
 
 class Whole(unittest.TestCase):
@@ -108,6 +108,7 @@ class Whole(unittest.TestCase):
         number
     two numbers | 1..2 | said can't tell: too few numbers to judge by
     film that may be swapped | NTSC e1..40 ~48 | said can't tell: fields 48 and 49 may be swapped
+    with 3 fields of odd pictures | NTSC f1..30 ~11 | said can't tell: fields 11 and 12 may be swapped
     twice | NTSC e1..80 ~48 ~148 | said can't tell: 2 pairs of fields may be swapped
     film that is cut once | NTSC e1..20 f21..40 | said yes
     a line without a word | 1..30 1:60.17=- | said can't tell: line 17 shows no code

@@ -6,10 +6,10 @@ from typing import Any, Dict, Iterator, List, Sequence
 from ldvbi.codes import LINES, code_of
 from ..join.captures import NUMBERS, capture_of
 from ..join.joined import together_of
-from ..judge.ends import ordinal_of
+from ..answer.ends import ordinal_of
 from ..judge.paces import RATES
 from ..judge.readings import WEIGHTS, Answer
-from ..judge.whole import UNITS
+from ..answer.whole import UNITS
 from ..side import Side
 from .join import together_text
 from .summary import listed, named

@@ -2,7 +2,7 @@
 
 from typing import Any, Dict, Iterator, Tuple
 
-from ..judge.answer import frame_of
+from ..answer.analysis import frame_of
 from ..judge.readings import Answer
 
 # The columns with what they hold, which docs/FORMATS.md has from here

@@ -15,7 +15,7 @@ from ldvbi.metadata import beside
 from ldvbi.packed import refuse_packed
 from ..draw.index import head_of, index_of
 from ..draw.page import said_of
-from ..judge.answer import VERSION
+from ..answer.analysis import VERSION
 from ..judge.readings import Answer
 from ..outside import say
 from .faults import fault_text, no_metadata

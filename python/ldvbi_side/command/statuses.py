@@ -3,7 +3,7 @@ manual page and docs/FORMATS.md have them from here."""
 
 from typing import Dict, Iterable, List, Tuple
 
-from ..judge.whole import NO, OPEN, YES
+from ..answer.whole import NO, OPEN, YES
 
 FAULT, CUT = 2, 3
 OF_SIDE = {YES: 0, NO: 1, OPEN: 4}  # by whether it is whole

@@ -5,9 +5,9 @@ from typing import Any, Callable, Iterable, Iterator
 
 from ldvbi.codes import LINES
 from ..draw.marks import OUT_OF_PLACE, SKIPPED, fields_text
-from ..judge.lines import words_of
+from ..answer.lines import words_of
 from ..judge.readings import Answer
-from ..judge.whole import UNITS, counted, other_file
+from ..answer.whole import UNITS, counted, other_file
 from ..levels import options_of
 
 MOST_LINES = 25

@@ -4,7 +4,7 @@ from typing import Any, Iterator, List, Tuple
 
 from ldvbi import Kind, format_of
 from ldvbi.codes import LINES, code_of, name_of, value_of
-from ..judge.answer import frame_of
+from ..answer.analysis import frame_of
 from ..judge.paces import minute_text
 from ..near import measured
 from ..side import Side

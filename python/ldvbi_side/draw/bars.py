@@ -4,7 +4,7 @@ numbers its capture has, and which of these are to be taken from it; below all o
 from typing import Any, Iterable, Iterator, List, Tuple
 
 from ..judge.readings import Answer
-from ..judge.whole import counted
+from ..answer.whole import counted
 from .axis import LEFT, WIDTH, Axis
 from .curve import AXES, Scale
 from .marks import fields_text, span

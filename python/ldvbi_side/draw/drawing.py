@@ -1,8 +1,8 @@
 """A side drawn as an SVG: fields along, what each of the three lines shows in colour, lead-in, chapters, lead-out and
 picture stops, the numbers as a curve, and below it a lane for each kind of what there is to look at. It draws the
-answer of `judge.answer`, and each mark has a title that says its fields and why it is there."""
+answer of `answer.analysis`, and each mark has a title that says its fields and why it is there."""
 
-from ..judge.whole import other_file
+from ..answer.whole import other_file
 from ..side import Side
 from . import bands, curve
 from .axis import LEFT, WIDTH, Axis

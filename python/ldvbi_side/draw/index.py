@@ -9,9 +9,9 @@ from html.parser import HTMLParser
 from typing import Iterable, Sequence, Tuple
 from urllib.parse import quote
 
-from ..judge.answer import VERSION
+from ..answer.analysis import VERSION
 from ..judge.readings import Answer
-from ..judge.whole import NO, OPEN, YES, counted
+from ..answer.whole import NO, OPEN, YES, counted
 from .page import MARK, STYLE, escaped
 
 PART = 65536  # characters of a page that are read at once

@@ -4,7 +4,7 @@ a lane of the drawing."""
 from typing import Any, Dict, List, NamedTuple
 
 from ..judge.readings import Answer
-from ..judge.whole import counted_by
+from ..answer.whole import counted_by
 
 # What a reader is told of the answer's `leftOut` and `stray`
 SKIPPED, OUT_OF_PLACE = "skipped by the disc itself", "codes out of place"

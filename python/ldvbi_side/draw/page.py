@@ -7,7 +7,7 @@ from typing import Any, Callable, Iterable, Optional
 
 from ldvbi.codes import LINES
 from ..judge.readings import Answer
-from ..judge.whole import NO, OPEN, YES, counted, counted_by, lost_fields_text
+from ..answer.whole import NO, OPEN, YES, counted, counted_by, lost_fields_text
 from ..outside import shown
 from ..side import Side
 from .bands import SHOWN

@@ -3,7 +3,7 @@
 import os
 import shlex
 
-from ..judge.lines import SIZES
+from ..answer.lines import SIZES
 from ..side import Side
 
 _HERE = os.path.dirname(os.path.dirname(os.path.abspath(__file__)))  # the package

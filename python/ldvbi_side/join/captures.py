@@ -6,7 +6,7 @@ from typing import Any, Dict, List, NamedTuple, Optional, Set, Tuple
 
 from ldvbi import Kind, Stream
 from ldvbi.codes import LINES, code_of
-from ..judge.ends import ordinal_of
+from ..answer.ends import ordinal_of
 from ..judge.paces import RATES, Unit
 from ..judge.readings import Answer
 from ..side import Side

@@ -2,7 +2,7 @@
 
 from typing import Any, Callable, Dict, Iterable, List, Set, Tuple
 
-from ..judge.answer import frame_of
+from ..answer.analysis import frame_of
 from ..judge.paces import Unit
 from ..judge.readings import Answer
 from .captures import DUE, TOGETHER, Capture

@@ -3,7 +3,7 @@
 import itertools
 from typing import List
 
-from ..judge.whole import UNITS
+from ..answer.whole import UNITS
 from .captures import Capture
 
 LEAST = 10  # numbers beside which something else stands in the other capture, where that is more than a wrong word

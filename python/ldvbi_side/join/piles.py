@@ -8,7 +8,7 @@ from ldvbi import Cause, Stream, line_bytes, read_rows, recover_pile
 from ldvbi.codes import LINES
 from ldvbi.near import MOST_LINES
 from ldvbi.readings import Levels
-from ..judge.confirmed import says
+from ..answer.confirmed import says
 from ..judge.paces import Unit
 from .captures import NEIGHBOURS, Capture
 

@@ -1,52 +1,162 @@
-"""The numbers of a side that are believed: pictures of a CAV disc, times of a CLV disc, or its minutes alone.
-
-Pictures are found here, and times in times.py, as a time is joined of two words. The steps are the same:
+"""The numbers of a side that are believed: pictures of a CAV disc, times of a CLV disc, or its minutes alone. A time is
+joined of the minutes on lines 17 and 18 and of the second and picture on line 16. The steps are the same for both:
 
 1. The codes become readings: a number of a field, with its weight.
-2. The library says at which pace the numbers go on, and which it believes (`judged_of`).
+2. The library says at which pace the numbers go on, and which it believes (`judged_of`); of times it first gives fields
+   without a minute one by vote.
 3. `anchored` has these, and chooses among the other readings, each in its own field.
-4. `with_loops`, `with_pictures_between`, `with_rest_between`, `with_speeds`, `with_turned` and `with_swaps` find what
-   the chain takes for stills or for breaks, or sets aside: a few pictures that were played again and again, pictures
-   that were stepped over between two stills, what is left between two losses, stretches that were played at another
-   speed or turned by hand, and fields that were written in each other's place. Speeds come before swaps: a swap is
-   found between two numbers that fit, and those of another speed fit only once it is known.
-5. What isn't believed then is set aside by name (`Doubts`).
+4. `with_rest_between`, `with_speeds`, `with_turned` and `with_swaps` find what the chain takes for stills or breaks, or
+   sets aside: what is left between two losses, stretches that were played at another speed or turned by hand, and
+   fields that were written in each other's place. Speeds come before swaps: a swap is found between two numbers that
+   fit, and those of another speed fit only once it is known.
 
 Each step returns new `Numbers`, and leaves those that it was given as they were. All later modules ask `Numbers.off` or
 `Numbers.fit` (believed.py) how two numbers stand to each other; these know the pace, the speeds and the swaps. So
 another order of fields is one more step here, and `off` has to know it, or its ends are breaks to all the others. A new
-pace belongs to paces.py, and places.py says in which fields its numbers are due. docs/SIDES.md has all this as rules 6,
-7, 9, 12, 14 and 15."""
+pace belongs to paces.py, and places.py says in which fields its numbers are due. docs/SIDES.md has the rules."""
 
-from typing import Tuple
+from typing import Dict, List, NamedTuple, Optional
 
-from ldvbi import Counted, Kind
-from .anchors import anchored, judged_of, pace_of
-from .believed import Numbers, no_numbers, numbers_of_readings
-from .between import with_rest_between
-from .doubts import Doubts, numbers_aside, second_rows
-from .order import with_speeds, with_swaps, with_turned
-from .paces import RATES, Unit
-from .readings import Codes
-from .times import times_of
+from ldvbi import Counted, JudgedSide, Kind, State
+from .believed import Line, Numbers, no_numbers, numbers_of_readings
+from .chain import anchored, chain, judged_of, pace_of
+from .order import with_rest_between, with_speeds, with_swaps, with_turned
+from .paces import RATES, MinutePace, Unit
+from .readings import WEIGHTS, ByField, Codes, Lines, Reading
+
+CARRIED = 1  # seconds that are lost at most where a minute is carried over although others were read
 
 
-def numbers_of(codes: Codes) -> Tuple[Numbers, Doubts]:
-    """The believed numbers of these codes, and those that are set aside."""
-    return times_of(codes) if codes.format == "clv" else pictures_of(codes)
+class Times(NamedTuple):
+    """The two parts of a side's times: `minutes` has of each field the values with their lines, `parts` the pictures
+    from the start of the minute, of which that has `whole`."""
+    codes: Codes
+    rate: int
+    whole: int
+    minutes: ByField
+    parts: Dict[int, int]
+
+    def joined(self) -> List[Reading]:
+        """Each second and picture with the minutes of its field, or else of the one behind or before it."""
+        readings, passes = [], self.codes.fields.passes
+        known: Dict[Lines, Lines] = {}
+        for field, part in sorted(self.parts.items()):
+            near = field
+            if field not in self.minutes:
+                near = field + 1 if field + 1 in self.minutes else field - 1
+            most = WEIGHTS[passes[field - 1][0]]
+            for value, lines in self.minutes.get(near, {}).items():
+                # a number that is joined of two is as sure as the less sure one
+                weight = min(self.codes.weight(near, lines), most)
+                joined = known.setdefault(lines, (16,) + lines) if near == field else (16,)
+                readings.append(Reading(field, value * self.whole + part, weight, joined))
+        return readings
+
+    def with_voted(self, readings: List[Reading], judged: JudgedSide) -> List[Reading]:
+        """These readings, and the times of fields without a minute that the library gave one by vote."""
+        known = {one.field for one in readings}
+        more = [Reading(field, number, self.codes.weight(field, (16,)), (16,))
+                for field in self.parts.keys() - known for number, state in [judged.numbers[field - 1]]
+                if number is not None and state in (State.believed, State.doubtful)]
+        return sorted(readings + more) if more else readings
+
+    def nearest(self, due: int, field: int) -> int:
+        """The time with this field's second and picture that is nearest to the one that is due."""
+        half = self.whole // 2
+        return due + (self.parts[field] - due + half) % self.whole - half
+
+    def of_line(self, line: Line, fields: List[int]) -> List[Reading]:
+        """The times of these fields of a line, where the second and the picture alone were read."""
+        return [Reading(field, line.number_at(field), self.codes.weight(field, (16,)), (16,)) for field in fields
+                if field not in self.minutes and self.parts.get(field) == line.number_at(field) % self.whole]
+
+    def completed_weight(self, field: int, number: int) -> int:
+        """The weight of line 16, less that of another minute which the field itself says."""
+        against = [self.codes.weight(field, lines) for minute, lines in self.minutes.get(field, {}).items()
+                   if minute != number // self.whole]
+        return max(self.codes.weight(field, (16,)) - max(against, default=0), 0)
 
 
-def pictures_of(codes: Codes) -> Tuple[Numbers, Doubts]:
+class Found(NamedTuple):
+    """The believed numbers of a side, the readings among which they were chosen, and of a CLV side the times."""
+    numbers: Numbers
+    readings: List[Reading]
+    times: Optional[Times] = None
+
+
+def numbers_of(codes: Codes) -> Found:
+    """The believed numbers of these codes."""
+    return _times_of(codes) if codes.format == "clv" else _pictures_of(codes)
+
+
+def _pictures_of(codes):
     """The picture numbers of a CAV side, or of one without codes of either format."""
     system, judged = codes.fields.system, judged_of(codes.fields, Counted.pictures)
     readings = codes.readings(Kind.picture)
     if not readings:
-        return no_numbers(system, judged), Doubts([], [], [])
+        return Found(no_numbers(system, judged), [])
     pace = pace_of(judged)
     # a field with a chapter is the second one of its picture, unless both have the number
     others = set() if pace.kind == "both" else codes.sure_fields(Kind.chapter)
     unit, believed = Unit("picture", RATES[system]), anchored(readings, pace, judged)
     numbers = numbers_of_readings(unit, pace, believed, others, judged)
     numbers = with_turned(with_speeds(with_rest_between(numbers, readings), readings), readings)
-    numbers = with_swaps(numbers, readings, {reading.field for reading in readings})
-    return numbers, numbers_aside(codes, numbers, readings)._replace(second_rows=second_rows(codes, numbers, readings))
+    return Found(with_swaps(numbers, readings, {reading.field for reading in readings}), readings)
+
+
+# ---- Times
+
+def _times_of(codes):
+    """The times of a CLV side, or its minutes where no field has a second and picture that can be joined to them."""
+    rate = RATES[codes.fields.system]
+    parts = {field: second * rate + picture for field, values in codes.kinds[Kind.clv_picture].items()
+             for second, picture in values if picture < rate}
+    times = Times(codes, rate, 60 * rate, codes.minutes(), parts)
+    readings = times.joined()
+    return _believed(times, readings) if readings else _minutes_alone(times)
+
+
+def _minutes_alone(times):
+    """The minutes of a side without a second that can be joined to one."""
+    codes, system = times.codes, times.codes.fields.system
+    readings = [Reading(field, value, codes.weight(field, lines), lines)
+                for field, values in times.minutes.items() for value, lines in values.items()]
+    if not readings:
+        return Found(no_numbers(system, judged_of(codes.fields, Counted.times)), [], times)
+    pace = MinutePace(system)
+    numbers = numbers_of_readings(Unit("minute", RATES[system]), pace, chain(readings, pace), set())
+    return Found(numbers, readings, times)
+
+
+def _believed(times, readings):
+    """The numbers of these times. Fields without a minute that is believed get the one that brings them nearest to the
+    believed times around them, and the chain is drawn again."""
+    codes = times.codes
+    judged = judged_of(codes.fields, Counted.times)
+    pace = pace_of(judged)
+    others = set().union(*map(codes.sure_fields, (Kind.chapter, Kind.cx_on, Kind.cx_off)))
+    readings = times.with_voted(readings, judged)
+    believed = anchored(readings, pace, judged)
+    numbers = numbers_of_readings(Unit("time", times.rate), pace, believed, others, judged)
+    more = _completions(times, numbers, readings)
+    if more:
+        known = sorted(readings + more, key=lambda one: one.field)
+        numbers = numbers.believing(anchored(known, pace, judged))
+    numbers = with_rest_between(numbers, readings)
+    numbers = with_speeds(numbers, readings, times.of_line)
+    numbers = with_swaps(numbers, readings, times.parts)
+    completed = frozenset(reading.field for reading in numbers.believed if reading.lines == (16,))
+    return Found(numbers._replace(completed=completed), readings, times)
+
+
+def _completions(times, numbers, readings):
+    """The times of fields whose minute isn't believed: each second and picture with the minute that brings it nearest
+    to a believed time beside it."""
+    more, said = [], {(reading.field, reading.number) for reading in readings}
+    for field in sorted(times.parts.keys() - set(numbers.fields)):
+        dues = [near.number + (field - near.field) // 2 for near in numbers.around(field) if near]
+        found = {number for due in dues for number in [times.nearest(due, field)]
+                 if abs(number - due) <= CARRIED * times.rate}
+        more += [Reading(field, number, times.completed_weight(field, number), (16,)) for number in sorted(found)
+                 if number >= 0 and (field, number) not in said]
+    return more

@@ -2,17 +2,17 @@
 one side and the start of another."""
 
 import bisect
+from collections import Counter
 from typing import Dict, List, NamedTuple, Set, Tuple
 
 from ldvbi import Kind
 from .believed import Numbers, off_at_speed, passed_between
 from .clock import WIDE, Clock, Gap, Played, clock_of
-from .minutes import minute_breaks
 from .paces import MinutePace, Pace
 from .readings import WEIGHTS, Answer, Codes, Reading
-from .sparse import spacing_of
 
 NEAR = (-3, -2, -1, 1, 2, 3)  # fields from a number to those before and behind it
+LEAST = 8  # steps from one number to the next of a disc that shows it on each k-th picture alone
 Due = List[Tuple[int, int]]
 
 
@@ -74,7 +74,7 @@ def places_of(numbers: Numbers, codes: Codes) -> Places:
     breaks = [_break(numbers, step.before, step.after, step.off) for step in steps if step.kind == "break"]
     breaks += [_break(numbers, before, after, numbers.off(before, after)) for before, after in clock.breaks]
     if isinstance(numbers.pace, MinutePace):
-        breaks += minute_breaks(numbers.pace, showings, ends)
+        breaks += _minute_breaks(numbers.pace, showings, ends)
     number_of = {field: number for number, field in due}
     number_of.update((reading.field, reading.number) for reading in numbers.believed)
     return Places(numbers, showings, sorted(breaks, key=lambda one: one["after"]), joins,
@@ -138,7 +138,7 @@ def _stills(believed, steps):
 def _due(numbers, steps, codes):
     """The numbers between those that fit, each with the field in which it is due; those that no field is for; those
     that the disc doesn't show; and those in whose place nothing was seen but other codes."""
-    found, spacing = [], spacing_of(numbers)
+    found, spacing = [], _spacing_of(numbers)
     without_field, unshown, unseen = set(), set(), set()
     for before, after, kind, _ in steps:
         if kind == "speed":
@@ -206,3 +206,38 @@ def _break(numbers, before, after, off):
         off = numbers.pace.least_wrong(after.field - before.field, after.number - before.number)
     return {"kind": kind, "after": before.field, "before": after.field, "from": before.number, "to": after.number,
             "fields": abs(off)}
+
+
+# ---- Discs of another kind
+
+def _spacing_of(numbers: Numbers) -> int:
+    """How many pictures apart the numbers of the disc are: 1 but where most of the steps from one believed time to the
+    next are longer, and all as long. Where numbers aren't read by chance, more of them are one apart than two."""
+    if numbers.unit.name != "time":
+        return 1
+    believed = numbers.believed
+    steps = Counter(after.number - before.number for before, after in zip(believed, believed[1:])
+                    if after.field - before.field == 2 * (after.number - before.number))
+    step, count = max(steps.items(), key=lambda one: one[1], default=(1, 0))
+    return step if count >= LEAST and 2 * count > sum(steps.values()) else 1
+
+
+def _minute_breaks(pace: MinutePace, showings: List[List[int]], ends: List[int]) -> List[Answer]:
+    """The minutes that show more fields than they have, and those that have room for fewer: between two others, or of
+    minute 0 between lead-in and minute 1. `ends` are the fields with lead-in or lead-out: another side may begin there.
+    """
+    found: List[Answer] = []
+    for number, first, last in showings:
+        many = last - first + 1 - pace.longest
+        if many > 0:
+            found.append({"kind": "held", "after": first, "before": last, "from": number, "to": number, "fields": many})
+    for (before, _, last), (number, _, _), (after, first, _) in zip(showings, showings[1:], showings[2:]):
+        few = pace.shortest - (first - last - 1)
+        if after - number == number - before == 1 and few > 0:
+            found.append({"kind": "lost", "after": last, "before": first, "from": before, "to": after, "fields": few})
+    for (number, first, _), (after, begin, _) in zip(showings, showings[1:]):
+        end = ends[bisect.bisect(ends, first) - 1] if ends and ends[0] < first else None
+        if end is not None and (number, after) == (0, 1) and begin - end - 1 < pace.shortest:
+            found.append({"kind": "lost", "after": end, "before": begin, "from": number, "to": after,
+                          "fields": pace.shortest - (begin - end - 1)})
+    return [one for one in found if bisect.bisect(ends, one["after"]) == bisect.bisect_left(ends, one["before"])]

@@ -10,16 +10,16 @@ from typing import List, NamedTuple
 
 from ldvbi import Kind
 from ldvbi.collector import paused
+from ..judge.numbers import numbers_of
+from ..judge.order import pairs_of
+from ..judge.places import Places, places_of
+from ..judge.readings import Answer, Codes, Fields, codes_of
 from .confirmed import with_confirmed
-from .doubts import Doubts, read_in
+from .doubts import Doubts, doubts_in, read_in
 from .gaps import Gaps, gaps_of
 from .lines import bad_lines_of, levels_of, rates_of
 from .missing import lost_fields, missing_of, own_breaks, repeated_of
-from .numbers import numbers_of
-from .order import pairs_of
 from .parts import chapters_of, ends_of, status_of, stops_of, users_of
-from .places import Places, places_of
-from .readings import Answer, Codes, Fields, codes_of
 from .whole import reasons_of, whole_of
 
 VERSION = 3  # of the answer's form
@@ -40,7 +40,8 @@ def analyse(fields: Fields) -> Answer:
 def analysed(fields: Fields) -> Analysis:
     """The analysis of these fields of a side."""
     codes = codes_of(fields)
-    numbers, doubts = numbers_of(codes)
+    found = numbers_of(codes)
+    numbers, doubts = found.numbers, doubts_in(codes, found)
     places = with_confirmed(places_of(numbers, codes), fields.nearest_word)
     gaps = gaps_of(places, codes.kinds[Kind.picture])
     begin = 2 if fields.first and not fields.first[0] else 1

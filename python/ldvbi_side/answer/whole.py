@@ -6,11 +6,11 @@ from collections import Counter, defaultdict
 from typing import List
 
 from ldvbi import Reason, State
+from ..judge.paces import Unit
+from ..judge.readings import Answer
 from .ends import begin_of, end_of, is_end_seen, ordinal_of
 from .gaps import Gaps
-from .paces import Unit
 from .lines import words_of
-from .readings import Answer
 
 YES, NO, OPEN = "yes", "no", "can't tell"
 UNITS = {"picture": "pictures", "time": "times", "minute": "minutes"}

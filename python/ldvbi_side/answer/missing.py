@@ -2,15 +2,15 @@
 lost, by the gaps; numbers that are shown again."""
 
 import bisect
-from typing import Any, Dict, Iterable, Iterator, List, NamedTuple, Optional, Sequence, Set, Tuple
+from typing import Any, Dict, Iterator, List, NamedTuple, Optional, Sequence, Set, Tuple
 
 from ldvbi import Kind, Reason
-from .believed import stretch_at
+from ..judge.believed import stretch_at
+from ..judge.order import pairs_of
+from ..judge.paces import RATES, Unit
+from ..judge.places import Places
+from ..judge.readings import WEIGHTS, Answer, Codes
 from .gaps import Gaps
-from .order import pairs_of
-from .paces import RATES, Unit
-from .places import Places
-from .readings import WEIGHTS, Answer, Codes, Fields
 
 _BLANK = frozenset(["blank"])
 FAR = 10  # numbers passed over to one that fields may be there for: from here on most of them are sure to be lost
@@ -103,8 +103,8 @@ class Passed(NamedTuple):
 
 
 class PassedOver:
-    """Why numbers aren't there that were passed over, by spans of numbers in the order of their weight: of a number that
-    was passed over more than once a field for it is enough. Of one in no span it isn't known."""
+    """Why numbers aren't there that were passed over, by spans of numbers in the order of their weight: of a number
+    that was passed over more than once a field for it is enough. Of one in no span it isn't known."""
 
     def __init__(self, spans: List[Tuple[str, List[Tuple[int, int]]]]) -> None:
         ends = [(why, _merged(ones)) for why, ones in spans]

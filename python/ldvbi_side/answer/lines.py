@@ -4,7 +4,7 @@ from collections import Counter
 from typing import Counter as Counted, Dict, List, Optional
 
 from ldvbi.codes import LINES
-from .readings import Answer, Fields
+from ..judge.readings import Answer, Fields
 
 SIZES = {"NTSC": (1820, 263), "PAL": (2270, 313)}  # bytes of a line, lines of a field
 BAD = ("change", "hold", "unfinished")

@@ -2,15 +2,15 @@
 codes."""
 
 import bisect
-from typing import Dict, List, Tuple
+from typing import List, Tuple
 
 from ldvbi import Kind, judge_chapters
-from .believed import Numbers
-from .chain import chosen, sure_in
+from ..judge.believed import Numbers
+from ..judge.chain import chosen, sure_in
+from ..judge.paces import ChapterPace
+from ..judge.places import Places
+from ..judge.readings import WEIGHTS, Answer, Codes, Reading
 from .doubts import chapters_aside
-from .paces import ChapterPace
-from .places import Places
-from .readings import WEIGHTS, Answer, Codes, Reading
 
 LEAST_SHARE = 200  # fields to a chapter code at most: of a disc with chapters each picture has one
 APART = 100  # fields without the code between two stretches of lead-in or lead-out: a scratch on a disc is shorter

@@ -4,8 +4,8 @@ numbers. By the answer's other members, and the library's reasons."""
 from typing import Any, NamedTuple, Optional, Tuple
 
 from ldvbi import JudgedSide, Reason
-from .paces import RATES, Unit
-from .readings import Answer
+from ..judge.paces import RATES, Unit
+from ..judge.readings import Answer
 
 # The numbers with which a disc may begin
 FIRST = {"picture": (0, 1), "time": ("0:00:00.00", "0:00:00.01"), "minute": ("0:00",)}

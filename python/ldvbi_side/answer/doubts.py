@@ -7,9 +7,10 @@ from typing import Any, Collection, Dict, Iterable, List, Mapping, NamedTuple, O
 from ldvbi import Counted, Kind, Pace as JudgedPace, State, judge
 from ldvbi.codes import LINES, name_of
 from ldvbi.readings import PACKED_FIELD, PACKED_LINE
-from .believed import Numbers
-from .paces import price
-from .readings import Answer, Codes, Lines, Reading
+from ..judge.believed import Numbers
+from ..judge.numbers import Found
+from ..judge.paces import minute_text, price
+from ..judge.readings import Answer, Codes, Lines, Reading
 
 WIDEST = price(1 << 18)  # more than the widest break of a side costs
 SHARE = 10  # believed readings to one of a second row, at most
@@ -57,6 +58,22 @@ class AllBeside:
             one = self.numbers.believed[place]
             self.known[place] = {"field": one.field, "number": self.numbers.unit.text_of(one.number)}
         return self.known[place]
+
+
+def doubts_in(codes: Codes, found: Found) -> Doubts:
+    """What is set aside of the numbers of these codes."""
+    numbers, readings, times = found
+    if numbers.unit.name == "time":
+        doubtful, conflicts = _times_aside(times, numbers)
+    else:
+        doubtful, conflicts = _numbers_aside(codes, numbers, readings)
+    if times is not None:
+        doubtful = _off_the_clock(codes, times) + doubtful
+        if numbers.unit.name != "time":
+            doubtful = [one for field in times.parts for one in doubts_of(
+                codes, Kind.clv_picture, field, (16,), None, Beside("minute"))] + doubtful
+    rows = _second_rows(codes, numbers, readings) if numbers.judged else []
+    return Doubts(doubtful, conflicts, rows)
 
 
 def doubts_of(codes: Codes, kind: Kind, field: int, lines: Lines, text: Any, beside: Beside) -> List[Answer]:
@@ -107,7 +124,7 @@ def chapters_aside(codes: Codes, readings: List[Reading],
                       for field, ones in said.items() if len(ones) > 1]
 
 
-def numbers_aside(codes: Codes, numbers: Numbers, readings: List[Reading]) -> Doubts:
+def _numbers_aside(codes: Codes, numbers: Numbers, readings: List[Reading]) -> Tuple[List[Answer], List[Answer]]:
     """The readings that aren't believed, by name, and the fields whose lines differ."""
     text_of = numbers.unit.text_of
     taken = {reading.field: reading.number for reading in numbers.believed}
@@ -123,7 +140,7 @@ def numbers_aside(codes: Codes, numbers: Numbers, readings: List[Reading]) -> Do
         if len(ones) > 1:
             conflicts.append(conflict_of(field, zip(texts, [lines for _, lines in ones]),
                                          None if right is None else text_of(right)))
-    return Doubts(doubtful, conflicts, [])
+    return doubtful, conflicts
 
 
 def _aside(readings, taken):
@@ -136,7 +153,7 @@ def _aside(readings, taken):
     return said
 
 
-def second_rows(codes: Codes, numbers: Numbers, readings: List[Reading]) -> List[Answer]:
+def _second_rows(codes: Codes, numbers: Numbers, readings: List[Reading]) -> List[Answer]:
     """Readings that aren't believed, but of which the library believes a row where it is shown these alone: as of a
     line on which one digit is always read wrong, or of a second disc. Which of two rows is the right one isn't known
     where their weights are near. A few of many wrong numbers always fit, so a row weighs more than the widest break,
@@ -171,3 +188,52 @@ def _row_of(codes, numbers, rest):
     counted = Counted.pictures if numbers.unit.name == "picture" else Counted.times
     answers = judge(packed, fields.system, counted, pace)
     return [one for one in rest if answers[one.field - 1] == (one.number, State.believed)]
+
+
+# ---- Times
+
+def _off_the_clock(codes, times):
+    """The minutes, seconds and pictures that no clock shows."""
+    found = []
+    for field, values in codes.kinds[Kind.time].items():
+        if None in values:
+            found += doubts_of(codes, Kind.time, field, values[None], None, Beside("clock"))
+    for field in codes.kinds[Kind.clv_picture].keys() - times.parts.keys():
+        found += doubts_of(codes, Kind.clv_picture, field, (16,), None, Beside("clock"))
+    return found
+
+
+def _times_aside(times, numbers):
+    """The minutes and the seconds that aren't believed, each for itself by name, and the fields whose lines differ."""
+    taken = {reading.field: reading.number for reading in numbers.believed}
+    doubtful, conflicts, all_beside = [], [], AllBeside(numbers)
+    for field in sorted(times.parts.keys() | times.minutes.keys()):
+        said, number = times.minutes.get(field, {}), taken.get(field)
+        if number is not None and (not said or len(said) == 1 and number // times.whole in said):
+            continue
+        doubtful += _field_aside(times, numbers, field, said, number, all_beside)
+        if len(said) > 1:
+            right = None if number is None else number // times.whole
+            conflicts.append(conflict_of(field, [(minute_text(value), lines) for value, lines in said.items()],
+                                         minute_text(right) if right in said else None))
+    return doubtful, conflicts
+
+
+def _field_aside(times, numbers, field, said, number, all_beside):
+    """What a field says beside its number, or, where it has none, beside those that may be due there."""
+    doubtful, fits = [], set()
+    if number is not None:
+        fits.add(number // times.whole)
+    else:
+        if field in times.parts:
+            text = "%02d.%02d" % divmod(times.parts[field], times.rate)
+            doubtful += doubts_of(times.codes, Kind.clv_picture, field, (16,), text, all_beside.at(field))
+        for near in numbers.around(field) if said else ():
+            if near:  # a field between two pictures may belong to either
+                due = near.number + (field - near.field) // 2
+                fits.update(((due - 1) // times.whole, due // times.whole, (due + 1) // times.whole))
+    beside = all_beside.at(field, len(said) > 1) if said else None
+    for value, lines in said.items():
+        if value not in fits:
+            doubtful += doubts_of(times.codes, Kind.time, field, lines, minute_text(value), beside)
+    return doubtful

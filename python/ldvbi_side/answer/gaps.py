@@ -6,8 +6,8 @@ import bisect
 from typing import Dict, List, NamedTuple, Optional, Tuple
 
 from ldvbi import Gap, GapKind, JudgedSide, Pace as JudgedPace, Reason, State
-from .places import Places
-from .readings import Answer, ByField
+from ..judge.places import Places
+from ..judge.readings import Answer, ByField
 
 # Reasons of gaps, which say why the first number and the last don't count to each other
 _BY_GAPS = Reason.is_lost | Reason.is_held | Reason.goes_back | Reason.is_joined

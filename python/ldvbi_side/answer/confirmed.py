@@ -5,9 +5,9 @@ from typing import Any, Dict, Optional, Tuple
 
 from ldvbi import Kind, classify
 from ldvbi.codes import value_of
-from .paces import Unit
-from .places import Places
-from .readings import NearestWord
+from ..judge.paces import Unit
+from ..judge.places import Places
+from ..judge.readings import NearestWord
 
 # Of a unit the lines that are tried together, each time the first and the last of them
 _PILES: Dict[Optional[str], Tuple[Tuple[int, int], ...]] = {
