@@ -12,17 +12,18 @@ ghost use Rattle.vbi_side.specs.declared.sighting.Sightings.{Sightings};
 ghost use Rattle.vbi_side.specs.Sightings.{Shows};
 ghost use Rattle.vbi_side.specs.Lines.{pass_weight, sighting_of};
 ghost use Rattle.vbi_side.specs.Votes.{minute_of, part_of, votes_cast, votes_for, IsElected, time_word};
-ghost use Rattle.vbi_side.specs.Votes.{IsCompletedBy, IsCompleted, IsVotedRightly};
+ghost use Rattle.vbi_side.specs.Votes.{IsCompletedBy, IsCompleted, IsVotedSoundly, IsVotedRightly};
 ghost use Rattle.vbi_side.specs.Worked.{shown_in};
 ghost use Rattle.vbi_side.specs.WorkedVotes.{two_to_one, one_to_one, light_to_heavy, alone_before, alone_behind};
 
-/// Where the disc ran on within 240 fields of one, and there more weight of the times that go on with its second and
-/// picture was read rightly than wrongly, the number that the disc counts there is elected, and no other.
+/// Where the disc ran on within 240 fields of one, no other number is elected than the one that it counts there, if of
+/// the times that go on with the field's second and picture less weight was read wrongly than rightly, or less than 4.
+/// It is elected if less was read wrongly than rightly, and 4 or more rightly.
 pub fn elected_is_right()
-    ensures elected { (recorded : ℕ → Option ℕ) (minute : ℕ) (fields : List Sightings) (i part m : ℕ)
+    ensures sound { (recorded : ℕ → Option ℕ) (minute : ℕ) (fields : List Sightings) (i part m n : ℕ)
+        → IsVotedSoundly recorded minute fields i part m → IsElected minute fields i part n → n ≡ m }
+    ensures complete { (recorded : ℕ → Option ℕ) (minute : ℕ) (fields : List Sightings) (i part m : ℕ)
         → IsVotedRightly recorded minute fields i part m → IsElected minute fields i part m }
-    ensures only { (recorded : ℕ → Option ℕ) (minute : ℕ) (fields : List Sightings) (i part m n : ℕ)
-        → IsVotedRightly recorded minute fields i part m → IsElected minute fields i part n → n ≡ m }
 {}
 
 /// In a field at most one number is elected.
@@ -42,20 +43,21 @@ pub fn completed_is_told()
     ensures word { (minute : ℕ) → minute < 600 → IsWord (time_word minute) }
 {}
 
-/// Where the disc ran on within 240 fields of one that shows no time, line 16 has the disc's second and picture, and
-/// there more weight of the times that go on with these was read rightly than wrongly, the field is completed by the
-/// word of the disc's minute, if it has an hour of one digit, and by no other.
+/// Where the disc ran on within 240 fields of one, a word that completes it tells the number that the disc counts there,
+/// if of the times that go on with its second and picture less weight was read wrongly than rightly, or less than 4. If
+/// less was read wrongly than rightly, and 4 or more rightly, line 16 has the disc's second and picture, and the field
+/// shows no time, it is completed by the word of the disc's minute, if that has an hour of one digit.
 pub fn completed_is_right()
-    ensures completed { (recorded : ℕ → Option ℕ) (system : System) (line_16 : Shown) (fields : List Sightings)
+    ensures sound { (recorded : ℕ → Option ℕ) (system : System) (line_16 : Shown) (fields : List Sightings)
+        (i part m word : ℕ) → part_of system line_16 ≡ Some part
+        → IsVotedSoundly recorded (minute_of system) fields i part m → IsCompleted system line_16 fields i word
+        → sighting_of system Times line_16 (record { word = Some word; pass = line_16.pass })
+        ≡ record { number = m; weight = pass_weight line_16.pass } }
+    ensures complete { (recorded : ℕ → Option ℕ) (system : System) (line_16 : Shown) (fields : List Sightings)
         (i part m : ℕ) → part_of system line_16 ≡ Some part
         → IsVotedRightly recorded (minute_of system) fields i part m
         → ((n : ℕ) → Shows (slice_get fields i) n → ⊥) → m / minute_of system < 600
         → IsCompleted system line_16 fields i (time_word (m / minute_of system)) }
-    ensures only { (recorded : ℕ → Option ℕ) (system : System) (line_16 : Shown) (fields : List Sightings)
-        (i part m word : ℕ) → part_of system line_16 ≡ Some part
-        → IsVotedRightly recorded (minute_of system) fields i part m → IsCompleted system line_16 fields i word
-        → sighting_of system Times line_16 (record { word = Some word; pass = line_16.pass })
-        ≡ record { number = m; weight = pass_weight line_16.pass } }
 {}
 
 /// Which part of a minute line 16 shows: of NTSC 30 pictures a second, of PAL 25. The word of a minute.
