@@ -59,6 +59,17 @@ few_elect_none minute fields i part m few elected =
       (λ j k e. (and_parts _ _ e).0),
     )
 
+-- nor where neither one number has as much, nor all others together
+pub few_for_each : (minute : ℕ) (fields : List Sightings) (i part n m : ℕ)
+    → votes_for minute fields i part n < field_most
+    → votes_cast minute fields i part < field_most + votes_for minute fields i part n
+    → IsElected minute fields i part m → ⊥
+few_for_each minute fields i part n m few others elected = go (eqb_tells m n)
+  where
+    go : ((eqb m n ≡ true) × (m ≡ n)) ⊎ ((eqb m n ≡ false) × (m ≢ n)) → ⊥
+    go (inl (t, e)) = omega (arith, few, elected.some, ap (λ k. votes_for minute fields i part k) e)
+    go (inr (f, apart)) = omega (arith, others, elected.some, shared minute fields i part m n apart)
+
 -- ---- where the disc ran on
 
 -- number n of field j votes, and was read rightly

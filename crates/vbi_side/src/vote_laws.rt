@@ -14,7 +14,8 @@ ghost use Rattle.vbi_side.specs.Lines.{pass_weight, sighting_of};
 ghost use Rattle.vbi_side.specs.Votes.{minute_of, part_of, votes_cast, votes_for, IsElected, time_word};
 ghost use Rattle.vbi_side.specs.Votes.{IsCompletedBy, IsCompleted, IsVotedSoundly, IsVotedRightly};
 ghost use Rattle.vbi_side.specs.Worked.{shown_in};
-ghost use Rattle.vbi_side.specs.WorkedVotes.{two_to_one, one_to_one, light_to_heavy, alone_before, alone_behind};
+ghost use Rattle.vbi_side.specs.WorkedVotes.{two_to_one, two_to_two, light_to_heavy, alone, light_alone, three_to_one};
+ghost use Rattle.vbi_side.specs.WorkedVotes.{alone_before, alone_behind};
 
 /// Where the disc ran on within 240 fields of one, no other number is elected than the one that it counts there, if of
 /// the times that go on with the field's second and picture less weight was read wrongly than rightly, or less than 4.
@@ -72,17 +73,23 @@ pub fn worked_parts()
         ≡ 0xF0DD00 ∷ 0xF0DD09 ∷ 0xF0DD59 ∷ 0xF1DD00 ∷ 0xF1DD23 ∷ 0xF9DD59 ∷ [] }
 {}
 
-/// Votes counted by hand: two right minutes against one wrong, one against one, and two in pass 2 against one in
-/// pass 1. A time 240 fields away votes, one 242 fields away doesn't. PAL has another minute.
+/// Votes counted by hand: two right minutes against one wrong, two against two, four in pass 2 against two in pass 1,
+/// both lines of one field with no others, in pass 1 or one in pass 2, and 3 against 1. A time 240 fields away votes,
+/// one 242 fields away doesn't. PAL has another minute.
 #[tactic(auto, unfolding(crate::specs::Votes::weight_of_first))]
 pub fn worked_votes()
     ensures two_to_one { (votes_cast (minute_of Ntsc) two_to_one 4 700 ≡ 6)
         × (votes_for (minute_of Ntsc) two_to_one 4 700 4300 ≡ 4)
         × (votes_for (minute_of Ntsc) two_to_one 4 700 6100 ≡ 2) }
-    ensures one_to_one { (votes_cast (minute_of Ntsc) one_to_one 4 700 ≡ 4)
-        × (votes_for (minute_of Ntsc) one_to_one 4 700 4300 ≡ 2) }
-    ensures light { (votes_cast (minute_of Ntsc) light_to_heavy 4 700 ≡ 4)
-        × (votes_for (minute_of Ntsc) light_to_heavy 4 700 4300 ≡ 2) }
+    ensures two_to_two { (votes_cast (minute_of Ntsc) two_to_two 4 700 ≡ 8)
+        × (votes_for (minute_of Ntsc) two_to_two 4 700 4300 ≡ 4) }
+    ensures light { (votes_cast (minute_of Ntsc) light_to_heavy 4 700 ≡ 8)
+        × (votes_for (minute_of Ntsc) light_to_heavy 4 700 4300 ≡ 4) }
+    ensures alone { (votes_cast (minute_of Ntsc) alone 4 700 ≡ 4) × (votes_for (minute_of Ntsc) alone 4 700 4300 ≡ 4) }
+    ensures light_alone { (votes_cast (minute_of Ntsc) light_alone 4 700 ≡ 3)
+        × (votes_for (minute_of Ntsc) light_alone 4 700 4300 ≡ 3) }
+    ensures three_to_one { (votes_cast (minute_of Ntsc) three_to_one 4 700 ≡ 4)
+        × (votes_for (minute_of Ntsc) three_to_one 4 700 4300 ≡ 3) }
     ensures pal { votes_cast (minute_of Pal) two_to_one 4 700 ≡ 0 }
     ensures before { (votes_cast (minute_of Ntsc) (alone_before 240) 240 820 ≡ 2)
         × (votes_cast (minute_of Ntsc) (alone_before 242) 242 821 ≡ 0) }
@@ -90,10 +97,14 @@ pub fn worked_votes()
         × (votes_cast (minute_of Ntsc) (alone_behind 242) 0 579 ≡ 0) }
 {}
 
-/// Whom these votes elect: two right minutes are more than half against one wrong, one against one isn't, nor are two
-/// in pass 2 against one in pass 1.
+/// Whom these votes elect: two right minutes are more than half against one wrong, two against two aren't, nor are four
+/// in pass 2 against two in pass 1. Two lines of one field are enough by themselves, but not with one of them in pass 2,
+/// and 3 against 1 are no more enough than that.
 pub fn worked_elections()
     ensures two { IsElected (minute_of Ntsc) two_to_one 4 700 4300 }
-    ensures none { (m : ℕ) → IsElected (minute_of Ntsc) one_to_one 4 700 m → ⊥ }
+    ensures none { (m : ℕ) → IsElected (minute_of Ntsc) two_to_two 4 700 m → ⊥ }
     ensures light { (m : ℕ) → IsElected (minute_of Ntsc) light_to_heavy 4 700 m → ⊥ }
+    ensures alone { IsElected (minute_of Ntsc) alone 4 700 4300 }
+    ensures light_alone { (m : ℕ) → IsElected (minute_of Ntsc) light_alone 4 700 m → ⊥ }
+    ensures three { (m : ℕ) → IsElected (minute_of Ntsc) three_to_one 4 700 m → ⊥ }
 {}
