@@ -1,5 +1,5 @@
 -- Who is elected, and when it is right.
-use Rattle.std.proofs.Common.{◌≡◌, ◌≢◌, ℕ, ◌+◌, ◌*◌, ◌≤◌, ◌<◌, List, length, ap, arith, inl, inr, sym, ◌∙◌}
+use Rattle.std.proofs.Common.{◌≡◌, ◌≢◌, ℕ, ◌+◌, ◌*◌, ◌≤◌, ◌<◌, List, length, ap, arith, inl, inr, sym}
 use Rattle.std.proofs.Common.{Bool, true, false}
 use Rattle.std.specs.Prelude.{Option, ◌⊎◌, ◌&&◌, not}
 use Rattle.std.proofs.lemmas.Bool.{eqb-true, and_parts, and_from}
@@ -56,7 +56,7 @@ few_elect_none minute fields i part m few elected =
       few,
       elected.some,
       first_narrower (votes_as minute i part m) (votes minute i part) fields (length fields)
-      (λ j k e. (and_parts _ _ e).0),
+          (λ j k e. (and_parts _ _ e).0),
     )
 
 -- nor where neither one number has as much, nor all others together

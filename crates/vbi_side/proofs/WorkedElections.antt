@@ -1,5 +1,5 @@
 -- The worked elections, computed.
-use Rattle.std.proofs.Common.{◌≡◌, ◌≢◌, ℕ, ◌+◌, ◌*◌, ◌≤◌, refl, arith}
+use Rattle.std.proofs.Common.{◌≡◌, ℕ, ◌*◌, refl, arith}
 use Rattle.vbi_words.specs.declared.system.System.TheVariants.{Ntsc}
 use Rattle.vbi_side.specs.Votes.{minute_of, votes_cast, votes_for, weight_of_first, IsElected}
 use Rattle.vbi_side.proofs.RightVotes.{half_elects_none, few_elect_none, few_for_each}
