@@ -351,12 +351,12 @@ LDVBI_RESULT uint32_t ldvbi_judge(uint32_t system, uint32_t counted, uint32_t pa
  * that goes on with its second and picture, whatever the minute, votes for a number of this field, with the weight that
  * it has. The number that has more than half of the weight, and 4 of it or more (two lines of pass 1), is elected.
  * `completed` gets the readings, and on line 17 of such a field the hours and minutes of that number, in the pass of
- * line 16; lines 16 and 18 stay. `seen` gets what the readings show, as of ldvbi_judge with LDVBI_TIMES. All arrays have
- * `count` values. Give `completed` in place of `readings` where times are judged; judge chapters and ends by the
+ * line 16; lines 16 and 18 stay. `seen` gets what the readings show, as of ldvbi_judge with LDVBI_TIMES. All arrays
+ * have `count` values. Give `completed` in place of `readings` where times are judged; judge chapters and ends by the
  * readings themselves, as line 17 may have been one.
  *
- * This is proved: if the disc ran on within these fields, and of the votes less weight was read wrongly than rightly, or
- * less than 4, a field gets no other time than the one on the disc. It gets that one if less was read wrongly than
+ * This is proved: if the disc ran on within these fields, and of the votes less weight was read wrongly than rightly,
+ * or less than 4, a field gets no other time than the one on the disc. It gets that one if less was read wrongly than
  * rightly, and 4 or more rightly, line 16 has the disc's second and picture, and the hour has one digit. */
 enum { LDVBI_VOTE_REACH = 240 };
 LDVBI_RESULT uint32_t ldvbi_complete_times(uint32_t system, const LdvbiFieldReadings *readings, size_t count,

@@ -11,8 +11,8 @@ from judged import BEFORE, BLANK, LINE, NUMBER, SEEN
 from ldvbi import Counted, Pace, System
 
 # A field is the minute, counted from the disc's beginning, the second and the picture. A - stands for a minute that
-# wasn't read. A / behind that puts the minute on line 18, a = on both lines. A ~ means pass 2 and a ^ pass 3, of line 16
-# before these and of the minute behind them. A + puts chapter 5 on lines without a minute. A . is a field without a
+# wasn't read. A / behind that puts the minute on line 18, a = on both lines. A ~ means pass 2 and a ^ pass 3, of line
+# 16 before these and of the minute behind them. A + puts chapter 5 on lines without a minute. A . is a field without a
 # word, with * so many.
 FIELD = re.compile(r"(-|\d+):(\d+)\.(\d+)([~^]?)([/=]?)([~^]?)(\+?)")
 PASSES = {"": 1, "~": 2, "^": 3}

@@ -107,15 +107,16 @@ abbrev pub wrong_votes : (ℕ → Option ℕ) → ℕ → List Sightings → ℕ
 wrong_votes recorded minute fields i part =
     weight_of_first (λ j n. votes minute i part j n && not (is_recorded (recorded j) n)) fields (length fields)
 
--- around field i, where the disc counts number m, it ran on, and less votes are wrong than are right, or than elect
+-- around field i, where the disc counts number m, it ran on, and the wrong votes weigh less than the right ones, or
+-- less than a number needs to be elected
 pub record IsVotedSoundly (recorded : ℕ → Option ℕ) (minute : ℕ) (fields : List Sightings) (i part m : ℕ)
     : Type 0 where
   pub runs : RunsFrom recorded i m
   pub few : (wrong_votes recorded minute fields i part < right_votes recorded minute fields i part)
       ⊎ (wrong_votes recorded minute fields i part < field_most)
 
--- around field i, where the disc counts number m with this part of a minute, it ran on, and less votes are wrong than
--- are right, of which there are as many as elect
+-- around field i, where the disc counts number m with this part of a minute, it ran on, and the wrong votes weigh less
+-- than the right ones, which weigh as much as a number needs
 pub record IsVotedRightly (recorded : ℕ → Option ℕ) (minute : ℕ) (fields : List Sightings) (i part m : ℕ) : Type 0 where
   pub runs : RunsFrom recorded i m
   pub part_is : m % minute ≡ part

@@ -44,10 +44,10 @@ pub fn completed_is_told()
     ensures word { (minute : ℕ) → minute < 600 → IsWord (time_word minute) }
 {}
 
-/// Where the disc ran on within 240 fields of one, a word that completes it tells the number that the disc counts there,
-/// if of the times that go on with its second and picture less weight was read wrongly than rightly, or less than 4. If
-/// less was read wrongly than rightly, and 4 or more rightly, line 16 has the disc's second and picture, and the field
-/// shows no time, it is completed by the word of the disc's minute, if that has an hour of one digit.
+/// Where the disc ran on within 240 fields of one, a word that completes it tells the number that the disc counts
+/// there, if of the times that go on with its second and picture less weight was read wrongly than rightly, or less
+/// than 4. If less was read wrongly than rightly, and 4 or more rightly, line 16 has the disc's second and picture, and
+/// the field shows no time, it is completed by the word of the disc's minute, if that has an hour of one digit.
 pub fn completed_is_right()
     ensures sound { (recorded : ℕ → Option ℕ) (system : System) (line_16 : Shown) (fields : List Sightings)
         (i part m word : ℕ) → part_of system line_16 ≡ Some part
@@ -98,8 +98,8 @@ pub fn worked_votes()
 {}
 
 /// Whom these votes elect: two right minutes are more than half against one wrong, two against two aren't, nor are four
-/// in pass 2 against two in pass 1. Two lines of one field are enough by themselves, but not with one of them in pass 2,
-/// and 3 against 1 are no more enough than that.
+/// in pass 2 against two in pass 1. Two lines of one field are enough by themselves, but not if one of them is of
+/// pass 2, and a weight of 3 isn't enough against 1 either.
 pub fn worked_elections()
     ensures two { IsElected (minute_of Ntsc) two_to_one 4 700 4300 }
     ensures none { (m : ℕ) → IsElected (minute_of Ntsc) two_to_two 4 700 m → ⊥ }
