@@ -349,14 +349,15 @@ LDVBI_RESULT uint32_t ldvbi_judge(uint32_t system, uint32_t counted, uint32_t pa
 /* Completes times whose minute wasn't read: of a field of which line 16 shows second and picture, and neither line 17
  * nor 18 a time, by the times that were read in the LDVBI_VOTE_REACH fields before it and behind it. Of these each one
  * that goes on with its second and picture, whatever the minute, votes for a number of this field, with the weight that
- * it has. The number with more than half of all votes is elected. `completed` gets the readings, and on line 17 of such
- * a field the hours and minutes of that number, in the pass of line 16; lines 16 and 18 stay. `seen` gets what the
- * readings show, as of ldvbi_judge with LDVBI_TIMES. All arrays have `count` values. Give `completed` in place of
- * `readings` where times are judged; judge chapters and ends by the readings themselves, as line 17 may have been one.
+ * it has. The number that has more than half of the weight, and 4 of it or more (two lines of pass 1), is elected.
+ * `completed` gets the readings, and on line 17 of such a field the hours and minutes of that number, in the pass of
+ * line 16; lines 16 and 18 stay. `seen` gets what the readings show, as of ldvbi_judge with LDVBI_TIMES. All arrays
+ * have `count` values. Give `completed` in place of `readings` where times are judged; judge chapters and ends by the
+ * readings themselves, as line 17 may have been one.
  *
- * This is proved: if the disc ran on within these fields, line 16 has the disc's second and picture, and of the votes
- * more weight was read rightly than wrongly, a field gets no other time than the one on the disc, and it gets that if
- * the hour has one digit. */
+ * This is proved: if the disc ran on within these fields, and of the votes less weight was read wrongly than rightly,
+ * or less than 4, a field gets no other time than the one on the disc. It gets that one if less was read wrongly than
+ * rightly, and 4 or more rightly, line 16 has the disc's second and picture, and the hour has one digit. */
 enum { LDVBI_VOTE_REACH = 240 };
 LDVBI_RESULT uint32_t ldvbi_complete_times(uint32_t system, const LdvbiFieldReadings *readings, size_t count,
     LdvbiSightings *seen, size_t seen_count, LdvbiFieldReadings *completed, size_t completed_count);

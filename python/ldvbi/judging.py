@@ -81,12 +81,13 @@ def judge_field(readings: Any, field: int, system: AnySystem, counted: Union[Cou
 def complete_times(readings: Any, system: AnySystem) -> bytes:
     """The readings, with times completed whose minute wasn't read: where line 16 of a field shows second and picture,
     and neither line 17 nor 18 a time. The times read in the 240 fields before it and the 240 behind it that go on with
-    these, whatever their minute, vote with their weight. The minute that has more than half of it stands on line 17
-    then, as a word of the pass of line 16. `readings` are as for `judge`. They are returned packed, as `Stream.packed`
-    has them: give them to `judge` or `judge_side` in place of the readings, where times are counted.
+    these, whatever their minute, vote with their weight. The minute that has more than half of it, and 4 of it or more
+    (two lines of pass 1), stands on line 17 then, as a word of the pass of line 16. `readings` are as for `judge`. They
+    are returned packed, as `Stream.packed` has them: give them to `judge` or `judge_side` in place of the readings,
+    where times are counted.
 
-    If the disc ran on within these fields, line 16 has the disc's second and picture, and of the votes more weight was
-    read rightly than wrongly, a field gets no other time than the one on the disc."""
+    If the disc ran on within these fields, and of the votes less weight was read wrongly than rightly, or less than 4,
+    a field gets no other time than the one on the disc."""
     call = later_call("ldvbi_complete_times")
     number = system_number(system)
     check(call(number, None, 0, None, 0, None, 0))  # of no field the library tests the system alone

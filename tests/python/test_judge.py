@@ -102,13 +102,16 @@ class Completed(InFolder):
     """Times without their minute. More rows of what the library completes has tests/library/completed.py."""
 
     def test_minutes(self):
-        """The minute that the others say, over a minute's end too; a misread one stands alone. Without any there is
-        none."""
+        """The minute that the others say, over a minute's end too, if that is two lines in pass 1 or as much; a misread
+        one stands alone. Without any there is none."""
         numbers, some = range(1496, 1504), (1498, 1499, 1500)
         whole, none = packed(fields_of(numbers)), packed(fields_of(numbers, numbers))
+        three = fields_of(numbers, numbers[:-2])  # of a weight of 3
+        three[-2][1] = (0, 2, *three[-2][1][2:])
         for fields, wanted in ((fields_of(numbers, some), whole), (fields_of(numbers), whole),
                                (fields_of(numbers, numbers), none),
-                               (fields_of(numbers, numbers[:-1]), whole),
+                               (fields_of(numbers, numbers[:-1]), packed(fields_of(numbers, numbers[:-1]))),
+                               (three, packed(three)), (fields_of(numbers, numbers[:-2]), whole),
                                (fields_of(numbers, some, (1496,)), packed(fields_of(numbers, misread=(1496,)))),
                                (fields_of(numbers[:3], (1497,), (1496,)),
                                 packed(fields_of(numbers[:3], (1497,), (1496,))))):
@@ -118,14 +121,14 @@ class Completed(InFolder):
 
     def test_judged(self):
         """What is completed is judged as what was read: by itself no field here would be believed."""
-        fields = fields_of(range(1496, 1504), range(1497, 1504))
+        fields = fields_of(range(1496, 1504), range(1498, 1504))
         before, after = (ldvbi.judge(one, "PAL", "times") for one in (fields, ldvbi.complete_times(fields, "PAL")))
-        self.assertEqual([one.state for one in before[::2]], [State.doubtful] + [State.nothing] * 7)
+        self.assertEqual([one.state for one in before[::2]], [State.doubtful] * 2 + [State.nothing] * 6)
         self.assertEqual(after[::2], [Number(number, State.believed) for number in range(1496, 1504)])
         self.assertEqual(ldvbi.judge_side(ldvbi.complete_times(fields, "PAL"), "PAL", "times").numbers, after)
 
     def test_a_stream(self):
-        write_stream(self.path, NTSC, [[0x8AE710, 0xF0DD02, 0], [0, 0, 0], [0x8AE711, 0, 0xF12345]])
+        write_stream(self.path, NTSC, [[0x8AE710, 0xF0DD02, 0xF0DD02], [0, 0, 0], [0x8AE711, 0, 0xF12345]])
         with ldvbi.Stream(self.path, *NTSC) as stream:
             completed = ldvbi.complete_times(stream, "NTSC")
             self.assertEqual(completed[:48], b"".join(stream.packed(0, 2)))

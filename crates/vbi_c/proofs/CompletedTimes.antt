@@ -8,14 +8,14 @@ use Rattle.vbi_side.specs.declared.lines.Counted.TheVariants.{Times}
 use Rattle.vbi_side.specs.declared.lines.Shown.{Shown}
 use Rattle.vbi_side.specs.declared.sighting.Sightings.{Sightings}
 use Rattle.vbi_side.specs.Sightings.{Shows}
-use Rattle.vbi_side.specs.Votes.{minute_of, time_word, IsCompleted}
+use Rattle.vbi_side.specs.Votes.{minute_of, part_of, time_word, IsCompleted, IsVotedSoundly, IsVotedRightly}
 use Rattle.vbi_side.specs.Lines.{sighting_of}
-use Rattle.vbi_side.proofs.ToldTimes.{completed_rightly, completed_only, word_of_minute}
+use Rattle.vbi_side.proofs.RightVotes.{rightly_soundly}
+use Rattle.vbi_side.proofs.ToldTimes.{completed_rightly, completed_soundly, word_of_minute}
 use Rattle.vbi_c.specs.declared.fields.LdvbiFieldReadings.{LdvbiFieldReadings}
 use Rattle.vbi_c.specs.declared.reading.LdvbiReading.{LdvbiReading}
 use Rattle.vbi_c.specs.Judging.{shown_by, lines_of, lines_in}
-use Rattle.vbi_c.specs.Completing.{read_as, with_time, IsCompletedField, IsVoted, TellsTime}
-use Rattle.vbi_c.specs.Completing.{AreCompleted}
+use Rattle.vbi_c.specs.Completing.{read_as, with_time, IsCompletedField, TellsTime, AreCompleted}
 
 -- a word that is read as one
 shown_word : (word pass : ℕ) → IsWord word → shown_by (read_as word pass) ≡ record { word = Some word; pass = pass }
@@ -30,38 +30,42 @@ completed_word : (system : words.System) (line_16 : Shown) (seen : List Sighting
 completed_word system line_16 seen i word (part, m, completed) =
     subst IsWord (sym completed.word_is) (word_of_minute (m / minute_of system) completed.early)
 
--- the lines of a completed field tell the number that was voted rightly
+-- where votes are sound the lines of a completed field tell the number of the disc
 told_lines : (system : words.System) (recorded : ℕ → Option ℕ) (seen : List Sightings) (lines : List LdvbiReading)
-    (i part m word : ℕ) → IsVoted system recorded seen (record { lines = lines }) i part m
+    (i part m word : ℕ) → part_of system (lines_of lines).line_16 ≡ Some part
+    → IsVotedSoundly recorded (minute_of system) seen i part m
     → IsCompleted system (lines_of lines).line_16 seen i word
     → TellsTime system m (record { lines = with_time word lines })
-told_lines system recorded seen (line_16 ∷ line_17 ∷ line_18 ∷ []) i part m word voted completed =
+told_lines system recorded seen (line_16 ∷ line_17 ∷ line_18 ∷ []) i part m word has voted completed =
     ap (sighting_of system Times (shown_by line_16))
     (shown_word word line_16.pass (completed_word system (shown_by line_16) seen i word completed))
-    ∙ completed_only recorded system (shown_by line_16) seen i part m word voted.part_is voted.rightly completed
-told_lines system recorded seen other i part m word voted completed =
-    absurd (let clash : None ≡ Some part → ⊥ = λ h. cc in clash voted.part_is)
+    ∙ completed_soundly recorded system (shown_by line_16) seen i part m word has voted completed
+told_lines system recorded seen other i part m word has voted completed =
+    absurd (let clash : None ≡ Some part → ⊥ = λ h. cc in clash has)
 
--- a field that was voted rightly is as it was, or tells its number
+-- a field is as it was then, or tells that number
 pub told_field : (system : words.System) (recorded : ℕ → Option ℕ) (seen : List Sightings) (i part m : ℕ)
-    (before after : LdvbiFieldReadings) → IsVoted system recorded seen before i part m
+    (before after : LdvbiFieldReadings) → part_of system (lines_in before).line_16 ≡ Some part
+    → IsVotedSoundly recorded (minute_of system) seen i part m
     → IsCompletedField system seen i before after → (after ≡ before) ⊎ TellsTime system m after
-told_field system recorded seen i part m before after voted (inl (word, completed, is)) =
+told_field system recorded seen i part m before after has voted (inl (word, completed, is)) =
     inr (subst (TellsTime system m) (sym is)
-    (told_lines system recorded seen before.lines i part m word voted completed))
-told_field system recorded seen i part m before after voted (inr (none, is)) = inl is
+    (told_lines system recorded seen before.lines i part m word has voted completed))
+told_field system recorded seen i part m before after has voted (inr (none, is)) = inl is
 
--- and tells it where it shows no time
+-- where they are right it tells it if it shows no time
 pub told_unseen : (system : words.System) (recorded : ℕ → Option ℕ) (seen : List Sightings) (i part m : ℕ)
-    (before after : LdvbiFieldReadings) → IsVoted system recorded seen before i part m
+    (before after : LdvbiFieldReadings) → part_of system (lines_in before).line_16 ≡ Some part
+    → IsVotedRightly recorded (minute_of system) seen i part m
     → ((n : ℕ) → Shows (slice_get seen i) n → ⊥) → m / minute_of system < 600
     → IsCompletedField system seen i before after → TellsTime system m after
-told_unseen system recorded seen i part m before after voted unseen early (inl (word, completed, is)) =
-    subst (TellsTime system m) (sym is) (told_lines system recorded seen before.lines i part m word voted completed)
-told_unseen system recorded seen i part m before after voted unseen early (inr (none, is)) =
+told_unseen system recorded seen i part m before after has voted unseen early (inl (word, completed, is)) =
+    subst (TellsTime system m) (sym is)
+    (told_lines system recorded seen before.lines i part m word has
+    (rightly_soundly recorded (minute_of system) seen i part m voted) completed)
+told_unseen system recorded seen i part m before after has voted unseen early (inr (none, is)) =
     absurd (none (time_word (m / minute_of system))
-    (completed_rightly recorded system (lines_in before).line_16 seen i part m voted.part_is voted.rightly unseen
-    early))
+    (completed_rightly recorded system (lines_in before).line_16 seen i part m has voted unseen early))
 
 -- ---- field by field
 
@@ -74,8 +78,8 @@ pub are_completed : (system : words.System) (readings : List LdvbiFieldReadings)
 are_completed system readings seen completed count each = record {
   count = count;
   each = each;
-  right = λ recorded i part m before after here there voted.
-      told_field system recorded seen i part m before after voted (each i before after here there);
-  whole = λ recorded i part m before after here there voted unseen early.
-      told_unseen system recorded seen i part m before after voted unseen early (each i before after here there);
+  right = λ recorded i part m before after here there has voted.
+      told_field system recorded seen i part m before after has voted (each i before after here there);
+  whole = λ recorded i part m before after here there has voted unseen early.
+      told_unseen system recorded seen i part m before after has voted unseen early (each i before after here there);
 }

@@ -7,7 +7,7 @@ use Rattle.vbi_side.specs.declared.sighting.Sightings.{Sightings}
 use Rattle.vbi_side.specs.Sightings.{Shows}
 use Rattle.vbi_side.specs.Lines.{pass_weight}
 use Rattle.vbi_side.specs.Misread.{numbers_in}
-use Rattle.vbi_side.specs.Votes.{minute_of, part_of, IsCompleted, IsVotedRightly}
+use Rattle.vbi_side.specs.Votes.{minute_of, part_of, IsCompleted, IsVotedSoundly, IsVotedRightly}
 use Rattle.vbi_c.specs.declared.fields.LdvbiFieldReadings.{LdvbiFieldReadings}
 use Rattle.vbi_c.specs.declared.judging.Judging.{Judging}
 use Rattle.vbi_c.specs.declared.judging.Asked.TheVariants.{Found}
@@ -41,21 +41,14 @@ IsCompletedField system seen i before after =
     × (after ≡ record { lines = with_time word before.lines }))
     ⊎ (((word : ℕ) → IsCompleted system (lines_in before).line_16 seen i word → ⊥) × (after ≡ before))
 
--- field i was voted rightly: on the disc, which ran on around it, it counts number m, line 16 has its second and
--- picture, and more of the weight of the votes is right than wrong
-pub record IsVoted (system : words.System) (recorded : ℕ → Option ℕ) (seen : List Sightings)
-    (before : LdvbiFieldReadings) (i part m : ℕ) : Type 0 where
-  pub part_is : part_of system (lines_in before).line_16 ≡ Some part
-  pub rightly : IsVotedRightly recorded (minute_of system) seen i part m
-
 -- line 17 then shows the number m, with the weight of line 16
 abbrev pub TellsTime : words.System → ℕ → LdvbiFieldReadings → Type 0
 TellsTime system m after =
     (numbers_in system Times (lines_in after)).line_17
     ≡ record { number = m; weight = pass_weight (lines_in after).line_16.pass }
 
--- each field is completed, or as it was; where more votes are right than wrong a field that shows no time gets the one
--- on the disc, if it has an hour of one digit, and none gets another
+-- each field is completed, or as it was; where the votes are sound it gets no time but the one on the disc, and where
+-- they are right a field that shows none gets that, if it has an hour of one digit
 pub record AreCompleted (system : words.System) (readings : List LdvbiFieldReadings) (seen : List Sightings)
     (completed : List LdvbiFieldReadings) : Type 0 where
   pub count : length completed ≡ length readings
@@ -63,9 +56,10 @@ pub record AreCompleted (system : words.System) (readings : List LdvbiFieldReadi
       → slice_get completed i ≡ Some after → IsCompletedField system seen i before after
   pub right : (recorded : ℕ → Option ℕ) (i part m : ℕ) (before after : LdvbiFieldReadings)
       → slice_get readings i ≡ Some before → slice_get completed i ≡ Some after
-      → IsVoted system recorded seen before i part m
-      → (after ≡ before) ⊎ TellsTime system m after
+      → part_of system (lines_in before).line_16 ≡ Some part
+      → IsVotedSoundly recorded (minute_of system) seen i part m → (after ≡ before) ⊎ TellsTime system m after
   pub whole : (recorded : ℕ → Option ℕ) (i part m : ℕ) (before after : LdvbiFieldReadings)
       → slice_get readings i ≡ Some before → slice_get completed i ≡ Some after
-      → IsVoted system recorded seen before i part m
+      → part_of system (lines_in before).line_16 ≡ Some part
+      → IsVotedRightly recorded (minute_of system) seen i part m
       → ((n : ℕ) → Shows (slice_get seen i) n → ⊥) → m / minute_of system < 600 → TellsTime system m after

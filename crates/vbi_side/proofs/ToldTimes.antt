@@ -15,8 +15,8 @@ use Rattle.vbi_side.specs.declared.lines.Shown.{Shown}
 use Rattle.vbi_side.specs.declared.sighting.Sightings.{Sightings}
 use Rattle.vbi_side.specs.Sightings.{Shows}
 use Rattle.vbi_side.specs.Votes.{minute_of, part_from, part_of, time_word, IsElected, IsCompletedBy, IsCompleted}
-use Rattle.vbi_side.specs.Votes.{IsVotedRightly}
-use Rattle.vbi_side.proofs.RightVotes.{right_elected, right_only}
+use Rattle.vbi_side.specs.Votes.{IsVotedSoundly, IsVotedRightly}
+use Rattle.vbi_side.proofs.RightVotes.{sound_elected, right_elected}
 
 -- a word of these digits is a time
 timed : (word h t u : ℕ) → digit_of word 1 ≡ 15 → digit_of word 2 ≡ h → digit_of word 3 ≡ 13 → digit_of word 4 ≡ 13
@@ -82,7 +82,7 @@ completed_told system line_16 fields i part m word completed =
     ap (λ n. sighting_from n (min (pass_weight line_16.pass) (pass_weight line_16.pass))) number
     ∙ ap (λ w. sighting_from (Some m) w) weight
 
--- ---- where more votes are right than wrong
+-- ---- where the disc ran on
 
 pub completed_rightly : (recorded : ℕ → Option ℕ) (system : System) (line_16 : Shown) (fields : List Sightings)
     (i part m : ℕ) → part_of system line_16 ≡ Some part
@@ -104,14 +104,14 @@ completed_rightly recorded system line_16 fields i part m has voted unseen early
 same_number : (m n : ℕ) → Some m ≡ Some n → m ≡ n
 same_number m n e = cc
 
-pub completed_only : (recorded : ℕ → Option ℕ) (system : System) (line_16 : Shown) (fields : List Sightings)
+pub completed_soundly : (recorded : ℕ → Option ℕ) (system : System) (line_16 : Shown) (fields : List Sightings)
     (i part m word : ℕ) → part_of system line_16 ≡ Some part
-    → IsVotedRightly recorded (minute_of system) fields i part m → IsCompleted system line_16 fields i word
+    → IsVotedSoundly recorded (minute_of system) fields i part m → IsCompleted system line_16 fields i word
     → sighting_of system Times line_16 (record { word = Some word; pass = line_16.pass })
     ≡ record { number = m; weight = pass_weight line_16.pass }
-completed_only recorded system line_16 fields i part m word has voted (other, n, completed) =
+completed_soundly recorded system line_16 fields i part m word has voted (other, n, completed) =
     let same : other ≡ part = same_number other part (sym completed.part_is ∙ has) in
-    let number : n ≡ m = right_only recorded (minute_of system) fields i part m n voted
+    let number : n ≡ m = sound_elected recorded (minute_of system) fields i part m n voted
     (subst (λ p. IsElected (minute_of system) fields i p n) same completed.elected) in
     completed_told system line_16 fields i other n word completed
     ∙ ap (λ k. sighting_from (Some k) (pass_weight line_16.pass)) number

@@ -10,7 +10,7 @@ use Rattle.std.proofs.Math.Dec.{eqb}
 use Rattle.vbi_side.specs.declared.sighting.Sighting.{Sighting}
 use Rattle.vbi_side.specs.declared.sighting.Sightings.{Sightings}
 use Rattle.vbi_side.specs.Sightings.{weight_of}
-use Rattle.vbi_side.specs.Beliefs.{sighting_weight, field_weight}
+use Rattle.vbi_side.specs.Beliefs.{field_most, sighting_weight, field_weight}
 use Rattle.vbi_side.specs.declared.votes.Tally.{Tally}
 use Rattle.vbi_side.specs.Votes.{vote_reach, IsVoter, votes, weight_of_first, votes_cast, votes_as, votes_for}
 use Rattle.vbi_side.specs.Votes.{IsElected}
@@ -275,29 +275,31 @@ elected_leads minute fields i part tally m (all, leads) elected =
     only_leads _ tally (2 * m + vote_reach) leads
     (omega (arith, all, elected.majority, votes_for_key minute fields i part m))
 
--- and more than half of the votes are for that
-pub elected_most : (minute : ℕ) (fields : List Sightings) (i part : ℕ) (tally : Tally) (m : ℕ)
-    → AreCounted minute fields i part tally → IsElected minute fields i part m
-    → tally.all < 2 * weight_of_first (votes_by minute i part tally.key) fields (length fields)
-elected_most minute fields i part tally m counted elected =
-    subst (λ key. tally.all < 2 * weight_of_first (votes_by minute i part key) fields (length fields))
-    (elected_leads minute fields i part tally m counted elected)
-    (omega (arith, counted.0, elected.majority, votes_for_key minute fields i part m))
+-- of all votes these are enough to elect
+abbrev pub AreEnough : ℕ → ℕ → Type 0
+AreEnough all votes = (field_most ≤ votes) × (all < 2 * votes)
 
--- the number of a key with more than half of the votes is elected
-pub most_elected : (minute : ℕ) (fields : List Sightings) (i part : ℕ) (tally : Tally) (m : ℕ)
+-- and enough votes are for that
+pub elected_enough : (minute : ℕ) (fields : List Sightings) (i part : ℕ) (tally : Tally) (m : ℕ)
+    → AreCounted minute fields i part tally → IsElected minute fields i part m
+    → AreEnough tally.all (weight_of_first (votes_by minute i part tally.key) fields (length fields))
+elected_enough minute fields i part tally m counted elected =
+    let same = votes_for_key minute fields i part m in
+    subst (λ key. AreEnough tally.all (weight_of_first (votes_by minute i part key) fields (length fields)))
+    (elected_leads minute fields i part tally m counted elected)
+    (omega (arith, elected.some, same), omega (arith, counted.0, elected.majority, same))
+
+-- the number of a key with enough votes is elected
+pub enough_elected : (minute : ℕ) (fields : List Sightings) (i part : ℕ) (tally : Tally) (m : ℕ)
     → AreCounted minute fields i part tally
-    → tally.all < 2 * weight_of_first (votes_by minute i part tally.key) fields (length fields)
+    → AreEnough tally.all (weight_of_first (votes_by minute i part tally.key) fields (length fields))
     → tally.key ≡ 2 * m + vote_reach → m % minute ≡ part → IsElected minute fields i part m
-most_elected minute fields i part tally m (all, leads) most is has = record {
-  part_is = has;
-  majority = omega (
-    arith,
-    all,
-    votes_for_key minute fields i part m,
-    subst (λ key. tally.all < 2 * weight_of_first (votes_by minute i part key) fields (length fields)) is most,
-  );
-}
+enough_elected minute fields i part tally m (all, leads) enough is has =
+    let same = votes_for_key minute fields i part m in
+    let of : AreEnough tally.all (weight_of_first (votes_by minute i part (2 * m + vote_reach)) fields (length fields))
+    = subst (λ key. AreEnough tally.all (weight_of_first (votes_by minute i part key) fields (length fields))) is
+    enough in
+    record { part_is = has; majority = omega (arith, all, same, of.1); some = omega (arith, same, of.0) }
 
 -- the same where the first of two fields are those that are there
 pub none_first : (test : ℕ → ℕ → Bool) (fields : List Sightings) (i first : ℕ)

@@ -1,7 +1,8 @@
 -- A time's minute by vote. A CLV disc has the second and the picture on line 16, hours and minutes on lines 17 and 18.
 -- Of a field that shows line 16 alone the minute is the one for which more than half of the weight speaks of those
--- times nearby that go on with its second and picture, whatever their minute. The rule is this project's own.
-use Rattle.std.specs.Prelude.{◌≡◌, ℕ, zero, suc, ◌+◌, ◌*◌, ◌/◌, ◌%◌, ◌<◌, ◌≤◌, ◌==◌, nat_le, nat_lt, not, ◌&&◌}
+-- times nearby that go on with its second and picture, whatever their minute, and 4 of it or more: two lines of pass 1.
+-- The rule is this project's own.
+use Rattle.std.specs.Prelude.{◌≡◌, ℕ, zero, suc, ◌+◌, ◌*◌, ◌/◌, ◌%◌, ◌<◌, ◌≤◌, ◌==◌, nat_le, nat_lt, not, ◌&&◌, ◌⊎◌}
 use Rattle.std.specs.Prelude.{Bool, true, if◌then◌else◌, List, length, slice_get, Option, Some, None}
 use Rattle.vbi_words.specs.declared.system.System.{System}
 use Rattle.vbi_words.specs.declared.code.Code.{Code}
@@ -12,7 +13,7 @@ use Rattle.vbi_side.specs.declared.pace.Pace.TheVariants.{Video}
 use Rattle.vbi_side.specs.Sightings.{Shows}
 use Rattle.vbi_side.specs.Lines.{rate_of, code_in}
 use Rattle.vbi_side.specs.Paces.{fits}
-use Rattle.vbi_side.specs.Beliefs.{field_weight}
+use Rattle.vbi_side.specs.Beliefs.{field_most, field_weight}
 use Rattle.vbi_side.specs.Truth.{is_recorded}
 
 -- the fields on either side of one whose times vote
@@ -61,10 +62,12 @@ votes_as minute i part m j n = votes minute i part j n && fits Video i m j n
 abbrev pub votes_for : ℕ → List Sightings → ℕ → ℕ → ℕ → ℕ
 votes_for minute fields i part m = weight_of_first (votes_as minute i part m) fields (length fields)
 
--- number m is elected in field i: it has this part of a minute, and more than half of the votes
+-- number m is elected in field i: it has this part of a minute, more than half of the votes, and as many as one field's
+-- lines weigh at most
 pub record IsElected (minute : ℕ) (fields : List Sightings) (i part m : ℕ) : Type 0 where
   pub part_is : m % minute ≡ part
   pub majority : votes_cast minute fields i part < 2 * votes_for minute fields i part m
+  pub some : field_most ≤ votes_for minute fields i part m
 
 -- ---- the word that this makes
 
@@ -104,8 +107,18 @@ abbrev pub wrong_votes : (ℕ → Option ℕ) → ℕ → List Sightings → ℕ
 wrong_votes recorded minute fields i part =
     weight_of_first (λ j n. votes minute i part j n && not (is_recorded (recorded j) n)) fields (length fields)
 
--- around field i, where the disc counts number m, it ran on, and more votes are right than wrong
+-- around field i, where the disc counts number m, it ran on, and the wrong votes weigh less than the right ones, or
+-- less than a number needs to be elected
+pub record IsVotedSoundly (recorded : ℕ → Option ℕ) (minute : ℕ) (fields : List Sightings) (i part m : ℕ)
+    : Type 0 where
+  pub runs : RunsFrom recorded i m
+  pub few : (wrong_votes recorded minute fields i part < right_votes recorded minute fields i part)
+      ⊎ (wrong_votes recorded minute fields i part < field_most)
+
+-- around field i, where the disc counts number m with this part of a minute, it ran on, and the wrong votes weigh less
+-- than the right ones, which weigh as much as a number needs
 pub record IsVotedRightly (recorded : ℕ → Option ℕ) (minute : ℕ) (fields : List Sightings) (i part m : ℕ) : Type 0 where
   pub runs : RunsFrom recorded i m
   pub part_is : m % minute ≡ part
   pub most : wrong_votes recorded minute fields i part < right_votes recorded minute fields i part
+  pub some : field_most ≤ right_votes recorded minute fields i part

@@ -10,14 +10,29 @@ two_to_one =
     field_of 4298 2 0 0 ∷ blank ∷ field_of 0 0 4299 2 ∷ blank ∷ blank ∷ blank ∷ field_of 6101 2 0 0 ∷ blank
     ∷ field_of 4311 2 0 0 ∷ []
 
--- one field shows the right minute, and one a minute more
-abbrev pub one_to_one : List Sightings
-one_to_one = field_of 4298 2 0 0 ∷ blank ∷ blank ∷ blank ∷ blank ∷ blank ∷ field_of 6101 2 0 0 ∷ []
+-- two fields show the right minute, and two a minute more
+abbrev pub two_to_two : List Sightings
+two_to_two =
+    field_of 4298 2 0 0 ∷ blank ∷ field_of 4299 2 0 0 ∷ blank ∷ blank ∷ blank ∷ field_of 6101 2 0 0 ∷ blank
+    ∷ field_of 0 0 6102 2 ∷ []
 
--- two fields show the right minute in pass 2, and one a minute more in pass 1
+-- four lines show the right minute in pass 2, and two a minute more in pass 1
 abbrev pub light_to_heavy : List Sightings
 light_to_heavy =
-    field_of 4298 1 0 0 ∷ blank ∷ field_of 4299 1 0 0 ∷ blank ∷ blank ∷ blank ∷ field_of 6101 2 0 0 ∷ []
+    field_of 4298 1 4298 1 ∷ blank ∷ field_of 4299 1 4299 1 ∷ blank ∷ blank ∷ blank ∷ field_of 6101 2 6101 2 ∷ []
+
+-- both lines of one field show a minute in pass 1, and no other field shows one
+abbrev pub alone : List Sightings
+alone = blank ∷ blank ∷ field_of 4299 2 4299 2 ∷ blank ∷ blank ∷ []
+
+-- the same with one of both in pass 2
+abbrev pub light_alone : List Sightings
+light_alone = blank ∷ blank ∷ field_of 4299 2 4299 1 ∷ blank ∷ blank ∷ []
+
+-- one field shows the right minute in pass 1 and one in pass 2, and one a minute more in pass 2
+abbrev pub three_to_one : List Sightings
+three_to_one =
+    field_of 4298 2 0 0 ∷ blank ∷ field_of 4299 1 0 0 ∷ blank ∷ blank ∷ blank ∷ field_of 6101 1 0 0 ∷ []
 
 -- a time in field 0, and so many fields behind it
 abbrev pub alone_before : ℕ → List Sightings

@@ -45,7 +45,7 @@ const WINDOW: usize = 2 * REACH + 1;
 pub const ENOUGH: u32 = 10;
 
 /// The most that one field's sightings weigh.
-const FIELD_MOST: u32 = 4;
+pub(crate) const FIELD_MOST: u32 = 4;
 
 /// How a sighting may stand to a number.
 #[derive(Clone, Copy)]

@@ -12,17 +12,19 @@ ghost use Rattle.vbi_side.specs.declared.sighting.Sightings.{Sightings};
 ghost use Rattle.vbi_side.specs.Sightings.{Shows};
 ghost use Rattle.vbi_side.specs.Lines.{pass_weight, sighting_of};
 ghost use Rattle.vbi_side.specs.Votes.{minute_of, part_of, votes_cast, votes_for, IsElected, time_word};
-ghost use Rattle.vbi_side.specs.Votes.{IsCompletedBy, IsCompleted, IsVotedRightly};
+ghost use Rattle.vbi_side.specs.Votes.{IsCompletedBy, IsCompleted, IsVotedSoundly, IsVotedRightly};
 ghost use Rattle.vbi_side.specs.Worked.{shown_in};
-ghost use Rattle.vbi_side.specs.WorkedVotes.{two_to_one, one_to_one, light_to_heavy, alone_before, alone_behind};
+ghost use Rattle.vbi_side.specs.WorkedVotes.{two_to_one, two_to_two, light_to_heavy, alone, light_alone, three_to_one};
+ghost use Rattle.vbi_side.specs.WorkedVotes.{alone_before, alone_behind};
 
-/// Where the disc ran on within 240 fields of one, and there more weight of the times that go on with its second and
-/// picture was read rightly than wrongly, the number that the disc counts there is elected, and no other.
+/// Where the disc ran on within 240 fields of one, no other number is elected than the one that it counts there, if of
+/// the times that go on with the field's second and picture less weight was read wrongly than rightly, or less than 4.
+/// It is elected if less was read wrongly than rightly, and 4 or more rightly.
 pub fn elected_is_right()
-    ensures elected { (recorded : ℕ → Option ℕ) (minute : ℕ) (fields : List Sightings) (i part m : ℕ)
+    ensures sound { (recorded : ℕ → Option ℕ) (minute : ℕ) (fields : List Sightings) (i part m n : ℕ)
+        → IsVotedSoundly recorded minute fields i part m → IsElected minute fields i part n → n ≡ m }
+    ensures complete { (recorded : ℕ → Option ℕ) (minute : ℕ) (fields : List Sightings) (i part m : ℕ)
         → IsVotedRightly recorded minute fields i part m → IsElected minute fields i part m }
-    ensures only { (recorded : ℕ → Option ℕ) (minute : ℕ) (fields : List Sightings) (i part m n : ℕ)
-        → IsVotedRightly recorded minute fields i part m → IsElected minute fields i part n → n ≡ m }
 {}
 
 /// In a field at most one number is elected.
@@ -42,20 +44,21 @@ pub fn completed_is_told()
     ensures word { (minute : ℕ) → minute < 600 → IsWord (time_word minute) }
 {}
 
-/// Where the disc ran on within 240 fields of one that shows no time, line 16 has the disc's second and picture, and
-/// there more weight of the times that go on with these was read rightly than wrongly, the field is completed by the
-/// word of the disc's minute, if it has an hour of one digit, and by no other.
+/// Where the disc ran on within 240 fields of one, a word that completes it tells the number that the disc counts
+/// there, if of the times that go on with its second and picture less weight was read wrongly than rightly, or less
+/// than 4. If less was read wrongly than rightly, and 4 or more rightly, line 16 has the disc's second and picture, and
+/// the field shows no time, it is completed by the word of the disc's minute, if that has an hour of one digit.
 pub fn completed_is_right()
-    ensures completed { (recorded : ℕ → Option ℕ) (system : System) (line_16 : Shown) (fields : List Sightings)
+    ensures sound { (recorded : ℕ → Option ℕ) (system : System) (line_16 : Shown) (fields : List Sightings)
+        (i part m word : ℕ) → part_of system line_16 ≡ Some part
+        → IsVotedSoundly recorded (minute_of system) fields i part m → IsCompleted system line_16 fields i word
+        → sighting_of system Times line_16 (record { word = Some word; pass = line_16.pass })
+        ≡ record { number = m; weight = pass_weight line_16.pass } }
+    ensures complete { (recorded : ℕ → Option ℕ) (system : System) (line_16 : Shown) (fields : List Sightings)
         (i part m : ℕ) → part_of system line_16 ≡ Some part
         → IsVotedRightly recorded (minute_of system) fields i part m
         → ((n : ℕ) → Shows (slice_get fields i) n → ⊥) → m / minute_of system < 600
         → IsCompleted system line_16 fields i (time_word (m / minute_of system)) }
-    ensures only { (recorded : ℕ → Option ℕ) (system : System) (line_16 : Shown) (fields : List Sightings)
-        (i part m word : ℕ) → part_of system line_16 ≡ Some part
-        → IsVotedRightly recorded (minute_of system) fields i part m → IsCompleted system line_16 fields i word
-        → sighting_of system Times line_16 (record { word = Some word; pass = line_16.pass })
-        ≡ record { number = m; weight = pass_weight line_16.pass } }
 {}
 
 /// Which part of a minute line 16 shows: of NTSC 30 pictures a second, of PAL 25. The word of a minute.
@@ -70,17 +73,23 @@ pub fn worked_parts()
         ≡ 0xF0DD00 ∷ 0xF0DD09 ∷ 0xF0DD59 ∷ 0xF1DD00 ∷ 0xF1DD23 ∷ 0xF9DD59 ∷ [] }
 {}
 
-/// Votes counted by hand: two right minutes against one wrong, one against one, and two in pass 2 against one in
-/// pass 1. A time 240 fields away votes, one 242 fields away doesn't. PAL has another minute.
+/// Votes counted by hand: two right minutes against one wrong, two against two, four in pass 2 against two in pass 1,
+/// both lines of one field with no others, in pass 1 or one in pass 2, and 3 against 1. A time 240 fields away votes,
+/// one 242 fields away doesn't. PAL has another minute.
 #[tactic(auto, unfolding(crate::specs::Votes::weight_of_first))]
 pub fn worked_votes()
     ensures two_to_one { (votes_cast (minute_of Ntsc) two_to_one 4 700 ≡ 6)
         × (votes_for (minute_of Ntsc) two_to_one 4 700 4300 ≡ 4)
         × (votes_for (minute_of Ntsc) two_to_one 4 700 6100 ≡ 2) }
-    ensures one_to_one { (votes_cast (minute_of Ntsc) one_to_one 4 700 ≡ 4)
-        × (votes_for (minute_of Ntsc) one_to_one 4 700 4300 ≡ 2) }
-    ensures light { (votes_cast (minute_of Ntsc) light_to_heavy 4 700 ≡ 4)
-        × (votes_for (minute_of Ntsc) light_to_heavy 4 700 4300 ≡ 2) }
+    ensures two_to_two { (votes_cast (minute_of Ntsc) two_to_two 4 700 ≡ 8)
+        × (votes_for (minute_of Ntsc) two_to_two 4 700 4300 ≡ 4) }
+    ensures light { (votes_cast (minute_of Ntsc) light_to_heavy 4 700 ≡ 8)
+        × (votes_for (minute_of Ntsc) light_to_heavy 4 700 4300 ≡ 4) }
+    ensures alone { (votes_cast (minute_of Ntsc) alone 4 700 ≡ 4) × (votes_for (minute_of Ntsc) alone 4 700 4300 ≡ 4) }
+    ensures light_alone { (votes_cast (minute_of Ntsc) light_alone 4 700 ≡ 3)
+        × (votes_for (minute_of Ntsc) light_alone 4 700 4300 ≡ 3) }
+    ensures three_to_one { (votes_cast (minute_of Ntsc) three_to_one 4 700 ≡ 4)
+        × (votes_for (minute_of Ntsc) three_to_one 4 700 4300 ≡ 3) }
     ensures pal { votes_cast (minute_of Pal) two_to_one 4 700 ≡ 0 }
     ensures before { (votes_cast (minute_of Ntsc) (alone_before 240) 240 820 ≡ 2)
         × (votes_cast (minute_of Ntsc) (alone_before 242) 242 821 ≡ 0) }
@@ -88,10 +97,14 @@ pub fn worked_votes()
         × (votes_cast (minute_of Ntsc) (alone_behind 242) 0 579 ≡ 0) }
 {}
 
-/// Whom these votes elect: two right minutes are more than half against one wrong, one against one isn't, nor are two
-/// in pass 2 against one in pass 1.
+/// Whom these votes elect: two right minutes are more than half against one wrong, two against two aren't, nor are four
+/// in pass 2 against two in pass 1. Two lines of one field are enough by themselves, but not if one of them is of
+/// pass 2, and a weight of 3 isn't enough against 1 either.
 pub fn worked_elections()
     ensures two { IsElected (minute_of Ntsc) two_to_one 4 700 4300 }
-    ensures none { (m : ℕ) → IsElected (minute_of Ntsc) one_to_one 4 700 m → ⊥ }
+    ensures none { (m : ℕ) → IsElected (minute_of Ntsc) two_to_two 4 700 m → ⊥ }
     ensures light { (m : ℕ) → IsElected (minute_of Ntsc) light_to_heavy 4 700 m → ⊥ }
+    ensures alone { IsElected (minute_of Ntsc) alone 4 700 4300 }
+    ensures light_alone { (m : ℕ) → IsElected (minute_of Ntsc) light_alone 4 700 m → ⊥ }
+    ensures three { (m : ℕ) → IsElected (minute_of Ntsc) three_to_one 4 700 m → ⊥ }
 {}

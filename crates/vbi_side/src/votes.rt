@@ -3,8 +3,9 @@
 //! On worn discs many fields show line 16, with the second and the picture, and neither line 17 nor 18, with the
 //! minute. The disc goes on, so each time that is read nearby tells which minute stands here, if it goes on with this
 //! second and picture. A misread minute mostly stands alone. So each such time within 240 fields has a vote, of the
-//! weight of its line, and the number that has more than half of all is elected (`elected_is_right` says when it is
-//! the right one).
+//! weight of its line, and the number that has more than half of all is elected, if they weigh 4 or more: two lines in
+//! pass 1, so that no misread line alone decides where nothing else was read (`elected_is_right` says when it is the
+//! right one).
 //!
 //! That number is found in two passes (the vote of Boyer and Moore): the first finds the only one that can have more
 //! than half, the second weighs its votes. Votes are told apart by a **key**, from which no distance is taken off, so
@@ -12,10 +13,11 @@
 
 ghost use Rattle.std.specs.Prelude.{◌≡◌, ◌↔◌, ℕ, ◌+◌, ◌-◌, ◌*◌, ◌%◌, ◌≤◌, ◌<◌, ◌^◌, ◌==◌};
 ghost use Rattle.std.specs.Prelude.{if◌then◌else◌, length, Some, true};
-ghost use Rattle.vbi_side.specs.Beliefs.{sighting_weight, field_weight};
+ghost use Rattle.vbi_side.specs.Beliefs.{field_most, sighting_weight, field_weight};
 ghost use Rattle.vbi_side.specs.Votes.{vote_reach, minute_of, IsVoter, votes, weight_of_first, votes_cast, IsElected};
 ghost use Rattle.vbi_side.specs.Tallies.{key_of, votes_by, Leads};
 
+use crate::belief::FIELD_MOST;
 use crate::lines::rate;
 use crate::sighting::{Sighting, Sightings};
 use vbi_words::System;
@@ -229,12 +231,12 @@ fn number_of(election: Election, key: u64) -> Option<u64>
     }
 }
 
-/// Whether these votes are more than half of all.
-fn are_most(votes: u64, all: u64) -> bool
+/// Whether so many votes are enough: the most that one field's lines weigh, and more than half of all.
+fn are_enough(votes: u64, all: u64) -> bool
     requires { votes < 2 ^ 63 }
-    ensures { (result ≡ true) ↔ (all < 2 * votes) }
+    ensures { (result ≡ true) ↔ ((field_most ≤ votes) × (all < 2 * votes)) }
 {
-    2 * votes > all
+    votes >= u64::from(FIELD_MOST) && 2 * votes > all
 }
 
 /// The number that is elected in a field that shows this part of a minute, if one is.
@@ -248,7 +250,7 @@ pub fn elected(system: System, fields: &[Sightings], field: usize, part: u32) ->
         part,
     };
     let tally = counted(fields, election);
-    if are_most(votes_by(fields, election, tally.key), tally.all) {
+    if are_enough(votes_by(fields, election, tally.key), tally.all) {
         number_of(election, tally.key)
     } else {
         None
