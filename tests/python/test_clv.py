@@ -49,7 +49,8 @@ class Clv(unittest.TestCase):
     that fits nothing, at the end | t0..19 39.18=@2:30 39.16=s44.7 | count 19
         | doubtful 39/16 44.07 alone, 39/18 2:30 alone
     behind a loss of a second | t0..99 u125..144 221.18=@0:07 | @225 0:00:05.12
-    behind one of more what the run says | t0..99 u126..145 221.18=@0:07 | @225 0:07:05.13
+    behind one of more what two lines say | t0..99 u126..145 221.17=@0:07 221.18=@0:07 | @225 0:07:05.13
+    which one line doesn't | t0..99 u126..145 221.18=@0:07 | @225 
     seconds without a minute | s7.0/M/M s7.1/M/M s7.2/M/M | format clv | unit None
         | doubtful 1/16 None minute, 2/16 None minute, 3/16 None minute
     a stop and a picture | t0..19 5.17=S 9.17=#7 | stray 5/17 picture stop format, 9/17 picture format | format clv

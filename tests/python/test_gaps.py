@@ -44,10 +44,9 @@ class Gaps(unittest.TestCase):
         check(self, "back | 1..59 20..60 | breaks back 117-119 59 to 20, 80 | said no: 1 jump (back)")
 
     def test_numbers_of_which_the_library_has_no_gap(self):
-        """Only one of the times behind a skip has its minute, so the library believes none of them: it isn't known what
-        was passed over."""
-        check(self, "a skip | t1..30 u2210..2221 73=s28.16/@0:01/@0:01 | missing 0:00:01.06-0:01:28.09 undecided "
-                    "| no lost breaks | said can't tell: 2179 times undecided")
+        """Only one line of the times behind a skip has its minute, so that none of them is believed."""
+        check(self, "a skip | t1..30 u2210..2221 73=s28.16/@0:01/- | no missing lost breaks "
+                    "| said can't tell: numbers set aside in 12 of 42 fields")
 
     def test_the_first_numbers_are_not_believed(self):
         """The library believes neither picture 5 alone nor 5 and 6, so there are too few fields before the next one."""

@@ -24,7 +24,7 @@ class Read(unittest.TestCase):
         check(self, """
     of 1000 pictures | t1200..1209 u2210..2221 33=s28.16/@0:01/@0:01 | numbers 22 0:00:48.00 to 0:01:28.21
         | missing 0:00:48.10-0:01:28.09 lost | no doubtful
-    on one line | t1200..1209 u2210..2221 33=s28.16/@0:01/- | missing 0:00:48.10-.. | said can't tell..
+    on one line | t1200..1209 u2210..2221 33=s28.16/@0:01/- | count 10 | no missing
     of more | t1200..1209 u31360..31371 33=s54.16/@0:20/@0:20 | no doubtful
         | missing 0:00:48.10-0:20:54.09 lost
     with two misread seconds | t1200..1209 u2210..2239 25=s28.12/@0:01/@0:01 33=s3.3/-/- 53=s3.3/-/- | aside 33, 53
