@@ -194,9 +194,11 @@ PARTS = {
     },
     "include/ldvbi.h": {"systems": ("specs", numbers_of.systems)},
     "docs/SIDES.md": {
-        "answer": (SIDE, lambda: members(SIDE)),
         "no": (SIDE, lambda: whys(SIDE, "reasons", "no")),
         "cannot_tell": (SIDE, lambda: whys(SIDE, "reasons", "can't tell")),
+    },
+    "docs/ANSWER.md": {
+        "answer": (SIDE, lambda: members(SIDE)),
         "doubtful": (SIDE, lambda: whys(SIDE, "doubtful", head="Means")),
         "csv": ("python/ldvbi_side/command/tables.py", columns_of_fields),
         "bad_lines": ("python/ldvbi_side/command/tables.py", columns_of_bad_lines),

@@ -108,8 +108,8 @@ def package() -> Dict[str, Any]:
     from ldvbi_side import levels
     from ldvbi_side.command import summary
     from ldvbi_side.draw import page
-    from ldvbi_side.judge import anchors, answer, believed, chain, clock, ends, lines, missing, order, paces, parts
-    from ldvbi_side.judge import readings, sparse, times, whole
+    from ldvbi_side.answer import analysis, ends, lines, missing, parts, whole
+    from ldvbi_side.judge import believed, chain, clock, numbers as judged, order, paces, places, readings
     numbers = {"price.%d" % fields: paces.price(fields) for fields in (1, 2, 20, 20000)}
     numbers.update(("weight.%d" % one, readings.WEIGHTS[one]) for one in (1, 2, 3))
     numbers.update(("pictures." + system.lower(), rate) for system, rate in paces.RATES.items())
@@ -117,16 +117,16 @@ def package() -> Dict[str, Any]:
     # one field with a picture, and one with a mark of CLV
     even = readings.Fields("PAL", [(0, 0xF00001, 0), (0, 0x87FFFF, 0)], [(0, 1, 0)] * 2, [], b"")
     return {
-        **numbers, "minute.pal": pal, "minute.least": least, "minute.most": most, "version": answer.VERSION,
+        **numbers, "minute.pal": pal, "minute.least": least, "minute.most": most, "version": analysis.VERSION,
         "summary.lines": summary.MOST_LINES, "summary.listed": summary.MOST_LISTED, "page.plots": page.MOST_PLOTS,
-        "chain.reach": chain.REACH, "chain.near": chain.NEAR, "pairs": anchors.PAIRS, "carried": times.CARRIED,
+        "still": chain.STILL, "pairs": chain.PAIRS, "carried": judged.CARRIED,
         "chapter.all": paces.ChapterPace.ALL, "chapter.many": paces.ChapterPace.MANY,
         "chapter.share": parts.LEAST_SHARE, "missing.far": missing.FAR,
         "clock.places": clock.LEAST_PLACES, "clock.spacing": clock.SPACINGS[0], "clock.dropping": clock.SPACINGS[1],
         "clock.off": clock.OFF, "clock.kept": clock.KEPT[0], "clock.of": clock.KEPT[1], "clock.wide": clock.WIDE // 2,
         "clock.tenth": clock.TENTH_MINUTE // clock.MINUTE, "clock.short": clock.SHORT, "order.least": order.LEAST,
         "order.apart": believed.APART, "order.turn": order.TURN, "order.signs": order.SIGNS,
-        "order.turned": order.TURNED, "sparse.least": sparse.LEAST, "lines.few": lines.FEW,
+        "order.turned": order.TURNED, "sparse.least": places.LEAST, "lines.few": lines.FEW,
         "levels.fields": levels.FIELDS, "levels.few": levels.FEW, "levels.step": levels.STEP,
         "ends.longest": ends.LONGEST, "begins": len(ends.FIRST["time"]), "format.near": whole.NEAR,
         "doubtful.share": whole.SHARE, "pile.lines": near.MOST_LINES,
