@@ -2,7 +2,6 @@
 writes of it."""
 
 import io
-import random
 import subprocess
 
 import ldvbi
@@ -26,27 +25,6 @@ def written(source, setup, is_recovered=False):
     with ldvbi.Stream(source, *setup, is_recovered) as stream, Progress(len(stream), is_wanted=False) as progress:
         write(stream, text, progress.over)
     return text.getvalue().encode("ascii")
-
-
-def damaged(rng, word, setup):
-    """A line of a word or of none, as it is drawn, or with up to three pieces high, low, or at half way."""
-    line, width = bytearray(line_with(word, setup)), ldvbi.line_bytes(setup[0]) // 2
-    for _ in range(rng.randrange(4)):
-        first, columns = rng.randrange(width), rng.randrange(1, 60)
-        sample = rng.choice([*setup[1:], sum(setup[1:]) // 2]).to_bytes(2, "little")
-        line[2 * first:2 * (first + columns)] = sample * len(line[2 * first:2 * (first + columns):2])
-    return bytes(line)
-
-
-def damaged_fields(setup, count):
-    """Fields with words of discs on damaged lines, most of lines 17 and 18 with one word, and worn lines."""
-    rng, fields = random.Random(setup[0]), []
-    for number in range(count):
-        picture = 0xF00000 + int(str(number), 16)
-        words = [rng.choice([0, 0x82CFFF, 0x8DC0A1]), picture, picture if number % 4 else 0x801DDD]
-        fields.append([damaged(rng, word, setup) for word in words])
-    return fields + [[0, worn_line(0xF12345, setup, 9, columns), worn_line(0xF12345, setup, 12, columns)]
-                     for columns in range(8, 20)]
 
 
 def causes(setup):
@@ -84,7 +62,7 @@ class Documents(InFolder):
         return wanted.decode("ascii")
 
     def test_causes_and_passes(self):
-        """Of a file, and of a buffer."""
+        """Of a file, and of a buffer; with recovered words, too."""
         for setup in (NTSC, PAL, ("NTSC", 0, 65535), ("PAL", 65534, 65535)):
             with self.subTest(setup):
                 text = self.compare(setup, causes(setup))
@@ -92,6 +70,9 @@ class Documents(InFolder):
                 last = {"NTSC": '"change 909"', "PAL": '"change 1134"'}[setup[0]]
                 for part in ('"word"', '"blank"', '"unfinished"', '"change ', '"hold ', '"vbiPass":[1,2,0]', last):
                     self.assertIn(part, text)
+                text = self.compare(setup, [*causes(setup), [0, 0xF12345, worn_line(0xF12345, setup, 9, 11)]], 7, True)
+                self.assertEqual(written(self.read("side.tbc"), setup, True), text.encode())
+                self.assertIn('"vbiPass":[0,1,3],"vbiNear":[null,null,{"word":15803205,', text)
 
     def test_counts_of_fields(self):
         """Whole streams and cut ones."""
@@ -101,17 +82,6 @@ class Documents(InFolder):
                 with self.subTest((setup, count, rest)):
                     self.compare(setup, pictures(count), rest)
                     self.compare(setup, pictures(count), rest, True)
-
-    def test_recovered_words(self):
-        """Of damaged lines, from a file and from a buffer, and of lines with each cause."""
-        for setup in (NTSC, PAL, ("NTSC", 4000, 24001), ("PAL", 0, 65535)):
-            with self.subTest(setup):
-                text = self.compare(setup, damaged_fields(setup, 120), 0, True)
-                self.assertEqual(written(self.read("side.tbc"), setup, True), text.encode())
-                recovered, words = text.count('{"word":'), text.count('"word"')
-                self.assertGreater(recovered, 40)
-                self.assertGreater(words - recovered, 100)
-                self.compare(setup, causes(setup), 7, True)
 
     def test_too_many_fields(self):
         """As the program, which takes at most 1,000,000."""

@@ -3,11 +3,11 @@ writes, never in the place of an input."""
 
 import json
 import os
+import re
 
-from calls import Calls
-from command_runs import IN_PLACE
+from command_runs import IN_PLACE, Calls
 from compact import words_of
-from streams import NTSC, PAL, pictures, write_stream
+from streams import NTSC, PROGRAM, TOP, line_with, pictures, write_stream
 
 NO_LIBRARY = "ldvbi-side: no library to read and judge with (/absent: cannot open shared object file: No such file " \
              "or directory): `make lib` or `make rust` builds it, LDVBI_LIBRARY names its file\n"
@@ -21,25 +21,6 @@ class WithoutLibrary(Calls):
                       "side.vbi.json", "side.tbc LEVELS --document", "join side.vbi.json side.vbi.json"):
             self.assertEqual(self.run_command(words, env=absent), (2, b"", NO_LIBRARY), words)
         self.assertEqual(self.run_command("--help", env=absent), self.run_command("--help"))
-
-
-class Documents(Calls):
-    def test_the_same_as_the_program(self):
-        self.assertEqual(self.printed("side.tbc LEVELS --document"), self.document)
-        write_stream(self.named("pal.tbc"), PAL, pictures(70), 12)
-        options = "--system PAL --black 16384 --white 54016"
-        said = "ldvbi-side: pal.tbc: the last field is cut: field 71 has 12 of 710510 bytes\n"
-        self.assertEqual(self.run_command("pal.tbc --document " + options),
-                         (3, self.extracted("pal.tbc", options.split()), said))
-        self.write("side.tbc", b"")
-        self.assertEqual(self.printed("side.tbc LEVELS --csv").count(b"\n"), 1)
-        self.assertEqual(self.printed("side.tbc LEVELS --document"), self.extracted("side.tbc"))
-
-    def test_refused(self):
-        for words in ("--document --csv", "--document --json", "--document --summary", "--document --bad-lines",
-                      "--csv --seek 1", "--seek x", "--seek -1", "--system SECAM", "--black 1.0", "--recovered",
-                      "--recovered --json", "--recovered --document --no-recover"):
-            self.assertEqual(self.run_command("side.tbc LEVELS " + words)[:2], (2, b""), words)
 
 
 class Metadata(Calls):
@@ -87,11 +68,48 @@ class Metadata(Calls):
     def test_comparison(self):
         write_stream(self.named("other.tbc"), NTSC, pictures(16)[4:])
         self.metadata("other.tbc.json")
-        self.assertEqual(json.loads(self.printed("compare --json other.tbc side.vbi.json")), {
-            "version": 1, "unit": "picture", "counts": [12, 12], "a": [{"first": 12, "last": 15, "count": 4}],
-            "b": [{"first": 0, "last": 3, "count": 4}], "same": [{"first": 4, "last": 11, "count": 8}], "betterA": [],
-            "betterB": [], "numbers": {"count": 16, "least": 0, "greatest": 15}, "missing": [], "leftOut": []})
-        self.assertEqual(self.run_command("compare side.vbi.json")[0], 2)
+        found = json.loads(self.printed("compare --json other.tbc side.vbi.json"))
+        self.assertEqual([found["a"], found["b"]], [[{"first": 12, "last": 15, "count": 4}],
+                                                    [{"first": 0, "last": 3, "count": 4}]])
+
+
+FIELDS = """field,frame,format,picture,chapter,time,stop,doubt,status,users,unknown
+1,1,cav,1,,,,,,,
+2,1,neither,,1,,,,,,
+3,2,cav,2,,,stop,,,,
+5,3,cav,3,,,,"picture 79999 on line 18, pass 1: lines",,,
+"""
+BAD_LINES = """field,line,cause,offset,nearest,distance,rival
+1,16,unfinished,27300,-,1000,32700
+1,17,change 170,29120,82CFFF,500,3300
+1,18,hold 200,30940,ANY,39500,39500
+"""
+
+
+class Tables(Calls):
+    def test_fields(self):
+        write_stream(self.named("side.tbc"), NTSC, words_of("-/#1/#1 -/c1/c1 S/S/#2 B -/#3/#79999"))
+        self.write("side.vbi.json", self.extracted("side.tbc"))
+        with open(self.named("side.vbi.json"), "rb") as file:
+            for words, more in (("side.tbc LEVELS", {}), ("side.vbi.json", {}), ("-", {"stdin": file})):
+                self.assertEqual(self.run_words(words + " --csv", **more), (0, FIELDS, ""))
+
+    def test_bad_lines(self):
+        """Line 16 has 10 high columns, its last: these are 10 off the black row, and a word that ends there has 322
+        high columns before its last half cell of 15. Line 17 is 5 off its word, and a cell of 28 more off another. Line
+        18 has 59 high columns before the last place for a word, 351 of whose 687 are high at most; several words have
+        so many. Without samples, or recovered words, no line is measured."""
+        write_stream(self.named("side.tbc"), NTSC, [[
+            line_with(0, NTSC, [(900, 909, True)]), line_with(0x82CFFF, NTSC, [(170, 174, False)]),
+            line_with(0, NTSC, [(164, 909, True)])]], 12345)
+        self.write("side.vbi.json", self.extracted("side.tbc"))
+        said = "ldvbi-side: %s: the last field is cut: field 2 has 12345 of 478660 bytes\n"
+        for name, more, wanted in (("side.tbc", " LEVELS", BAD_LINES), ("side.tbc", " LEVELS --no-recover", None),
+                                   ("side.vbi.json", "", None)):
+            status, text, errors = self.run_words(name + more + " --bad-lines")
+            text = re.sub(",[8-F][0-9A-F]{5},39500,", ",ANY,39500,", text)
+            self.assertEqual((status, text, errors), (
+                3, wanted or re.sub("[^,]*,[^,]*,\\d+$", ",,", BAD_LINES, flags=re.M), said % name))
 
 
 class Files(Calls):
@@ -111,6 +129,16 @@ class Files(Calls):
         self.assertEqual(self.printed("side.tbc LEVELS --map three --document --svg svg"), self.document)
         self.assertEqual([self.read("two"), self.read("three")], [self.read("side.map")] * 2)
         self.assertIn(b"<svg", self.read("svg"))
+
+    def test_the_pictures_of_the_documents(self):
+        """Those of docs/SIDES.md, made again."""
+        docs = os.path.join(TOP, "docs")
+        self.run_command(os.path.join(docs, "pictures", "make_side.sh"), PROGRAM, self.folder, command=["sh"])
+        with open(os.path.join(docs, "SIDES.md"), encoding="utf-8") as file:
+            text = file.read()
+        for name in ("side.svg", "clv.svg"):
+            self.assertIn("(pictures/%s)" % name, text)
+            self.assertEqual(self.read(name), self.read(os.path.join(docs, "pictures", name)))
 
     def test_pages_and_their_index(self):
         columns = bytearray(self.read("side.tbc"))

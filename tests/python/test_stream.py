@@ -123,14 +123,6 @@ class Closing(Streams):
         del begun
         self.assertEqual(held(), before)
 
-    def test_a_buffer_keeps_its_size(self):
-        data = bytearray(ldvbi.field_bytes("NTSC"))
-        side = ldvbi.Stream(data, *NTSC)
-        with self.assertRaises(BufferError):
-            data.append(0)
-        side.close()
-        data.append(0)
-
 
 class Advised(mmap.mmap):
     """A mapped file that notes what the system is advised of, and when bytes of it were read."""
