@@ -16,7 +16,7 @@ from ldvbi_side.command.map import map_rows
 from ldvbi_side.judge.answer import analyse
 from ldvbi_side.seek import seek, wanted_of
 from ldvbi_side.side import side_of_tbc
-from simulated_discs import disc
+from simulated_discs import disc, picture
 from streams import NTSC, PAL, line_with, worn_line, write_stream
 
 
@@ -145,7 +145,7 @@ class Confirmed(InFolder):
                                         (NTSC, worn_line(0xF00005, NTSC, 5, 14), False),
                                         (NTSC, line_with(0xF00005, NTSC, [(150 + 687, 150 + 700, True)]), False)):
             fields = [field for number in range(1, 21)
-                      for field in ([0, 0xF00000 + int(str(number), 16), 0], [0, 0x800DDD, 0x800DDD])]
+                      for field in ([0, picture(number), 0], [0, 0x800DDD, 0x800DDD])]
             fields[8] = [0, line, 0]
             write_stream(self.path, setup, fields)
             for recover in (True, False):

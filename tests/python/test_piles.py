@@ -13,16 +13,13 @@ from ldvbi_side.join.captures import capture_of
 from ldvbi_side.join.joined import join
 from ldvbi_side.join.piles import _levelled
 from ldvbi_side.side import side_of_tbc
+from simulated_discs import picture
 from streams import NTSC, PAL, worn_line, write_stream
 
 # Of each system more than half of the columns of a cell, of which the word with this bit turned is nearer, by a column
 # or two: too few to say it
 HALF = {"NTSC": 15, "PAL": 18}
 PICTURES = range(1, 21)
-
-
-def picture(number):
-    return 0xF00000 + int(str(number), 16)
 
 
 def worn(word, setup, *cells):
