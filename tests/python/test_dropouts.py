@@ -23,26 +23,29 @@ def worn(setup):
 
 class Module(InFolder):
     def test_each_call(self):
-        """Line 17 of a field behind 99 others, as each call reads it. Three of the turned columns are enough, two are
-        not; they come in any order, may overlap, and may be far beyond the line."""
+        """The last of 100 fields, as each call reads it. Line 16 is recovered without dropouts: its word is 11 columns
+        off (PAL: 14), and another one 17 or more. On line 17 three of the turned columns are enough, two are not;
+        dropouts come in any order, may overlap, and may be far beyond the line."""
         for setup in (NTSC, PAL):
             _, (begin, end), (second, last) = TURNED[setup[0]]
-            write_stream(self.path, setup, [[]] * 99 + [[0, worn(setup), 0]])
+            lines = [worn_line(0x85D0A1, setup, 5, 11 + 3 * (setup == PAL)), worn(setup), line_with(0xF54321, setup)]
+            write_stream(self.path, setup, [[]] * 99 + [lines])
             field = self.read("side.tbc")[-ldvbi.field_bytes(setup[0]):]
-            rows = line_with(0, setup) + worn(setup) + line_with(0, setup)
-            for dropouts, is_found in (
+            for recover, dropouts, is_found in ((False, None, False), (True, None, False), *((True, *row) for row in (
                     ([], False), ([(17, begin, end)], True), ([(17, second, last), (17, begin, end)], True),
                     ([(17, begin, begin + 1)], False), ([(17, begin, begin + 2)], True),
                     ([(17, begin, begin)] * 9, False), ([(16, begin, end), (18, begin, last)], False),
-                    ([(17, 1050, 2 ** 40), (17, begin, end), (17, 0, 5)], True), ([(17, 0, 2 ** 40)], False)):
-                of_stream = [(99, *one) for one in dropouts]
-                with ldvbi.Stream(self.path, *setup, True, of_stream) as side:
+                    ([(17, 1050, 2 ** 40), (17, begin, end), (17, 0, 5)], True), ([(17, 0, 2 ** 40)], False)))):
+                of_stream = None if dropouts is None else [(99, *one) for one in dropouts]
+                with ldvbi.Stream(self.path, *setup, recover, of_stream) as side:
                     readings = [
                         list(side)[99], side[99], side[-1], side[60:][39],
-                        list(ldvbi.fields(self.path, *setup, recover=True, dropouts=of_stream))[99],
-                        ldvbi.read_field(field, *setup, True, dropouts), ldvbi.read_rows(rows, *setup, True, dropouts)]
-                self.assertEqual({(one.second.word, one.second.pass_) for one in readings},
-                                 {(WORD, 3) if is_found else (0, 0)}, (setup, dropouts))
+                        list(ldvbi.fields(self.path, *setup, recover=recover, dropouts=of_stream))[99],
+                        *(call(samples, *setup, recover, dropouts) for call, samples in (
+                            (ldvbi.read_field, field), (ldvbi.read_rows, b"".join(lines))))]
+                wanted = (0x85D0A1, 3) if recover else (0, 0), (WORD, 3) if is_found else (0, 0), (0xF54321, 1)
+                self.assertEqual({tuple((line.word, line.pass_) for line in one) for one in readings}, {wanted},
+                                 (setup, recover, dropouts))
 
     def test_each_field_has_its_own(self):
         """Of 130 fields, all of them worn, those with a dropout are read."""

@@ -1,6 +1,6 @@
-"""The nearest word and recovered words of drawn lines as the library answers them, of which tests/library has more rows
-(lines.py, nearest.py, pile.py, worn.py); due numbers that are the nearest words of their lines, and count as read; and
-what the command reads of noisy and worn sides."""
+"""The nearest word of lines, and the word that piles say, as the library answers them, of which tests/library has more
+rows (lines.py, nearest.py, pile.py); due numbers that are the nearest words of their lines, and count as read; and what
+the command reads of noisy and worn sides."""
 
 import json
 import random
@@ -8,7 +8,7 @@ import struct
 import unittest
 
 import ldvbi
-from cases import InFolder, reason
+from cases import InFolder
 from command_runs import LEVELS, Calls
 from compact import check, made, of_member
 from discs import plain, second
@@ -43,50 +43,6 @@ class Lines(unittest.TestCase):
             for dropouts, word in (((), None), ([(0, *cell)], 0xF00005), ([(1, *cell)], 0xF04005),
                                    ([(1, 0, 9), (0, *cell), (1, 2000, 2 ** 40)], 0xF00005)):
                 self.assertEqual(ldvbi.recover_pile(lines, *setup, 17, dropouts), word, (setup, dropouts))
-
-
-# Fields, of whose worn lines each has its word, the cell in which columns are turned over, and how many: of PAL 3 more.
-# With 11 a word is ahead by 6 or 7, as a code of its line has to be of another, which that with this bit turned is.
-# With 13 it is ahead by 2 or 3, but lines 17 and 18 together by 30 and more: each has the other's worn cell.
-FIELDS = ([(0x85D0A1, 5, 11), 0xF12345, 0], [0, (0xF12345, 9, 13), (0xF12345, 13, 13)], [0, 0, (0xF54321, 13, 11)])
-
-
-class Recovered(InFolder):
-    @staticmethod
-    def drawn(setup):
-        return [[worn_line(line[0], setup, line[1], line[2] + 3 * (setup == PAL)) if isinstance(line, tuple)
-                 else line_with(line, setup) for line in field] for field in FIELDS]
-
-    def readings(self, setup, *words):
-        """The fields as each call reads them."""
-        size, line = ldvbi.field_bytes(setup[0]), ldvbi.line_bytes(setup[0])
-        data = [self.read("side.tbc")[size * place:size * (place + 1)] for place in range(3)]
-        with ldvbi.Stream(self.path, *setup, *words) as side:
-            self.assertEqual(side.cut_bytes, 1000)
-            yield list(side)
-            yield [side[0], side[1], side[-1]]
-        yield list(ldvbi.fields(self.path, *setup, **dict(zip(["recover"], words))))
-        yield [ldvbi.read_field(one, *setup, *words) for one in data]
-        yield [ldvbi.read_rows(one[15 * line:18 * line], *setup, *words) for one in data]
-
-    def test_each_call(self):
-        for setup in (NTSC, PAL):
-            write_stream(self.path, setup, self.drawn(setup), 1000)
-            for words in ((), (False,), (True,)):
-                recovered = (lambda word: (word, 3)) if words == (True,) else lambda word: (0, 0)
-                wanted = [recovered(line[0]) if isinstance(line, tuple) else (line, int(line > 0))
-                          for field in FIELDS for line in field]
-                for found in self.readings(setup, *words):
-                    self.assertEqual([(line.word, line.pass_) for field in found for line in field], wanted, words)
-
-    def test_the_samples_of_rows(self):
-        drawn = self.drawn(PAL)
-        write_stream(self.path, PAL, drawn)
-        with ldvbi.Stream(self.path, *PAL) as side:
-            self.assertEqual([side.rows(index) for index in (0, 1, 2, -1)], [*map(b"".join, drawn), b"".join(drawn[2])])
-            for index in (3, -4):
-                self.assertIsNotNone(reason(side.rows, index, kind=IndexError))
-        self.assertEqual(reason(side.rows, 0), "the stream is closed")
 
 
 DUE = "1..20 9=?"  # picture 5, in field 9
@@ -138,21 +94,16 @@ class Confirmed(InFolder):
 
     def test_samples(self):
         """Of 20 pictures picture 5 has this line alone, which shows no word. It is ahead by 2 or 3 columns, which are
-        too few to recover it where no number is due; half of the 28 columns of a cell are turned over, so that the word
-        with the other bit is as near; or with one more cell behind the word the row is nearer by 14 columns."""
-        for setup, line, is_nearest in ((NTSC, worn_line(0xF00005, NTSC, 9, 13), True),
-                                        (PAL, worn_line(0xF00005, PAL, 9, 16), True),
-                                        (NTSC, worn_line(0xF00005, NTSC, 5, 14), False),
-                                        (NTSC, line_with(0xF00005, NTSC, [(150 + 687, 150 + 700, True)]), False)):
-            fields = [field for number in range(1, 21)
-                      for field in ([0, picture(number), 0], [0, 0x800DDD, 0x800DDD])]
-            fields[8] = [0, line, 0]
+        too few to recover it where no number is due."""
+        for setup, columns in ((NTSC, 13), (PAL, 16)):
+            fields = [field for number in range(1, 21) for field in ([0, picture(number), 0], [0, 0x800DDD, 0x800DDD])]
+            fields[8] = [0, worn_line(0xF00005, setup, 9, columns), 0]
             write_stream(self.path, setup, fields)
             for recover in (True, False):
                 one = side_of_tbc(self.path, ldvbi.System[setup[0]], *setup[1:], recover=recover)
                 one.may_end = True
                 self.assertEqual(one.readings[8].second.word, 0)
-                self.check(one.answer, is_nearest and recover)
+                self.check(one.answer, recover)
 
 
 SETUPS = {"cav-ntsc": NTSC, "cav-pal": PAL, "cav-film": NTSC, "clv-pal": PAL}
