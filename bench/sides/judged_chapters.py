@@ -1,29 +1,16 @@
-#!/usr/bin/env python3
-"""The table of docs/MEASURED.md that has the library's judge of chapters beside the package: both on simulated sides.
-Whatever they say of a field is held against the truth, and where the judge promises something, it has to be so.
+"""What the library's judge of chapters and the package say of simulated sides, beside the truth: what is proved of a
+chapter that is believed has to be so."""
 
-usage: judged_chapters.py FROM TO [--kind KIND]... [--played N] [--show N] [--into FILE]     as of judged.py
-
-The status is 1 where one answer breaks the promise."""
-
-import sys
 from collections import Counter
 
 import ldvbi
 from ldvbi import Kind, State
-from judged import FINDERS
-from judged_truth import ENOUGH, REACH
-from ldvbi_side.answer.analysis import analyse
+from ldvbi_side.judge.answer import analyse
 from measure import fields_of
 from simulate import simulated
-from simulated_runs import parser, totals_of, write_rows
 from truth import said_by
 
-NAMES = ("sides", "fields", "right",
-         *("%s by the %s" % (how, finder) for how in ("right", "wrong") for finder in FINDERS),
-         "promised", "broken promises", "chapters",
-         *("%s by the %s" % (how, finder) for how in ("listed", "listed of no disc", "begun right")
-           for finder in FINDERS))
+REACH, ENOUGH = 24, 10
 
 
 def chapter_in(word):
@@ -122,29 +109,3 @@ def count_finder(counts, finder, truth, answers):
         is_there = chapter in truth.firsts
         counts["listed%s by the %s" % ("" if is_there else " of no disc", finder)] += 1
         counts["begun right by the " + finder] += is_there and truth.firsts[chapter] == field
-
-
-def print_table(totals):
-    for (kind,), counts in sorted(totals.items()):
-        print("%s: %s" % (kind, ", ".join("%s %d" % (name, counts[name]) for name in NAMES)))
-
-
-def rows_of(counts):
-    """The cells of the rows of docs/MEASURED.md."""
-    for row, right, wrong, there in (("right ones believed in their fields; wrong ones", "right", "wrong", "right"),
-                                     ("listed; of no disc", "listed", "listed of no disc", "chapters")):
-        yield (row, *("%d/%d; %d" % (counts["%s by the %s" % (right, finder)], counts[there],
-                                        counts["%s by the %s" % (wrong, finder)]) for finder in FINDERS[:2]),
-               "-; %d" % counts[wrong + " by the lines"])
-
-
-def main():
-    options = parser().parse_args()
-    totals = totals_of(options, lambda *asked: [judged(*asked)])
-    print_table(totals)
-    write_rows(options, "| Chapters | The judge | The package | Lines |", rows_of(totals["all",]))
-    return int(any(counts["broken promises"] for counts in totals.values()))
-
-
-if __name__ == "__main__":
-    sys.exit(main())

@@ -65,7 +65,7 @@ def measured(seed, kind=None, parity=False, tell=lambda text: None, count=None, 
 
 
 def print_table(totals):
-    for (kind,), counts in sorted(totals.items()):
+    for kind, counts in sorted(totals.items()):
         exact = ", ".join("%s %d" % (name, counts[name]) for name in EXACT)
         shares = ", ".join("%s %d of %d" % (name, counts[name + " found"], counts[name])
                            for name in SHARES if counts[name])
@@ -92,9 +92,9 @@ def main():
     asked = parser()
     asked.add_argument("--parity", action="store_true")
     options = asked.parse_args()
-    totals = totals_of(options, lambda seed, kind, tell: [measured(seed, kind, options.parity, tell)])
+    totals = totals_of(options, lambda seed, kind, tell: measured(seed, kind, options.parity, tell))
     print_table(totals)
-    write_rows(options, HEAD, (row_of(kind, counts) for (kind,), counts in totals.items() if kind != "all"))
+    write_rows(options, HEAD, (row_of(kind, counts) for kind, counts in totals.items() if kind != "all"))
 
 
 if __name__ == "__main__":

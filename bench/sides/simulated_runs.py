@@ -10,30 +10,26 @@ from simulate import KINDS, PLAYED
 
 
 def parser():
-    """What a run is asked for: the seeds from `begin` to `end` - 1, the kinds, how many sides of each kind of PLAYED
-    besides, how many texts are shown, and the file that gets the rows of docs/MEASURED.md."""
+    """What a run is asked for: the seeds from `begin` to `end` - 1, the kinds, how many texts are shown, and the file
+    that gets the rows of docs/MEASURED.md."""
     found = argparse.ArgumentParser()
     found.add_argument("begin", type=int)
     found.add_argument("end", type=int)
     found.add_argument("--kind", choices=KINDS + tuple(PLAYED) + ("each",), action="append")
-    found.add_argument("--played", type=int, default=0)
     found.add_argument("--show", type=int, default=0)
     found.add_argument("--into")
     return found
 
 
-def totals_of(options, parts_of):
-    """The counts of each kind, and of all, after the first texts were printed. `parts_of` gets a seed, a kind or None,
-    and what it may call with a text; of the side it returns tuples of its kind, of names, if there are any, and of
-    counts. The totals have all of these but the counts as their key."""
+def totals_of(options, counts_of):
+    """The counts of each kind, and of all, after the first texts were printed. `counts_of` gets a seed, a kind or None,
+    and what it may call with a text; of the side it returns its kind and its counts."""
     totals, told = defaultdict(Counter), []
-    kinds = PLAYED if options.kind == ["each"] else options.kind or [None]
-    runs = [(asked, options.begin, options.end) for asked in kinds] + [(asked, 0, options.played) for asked in PLAYED]
-    for asked, begin, end in runs:
-        for seed in range(begin, end):
-            for kind, *names, counts in parts_of(seed, asked, told.append):
-                for key in (kind, "all"):
-                    totals[(key, *names)].update(counts)
+    for asked in PLAYED if options.kind == ["each"] else options.kind or [None]:
+        for seed in range(options.begin, options.end):
+            kind, counts = counts_of(seed, asked, told.append)
+            for key in (kind, "all"):
+                totals[key].update(counts)
     for text in told[:options.show]:
         print(text)
     return totals

@@ -1,7 +1,9 @@
-"""The command as a process, in a folder of its own for each test; of Runs with a drawn side and its document."""
+"""The command as a process, in a folder of its own for each test; of Runs with a drawn side and its document; of Calls
+in this process, where one of its own would show no more and takes longer."""
 
 import contextlib
 import functools
+import io
 import json
 import os
 import pty
@@ -12,6 +14,7 @@ import time
 
 import ldvbi
 from cases import InFolder
+from ldvbi_side.__main__ import main
 from streams import NTSC, PROGRAM, pictures, write_stream
 
 COMMAND = [sys.executable, "-m", "ldvbi_side"]
@@ -112,11 +115,12 @@ class Commands(InFolder):
         self.assertEqual(process.wait(DEADLINE), status)
         return shown.decode(), text
 
-    def metadata(self, name, *, count=None, **more):
-        """Metadata of an NTSC side, with so many fields, the second ones of which begin a frame."""
+    def metadata(self, name, *, count=None, field=(), **more):
+        """Metadata of an NTSC side, with so many fields, the second ones of which begin a frame; each has these members
+        besides, and the parameters have the others."""
         known = {"videoParameters": {"system": "NTSC", "black16bIre": 16384, "white16bIre": 51200, **more}}
         if count is not None:
-            known["fields"] = [{"isFirstField": place % 2 == 1} for place in range(count)]
+            known["fields"] = [{"isFirstField": place % 2 == 1, **dict(field)} for place in range(count)]
         self.write(name, json.dumps(known))
 
 
@@ -133,3 +137,23 @@ class Runs(Commands):
         status, document, _ = self.run_command("extract", *options, self.named(name), command=[PROGRAM])
         self.assertIn(status, (0, 3))
         return document
+
+
+class Calls(Runs):
+    """Runs with nothing on standard input, and with the streams and the environment that are usual, are calls."""
+
+    def run_command(self, *words, **more):
+        if more:
+            return super().run_command(*words, **more)
+        out, err = io.TextIOWrapper(io.BytesIO(), "utf-8", "surrogateescape"), io.StringIO()
+        before = os.getcwd()
+        os.chdir(self.folder)
+        try:
+            with contextlib.redirect_stdout(out), contextlib.redirect_stderr(err):
+                status = main(self.words(*words))
+        except SystemExit as stop:
+            status = stop.code
+        finally:
+            os.chdir(before)
+        out.flush()
+        return status, out.buffer.getvalue(), err.getvalue()

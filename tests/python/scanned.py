@@ -19,7 +19,7 @@ TWELVE = """
     a/broken.vbi.json | - | fault | - | - | - | - | - | - | - | - | - | not JSON:
     a/cut.tbc | 1..30 O | no | 0 | 0 | cav | 1 | 30 | 30 | 0 | 1 | 61 | field 62 is cut
     a/database.tbc | 1..30 O | yes | 0 | 0 | cav | 1 | 30 | 30 | 0 | 1 | 61 | -
-    a/joined.tbc | Lx2 1..30 Ox2 Lx2 1..25 Ox2 | no | 0 | 0 | cav | 1 | 30 | 25 | 4 | 4 | 118 | two sides joined
+    a/joined.tbc | Lx2 1..30 Ox2 Lx2 1..25 Ox2 | no | 0 | 0 | cav | 1 | 30 | 25 | 4 | 4 | 118 | lead-in again in
     a/levels.tbc | 1..30 | can't tell | 0 | 0 | neither | - | - | - | 0 | 0 | 60 | no picture number and no time
     a/lost.tbc | 1..11 14..30 O | no | 2 | 0 | cav | 1 | 30 | 30 | 0 | 1 | 57 | 4 fields lost; 2 pictures lost
     b/minutes.vbi.json | - | yes | 0 | 0 | clv | 0:00 | 0:02 | 0:02 | 0 | 1 | 9001 | -

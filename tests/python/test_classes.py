@@ -1,5 +1,5 @@
-"""The classes of words in Python: rows of each pattern and its edges, what words say and where each kind of code stands
-(IEC 60857 and 60856), and words beside the library."""
+"""The classes of words in Python: what words say, where each kind of code stands (IEC 60857 and 60856), and words
+beside the library."""
 
 import ctypes
 import itertools
@@ -9,26 +9,10 @@ import struct
 import unittest
 
 from cases import reason
-from compact import cells_of
-from ldvbi.classes import Code, Format, Kind, classify, format_of
+from ldvbi.classes import Format, Kind, classify, format_of
 from ldvbi.codes import STANDARD_LINES, code, code_of, codes_by_kind, name_of, value_of
 from streams import TOP
 
-# Patterns of docs/FORMATS.md: words in each, with the numbers read off their digits; of other words those next to one
-ROWS = """
-    lead_in | 88FFFF
-    lead_out | 80EEEE
-    picture_stop | 82CFFF
-    clv_mark | 87FFFF
-    picture | F12345 12345 | F00000 0 | F79999 79999 | F80001 1 | FF9999 79999
-    chapter | 800DDD 0 | 879DDD 79 | 8A9DDD 29 | 8F9DDD 79
-    time | F0DD00 0 0 | F9DD59 9 59 | F1DD99 1 99
-    clv_picture | 8AE000 0 0 | 8FE999 59 99 | 8BE207 12 7
-    cx_on | 8DC000 0 | 8DCFFF 4095
-    users | 80D000 0 0 | 87DFFF 7 4095 | 83D0A1 3 161
-    other | 88FFFE | 81EEEE | 82CFFE | 86FFFF | F0A000 | F00A00 | F000A0 | F0000A | 8AADDD | 800DDE | FADD00 | F0DC00
-        | F0DD0A | 89E000 | 8AEA00 | 8AE0A0 | 8CC000 | 88D000 | 800000 | E00000 | FFFFFF
-"""
 # What words say: kind and numbers by name, and the one that counts
 MEANINGS = (
     (0x88FFFF, {"kind": "lead-in"}, None), (0x80EEEE, {"kind": "lead-out"}, None), (0xABCDEF, {"kind": "other"}, None),
@@ -67,14 +51,8 @@ def ranges_of_header():
 
 
 class Classes(unittest.TestCase):
-    def test_rows(self):
-        for kind, *words in cells_of(ROWS):
-            for word, *numbers in map(str.split, words):
-                with self.subTest(word):
-                    self.assertEqual(classify(int(word, 16)), (Kind[kind], *map(int, numbers), 0, 0)[:3])
-                    self.assertEqual([type(classify(int(word, 16))), type(classify(int(word, 16)).kind)], [Code, Kind])
-
     def test_what_words_say(self):
+        self.assertEqual(repr(classify(0xF12345)), "Code(kind=<Kind.picture: 1>, first=12345, second=0)")
         for word, meaning, value in MEANINGS:
             with self.subTest("%06X" % word):
                 self.assertEqual((code(word), value_of(code_of(word))), (meaning, value))

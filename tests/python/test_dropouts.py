@@ -5,13 +5,11 @@ import json
 import os
 
 import ldvbi
-from calls import Calls
-from cases import InFolder, in_database, reason
-from compact import words_of
+from cases import InFolder, in_database
+from command_runs import Calls
 from ldvbi.metadata import read_metadata
 from ldvbi_side.near import measured, nearest_word_in
-from ldvbi_side.side import side_of_tbc
-from streams import NTSC, PAL, line_with, worn_line, write_stream
+from streams import NTSC, PAL, line_with, pictures, worn_line, write_stream
 
 WORD = 0xF12345
 # Of the 29 columns of cell 9 (PAL: 35) 13 (16) are turned over: those in its first half cell, and in the second. So the
@@ -24,40 +22,30 @@ def worn(setup):
 
 
 class Module(InFolder):
-    def found(self, setup, line, dropouts):
-        """The word and the pass of line 17 of a field behind 99 others, as each call reads it with these dropouts."""
-        fields = [[]] * 99 + [[0, line, 0]]
-        write_stream(self.path, setup, fields)
-        rows = line_with(0, setup) + line + line_with(0, setup)
-        field = self.read("side.tbc")[-ldvbi.field_bytes(setup[0]):]
-        of_stream = [(99, *one) for one in dropouts]
-        with ldvbi.Stream(self.path, *setup, True, of_stream) as side:
-            readings = [list(side)[99], side[99], side[-1], side[60:][39]]
-        readings += [list(ldvbi.fields(self.path, *setup, recover=True, dropouts=of_stream))[99],
-                     ldvbi.read_field(field, *setup, True, dropouts), ldvbi.read_rows(rows, *setup, True, dropouts)]
-        self.assertEqual(len({tuple(one) for one in readings}), 1)
-        return readings[0].second.word, readings[0].second.pass_
-
     def test_each_call(self):
-        """Three of the turned columns are enough, two are not; they come in any order, may overlap, and may be far
-        beyond the line."""
+        """The last of 100 fields, as each call reads it. Line 16 is recovered without dropouts: its word is 11 columns
+        off (PAL: 14), and another one 17 or more. On line 17 three of the turned columns are enough, two are not;
+        dropouts come in any order, may overlap, and may be far beyond the line."""
         for setup in (NTSC, PAL):
             _, (begin, end), (second, last) = TURNED[setup[0]]
-            with self.subTest(setup):
-                for dropouts, is_found in (
-                        ([], False), ([(17, begin, end)], True), ([(17, second, last), (17, begin, end)], True),
-                        ([(17, begin, begin + 1)], False), ([(17, begin, begin + 2)], True),
-                        ([(17, begin, begin)] * 9, False), ([(16, begin, end), (18, begin, last)], False),
-                        ([(17, 1050, 2 ** 40), (17, begin, end), (17, 0, 5)], True), ([(17, 0, 2 ** 40)], False)):
-                    found = self.found(setup, worn(setup), dropouts)
-                    self.assertEqual(found, (WORD, 3) if is_found else (0, 0), dropouts)
-
-    def test_columns_that_are_right(self):
-        """Of a line whose word is 11 off, and another 18: that is ahead by 7, and without two of them no more."""
-        line = worn_line(WORD, NTSC, 9, 11)
-        for first, last, wanted in ((410, 410, (WORD, 3)), (409, 410, (0, 0)), (410, 411, (WORD, 3)),
-                                    (417, 418, (0, 0)), (500, 501, (WORD, 3))):
-            self.assertEqual(self.found(NTSC, line, [(17, first, last)]), wanted, (first, last))
+            lines = [worn_line(0x85D0A1, setup, 5, 11 + 3 * (setup == PAL)), worn(setup), line_with(0xF54321, setup)]
+            write_stream(self.path, setup, [[]] * 99 + [lines])
+            field = self.read("side.tbc")[-ldvbi.field_bytes(setup[0]):]
+            for recover, dropouts, is_found in ((False, None, False), (True, None, False), *((True, *row) for row in (
+                    ([], False), ([(17, begin, end)], True), ([(17, second, last), (17, begin, end)], True),
+                    ([(17, begin, begin + 1)], False), ([(17, begin, begin + 2)], True),
+                    ([(17, begin, begin)] * 9, False), ([(16, begin, end), (18, begin, last)], False),
+                    ([(17, 1050, 2 ** 40), (17, begin, end), (17, 0, 5)], True), ([(17, 0, 2 ** 40)], False)))):
+                of_stream = None if dropouts is None else [(99, *one) for one in dropouts]
+                with ldvbi.Stream(self.path, *setup, recover, of_stream) as side:
+                    readings = [
+                        list(side)[99], side[99], side[-1], side[60:][39],
+                        list(ldvbi.fields(self.path, *setup, recover=recover, dropouts=of_stream))[99],
+                        *(call(samples, *setup, recover, dropouts) for call, samples in (
+                            (ldvbi.read_field, field), (ldvbi.read_rows, b"".join(lines))))]
+                wanted = (0x85D0A1, 3) if recover else (0, 0), (WORD, 3) if is_found else (0, 0), (0xF54321, 1)
+                self.assertEqual({tuple((line.word, line.pass_) for line in one) for one in readings}, {wanted},
+                                 (setup, recover, dropouts))
 
     def test_each_field_has_its_own(self):
         """Of 130 fields, all of them worn, those with a dropout are read."""
@@ -67,30 +55,6 @@ class Module(InFolder):
                 (field, 17, *columns) for field in fields for columns in TURNED["NTSC"][1:]])) as side:
             self.assertEqual({index for index, field in enumerate(side) if field.second.word}, fields)
             self.assertEqual([bool(field.second.word) for field in side[62:66]], [False, True, True, False])
-
-    def test_refused(self):
-        data, line = bytes(2 * ldvbi.field_bytes("NTSC")), bytes(1820)
-        of_field = "a dropout is not 3 numbers: line, first, last"
-        for one, text in (((0, 17, 5, 4), "a dropout's columns are 5 to 4"),
-                          ((0, 17, -1, 4), "a dropout's columns are -1 to 4"),
-                          ((0, 15, 1, 4), "a dropout is in line 15, not in 16, 17 or 18"),
-                          ((0, 2 ** 32 + 17, 1, 4), "a dropout is in line 4294967313, not in 16, 17 or 18"),
-                          ((0, 17, 1.0, 4), "a dropout's first is not a whole number"),
-                          ((0, "17", 1, 4), "a dropout's line is not a whole number")):
-            self.assertEqual(reason(ldvbi.Stream, data, *NTSC, True, [one]), text)
-            self.assertEqual(reason(ldvbi.read_field, data[:478660], *NTSC, True, [one[1:]]), text)
-            self.assertEqual(reason(ldvbi.read_rows, 3 * line, *NTSC, True, [one[1:]]), text)
-        for one, text in (((2, 17, 1, 4), "a dropout is in field 2 of 2, counted from 0"),
-                          ((-1, 17, 1, 4), "a dropout is in field -1 of 2, counted from 0"),
-                          ((17, 1, 4), "a dropout is not 4 numbers: field, line, first, last"),
-                          (5, "a dropout is not 4 numbers: field, line, first, last")):
-            self.assertEqual(reason(ldvbi.Stream, data, *NTSC, True, [one]), text)
-        for one in (5, (17, 1), (0, 17, 1, 4)):
-            self.assertEqual(reason(ldvbi.read_rows, 3 * line, *NTSC, True, [one]), of_field)
-        for call, samples in ((ldvbi.Stream, data), (ldvbi.fields, data), (ldvbi.read_field, data),
-                              (ldvbi.read_rows, line)):
-            self.assertEqual(reason(call, samples, *NTSC, dropouts=[]),
-                             "dropouts are for recovered words alone: give recover, too")
 
 
 class Nearest(InFolder):
@@ -115,16 +79,6 @@ class Nearest(InFolder):
         for columns, nearest in (((500, 540), None), ((837, 846), WORD), ((837, 845), None)):
             with ldvbi.Stream(self.path, *NTSC, True, [(0, 17, *columns)]) as side:
                 self.assertEqual(nearest_word_in(side, 1, 17, 17), nearest, columns)
-
-    def test_a_due_number(self):
-        """Picture 5 of 20 is as far from its line as another word; without one of its turned columns it is nearer."""
-        fields = [[0, word, word] for _, word, _ in words_of("1..20")]
-        fields[8] = [0, worn_line(0xF00005, NTSC, 5, 14), 0]
-        write_stream(self.path, NTSC, fields)
-        for dropouts, confirmed in ((None, []), ([(8, 17, 297, 297)], [9]), ([(8, 18, 297, 297)], [])):
-            side = side_of_tbc(self.path, ldvbi.System.NTSC, *NTSC[1:], dropouts=dropouts)
-            self.assertEqual(side.answer["confirmed"], confirmed)
-            side.samples.close()
 
 
 # Members `dropOuts` of a field, and its dropouts
@@ -189,25 +143,14 @@ class Metadata(InFolder):
 
 
 class Command(Calls):
-    """side.tbc has pictures 0 to 11, as `Runs` draws it, and in field 12 one whose line 17 alone has a word, worn."""
+    """side.tbc has pictures 0 to 10, and in field 12 a line 17 alone, which is worn."""
 
     def setUp(self):
         super().setUp()
-        columns = TURNED["NTSC"][1]
-        size = ldvbi.field_bytes("NTSC")
-        field = [line_with(0, NTSC), worn(NTSC), line_with(0, NTSC)]
-        data = self.read("side.tbc")
-        begin = 11 * size + 15 * 1820
-        self.write("side.tbc", data[:begin] + b"".join(field) + data[begin + 3 * 1820:])
-        self.told = {"fieldLine": [17], "startx": [columns[0]], "endx": [columns[1]]}
-        self.metadata("side.tbc.json", self.told)
-        self.metadata("without.json", {"fieldLine": [], "startx": [], "endx": []})
-
-    def metadata(self, name, told, *, count=12, **more):
-        known = {"videoParameters": {"system": "NTSC", "black16bIre": 16384, "white16bIre": 51200}}
-        known["fields"] = [{"isFirstField": place % 2 == 0} for place in range(count)]
-        known["fields"][11]["dropOuts"] = told
-        self.write(name, json.dumps(known))
+        write_stream(self.named("side.tbc"), NTSC, [*pictures(11), [0, worn(NTSC), 0]])
+        self.told = {"dropOuts": {"fieldLine": [17], "startx": [411], "endx": [417]}}
+        self.metadata("side.tbc.json", count=12, field=self.told)
+        self.metadata("without.json", count=12)
 
     def near(self, *words):
         """How many lines 17 have a recovered word."""
@@ -224,11 +167,11 @@ class Command(Calls):
         self.assertEqual([*row[:2], *row[4:]], ["12", "17", "F12345", "600", "1600"])
         self.printed("side.tbc", "--into", "copy.json", "--recovered")
         self.assertEqual(json.loads(self.read("copy.json"))["fields"][11],
-                         {"isFirstField": False, "dropOuts": self.told, "vbi": {"vbiData": [0, WORD, 0]}})
+                         {"isFirstField": True, **self.told, "vbi": {"vbiData": [0, WORD, 0]}})
 
     def test_those_of_another_count_of_fields(self):
         for more, unused in (((), "isFirstField and dropOuts aren't"), (("--no-recover",), "isFirstField isn't")):
-            self.metadata("side.tbc.json", self.told, count=14)
+            self.metadata("side.tbc.json", count=14, field=self.told)
             said = "ldvbi-side: side.tbc: 12 fields, side.tbc.json says 14, so its %s used: another system, or " \
                    "another file's metadata?\n" % unused
             found = self.printed("side.tbc", "--json", *more, said=said)

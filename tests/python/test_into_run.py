@@ -6,26 +6,19 @@ import os
 import resource
 from unittest import mock
 
-from calls import Calls
 from cases import in_database
-from command_runs import COMMAND, IN_PLACE, NO_METADATA, SIZE
+from command_runs import COMMAND, IN_PLACE, NO_METADATA, SIZE, Calls
 from ldvbi_side.command import into
 from streams import NTSC, pictures, worn_line, write_stream
 from test_into_rows import FORM
 
-PARAMETERS = {"system": "NTSC", "black16bIre": 16384.0, "white16bIre": 51200, "sampleRate": 14318181.818181818}
 MEMORY = 50 << 20  # bytes
 
 
 class Copies(Calls):
     def setUp(self):
         super().setUp()
-        self.metadata(12)
-
-    def metadata(self, count, name="side.tbc.json", **more):
-        fields = [{"seqNo": place, "diskLoc": place / 3, "isFirstField": place % 2 == 0, **more}
-                  for place in range(1, count + 1)]
-        self.write(name, json.dumps({"videoParameters": PARAMETERS, "fields": fields}))
+        self.metadata("side.tbc.json", count=12)
 
     def database(self, count, name="side.tbc.db"):
         in_database(self.named(name), *FORM.split(";"), *(
@@ -64,7 +57,8 @@ class Words(Copies):
 
     def test_all_else_stays_as_it_was(self):
         """Numbers as they are written, ends of lines and other letters."""
-        self.metadata(12, vbi={"vbiData": [0, 0, 0], "note": "ü\U0001d11e"})
+        self.metadata("side.tbc.json", count=12, sampleRate=14318181.818181818,
+                      field={"vbi": {"vbiData": [0, 0, 0], "note": "ü\U0001d11e"}})
         text = self.text("side.tbc.json").replace(", ", ",\r\n").replace("\\u00fc", "ü")
         self.write("side.tbc.json", text)
         self.copied("side.tbc LEVELS --meta side.tbc.json")
@@ -100,7 +94,7 @@ class Words(Copies):
     def test_a_cut_field_has_no_words(self):
         os.truncate(self.named("side.tbc"), 11 * SIZE + 7)
         self.write("side.vbi.json", self.extracted("side.tbc"))
-        self.metadata(11)
+        self.metadata("side.tbc.json", count=11)
         said = "ldvbi-side: %s: the last field is cut: field 12 has 7 of 478660 bytes\n"
         for name, words in (("side.tbc", ""), ("side.vbi.json", "--meta side.tbc.json")):
             self.assertEqual(self.run_command("%s --into copy.json %s" % (name, words)), (3, b"", said % name))
@@ -113,17 +107,17 @@ class Refused(Copies):
         self.database(12, "rows.db")
 
     def test_another_count_of_fields(self):
-        self.metadata(13)
+        self.metadata("side.tbc.json", count=13)
         self.database(11)
         self.refused("side.tbc has 12 whole fields, and side.tbc.json has 13", "side.tbc --into copy")
         self.refused("side.vbi.json has 12 whole fields, and side.tbc.db has 11",
                      "side.vbi.json --meta side.tbc.db --into copy")
-        self.metadata(12, vbi=5)
+        self.metadata("side.tbc.json", count=12, field={"vbi": 5})
         self.refused("side.tbc.json: field 1: its vbi is no object", "side.tbc --into copy")
         self.assertNotIn("copy", self.names())
 
     def test_no_metadata(self):
-        self.metadata(12, "other")
+        self.metadata("other", count=12)
         self.write("side.tbc.json", b"{")
         for words in ("side.tbc LEVELS", "side.vbi.json --meta side.tbc.json"):
             self.refused("side.tbc.json is no metadata with videoParameters", words + " --into copy")
@@ -176,7 +170,8 @@ class Long(Copies):
     def setUp(self):
         super().setUp()
         write_stream(self.named("side.tbc"), NTSC, pictures(4), 20000 * SIZE)
-        self.metadata(20004, dropOuts={"startx": list(range(80))}, vbi={"vbiData": [0, 0, 0]})
+        self.metadata("side.tbc.json", count=20004,
+                      field={"dropOuts": {"startx": list(range(90))}, "vbi": {"vbiData": [0, 0, 0]}})
         self.database(20004, "rows.db")
 
     def test_no_document_is_held_as_a_whole(self):

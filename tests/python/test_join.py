@@ -1,18 +1,22 @@
 """Several captures of one side: what they have together, which one each number is taken from, and where they disagree
-about a number."""
+about a number; two of them compared; and the command `join`."""
 
 import functools
+import json
 import unittest
 import xml.etree.ElementTree as xml
 
 from cases import reason
-from compact import made, span
+from command_runs import IN_PLACE, NO_METADATA, Calls
+from compact import cells_of, made, span
 from discs import joined, side
+from ldvbi_side.command.compare import compare, comparison_text
 from ldvbi_side.command.join import joined_text, range_rows
 from ldvbi_side.draw.bars import COLOURS, bars_of
 from ldvbi_side.draw.together import page_of_joined
 from ldvbi_side.join.captures import capture_of
 from ldvbi_side.join.joined import join
+from streams import NTSC, pictures, write_stream
 
 SPACE = "{http://www.w3.org/2000/svg}"
 DETOUR = "1..50 151..170 71..100"
@@ -248,3 +252,101 @@ class Page(unittest.TestCase):
         page = page_of_joined(join([capture_of(made("1..40", side), name) for name in ("<a>.tbc", "b & c.tbc")]), [])
         self.assertIn("<h1>&lt;a&gt;.tbc, b &amp; c.tbc</h1>", page)
         self.assertNotIn("<a>", page)
+
+
+# Of 4 the first one has 3, 2, none that is read, and 2 of another pass; the other one 2, and a line that is doubtful.
+# Picture 13 is alike, as line 16 isn't the number's. The first one has lost 21 to 23, the other one 31.
+ONE = "1..40 3=-/#2*/#2 5=-/?/#3 7=? 15=-/#8*/#8* -41:46"
+OTHER = "1..40 9=-/#5*/#5* 11=-/#6/#70000 15=-/#8/- 25=#13/#13/#13 -61:62"
+COMPARED = """
+    what each has | %s | %s | a 31 1 | b 21-23 3 | betterA 5-6 2 | betterB 2-4 3
+        | same 1 1, 7-20 14, 24-30 7, 32-40 9 | missing
+    what both lack | 1..40 -21:30 | 1..40 -29:34 | a 16-17 2 | b 11-14 4 | missing 15 1
+    times | t1490..1509 | t1495..1519 | a 0:00:59.15-0:00:59.19 5 | b 0:01:00.10-0:01:00.19 10 | betterA | betterB
+        | same 0:00:59.20-0:01:00.09 15
+    minutes | m58..59x3000 | m59x3000 | a 0:58 1 | same 0:59 1
+    shown again, and worse at first | 1..30 11..40 31=-/#16*/- | 1..40 | same 1-40 40
+    and later | 1..30 11..40 71=-/#16*/- | 1..40 | same 1-40 40
+    due is less than any line | 1..40 7=? | 1..40 7=-/?/#4* | betterB 4 1
+    pass 1 is more than recovered | 1..40 7=-/?/#4 | 1..40 7=-/?/#4^ | betterA 4 1
+    pass 2 isn't | 1..40 7=-/?/#4* | 1..40 7=-/?/#4^ | same 1-40 40
+    seconds count | t100..139 | t100..139 21.16=s4.10* | betterA 0:00:04.10 1
+""" % (ONE, OTHER)
+
+
+class Comparing(unittest.TestCase):
+    def test_rows(self):
+        """Each one the other way round, too."""
+        turned = {"a": "b", "b": "a", "betterA": "betterB", "betterB": "betterA"}
+        for name, one, other, *wanted in cells_of(COMPARED):
+            one, other = made(one, side), made(other, side)
+            for found, names in ((compare(one, other), {}), (compare(other, one), turned)):
+                for text in wanted:
+                    verdict, _, stretches = text.partition(" ")
+                    with self.subTest((name, verdict, names)):
+                        self.assertEqual(", ".join("%s %d" % (span(each), each["count"])
+                                                   for each in found[names.get(verdict, verdict)]), stretches)
+
+    def test_text(self):
+        found = compare(made(ONE, side), made(OTHER, side))
+        self.assertEqual([found[name] for name in ("version", "unit", "counts")], [1, "picture", [37, 39]])
+        self.assertEqual(list(comparison_text(found, ("x.tbc", "y.tbc"))), [
+            "pictures: 37 in x.tbc, 39 in y.tbc, 36 in both",
+            "in x.tbc alone: 1 (picture 31)", "in y.tbc alone: 3 (pictures 21 to 23)",
+            "better in x.tbc: 2 (pictures 5 to 6)", "better in y.tbc: 3 (pictures 2 to 4)",
+            "alike in both: 31 (picture 1, pictures 7 to 20, pictures 24 to 30, pictures 32 to 40)",
+            "together: pictures 1 to 40, none lost"])
+        found = compare(made("1..40 -21:30", side), made("1..40 -29:34", side))
+        self.assertEqual(found["missing"][0]["why"], "lost")
+        self.assertEqual(list(comparison_text(found, ("x", "y")))[-1], "together: pictures 1 to 40, 1 lost")
+
+    def test_refused(self):
+        for one, other, text in (("1..30", "t0..29", "x has pictures of PAL, y has times of PAL: two discs?"),
+                                 ("NTSC 1..9", "1..9", "x has pictures of NTSC, y has pictures of PAL: two discs?"),
+                                 ("B", "1..9", "x has no numbers to compare"),
+                                 ("1..9", "", "y has no numbers to compare")):
+            self.assertEqual(reason(compare, made(one, side), made(other, side), "xy"), text)
+
+
+class Command(Calls):
+    """side.vbi.json has pictures 0 to 11, a number in each field; other.tbc has 4 to 7 and 10 to 15."""
+
+    def setUp(self):
+        super().setUp()
+        write_stream(self.named("other.tbc"), NTSC, pictures(16)[4:8] + pictures(16)[10:])
+        self.metadata("other.tbc.json")
+
+    def joined(self, words=""):
+        return self.printed("join side.vbi.json other.tbc " + words)
+
+    def test_text_and_tables(self):
+        """Of a picture with one field each has its own stretch."""
+        self.assertEqual(self.joined().decode().split("\n")[:2], [
+            "together: pictures 0 to 15, none lost", "side.vbi.json: has 12, lacks 4 (pictures 12 to 15 in other.tbc)"])
+        rows = self.joined("--csv").decode().split("\n")
+        self.assertEqual([*rows[:2], *rows[12:14], *rows[16:]], [
+            "number,source,field,frame,how", "0,side.vbi.json,1,1,read", "11,side.vbi.json,12,6,read",
+            "12,other.tbc,7,4,read", "15,other.tbc,10,5,read", ""])
+        rows = self.joined("--ranges").decode().split("\n")
+        self.assertEqual([*rows[:2], *rows[16:]], ["first,last,source,first field,last field", "0,0,side.vbi.json,1,1",
+                                                   "15,15,other.tbc,10,10", ""])
+
+    def test_json(self):
+        found = json.loads(self.joined("--json"))
+        self.assertEqual([found["version"], found["system"], found["format"], found["unit"], found["captures"][1],
+                          found["taken"][12], found["ranges"][12]], [
+            1, "NTSC", "cav", "picture",
+            {"name": "other.tbc", "fields": 10, "numbers": {"count": 10, "least": 4, "greatest": 15}},
+            [12, "other.tbc", 7, 4, "read"],
+            {"first": 12, "last": 12, "count": 1, "source": "other.tbc", "field": 7, "lastField": 7}])
+
+    def test_a_page(self):
+        self.assertEqual(self.joined("--html page.html"), b"")
+        page = self.read("page.html")
+        self.assertIn(b"<h1>side.vbi.json, other.tbc</h1>\n<p>together: pictures 0 to 15, none lost</p>", page)
+        self.assertEqual(self.joined("--csv --html page.html"), self.joined("--csv"))
+        self.assertEqual(self.read("page.html"), page)
+
+    def test_refused(self):
+        self.refused(IN_PLACE % "other.tbc", "join side.vbi.json other.tbc --html other.tbc")
+        self.refused(NO_METADATA, "join side.vbi.json side.tbc")

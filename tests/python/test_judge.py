@@ -1,31 +1,33 @@
-"""Judging: the state of each field, what is counted, paces, the forms that readings come in, and refusals."""
+"""Judging fields and whole sides: states, what is counted, paces, the forms that readings come in; verdicts with their
+reasons, gaps and what they come to; and seeking in the bytes of a side. More rows of what the library answers have
+tests/library/judged.txt and whole.txt; that what is sought is found as the judge answers it of the whole side, and how
+many fields are read at most, is proved."""
 
 import ctypes
+import mmap
+import os
 import unittest
 
 import ldvbi
 from cases import InFolder, reason
-from compact import made
+from compact import made, words_of
 from discs import minutes, second, side
-from ldvbi import Counted, Number, Pace, State
-from streams import NTSC, write_stream
-from test_refusals import WIDE
+from ldvbi import Both, Counted, Gap, GapKind, Number, Pace, Reason, State, Verdict
+from simulate import simulated
+from streams import NTSC, PAL, write_fields, write_stream
 
+SEEDS = int(os.environ.get("SEEK_SIDES", "20"))
 NOTHING = Number(None, State.nothing)
 LETTERS = {State.believed: "b", State.doubtful: "d", State.due: "u"}
 MINUTE = "1797b - 1798b - 1799u - 1800b - 1801b - 1802b -"
-# Sides, and the numbers and states of their fields: believed, doubtful, due (u) or nothing (-). More rows of what the
-# library answers has tests/library/judged.txt.
+# Sides, and the numbers and states of their fields: believed, doubtful, due (u) or nothing (-)
 STATES = (
-    ("each state", "1 2 Bx2 4 -/#79999/- B 6 7 2:14/2=B", "1b - 2b - 3u - 4b - 5u - 6b - 7b -"),
-    ("one of pass 2", "1..2 -/#3*/- B", "1d - 2d - 3d -"), ("of pass 1", "1..2 -/#3/- B", "1b - 2b - 3b -"),
-    ("film", "NTSC f1..3", "1b - - 2b - 3b - -", "pictures", "film"),
-    ("as video", "NTSC f1..3", "1d - - 2d - 3d - -", "pictures", Pace.video),
-    ("found", "NTSC f1..3", "1b - - 2b - 3b - -"),
-    ("of PAL there is none", "f1..3", "1d - - 2d - 3d - -", Counted.pictures, Pace.find),
-    ("times", "NTSC t1797..1802 5=B", MINUTE, "times"), ("at a pace", "NTSC t1797..1802 5=B", MINUTE, Counted.times, 1),
-    ("of PAL", "t1497..1502 5=B", "1497b - 1498b - 1499u - 1500b - 1501b - 1502b -", 2, 3),
-    ("as pictures", "t1497..1502", "- - - - - - - - - - - -"))
+    ("1 2 Bx2 4 -/#79999/- B 6 7 2:14/2=B", "1b - 2b - 3u - 4b - 5u - 6b - 7b -"),
+    ("1..2 -/#3*/- B", "1d - 2d - 3d -"), ("NTSC f1..3", "1b - - 2b - 3b - -", "pictures", "film"),
+    ("NTSC f1..3", "1d - - 2d - 3d - -", "pictures", Pace.video), ("NTSC f1..3", "1b - - 2b - 3b - -"),
+    ("f1..3", "1d - - 2d - 3d - -", Counted.pictures, Pace.find), ("NTSC t1797..1802 5=B", MINUTE, "times"),
+    ("NTSC t1797..1802 5=B", MINUTE, Counted.times, 1),
+    ("t1497..1502 5=B", "1497b - 1498b - 1499u - 1500b - 1501b - 1502b -", 2, 3))
 
 
 def judged(text, *words):
@@ -33,22 +35,31 @@ def judged(text, *words):
     return ldvbi.judge(one.readings, one.system, *words)
 
 
-def states(text, *words):
-    return " ".join("-" if one == NOTHING else "%d%s" % (one.number, LETTERS[one.state])
-                    for one in judged(text, *words))
-
-
 class States(unittest.TestCase):
     def test_rows(self):
-        for name, text, wanted, *words in STATES:
-            with self.subTest((name, text)):
-                self.assertEqual(states(text, *words), wanted)
+        for text, wanted, *words in STATES:
+            with self.subTest((text, words)):
+                self.assertEqual(" ".join("-" if one == NOTHING else "%d%s" % (one.number, LETTERS[one.state])
+                                          for one in judged(text, *words)), wanted)
 
     def test_paces(self):
         for text, pace, *words in (("NTSC f1..3", Pace.film), ("NTSC f1..3", Pace.film, "pictures"),
                                    ("NTSC f1..3", Pace.video, Counted.times), ("f1..3", Pace.video, 1)):
             one = made(text, side)
             self.assertIs(ldvbi.find_pace(one.readings, one.system, *words), pace)
+
+    def test_one_field(self):
+        """Each of the first fields, of the 97 that all of them rest on."""
+        numbers = judged("NTSC f1..59 41=B 61=999", "pictures", "film")
+        readings = made("NTSC f1..59 41=B 61=999", side).readings[:97]
+        self.assertEqual([ldvbi.judge_field(readings, field, "NTSC", "pictures", "film") for field in range(49)],
+                         numbers[:49])
+
+    def test_first_of(self):
+        numbers = judged("1..3 -/#79999/- B 5..7 30 3..6")
+        found = {number: ldvbi.first_of(numbers, number) for number in (None, *range(9), 30, 79999)}
+        self.assertEqual(found, {None: None, 0: None, 1: 0, 2: 2, 3: 4, 4: 6, 5: 8, 6: 10, 7: 12, 8: None, 30: None,
+                                 79999: None})
 
 
 class Forms(InFolder):
@@ -78,6 +89,7 @@ class Forms(InFolder):
         for one in ([], (), b"", iter([]), ldvbi.Stream(b"", *NTSC)):
             self.assertEqual([ldvbi.judge(one, "NTSC"), ldvbi.judge_chapters(one), ldvbi.judge_stops(one)], [[]] * 3)
             self.assertIs(ldvbi.find_pace(one, "NTSC"), Pace.video)
+            self.assertIsNone(ldvbi.first_of(ldvbi.judge(one, "NTSC"), 5))
 
 
 BLANK = (1, 0, 0, 0)
@@ -136,26 +148,7 @@ class Completed(InFolder):
 
 
 class Refusals(unittest.TestCase):
-    def test_rows(self):
-        system, counted = "system is neither NTSC nor PAL", "neither pictures nor times are counted"
-        pace = "pace is neither that of video nor of film, nor to be found"
-        asked = [
-            (("SECAM",), system), ((None,), system), ((3, 9, 9), system), (("PAL", "chapters"), counted),
-            (("PAL", None), counted), (("PAL", 0), counted), (("PAL", 3, 9), counted), (("PAL", 1.0), counted),
-            (("PAL", "times", "slow"), pace), (("PAL", 1, 0), pace), (("PAL", 2, 4), pace), (("PAL", 2, None), pace),
-        ]
-        for wide in WIDE + (257, 258, 259):
-            asked += [(("PAL", wide), counted), (("PAL", 1, wide), pace)]
-        for words, text in asked:
-            with self.subTest(words):
-                for readings in ([], [5]):  # what is asked for is looked at first
-                    self.assertEqual(reason(ldvbi.judge, readings, *words), text)
-                    if text != pace:
-                        self.assertEqual(reason(ldvbi.find_pace, readings, *words[:2]), text)
-                    if text == system:
-                        self.assertEqual(reason(ldvbi.complete_times, readings, words[0]), text)
-
-    def test_readings(self):
+    def test_refused(self):
         line = (0, 0, 0, 0)
         for readings, text in ((None, "readings are none of fields, but of the type NoneType"),
                                (5, "readings are none of fields, but of the type int"),
@@ -165,37 +158,142 @@ class Refusals(unittest.TestCase):
                                ([[line, line, (0, 0, 0, 2 ** 32)]], "readings[0] is not three readings"),
                                ("ab", "readings[0] is not three readings")):
             for call, *words in ((ldvbi.judge, "PAL"), (ldvbi.find_pace, "PAL"), (ldvbi.complete_times, "PAL"),
-                                 (ldvbi.judge_chapters,), (ldvbi.judge_stops,)):
+                                 (ldvbi.judge_chapters,), (ldvbi.judge_stops,), (ldvbi.judge_side, "PAL")):
                 self.assertEqual(reason(call, readings, *words), text)
 
 
-class Parts(unittest.TestCase):
-    def test_each_field_from_its_part(self):
-        """As `judge` answers of the whole side: film, with a field that shows nothing, a misread number, a due one."""
-        readings = made("NTSC f1..59 41=B 61=999", side).readings
-        for pace in (Pace.video, Pace.film):
-            whole = ldvbi.judge(readings, "NTSC", pace=pace)
-            for field, number in enumerate(whole):
-                first = max(field - 48, 0)
-                self.assertEqual(ldvbi.judge_field(readings[first:field + 49], field - first, "NTSC", "pictures", pace),
-                                 number, (pace, field))
-        self.assertEqual({one.state for one in whole}, set(State))
-
-    def test_refusals(self):
-        readings = made("0..59", side).readings
-        for count, field, words, text in (
-                (98, 0, (), "field 0 of 98, which may be 97 at most"),
-                (5, 5, (), "field 5 of 5, which may be 97 at most"),
-                (5, -1, (), "field -1 of 5, which may be 97 at most"),
-                (5, 0, ("pictures", "find"), "pace is neither that of video nor of film, nor to be found"),
-                (5, 0, ("chapters",), "neither pictures nor times are counted")):
-            self.assertEqual(reason(ldvbi.judge_field, readings[:count], field, "PAL", *words), text)
+# Sides that are judged by all defaults, their verdicts and reasons, and their gaps: the kind, the fields around it, the
+# numbers there, by how many fields, and how many numbers between are shown there
+SIDES = (
+    ("L 1..30 21=? O", "whole"), ("L 1..30", "cannot_tell end_unseen"),
+    ("1..15 B 16..30 O", "not_whole is_held is_off", "held 28-31 15-16 1 0"),
+    ("1..30 8..30 O", "not_whole goes_back is_off", "back 58-60 30-8 0 0"),
+    ("1..30 O L 1..30 O", "not_whole is_joined is_off", "joined 58-62 30-1 0 0"),
+    ("1..30 21:22=B 23=-/#11/#11 +23=-/#11/#11 +24=B 21=-/#11/#11 O", "whole", "still 20-22 11-11 2 0"),
+    ("L 5..30 O", "not_whole begins_late"), ("L Bx102 40..60 O", "cannot_tell begin_unseen"),
+    ("1..30 ~21 O", "not_whole is_swapped"), ("L Bx9 O", "cannot_tell no_numbers"),
+    ("1..20 2:6/2=-/#777/#777 O", "cannot_tell many_doubtful"),
+    ("1..30 -/#70/#70 B -/#80/#80 B 200..230 O", "not_whole is_lost is_off", "lost 58-64 30-200 334 2"))
+TIMES = (("NTSC t1..60!30 O", "cannot_tell is_open", "open 56-58 29-31 2 0"),
+         ("1..30 O", "cannot_tell no_numbers"))
 
 
-class First(unittest.TestCase):
-    def test_first_of(self):
-        self.assertIsNone(ldvbi.first_of([], 5))
-        numbers = judged("1..3 -/#79999/- B 5..7 30 3..6")
-        found = {number: ldvbi.first_of(numbers, number) for number in (None, *range(9), 30, 79999)}
-        self.assertEqual(found, {None: None, 0: None, 1: 0, 2: 2, 3: 4, 4: 6, 5: 8, 6: 10, 7: 12, 8: None, 30: None,
-                                 79999: None})
+def judged_side(text, *words, **more):
+    one = made(text, side)
+    return ldvbi.judge_side(one.readings, one.system, *words, **more)
+
+
+class Sides(unittest.TestCase):
+    def test_rows(self):
+        for counted, rows in (("pictures", SIDES), ("times", TIMES)):
+            for text, wanted, *gaps in rows:
+                with self.subTest((counted, text)):
+                    found = judged_side(text, counted)
+                    self.assertEqual([found.verdict.name, *(one.name for one in Reason if one in found.reasons)],
+                                     wanted.split())
+                    self.assertEqual(["%s %d-%d %d-%d %d %d" % (gap.kind.name, gap.after, gap.before, gap.from_, gap.to,
+                                                                gap.fields, gap.shown) for gap in found.gaps], gaps)
+                    self.assertEqual(found.tally.gaps, len(gaps))
+
+    def test_what_stands_beside(self):
+        found = judged_side("L 1..30!15 22=? O")
+        self.assertEqual((found.first, found.last, found.swap, found.pace, found.on_both),
+                         (1, 57, None, Pace.video, False))
+        self.assertEqual(found.tally._asdict(), dict.fromkeys(found.tally._fields, 0) | {
+            "gaps": 1, "lost": 2, "lost_numbers": 1, "unread": 1})
+        self.assertEqual(found.gaps, (Gap(27, 29, 2, 0, 14, 16, GapKind.lost),))
+        self.assertEqual(found.numbers, judged("L 1..30!15 22=? O"))
+        self.assertEqual(found.numbers[21], (11, State.due))
+        found = judged_side("Bx9")
+        self.assertEqual((found.first, found.last, found.swap, found.gaps), (None, None, None, ()))
+        # the field that shows picture 11, which belongs into the one before
+        self.assertEqual(judged_side("1..30 ~21 O").swap, 21)
+
+    def test_what_is_asked(self):
+        self.assertIs(judged_side("1..30", may_end=True).verdict, Verdict.whole)
+        for both, is_so in ((Both.find, True), ("on_both", True), (1, True), ("on_one", False), (Both.on_one, False)):
+            found = judged_side("b1..30 O", both=both)
+            self.assertEqual((found.on_both, found.verdict is Verdict.whole), (is_so, is_so), both)
+        for pace, wanted in (("film", Pace.film), (Pace.video, Pace.video), (3, Pace.film)):
+            self.assertIs(judged_side("NTSC f1..30", "pictures", pace).pace, wanted)
+
+    def test_many_gaps(self):
+        """All of them, also where there are more than a first call has room for: pictures 4, 14, .. are lost."""
+        found = judged_side("1..1000!4%10 O")
+        self.assertEqual([(gap.from_, gap.to, gap.fields) for gap in found.gaps],
+                         [(number - 1, number + 1, 2) for number in range(4, 1000, 10)])
+        self.assertEqual((found.tally.gaps, found.tally.lost), (100, 200))
+
+    def test_ends(self):
+        """One line in pass 1, or two lines, on lines 17 and 18."""
+        states = ldvbi.judge_ends(made("L O -/88FFFF/- -/-/80EEEE* -/88FFFF*/80EEEE* 88FFFF/-/- 1", side).readings)
+        self.assertEqual([state.name for state in states], [
+            "lead_in", "lead_out", "lead_in", "doubtful", "doubtful", "none", "none", "none"])
+
+
+def side_of(fields, setup=PAL, rest=0):
+    """A side of these fields, or of those of a text, in memory. No pages are touched but those of drawn lines."""
+    fields = words_of(fields) if isinstance(fields, str) else fields
+    length = len(fields) * ldvbi.field_bytes(setup[0]) + rest
+    memory = mmap.mmap(-1, max(length, 1))
+    write_fields(memory, setup, fields)
+    return ldvbi.Stream(memoryview(memory)[:length], *setup)
+
+
+VIDEO, FILM = (State.believed, Pace.video), (State.believed, Pace.film)
+MISREAD = "1..299 299=-/#79999/#7"  # picture 150
+BOTH = "1..299 299=-/#79999/#79999"
+DARK = "1..399 381:440=B"  # pictures 191 to 220
+# Numbers that are sought in the bytes of a side, and the answer: the field, counted from 0, the state, and the pace
+SOUGHT = (
+    ("f100..299", NTSC, (206,), (265, *FILM)), ("f100..299", NTSC, (206, "pictures", "film"), (265, *FILM)),
+    ("t3000..3399", PAL, (3111, "times"), (222, *VIDEO)), (MISREAD, PAL, (150,), (298, State.due, Pace.video)),
+    (MISREAD, PAL, (200,), (398, *VIDEO)), (MISREAD, PAL, (79999,), None), (BOTH, PAL, (150,), None),
+    *((BOTH, PAL, (number,), (2 * number - 2, *VIDEO)) for number in (20, 149, 151, 280)),
+    ("1..199 200x60 201..399", PAL, (200,), (398, *VIDEO)),  # a still begins
+    *((DARK, PAL, (number,), (2 * number - 2, *VIDEO)) for number in (150, 190, 222, 300, 399)),
+    (DARK, PAL, (205,), None), ("", PAL, (5,), None), ("5", PAL, (5,), None), ("5..6", PAL, (5,), None),
+    ("5..7", PAL, (6,), (2, *VIDEO)))
+
+
+class Seeking(unittest.TestCase):
+    def test_rows(self):
+        for text, setup, asked, wanted in SOUGHT:
+            found = ldvbi.seek(side_of(text, setup), *asked)
+            with self.subTest((text, asked)):
+                self.assertEqual(found and (found.field, found.number.state, found.pace), wanted)
+
+    def test_a_side_that_runs_on(self):
+        side = side_of("Lx30 1..399 Ox300")
+        for number in (1, 2, 3, 30, 199, 200, 398, 399):
+            self.assertEqual(ldvbi.seek(side, number)[:3],
+                             (28 + 2 * number, Number(number, State.believed), Pace.video))
+        for number in (0, 400, 79999, 2 ** 32 - 1):
+            self.assertIsNone(ldvbi.seek(side, number))
+
+    def test_few_fields_are_read(self):
+        side = side_of("1..4000")
+        self.assertLessEqual(max(ldvbi.seek(side, number).looked for number in range(1, 4001, 97)), 200)
+
+    def test_a_cut_side_and_a_closed_one(self):
+        side = side_of("5..7", rest=700000)
+        self.assertEqual(ldvbi.seek(side, 7)[0], 4)
+        side.close()
+        self.assertEqual(reason(ldvbi.seek, side, 7), "the stream is closed")
+
+
+class BesideTheJudge(unittest.TestCase):
+    def test_most_numbers_of_simulated_sides_are_found(self):
+        found, known = 0, 0
+        for seed in range(SEEDS):
+            side = simulated(seed, count=250)
+            setup = NTSC if side.document["videoParameters"]["system"] == "NTSC" else PAL
+            stream = side_of([field["vbi"]["vbiData"] for field in side.document["fields"]], setup)
+            counted = "times" if side.layout.startswith("clv") else "pictures"
+            answers = ldvbi.judge(stream, setup[0], counted)
+            for number in {number for number in side.numbers[::37] if number is not None}:
+                place = ldvbi.seek(stream, number, counted)
+                found += place is not None
+                known += place is not None or ldvbi.first_of(answers, number) is not None
+        self.assertGreater(known, 20)
+        self.assertGreaterEqual(found, 0.97 * known)

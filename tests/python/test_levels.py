@@ -5,6 +5,7 @@ import struct
 
 import ldvbi
 from cases import InFolder
+from ldvbi import draw_line as steep
 from ldvbi_side.levels import options_of
 from ldvbi_side.side import side_of_tbc
 from streams import NTSC, PAL, pictures, write_stream
@@ -16,13 +17,9 @@ def at_share(setup, share):
     return system, black, black + (white - black) * share // 100
 
 
-def steep(word, setup):
-    return ldvbi.draw_line(word, *setup)
-
-
-def soft(word, setup, width=7):
+def soft(word, *setup, width=7):
     """A line each of whose samples is the mean of so many: its changes of level take that long, as on a worn disc."""
-    line = steep(word, setup)
+    line = steep(word, *setup)
     samples = struct.unpack("<%dH" % (len(line) // 2), line)
     padded = samples[:1] * (width // 2) + samples + samples[-1:] * (width // 2)
     return struct.pack("<%dH" % len(samples), *(
@@ -39,7 +36,7 @@ class Levels(InFolder):
         return side.answer["levels"]
 
     def draw(self, setup, line_of=steep):
-        write_stream(self.path, setup, [[line_of(word, setup) for word in field] for field in pictures(60)])
+        write_stream(self.path, setup, [[line_of(word, *setup) for word in field] for field in pictures(60)])
 
     def best(self, setup):
         """What is said of the side that was drawn: how many of its lines are read, of how many, and by which options
@@ -63,9 +60,9 @@ class Levels(InFolder):
                 (NTSC, ("NTSC", 23347, 51200), steep, None),
                 (NTSC, ("NTSC", 51000, 55000), steep, [0, 120, "--black 16000", 120]),
                 (("NTSC", 2000, 9000), ("NTSC", 40000, 50000), steep, [0, 120, "--black 2000 --white 9000", 120]),
-                (NTSC, NTSC, lambda word, setup: steep(0, setup), none),
-                (NTSC, NTSC, lambda word, setup: rng.getrandbits(8 * 1820).to_bytes(1820, "little"), none),
-                (NTSC, NTSC, lambda word, setup: b"\x00\x80" * 910, none)):
+                (NTSC, NTSC, lambda word, *setup: steep(0, *setup), none),
+                (NTSC, NTSC, lambda *_: rng.getrandbits(8 * 1820).to_bytes(1820, "little"), none),
+                (NTSC, NTSC, lambda *_: b"\x00\x80" * 910, none)):
             with self.subTest((drawn, setup, wanted)):
                 self.draw(drawn, line_of)
                 self.assertEqual(self.best(setup) if wanted else self.levels(setup), wanted)

@@ -1,18 +1,29 @@
-"""Each fault in its whole message: one line that names the file, and says what is wrong with it or was looked for."""
+"""Each fault in its whole message: one line that names the file, and says what is wrong with it or was looked for; and
+the command lines that are refused."""
 
 import gzip
 import os
 import unittest
 
-from calls import Calls
 from cases import reason
-from command_runs import NO_METADATA
+from command_runs import NO_METADATA, Calls
 from ldvbi_side.command.faults import naming
 
 SETTINGS = "give --meta, or --system, --black and --white"
 HALF = "--system NTSC --black 16384"
 NOT_JSON = "not JSON: line 1 is wrong from column 1 on"
 ABSENT = "absent/out: No such file or directory"
+# Command lines that are refused, by how they begin
+USAGE = {
+    "side.tbc LEVELS": (
+        "--document --csv", "--document --json", "--document --summary", "--document --bad-lines", "--csv --seek 1",
+        "--seek x", "--seek -1", "--system SECAM", "--black 1.0", "--recovered", "--recovered --json",
+        "--recovered --document --no-recover"),
+    "compare side.vbi.json": ("",), "join side.vbi.json": ("", "side.vbi.json --csv --ranges"),
+    "scan": ("", "-j 0 side.tbc", "-j x side.tbc", "--csv --json side.tbc", "--again side.tbc")}
+# Those in which a name is empty
+UNNAMED = ("side.vbi.json --html", "side.vbi.json --svg", "side.vbi.json -o", "side.vbi.json --map", "side.tbc --into",
+           "side.tbc --meta", "scan side.vbi.json --html", "join side.vbi.json side.vbi.json --html")
 
 
 class Messages(Calls):
@@ -26,6 +37,14 @@ class Messages(Calls):
             self.write(name, data)
             with self.subTest(data[:20]):
                 self.refused(name + text, words)
+
+    def test_usage(self):
+        rows = [("%s %s" % (begin, words), "error: ") for begin, several in USAGE.items() for words in several]
+        for words, end in rows + [(words + " ''", "error: a (file|folder) has to have a name\n$") for words in UNNAMED]:
+            with self.subTest(words):
+                status, text, said = self.run_command(words)
+                self.assertEqual((status, text, said[:17]), (2, b"", "usage: ldvbi-side"))
+                self.assertRegex(said, end)
 
     def test_sides(self):
         os.mkdir(self.named("my sides"))

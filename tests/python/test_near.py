@@ -1,106 +1,48 @@
-"""The nearest word and recovered words of drawn lines, whose distances are counted on paper; and due numbers that are
-the nearest words of their lines: they count as read."""
+"""The nearest word of lines, and the word that piles say, as the library answers them, of which tests/library has more
+rows (lines.py, nearest.py, pile.py); due numbers that are the nearest words of their lines, and count as read; and what
+the command reads of noisy and worn sides."""
 
+import json
+import random
+import struct
 import unittest
 
 import ldvbi
-from cases import InFolder, reason
+from cases import InFolder
+from command_runs import LEVELS, Calls
 from compact import check, made, of_member
 from discs import plain, second
 from ldvbi_side.command.map import map_rows
 from ldvbi_side.answer.analysis import analyse
 from ldvbi_side.seek import seek, wanted_of
 from ldvbi_side.side import side_of_tbc
+from simulated_discs import disc, picture
 from streams import NTSC, PAL, line_with, worn_line, write_stream
 
-# Of each setup the columns in which words that differ in one bit differ, the columns of the first half cell, those of a
-# word that are high at least, and the column from which on words are drawn
-SIZES = ((NTSC, 28, 14, 24 * 14, 150), (PAL, 35, 17, 12 * 17 + 12 * 18, 190))
 
+class Lines(unittest.TestCase):
+    def test_the_nearest_word(self):
+        """A row of another word differs in 28 columns of each line, one with a cell more in 14 of each. Of blank lines
+        the row of none is nearest, and then one of a word, of which 336 columns are high at least."""
+        column = NTSC[2] - NTSC[1]
+        near = ldvbi.nearest(2 * line_with(0xF12345, NTSC, [(0, 0, True)]), *NTSC)
+        self.assertIsInstance(near, ldvbi.Near)
+        self.assertEqual(near, (0xF12345, 150, 2 * column, 58 * column, 30 * column))
+        self.assertEqual(ldvbi.nearest(2 * line_with(0, NTSC), *NTSC), (None, 0, 0, 672 * column, 0))
 
-class Nearest(unittest.TestCase):
-    def test_drawn_lines(self):
-        """A row of another word differs in a cell of each line, one with a cell more in a half cell of each. Of blank
-        lines the row of none is nearest, and then one of the words that are high least. More rows has
-        tests/library/lines.py."""
-        for setup, cell, half, fewest, start in SIZES:
-            column = setup[2] - setup[1]
-            near = ldvbi.nearest(2 * line_with(0xF12345, setup, [(0, 0, True)]), *setup)
-            self.assertIsInstance(near, ldvbi.Near)
-            self.assertEqual(near, (0xF12345, start, 2 * column, (2 * cell + 2) * column, (2 * half + 2) * column))
-            self.assertEqual(ldvbi.nearest(2 * line_with(0, setup), *setup), (None, 0, 0, 2 * fewest * column, 0))
-
-
-# Of piles the word, the number of its lines, the columns of cell 9 (of 29) that are turned over in each, whether
-# dropouts are known, and whether the word is said. With 12 another one is farther by 5, with 13 by 3, with 14 by 1.
-PILES = ((0xF00005, 17, (12, 14), True, True), (0xF00005, 18, (12, 14), True, True),
-         (0xF00005, 17, (12, 14), False, False), (0xF00005, 17, (12, ), True, False),
-         (0xF00005, 17, (12, 13), False, False), (0xF00005, 17, (12, 12), False, True),
-         # a word that is no code, or that of another line
-         (0xA12345, 17, (12, 13), True, False), (0xA12345, 17, (12, 12), True, True),
-         (0xF00005, 16, (12, 13), True, False), (0xF00005, 16, (12, 12), True, True),
-         (0xF00005, 17, (13, ) * 28, False, True))
-
-
-class Piles(unittest.TestCase):
-    def test_margins(self):
-        for word, line, turned, is_known, is_said in PILES:
-            lines = b"".join(worn_line(word, NTSC, 9, columns) for columns in turned)
-            found = ldvbi.recover_pile(lines, *NTSC, line, () if is_known else None)
-            self.assertEqual(found, word if is_said else None, (hex(word), line, turned))
-
-    def test_dropouts(self):
-        """Two lines differ in cell 9: without the columns of the one the other says what it is."""
+    def test_what_piles_say(self):
+        """Of the 29 columns of cell 9 so many are turned over in each line: with 12 another word is farther by 5, with
+        13 by 3, with 14 by 1. Dropouts may be known, also where there are none."""
+        for line, turned, dropouts, word in ((17, (12, 14), (), 0xF00005), (17, (12, 14), None, None),
+                                             (17, (12, 12), None, 0xF00005), (16, (12, 13), (), None)):
+            lines = b"".join(worn_line(0xF00005, NTSC, 9, columns) for columns in turned)
+            self.assertEqual(ldvbi.recover_pile(lines, *NTSC, line, dropouts), word, (line, turned, dropouts))
+        # two lines differ in cell 9: without the columns of the one the other says what it is
         for setup, cell in ((NTSC, (407, 436)), (PAL, (509, 545))):
             lines = line_with(0xF04005, setup) + line_with(0xF00005, setup)
             for dropouts, word in (((), None), ([(0, *cell)], 0xF00005), ([(1, *cell)], 0xF04005),
                                    ([(1, 0, 9), (0, *cell), (1, 2000, 2 ** 40)], 0xF00005)):
                 self.assertEqual(ldvbi.recover_pile(lines, *setup, 17, dropouts), word, (setup, dropouts))
-        self.assertIsNone(ldvbi.recover_pile(2 * line_with(0, NTSC), *NTSC, 17))
-
-
-# Fields, of whose worn lines each has its word, the cell in which columns are turned over, and how many: of PAL 3 more.
-# With 11 a word is ahead by 6 or 7, as a code of its line has to be of another, which that with this bit turned is.
-# With 13 it is ahead by 2 or 3, but lines 17 and 18 together by 30 and more: each has the other's worn cell.
-FIELDS = ([(0x85D0A1, 5, 11), 0xF12345, 0], [0, (0xF12345, 9, 13), (0xF12345, 13, 13)], [0, 0, (0xF54321, 13, 11)])
-
-
-class Recovered(InFolder):
-    @staticmethod
-    def drawn(setup):
-        return [[worn_line(line[0], setup, line[1], line[2] + 3 * (setup == PAL)) if isinstance(line, tuple)
-                 else line_with(line, setup) for line in field] for field in FIELDS]
-
-    def readings(self, setup, *words):
-        """The fields as each call reads them."""
-        size, line = ldvbi.field_bytes(setup[0]), ldvbi.line_bytes(setup[0])
-        data = [self.read("side.tbc")[size * place:size * (place + 1)] for place in range(3)]
-        with ldvbi.Stream(self.path, *setup, *words) as side:
-            self.assertEqual(side.cut_bytes, 1000)
-            yield list(side)
-            yield [side[0], side[1], side[-1]]
-        yield list(ldvbi.fields(self.path, *setup, **dict(zip(["recover"], words))))
-        yield [ldvbi.read_field(one, *setup, *words) for one in data]
-        yield [ldvbi.read_rows(one[15 * line:18 * line], *setup, *words) for one in data]
-
-    def test_each_call(self):
-        for setup in (NTSC, PAL):
-            write_stream(self.path, setup, self.drawn(setup), 1000)
-            for words in ((), (False,), (True,)):
-                recovered = (lambda word: (word, 3)) if words == (True,) else lambda word: (0, 0)
-                wanted = [recovered(line[0]) if isinstance(line, tuple) else (line, int(line > 0))
-                          for field in FIELDS for line in field]
-                for found in self.readings(setup, *words):
-                    self.assertEqual([(line.word, line.pass_) for field in found for line in field], wanted, words)
-
-    def test_the_samples_of_rows(self):
-        drawn = self.drawn(PAL)
-        write_stream(self.path, PAL, drawn)
-        with ldvbi.Stream(self.path, *PAL) as side:
-            self.assertEqual([side.rows(index) for index in (0, 1, 2, -1)], [*map(b"".join, drawn), b"".join(drawn[2])])
-            for index in (3, -4):
-                self.assertIsNotNone(reason(side.rows, index, kind=IndexError))
-        self.assertEqual(reason(side.rows, 0), "the stream is closed")
 
 
 DUE = "1..20 9=?"  # picture 5, in field 9
@@ -152,18 +94,71 @@ class Confirmed(InFolder):
 
     def test_samples(self):
         """Of 20 pictures picture 5 has this line alone, which shows no word. It is ahead by 2 or 3 columns, which are
-        too few to recover it where no number is due; half of the 28 columns of a cell are turned over, so that the word
-        with the other bit is as near; or with one more cell behind the word the row is nearer by 14 columns."""
-        for setup, line, is_nearest in ((NTSC, worn_line(0xF00005, NTSC, 9, 13), True),
-                                        (PAL, worn_line(0xF00005, PAL, 9, 16), True),
-                                        (NTSC, worn_line(0xF00005, NTSC, 5, 14), False),
-                                        (NTSC, line_with(0xF00005, NTSC, [(150 + 687, 150 + 700, True)]), False)):
-            fields = [field for number in range(1, 21)
-                      for field in ([0, 0xF00000 + int(str(number), 16), 0], [0, 0x800DDD, 0x800DDD])]
-            fields[8] = [0, line, 0]
+        too few to recover it where no number is due."""
+        for setup, columns in ((NTSC, 13), (PAL, 16)):
+            fields = [field for number in range(1, 21) for field in ([0, picture(number), 0], [0, 0x800DDD, 0x800DDD])]
+            fields[8] = [0, worn_line(0xF00005, setup, 9, columns), 0]
             write_stream(self.path, setup, fields)
             for recover in (True, False):
                 one = side_of_tbc(self.path, ldvbi.System[setup[0]], *setup[1:], recover=recover)
                 one.may_end = True
                 self.assertEqual(one.readings[8].second.word, 0)
-                self.check(one.answer, is_nearest and recover)
+                self.check(one.answer, recover)
+
+
+SETUPS = {"cav-ntsc": NTSC, "cav-pal": PAL, "cav-film": NTSC, "clv-pal": PAL}
+PICTURES = 24
+
+
+def noisy(rng, word, setup, noise):
+    """A drawn line, to each sample of which noise is added, that has this share of white - black as its deviation."""
+    line = ldvbi.draw_line(word, *setup)
+    _, black, white = setup
+    deviation = noise * (white - black)
+    samples = [min(max(round(rng.gauss(sample, deviation)), 0), 65535)
+               for sample in struct.unpack("<%dH" % (len(line) // 2), line)]
+    return struct.pack("<%dH" % len(samples), *samples)
+
+
+class Noise(Calls):
+    def test_each_number_stands_in_its_field(self):
+        """Discs of a kind, of which each line has noise. With that of half of the way from black to white all is read,
+        and all of it by recovered words. With nearly as much as from black to white many words aren't recovered, but
+        the numbers around leave no other than the nearest one."""
+        for kind, noise in (*((kind, 0.5) for kind in SETUPS), ("cav-ntsc", 0.95), ("cav-film", 0.95)):
+            rng, setup = random.Random(kind), SETUPS[kind]
+            rows = disc(rng, kind, PICTURES)
+            write_stream(self.named("side.tbc"), setup, [
+                [noisy(rng, word, setup, noise) if word else 0 for word in words] for _, words, _ in rows])
+            words = "side.tbc --system %s --black %d --white %d --json" % setup
+            found = json.loads(self.printed(words))
+            shown = {field: number for number, field, _ in found["showings"]}
+            wanted = {field: number for field, (number, *_) in enumerate(rows, 1) if number is not None}
+            with self.subTest((kind, noise)):
+                if kind.startswith("cav"):
+                    self.assertEqual(shown, wanted)
+                self.assertEqual((list(shown), found["missing"], found["unread"], found["doubtful"]),
+                                 (list(wanted), [], [], []))
+                if noise == 0.5:
+                    self.assertEqual(json.loads(self.printed(words + " --no-recover"))["showings"], [])
+                else:
+                    self.assertGreater(len(found["confirmed"]), 1)
+
+
+class Documents(Calls):
+    """Of a side with worn lines, whose metadata has no dropouts."""
+
+    def test_with_recovered_words(self):
+        """Line 17 of field 1 is worn: its word is 11 columns off, and any other one 29 - 11. Line 18 of field 3 is 13
+        columns off, which is too much. The document says what the stream does."""
+        write_stream(self.named("side.tbc"), NTSC, [[0, worn_line(0xF12345, NTSC, 9, 11), 0], [0x82CFFF, 0, 0xF00002],
+                                                   [0, 0, worn_line(0xF54321, NTSC, 9, 13)]], 7)
+        self.metadata("side.tbc.json")
+        wanted = self.extracted("side.tbc", [*LEVELS, "--recover"])
+        self.assertEqual(wanted.count(b'"word":'), 1)
+        said = "ldvbi-side: side.tbc: the last field is cut: field 4 has 7 of 478660 bytes\n"
+        for words in ("side.tbc LEVELS", "side.tbc", "side.tbc --svg side.svg"):
+            self.assertEqual(self.run_command(words + " --document --recovered"), (3, wanted, said))
+        self.write("again.json", wanted)
+        found = [json.loads(self.run_command(name + " --json")[1]) for name in ("side.tbc", "again.json")]
+        self.assertEqual(*found)

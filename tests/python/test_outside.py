@@ -91,8 +91,8 @@ class Pages(InFolder):
         content = json.dumps(said).replace("&", "&amp;").replace('"', "&quot;")
         return self.write("page.html", "<title>side</title>%s<body>" % META % content)
 
-    def refused(self, page):
-        self.assertEqual(reason(index_of, self.named("index.html"), [page]), page + " is no page that --html wrote")
+    def refused(self, page, why="no page that --html wrote"):
+        self.assertEqual(reason(index_of, self.named("index.html"), [page]), "%s is %s" % (page, why))
 
     def test_what_pages_of_others_say(self):
         """However long their head is, of which a part is read at once."""
@@ -108,9 +108,13 @@ class Pages(InFolder):
 
     def test_what_is_no_page(self):
         for text in ("", "<", "<![", "<![if x", "<![[foo]]><body>", "<!doctype [<!", "<" * 100000, "\0" * 100000,
-                     META % ("[" * 100000), META % "{&quot;version&quot;:NaN}", META % ("1" * 5000)):
+                     META % ("[" * 100000), META % "{&quot;version&quot;:NaN}", META % ("1" * 5000), META % "[]",
+                     META % "{&quot;version&quot;: 3}", '<meta name="ldvbi-side">', "<meta name=x>",
+                     b"<title>\xff\xfe</title>"):
             with self.subTest(text[:30]):
                 self.refused(self.write("page.html", text))
+        for known in ("{}", "{&quot;version&quot;: 1}"):
+            self.refused(self.write("page.html", META % known), "a page of another version: write it again")
         self.refused("/dev/zero")
 
     def test_names(self):

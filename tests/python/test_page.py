@@ -7,8 +7,8 @@ import unittest
 import xml.etree.ElementTree as xml
 from unittest import mock
 
-from calls import Calls
-from cases import InFolder, reason
+from cases import InFolder
+from command_runs import Calls
 from compact import rows
 from discs import side
 from ldvbi_side.command.summary import summary
@@ -169,10 +169,3 @@ class Indexes(InFolder):
              "4 fields lost; 2 pictures lost; begins at 7, ends at 14"],
             ["can't tell", "0", "none", "none", "no picture number and no time"],
             ["yes", "6", "3, 1 to 3", "none", ""]])
-        known, none = '<meta name="ldvbi-side" content="%s">', "no page that --html wrote"
-        other = "a page of another version: write it again"
-        for text, why in ((known % "{}", other), (known % "{&quot;version&quot;: 1}", other), (known % "[]", none),
-                          (known % "{&quot;version&quot;: 3}", none), ('<meta name="ldvbi-side">', none),
-                          ("<meta name=x>", none), (b"<title>\xff\xfe</title>", none)):
-            self.assertEqual(reason(index_of, "index.html", [self.write("other.html", text)]),
-                             "%s is %s" % (self.named("other.html"), why))

@@ -1,31 +1,25 @@
 """Numbers that none of several captures reads, and that their lines say as one pile: worn lines, whose distances are
-counted on paper, and noisy ones."""
+counted on paper."""
 
 import itertools
-import random
 import struct
 
 import ldvbi
-from calls import Calls
 from cases import InFolder
+from command_runs import Calls
 from discs import times
 from ldvbi.readings import Levels
 from ldvbi_side.join.captures import capture_of
 from ldvbi_side.join.joined import join
 from ldvbi_side.join.piles import _levelled
 from ldvbi_side.side import side_of_tbc
+from simulated_discs import picture
 from streams import NTSC, PAL, worn_line, write_stream
-from test_worn import noisy
 
 # Of each system more than half of the columns of a cell, of which the word with this bit turned is nearer, by a column
 # or two: too few to say it
 HALF = {"NTSC": 15, "PAL": 18}
 PICTURES = range(1, 21)
-NOISY = (3, 5, 7, 9, 11, 13, 15, 17, 19)
-
-
-def picture(number):
-    return 0xF00000 + int(str(number), 16)
 
 
 def worn(word, setup, *cells):
@@ -160,15 +154,6 @@ class Worn(Captures):
 
 
 class Dropouts(Captures):
-    def test_at_the_same_place_in_all(self):
-        """Cell 9 is that of another word in all captures: without its columns neither is nearer. With them another
-        number is said, which isn't due."""
-        def captures(dropouts):
-            return [self.capture(str(cell), NTSC, {5: [worn(0xF04005, NTSC, (cell, 15)), 0]}, dropouts)
-                    for cell in (5, 6, 7)]
-        self.assertEqual(self.how(*captures([(8, 17, 407, 436)])), {5: "neighbours"})
-        self.assertEqual(self.how(*captures(None)), {5: "neighbours"})
-
     def test_their_columns_count_for_nothing(self):
         """In cell 9 another word is nearer by a column in each capture. Without three that are wrong it is farther by
         two, and by six in three captures."""
@@ -195,21 +180,6 @@ class OtherLevels(Captures):
             ones = [self.capture(str(cell), setup, {5: [half_worn(5, setup, cell), 0]})
                     for cell, setup in enumerate(some, 5)]
             self.assertEqual(self.how(*ones), {5: "together"}, some)
-
-
-class Noise(Captures):
-    def test_noise_of_more_than_twice_the_way_from_black_to_white(self):
-        """No more than two of these nine numbers are found in any capture, and most in all together: each where it
-        is."""
-        rng = random.Random(1)
-        ones = [self.capture(str(place), NTSC, {
-            number: [noisy(rng, picture(number), NTSC, 2.2) for _ in (17, 18)] for number in NOISY})
-            for place in range(4)]
-        found = join(ones)
-        self.assertEqual([row[0] for row in found["taken"]], list(PICTURES))
-        self.assertEqual([row[2] for row in found["taken"]], [2 * number - 1 for number in PICTURES])
-        self.assertLessEqual(max(sum(place.how == "near" for place in one.places) for one in ones), 2)
-        self.assertGreater(list(self.how(*ones).values()).count("together"), len(NOISY) // 2)
 
 
 class Command(Calls, Captures):

@@ -1,16 +1,15 @@
-"""The command: documents of TBC files, metadata beside them, two captures; and the files that it
-writes, never in the place of an input."""
+"""The command: metadata beside TBC files, two captures, tables; and the files that it writes, never in the place of an
+input."""
 
 import json
 import os
+import re
 
-from calls import Calls
-from command_runs import IN_PLACE
+from command_runs import IN_PLACE, Calls
 from compact import words_of
-from streams import NTSC, PAL, pictures, write_stream
+from streams import NTSC, PROGRAM, TOP, line_with, pictures, write_stream
 
-NO_LIBRARY = "ldvbi-side: no library to read and judge with (/absent: cannot open shared object file: No such file " \
-             "or directory): `make lib` or `make rust` builds it, LDVBI_LIBRARY names its file\n"
+ANOTHER = "another system, or another file's metadata?"
 
 
 class WithoutLibrary(Calls):
@@ -19,61 +18,44 @@ class WithoutLibrary(Calls):
         absent = dict(os.environ, LDVBI_LIBRARY="/absent")
         for words in ("side.vbi.json --csv", "side.vbi.json --summary --svg svg --map map --html html",
                       "side.vbi.json", "side.tbc LEVELS --document", "join side.vbi.json side.vbi.json"):
-            self.assertEqual(self.run_command(words, env=absent), (2, b"", NO_LIBRARY), words)
+            status, text, said = self.run_command(words, env=absent)
+            self.assertEqual((status, text, said.count("\n")), (2, b"", 1), words)
+            self.assertTrue(said.startswith("ldvbi-side: no library to read and judge with (/absent: "), said)
         self.assertEqual(self.run_command("--help", env=absent), self.run_command("--help"))
-
-
-class Documents(Calls):
-    def test_the_same_as_the_program(self):
-        self.assertEqual(self.printed("side.tbc LEVELS --document"), self.document)
-        write_stream(self.named("pal.tbc"), PAL, pictures(70), 12)
-        options = "--system PAL --black 16384 --white 54016"
-        said = "ldvbi-side: pal.tbc: the last field is cut: field 71 has 12 of 710510 bytes\n"
-        self.assertEqual(self.run_command("pal.tbc --document " + options),
-                         (3, self.extracted("pal.tbc", options.split()), said))
-        self.write("side.tbc", b"")
-        self.assertEqual(self.printed("side.tbc LEVELS --csv").count(b"\n"), 1)
-        self.assertEqual(self.printed("side.tbc LEVELS --document"), self.extracted("side.tbc"))
-
-    def test_refused(self):
-        for words in ("--document --csv", "--document --json", "--document --summary", "--document --bad-lines",
-                      "--csv --seek 1", "--seek x", "--seek -1", "--system SECAM", "--black 1.0", "--recovered",
-                      "--recovered --json", "--recovered --document --no-recover"):
-            self.assertEqual(self.run_command("side.tbc LEVELS " + words)[:2], (2, b""), words)
 
 
 class Metadata(Calls):
     """The metadata beside the TBC file, which is taken where options leave something open."""
 
     def test_it_is_taken(self):
-        """By it the second fields begin frames."""
+        """By it the second fields begin frames, where it has as many."""
         self.metadata("side.tbc.json", count=12)
         self.metadata("other.json", count=12, black16bIre=60000, white16bIre=60001)
-        for words, text in (("--seek 4", b"field 5, frame 2\n"), ("--white 51200 --document", self.document),
-                            ("LEVELS --seek 4", b"field 5, frame 3\n"),
-                            ("--meta other.json LEVELS --seek 4", b"field 5, frame 2\n")):
-            self.assertEqual(self.printed("side.tbc " + words), text)
-        self.assertEqual(self.run_command("side.tbc --meta other.json --seek 4")[:2], (1, b"not found\n"))
-        self.assertEqual(self.printed("side.vbi.json --meta side.tbc.json --seek 4"), b"field 5, frame 2\n")
         self.metadata("without.json")
-        self.assertEqual(self.printed("side.vbi.json --meta without.json --seek 4", said="ldvbi-side: without.json has "
-                                      "no isFirstField of each field\n"), b"field 5, frame 3\n")
+        self.metadata("more.json", count=14)
+        more = "%s: 12 fields, more.json says 14, so its isFirstField isn't used: " + ANOTHER
+        for words, status, text, said in (
+                ("side.tbc --seek 4", 0, b"field 5, frame 2\n", None),
+                ("side.tbc --white 51200 --document", 0, self.document, None),
+                ("side.tbc LEVELS --seek 4", 0, b"field 5, frame 3\n", None),
+                ("side.tbc --meta other.json LEVELS --seek 4", 0, b"field 5, frame 2\n", None),
+                ("side.tbc --meta other.json --seek 4", 1, b"not found\n", None),
+                ("side.vbi.json --meta side.tbc.json --seek 4", 0, b"field 5, frame 2\n", None),
+                ("side.vbi.json --meta without.json --seek 4", 0, b"field 5, frame 3\n",
+                 "without.json has no isFirstField of each field"),
+                ("side.tbc --meta more.json --seek 4", 0, b"field 5, frame 3\n", more % "side.tbc"),
+                ("side.vbi.json --meta more.json --seek 3", 0, b"field 4, frame 2\n", more % "side.vbi.json")):
+            self.assertEqual(self.run_command(words), (status, text, "ldvbi-side: %s\n" % said if said else ""), words)
         os.rename(self.named("side.tbc.json"), self.named("side.tbc.db"))
         self.assertEqual(self.printed("side.tbc --document"), self.document)
 
     def test_counts_are_compared(self):
-        self.metadata("side.tbc.json", count=14)
-        text = "ldvbi-side: %s: 12 fields, side.tbc.json says 14, so its isFirstField isn't used: another system, " \
-               "or another file's metadata?\n"
-        known = json.loads(self.printed("side.tbc", "--json", said=text % "side.tbc"))
-        self.assertEqual((known["metadataFields"], known["frameBegin"]), (14, 1))
-        self.assertEqual(self.printed("side.vbi.json --meta side.tbc.json --seek 3", said=text % "side.vbi.json"),
-                         b"field 4, frame 2\n")
         self.write("side.tbc", self.read("side.tbc") + b"x" * 7)
         self.metadata("side.tbc.json", numberOfSequentialFields=11)
-        said = self.run_command("side.tbc", "--json")[2].split("\n")[0]
-        self.assertEqual(said, "ldvbi-side: side.tbc: 12 fields and 7 bytes, side.tbc.json says 11: another system, or "
-                         "another file's metadata?")
+        _, text, said = self.run_command("side.tbc", "--json")
+        known = json.loads(text)
+        self.assertEqual((known["metadataFields"], known["frameBegin"], said.split("\n")[0]), (
+            11, 1, "ldvbi-side: side.tbc: 12 fields and 7 bytes, side.tbc.json says 11: " + ANOTHER))
 
     def test_strict(self):
         write_stream(self.named("side.tbc"), NTSC, words_of("1..4"))
@@ -87,11 +69,48 @@ class Metadata(Calls):
     def test_comparison(self):
         write_stream(self.named("other.tbc"), NTSC, pictures(16)[4:])
         self.metadata("other.tbc.json")
-        self.assertEqual(json.loads(self.printed("compare --json other.tbc side.vbi.json")), {
-            "version": 1, "unit": "picture", "counts": [12, 12], "a": [{"first": 12, "last": 15, "count": 4}],
-            "b": [{"first": 0, "last": 3, "count": 4}], "same": [{"first": 4, "last": 11, "count": 8}], "betterA": [],
-            "betterB": [], "numbers": {"count": 16, "least": 0, "greatest": 15}, "missing": [], "leftOut": []})
-        self.assertEqual(self.run_command("compare side.vbi.json")[0], 2)
+        found = json.loads(self.printed("compare --json other.tbc side.vbi.json"))
+        self.assertEqual([found["a"], found["b"]], [[{"first": 12, "last": 15, "count": 4}],
+                                                    [{"first": 0, "last": 3, "count": 4}]])
+
+
+FIELDS = """field,frame,format,picture,chapter,time,stop,doubt,status,users,unknown
+1,1,cav,1,,,,,,,
+2,1,neither,,1,,,,,,
+3,2,cav,2,,,stop,,,,
+5,3,cav,3,,,,"picture 79999 on line 18, pass 1: lines",,,
+"""
+BAD_LINES = """field,line,cause,offset,nearest,distance,rival
+1,16,unfinished,27300,-,1000,32700
+1,17,change 170,29120,82CFFF,500,3300
+1,18,hold 200,30940,ANY,39500,39500
+"""
+
+
+class Tables(Calls):
+    def test_fields(self):
+        write_stream(self.named("side.tbc"), NTSC, words_of("-/#1/#1 -/c1/c1 S/S/#2 B -/#3/#79999"))
+        self.write("side.vbi.json", self.extracted("side.tbc"))
+        with open(self.named("side.vbi.json"), "rb") as file:
+            for words, more in (("side.tbc LEVELS", {}), ("side.vbi.json", {}), ("-", {"stdin": file})):
+                self.assertEqual(self.run_words(words + " --csv", **more), (0, FIELDS, ""))
+
+    def test_bad_lines(self):
+        """Line 16 has 10 high columns, its last: these are 10 off the black row, and a word that ends there has 322
+        high columns before its last half cell of 15. Line 17 is 5 off its word, and a cell of 28 more off another. Line
+        18 has 59 high columns before the last place for a word, 351 of whose 687 are high at most; several words have
+        so many. Without samples, or recovered words, no line is measured."""
+        write_stream(self.named("side.tbc"), NTSC, [[
+            line_with(0, NTSC, [(900, 909, True)]), line_with(0x82CFFF, NTSC, [(170, 174, False)]),
+            line_with(0, NTSC, [(164, 909, True)])]], 12345)
+        self.write("side.vbi.json", self.extracted("side.tbc"))
+        said = "ldvbi-side: %s: the last field is cut: field 2 has 12345 of 478660 bytes\n"
+        for name, more, wanted in (("side.tbc", " LEVELS", BAD_LINES), ("side.tbc", " LEVELS --no-recover", None),
+                                   ("side.vbi.json", "", None)):
+            status, text, errors = self.run_words(name + more + " --bad-lines")
+            text = re.sub(",[8-F][0-9A-F]{5},39500,", ",ANY,39500,", text)
+            self.assertEqual((status, text, errors), (
+                3, wanted or re.sub("[^,]*,[^,]*,\\d+$", ",,", BAD_LINES, flags=re.M), said % name))
 
 
 class Files(Calls):
@@ -111,6 +130,16 @@ class Files(Calls):
         self.assertEqual(self.printed("side.tbc LEVELS --map three --document --svg svg"), self.document)
         self.assertEqual([self.read("two"), self.read("three")], [self.read("side.map")] * 2)
         self.assertIn(b"<svg", self.read("svg"))
+
+    def test_the_pictures_of_the_documents(self):
+        """Those of docs/SIDES.md, made again."""
+        docs = os.path.join(TOP, "docs")
+        self.run_command(os.path.join(docs, "pictures", "make_side.sh"), PROGRAM, self.folder, command=["sh"])
+        with open(os.path.join(docs, "SIDES.md"), encoding="utf-8") as file:
+            text = file.read()
+        for name in ("side.svg", "clv.svg"):
+            self.assertIn("(pictures/%s)" % name, text)
+            self.assertEqual(self.read(name), self.read(os.path.join(docs, "pictures", name)))
 
     def test_pages_and_their_index(self):
         columns = bytearray(self.read("side.tbc"))

@@ -12,9 +12,8 @@ import termios
 import time
 import xml.etree.ElementTree as xml
 
-from calls import Calls
 from cases import in_database
-from command_runs import BUFFERED, DEADLINE, LEVELS, SIZE, Runs
+from command_runs import BUFFERED, DEADLINE, SIZE, Calls, Runs
 from streams import NTSC, TOP, pictures, worn_line, write_stream
 
 SIGNALS = ((signal.SIGTERM, 143), (signal.SIGHUP, 129), (signal.SIGINT, 130))
@@ -204,15 +203,6 @@ class Names(Calls):
         self.write("-x", self.document)
         for status, words in ((1, "-- -x"), (0, "compare -- -x -x"), (0, "join -- -x -x"), (1, "scan -- -x")):
             self.assertEqual(self.run_command(words)[::2], (status, ""), words)
-
-    def test_outputs_without_a_name(self):
-        for words in ("side.vbi.json --html", "side.vbi.json --svg", "side.vbi.json -o", "side.vbi.json --map",
-                      "side.tbc --into", "side.tbc --meta", "scan side.vbi.json --html",
-                      "join side.vbi.json side.vbi.json --html"):
-            with self.subTest(words):
-                status, text, said = self.run_command(words + " ''")
-                self.assertEqual((status, text, said[:17]), (2, b"", "usage: ldvbi-side"))
-                self.assertRegex(said, "error: a (file|folder) has to have a name\n$")
 
 
 class Others(Calls):

@@ -2,15 +2,13 @@
 the parsers of the command, of whose texts the manual page and the completions are made."""
 
 import os
-import re
 import unittest
 
 import ldvbi
-from calls import Calls
+from command_runs import Calls
 from ldvbi_side.command.parsers import parser_of_side, parsers
-from ldvbi_side.command.statuses import statuses_of
+from ldvbi_side.command.statuses import MEANINGS, statuses_of
 from scanned import Scans
-from streams import TOP
 
 SIDES = ("whole.tbc", "lost.tbc", "dark.tbc", "cut.tbc")
 # Of each option, as it stands behind the name of a side, its statuses for these sides. Picture 12 is lost in lost.tbc,
@@ -68,19 +66,14 @@ class Statuses(Scans, Calls):
         self.assertEqual(self.run_words("lost.tbc --meta meta.json --svg side.svg")[:2], (0, ""))
 
     def test_the_table(self):
-        """It has each option and command once, and its cells are filled where some run ends so."""
-        with open(os.path.join(TOP, "docs", "FORMATS.md"), encoding="utf-8") as file:
-            text = file.read().partition("## Exit statuses of `ldvbi-side`\n")[2].partition("\n## ")[0]
-        rows = [[cell.strip() for cell in row.split("|")[1:-1]] for row in re.findall(r"^\|.*\|$", text, re.M)]
-        self.assertEqual(rows[0], ["Of", "0", "1", "3", "4"])
-        found = {name.strip("`"): {int(status) for status, cell in zip(rows[0][1:], cells) if cell}
-                 for names, *cells in rows[2:] for name in names.split(", ")}
+        """It has each option and command once, with each status that some run ends with."""
+        found = [(name, set(meanings)) for names, meanings in MEANINGS for name in names]
         wanted = {(words.split() or ["no option"])[0]: set(statuses) - {2}
                   for words, statuses in [*OPTIONS.items(), *COMMANDS.items()]}
-        self.assertEqual(found, {**wanted, **dict.fromkeys(PRINTED, {0})})
+        self.assertEqual(sorted(found), sorted({**wanted, **dict.fromkeys(PRINTED, {0})}.items()))
         options = {name for action in parser_of_side("ldvbi-side")._actions for name in action.option_strings
                    if name.startswith("--")}
-        self.assertEqual({name for name in found if name.startswith("--")}, options - WITH_OTHERS)
+        self.assertEqual({name for name, _ in found if name.startswith("--")}, options - WITH_OTHERS)
 
 
 # The statuses of each command, and of none: yes or done, no, a fault, a cut field, can't tell, and those of signals

@@ -58,6 +58,14 @@ class Sequences(Streams):
         for index in ("1", 1.0, None):
             self.assertIsNotNone(reason(side.__getitem__, index, kind=TypeError))
 
+    def test_the_samples_of_rows(self):
+        with self.drawn(3, PAL) as side:
+            lines = [3 * ldvbi.draw_line(0xF00000 + number, *PAL) for number in range(3)]
+            self.assertEqual([side.rows(index) for index in (0, 1, 2, -1)], [*lines, lines[2]])
+            for index in (3, -4):
+                self.assertIsNotNone(reason(side.rows, index, kind=IndexError))
+        self.assertEqual(reason(side.rows, 0), "the stream is closed")
+
     def test_sources(self):
         """Buffers, and paths as objects."""
         self.drawn(3).close()
@@ -122,14 +130,6 @@ class Closing(Streams):
         self.assertEqual(held()[0], 1)
         del begun
         self.assertEqual(held(), before)
-
-    def test_a_buffer_keeps_its_size(self):
-        data = bytearray(ldvbi.field_bytes("NTSC"))
-        side = ldvbi.Stream(data, *NTSC)
-        with self.assertRaises(BufferError):
-            data.append(0)
-        side.close()
-        data.append(0)
 
 
 class Advised(mmap.mmap):
