@@ -98,7 +98,8 @@ class Refusals(unittest.TestCase):
         rows += [(BOTH, ("PAL", 1, 3, both)) for both in ("both", None, 2, 4, *WIDE)]
         for text, words in rows:
             calls = [(ldvbi.judge_side, words), *[(ldvbi.judge, words)] * (text != BOTH),
-                     *[(ldvbi.find_pace, words[:2])] * (text in (NO_SYSTEM, COUNTED))]
+                     *[(ldvbi.find_pace, words[:2])] * (text in (NO_SYSTEM, COUNTED)),
+                     *[(ldvbi.complete_times, words[:1])] * (text == NO_SYSTEM)]
             for (call, asked), readings in ((one, readings) for one in calls for readings in ([], [5])):
                 self.assertEqual(reason(call, readings, *asked), text, (call, asked))
         for asked, text in ((("chapters",), COUNTED), (("pictures", "slow"), PACE)):
