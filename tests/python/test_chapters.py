@@ -6,7 +6,10 @@ import unittest
 import ldvbi
 from compact import made
 from discs import side
-from ldvbi import State
+
+
+def stops_of(text):
+    return "".join(state.name[0] for state in ldvbi.judge_stops(made(text, side).readings))
 
 
 class Stops(unittest.TestCase):

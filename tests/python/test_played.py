@@ -8,8 +8,8 @@ from ldvbi_side.seek import seek, wanted_of
 
 class Swaps(unittest.TestCase):
     def test_one_pair(self):
-        """Its number is believed where it was read. Time n stands in field 2n + 1, picture n in field 2n - 1; of numbers
-        on both fields 5 stands in 9 and 10. In the last row first fields are swapped with their numbers."""
+        """Its number is believed where it was read. Time n stands in field 2n + 1, picture n in field 2n - 1; of
+        numbers on both fields 5 stands in 9 and 10. In the last row first fields are swapped with their numbers."""
         for systems, side, number, field, shown in (
                 ("PAL NTSC", "t0..19 ~11", "0:00:00.05", 11, 12), ("PAL NTSC", "t0..19 ~12", "0:00:00.06", 12, 12),
                 ("PAL NTSC", "1..20 ~11", 6, 11, 12), ("PAL NTSC", "1..20 ~12", 7, 12, 12),
