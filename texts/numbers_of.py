@@ -55,11 +55,13 @@ def refused() -> Dict[str, int]:
 
 
 def limits() -> Dict[str, int]:
-    """The limits of a run, and the minutes that the gate takes."""
+    """The limits of a run and of votes, and the minutes that the gate takes."""
     numbers = {name: int(number) for path in paths("crates/*/src/*.rt") for name, number in
                re.findall(r"pub const (META_LIMIT|MAX_FIELDS_LIMIT): \w+ = ([\d_]+);", read(path))}
     least, most = of_source("tests/gate.sh", r"^minutes='(\d+) to (\d+)'$")
-    return {**numbers, "gate.least": least, "gate.most": most}
+    reach, = of_source("crates/vbi_side/specs/Votes.antt", r"^vote_reach = (\d+)$")
+    votes, = of_source("crates/vbi_side/specs/Beliefs.antt", r"^field_most = (\d+)$")
+    return {**numbers, "gate.least": least, "gate.most": most, "vote.reach": reach, "vote.least": votes}
 
 
 def of_tests() -> Dict[str, int]:

@@ -27,7 +27,7 @@ class Side:
     metadata has, or None; with `is_strict` a side without lead-in or lead-out, or with an unread number, isn't whole,
     and with `may_end` one without lead-out may be. `samples` is the stream from which words were recovered, or None.
 
-    `answer` is what the words mean, as docs/SIDES.md describes it; `pictures`, `times`, `chapters`, `stops` and
+    `answer` is what the words mean, as docs/ANSWER.md describes it; `pictures`, `times`, `chapters`, `stops` and
     `format` are parts of it. `codes` is what each field says, judged by nothing."""
 
     def __init__(self, system: System, readings: Iterable[FieldReadings], cut: Optional[Cut] = None,

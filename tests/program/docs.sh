@@ -129,9 +129,9 @@ mkdir copy
 for part in "$top"/* "$top/.ci"; do ln -s "$part" copy; done
 rm copy/codes copy/docs copy/texts
 cp -r "$top/codes" "$top/docs" "$top/texts" copy
-sed -i 's/^| `cause` | as/| `why` | as/' copy/docs/SIDES.md
+sed -i 's/^| `cause` | as/| `why` | as/' copy/docs/ANSWER.md
 sed -i 's/^| CLV mark | 17 |$/| CLV mark | 18 |/' copy/docs/FORMATS.md
-for pair in codes:FORMATS texts:SIDES; do
+for pair in codes:FORMATS texts:ANSWER; do
     in_folder copy python3 ${pair%:*}/write.py --check
     check "${pair%:*}/write.py sees another text of ${pair#*:}" \
         [ "$status $(grep -c "^write: docs/${pair#*:}.md isn't what " out)" = '1 1' ]

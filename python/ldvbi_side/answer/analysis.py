@@ -1,10 +1,9 @@
 """What the words of a side mean: its numbers, what is missing, lost, repeated or doubtful, and where. Plain data in,
-plain data out; docs/SIDES.md has the rules and the form of the answer. Every output is a view of this answer.
+plain data out; docs/SIDES.md has the rules, docs/ANSWER.md the form of the answer. Every output is a view of this answer.
 
-Where the rules of docs/SIDES.md are: 1, 2, 4 and 7 in paces.py, 3 and 11 in readings.py, 5, 6 and 8 in chain.py, 9 in
-times.py, 10 in parts.py, 12 in places.py and missing.py, 13 in clock.py, 14, 15 and the loops of 6 in order.py, the end
-of 6 in between.py, 16 in confirmed.py, 17 in minutes.py, 18 in sparse.py. What the library says of the side is taken in
-by gaps.py."""
+Where the rules of docs/SIDES.md are: 1 in paces.py, 2 in readings.py, 3 and 4 in chain.py, 5 in numbers.py and
+places.py, 6 and the end of 4 in order.py, 7 in parts.py and readings.py, 8 in places.py, missing.py and confirmed.py, 9
+in clock.py. What the library says of the side is taken in by gaps.py."""
 
 from typing import List, NamedTuple
 

@@ -1,5 +1,5 @@
 """What the library says of the side: where numbers and fields don't go on together, and whether the capture is whole.
-What is found here besides may explain a gap: the clock of an NTSC disc (rule 13), another speed (rule 15), and which
+What is found here besides may explain a gap: the clock of an NTSC disc (rule 9), another speed (rule 6), and which
 field of a picture was read where both have its number. A gap is left out only if it is explained."""
 
 import bisect

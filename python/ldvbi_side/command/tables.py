@@ -9,7 +9,7 @@ from ..judge.paces import minute_text
 from ..near import measured
 from ..side import Side
 
-# The columns with what they hold, which docs/SIDES.md has from here
+# The columns with what they hold, which docs/ANSWER.md has from here
 FIELD_COLUMNS = {
     "field": "a field with a word", "frame": "its frame", "format": "by the field's own codes, as `show` has it",
     "picture": "as believed: a doubtful field has none", "chapter": "likewise", "time": "likewise",

@@ -1,4 +1,4 @@
-"""What several captures of one disc's side have together, as plain data; docs/SIDES.md has its members."""
+"""What several captures of one disc's side have together, as plain data; docs/ANSWER.md has its members."""
 
 from typing import Any, Callable, Dict, Iterable, List, Set, Tuple
 

@@ -17,7 +17,7 @@ tried.
 
 places.py collects the gaps, and makes breaks of those that aren't the clock's. missing.py says of the others' numbers
 whether they are left out, damaged or undecided. At another speed `off_at_speed` (believed.py) lets a gap of one number
-pass without asking. A change here changes rule 13 of docs/SIDES.md; the simulated discs of the tests leave out numbers
+pass without asking. A change here changes rule 9 of docs/SIDES.md; the simulated discs of the tests leave out numbers
 in both ways."""
 
 from collections import Counter

@@ -7,7 +7,7 @@ from ldvbi import Kind, classify
 from ldvbi.codes import CAV_KINDS, CLV_KINDS, LINES, STANDARD_LINES, code_of, name_of, value_of
 
 WEIGHTS = (0, 2, 1, 1)  # of a line without a word, with one of pass 1, of pass 2, with a recovered one (pass 3)
-Answer = Dict[str, Any]  # the plain data that the judge answers with; docs/SIDES.md has its members
+Answer = Dict[str, Any]  # the plain data that the judge answers with; docs/ANSWER.md has its members
 Lines = Tuple[int, ...]
 Values = Dict[Any, Lines]  # what a field says by codes of one kind, each value with its lines
 ByField = Dict[int, Values]
