@@ -3,8 +3,9 @@ believed: the library's judge."""
 
 import ctypes
 import enum
+import functools
 import struct
-from typing import Any, Callable, Dict, Iterable, List, NamedTuple, Optional, Tuple, Union
+from typing import Any, Callable, Dict, Iterable, List, NamedTuple, Optional, Tuple, Union, cast
 
 from .library import Counted, Pace, check, counted_number, later_call, pace_number, system_number
 from .readings import PACKED_FIELD, AnySystem, FieldReadings
@@ -147,7 +148,10 @@ def _judged(readings: Any, call: Callable[..., int]) -> List[Number]:
 
 def numbers_of(packed: Any) -> List[Number]:
     """The answers that the library wrote of fields."""
-    return [_number_of(number, state) if state else _NOTHING for number, state in PACKED_NUMBER.iter_unpack(packed)]
+    # as of most fields of a side, so that it has to be quick
+    make, states = cast(Callable[..., Number], functools.partial(tuple.__new__, Number)), _STATES
+    return [make((number, states.get(state, state))) if state else _NOTHING
+            for number, state in PACKED_NUMBER.iter_unpack(packed)]
 
 
 def _number_of(number, state):

@@ -17,14 +17,15 @@ here, changes docs/SIDES.md, and what was measured."""
 
 import bisect
 import functools
-from typing import Dict, Iterator, List, Mapping
+from typing import Dict, Iterator, List, Mapping, Tuple
 
 from ldvbi import Both, Counted, JudgedSide, Number, Pace as JudgedPace, State, complete_times, judge_side
 from .paces import AnyPace, Pace, price
 from .readings import WEIGHTS, Fields, Reading
 
 PAIRS = 10  # believed numbers to one that stands on the next field as well, at most, of what looks like film and isn't
-LAST = 4  # readings before one that are asked in any case
+LAST = 3  # readings before one that are asked in any case
+LEAST = price(1)  # that a break costs
 TIE = 2 ** -20  # of chains that are worth the same the one with more readings is taken
 BACK = 4 * TIE  # and with fewer jumps back
 STILL = 2  # what it costs that numbers begin to stay
@@ -115,16 +116,18 @@ class _Earlier:
         self.of_row: Dict[int, int] = {}  # of each row of numbers that go on the last reading, and of each number
         self.of_number: Dict[int, int] = {}
 
-    def asked(self, index: int, one: Reading, top: int) -> Iterator[int]:
-        """Those that are asked before this one, by their places; `top` is that at which the best chain ends."""
-        yield from range(index - 1, max(index - 1 - LAST, -1), -1)
+    def asked(self, index: int, one: Reading, top: int) -> Iterator[Tuple[int, int]]:
+        """Those that are asked before this one, by their places, and what going on from each costs at least; `top` is
+        that at which the best chain ends."""
         row = self.pace.row(one.field, one.number)
         for step in self.pace.steps:
             if row + step in self.of_row:
-                yield self.of_row[row + step]
+                yield self.of_row[row + step], 0
         if one.number in self.of_number:
-            yield self.of_number[one.number]
-        yield top
+            yield self.of_number[one.number], 0
+        for before in range(index - 1, max(index - 1 - LAST, -1), -1):
+            yield before, LEAST
+        yield top, LEAST
 
     def add(self, index: int, one: Reading) -> None:
         """Takes in a reading."""
@@ -140,10 +143,10 @@ def _between(readings, pace, is_first_sure, is_last_sure, is_still):
     top, earlier = 0, _Earlier(pace)  # the reading at which the best chain of all ends
     for index, one in enumerate(readings):
         best, origin, stay = (0, None, is_still) if not index else (NEVER if is_first_sure else 0, None, False)
-        for before in earlier.asked(index, one, top) if index else ():
-            if values[top] <= best:  # none is worth more
+        for before, least in earlier.asked(index, one, top) if index else ():
+            if values[top] - least <= best:  # none is worth more
                 break
-            if values[before] > best:
+            if values[before] - least > best:
                 value = values[before] - _cost(pace, readings[before], one, stays[before])
                 if value > best:
                     best, origin, stay = value, before, readings[before].number == one.number
@@ -161,19 +164,13 @@ def _between(readings, pace, is_first_sure, is_last_sure, is_still):
 
 def _cost(pace, before, after, is_still=False):
     """What it costs to go on from one reading to another. `is_still` says whether the first one's number stayed."""
-    if before.number == after.number and is_still:
-        return 0
-    return _price(pace, after.field - before.field, before.number % pace.period, after.number - before.number)
-
-
-@functools.lru_cache(maxsize=1 << 14)
-def _price(pace, apart, number, step):
-    """The same by the fields and numbers between two readings, and by the first one's modulo the pace's period."""
+    apart, step = after.field - before.field, after.number - before.number
     if not apart:
         return -NEVER
-    if isinstance(pace, Pace) and step <= 0:
-        return STILL if step == 0 else price(pace.least_off(apart, number, step)) + BACK
-    return price(pace.least_off(apart, number, step))
+    if step == 0 and isinstance(pace, Pace):
+        return 0 if is_still else STILL
+    off = pace.least_off(apart, before.number, step)
+    return price(off) + (BACK if step < 0 else 0) if off else 0
 
 
 def _without_ties(readings, places, pace):

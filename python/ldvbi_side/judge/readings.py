@@ -1,7 +1,7 @@
 """What the lines of a side say, by kind of code: the plain data that the judge takes in, and the codes found in it."""
 
 import functools
-from typing import Any, Callable, Dict, Iterable, List, NamedTuple, Optional, Set, Tuple
+from typing import Any, Callable, Dict, Iterable, List, NamedTuple, Optional, Set, Tuple, cast
 
 from ldvbi import Kind, classify
 from ldvbi.codes import CAV_KINDS, CLV_KINDS, LINES, STANDARD_LINES, code_of, name_of, value_of
@@ -76,7 +76,8 @@ class Codes(NamedTuple):
     def readings(self, kind: Kind) -> List[Reading]:
         """The values of a kind as readings, by field."""
         passes = self.fields.passes
-        return [Reading(field, value, _weight(passes[field - 1], lines), lines)
+        make = cast(Callable[..., Reading], functools.partial(tuple.__new__, Reading))  # there are many
+        return [make((field, value, _weight(passes[field - 1], lines), lines, 0))
                 for field, values in self.kinds[kind].items() for value, lines in values.items()]
 
     def words_of(self, kinds: Iterable[Kind]) -> List[Tuple[int, Dict[str, int]]]:
