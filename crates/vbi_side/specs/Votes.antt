@@ -62,8 +62,8 @@ votes_as minute i part m j n = votes minute i part j n && fits Video i m j n
 abbrev pub votes_for : ℕ → List Sightings → ℕ → ℕ → ℕ → ℕ
 votes_for minute fields i part m = weight_of_first (votes_as minute i part m) fields (length fields)
 
--- number m is elected in field i: it has this part of a minute, more than half of the votes, and as many as one field's
--- lines weigh at most
+-- number m is elected in field i: it has this part of a minute, more than half of the votes, and at least the weight
+-- that both lines of one field have in pass 1
 pub record IsElected (minute : ℕ) (fields : List Sightings) (i part m : ℕ) : Type 0 where
   pub part_is : m % minute ≡ part
   pub majority : votes_cast minute fields i part < 2 * votes_for minute fields i part m
@@ -116,7 +116,7 @@ pub record IsVotedSoundly (recorded : ℕ → Option ℕ) (minute : ℕ) (fields
       ⊎ (wrong_votes recorded minute fields i part < field_most)
 
 -- around field i, where the disc counts number m with this part of a minute, it ran on, and the wrong votes weigh less
--- than the right ones, which weigh as much as a number needs
+-- than the right ones, which weigh at least what a number needs
 pub record IsVotedRightly (recorded : ℕ → Option ℕ) (minute : ℕ) (fields : List Sightings) (i part m : ℕ) : Type 0 where
   pub runs : RunsFrom recorded i m
   pub part_is : m % minute ≡ part
