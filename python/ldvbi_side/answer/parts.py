@@ -37,11 +37,20 @@ def chapters_of(codes: Codes, places: Places) -> Tuple[List[Answer], List[Answer
         readings = [Reading(field, 100 * bisect.bisect(breaks, field) + chapter, weight, lines)
                     for field, chapter, weight, lines, _ in readings]
         sure = {field: 100 * bisect.bisect(breaks, field) + chapter for field, chapter in sure.items()}
-    believed = chosen(readings, ChapterPace(), sure)
+    believed = chosen(readings, ChapterPace(), _in_order(sure))
     if LEAST_SHARE * len(believed) < len(codes.fields.words):
         believed = []
     aside = chapters_aside(codes, readings, {reading.field: reading.number % 100 for reading in believed})
     return (_chapters(believed, places), *aside)
+
+
+def _in_order(sure):
+    """These chapters by field, without those that stand between two others of which they aren't in order: what is
+    misread for the next chapter just before it is believed by the library."""
+    fields = list(sure)
+    late = {one for before, one, after in zip(fields, fields[1:], fields[2:])
+            if sure[before] <= sure[after] and not sure[before] <= sure[one] <= sure[after]}
+    return {field: chapter for field, chapter in sure.items() if field not in late}
 
 
 def _chapters(believed, places):

@@ -15,16 +15,15 @@ best chain of all ends: a better one may be missed. What a pace leaves open of a
 What words weigh is in readings.py, what fits and what breaks cost in paces.py. A change of these, or of the choice
 here, changes docs/SIDES.md, and what was measured."""
 
-import bisect
 import functools
 from typing import Dict, Iterator, List, Mapping, Tuple
 
 from ldvbi import Both, Counted, JudgedSide, Number, Pace as JudgedPace, State, complete_times, judge_side
 from .paces import AnyPace, Pace, price
-from .readings import WEIGHTS, Fields, Reading
+from .readings import Fields, Reading
 
 PAIRS = 10  # believed numbers to one that stands on the next field as well, at most, of what looks like film and isn't
-LAST = 3  # readings before one that are asked in any case
+LAST = 4  # readings before one that are asked in any case
 LEAST = price(1)  # that a break costs
 TIE = 2 ** -20  # of chains that are worth the same the one with more readings is taken
 BACK = 4 * TIE  # and with fewer jumps back
@@ -63,16 +62,7 @@ def anchored(readings: List[Reading], pace: Pace, judged: JudgedSide) -> List[Re
     answered of these fields."""
     sure = sure_in(judged.numbers)
     believed = chosen(readings, pace, sure)
-    if pace.variants == 1:
-        return believed
-    found = _with_variants(believed, pace)
-    # a number that one line shows may be that of the picture beside its own, misread
-    loose = {one.field for before, one, after in zip(found, found[1:], found[2:])
-             if one.field not in sure and one.weight < 2 * WEIGHTS[1] and _row_price(pace, [before, one, after])}
-    if not loose:
-        return found
-    known = _with_variants([one for one in believed if one.field not in loose], pace)
-    return _with_others(known, believed, pace)
+    return _with_variants(believed, pace) if pace.variants > 1 else believed
 
 
 def sure_in(numbers: List[Number]) -> Dict[int, int]:
@@ -207,31 +197,6 @@ def _with_variants(believed, pace):
         variant = origin[variant]
         found.append(one._replace(variant=variant))
     return found[::-1]
-
-
-def _with_others(known, believed, pace):
-    """All believed readings with their variants, of which some are known, but for those that stand a field off between
-    two that go on."""
-    fields = [one.field for one in known]
-    found = []
-    for one in believed:
-        place = bisect.bisect_left(fields, one.field)
-        after = known[place:place + 1]
-        if after and after[0].field == one.field:
-            found += after
-            continue
-        ways = [(_row_price(pace, found[-1:] + [way] + after), way)
-                for way in (one._replace(variant=variant) for variant in range(pace.variants))]
-        cost, way = min(ways)
-        if not cost or not found or not after or _row_price(pace, found[-1:] + after):
-            found.append(way)
-    return found
-
-
-def _row_price(pace, row):
-    """What the breaks in a row cost."""
-    return sum(_steps(pace, other.field - one.field, other.number - one.number, one.number % pace.period)
-               [other.variant][one.variant] for one, other in zip(row, row[1:]))
 
 
 @functools.lru_cache(maxsize=1 << 14)
