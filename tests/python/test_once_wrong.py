@@ -209,8 +209,8 @@ class Turned(unittest.TestCase):
 
 
 class Steps(unittest.TestCase):
-    """The analysis of noise takes at most so many calls of functions to a field as fourteen clean fields do."""
-    MOST = 14
+    """The analysis of noise takes at most so many calls of functions to a field as sixteen clean fields do."""
+    MOST = 16
 
     def calls(self, side):
         counts = [0]
