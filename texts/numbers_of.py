@@ -110,7 +110,7 @@ def package() -> Dict[str, Any]:
     from ldvbi_side import levels
     from ldvbi_side.command import summary
     from ldvbi_side.draw import page
-    from ldvbi_side.answer import analysis, ends, lines, missing, parts, whole
+    from ldvbi_side.answer import analysis, ends, gaps, lines, missing, parts, whole
     from ldvbi_side.judge import believed, chain, clock, numbers as judged, order, paces, places, readings
     numbers = {"price.%d" % fields: paces.price(fields) for fields in (1, 2, 20, 20000)}
     numbers.update(("weight.%d" % one, readings.WEIGHTS[one]) for one in (1, 2, 3))
@@ -123,7 +123,7 @@ def package() -> Dict[str, Any]:
         "summary.lines": summary.MOST_LINES, "summary.listed": summary.MOST_LISTED, "page.plots": page.MOST_PLOTS,
         "still": chain.STILL, "pairs": chain.PAIRS, "carried": judged.CARRIED,
         "chapter.all": paces.ChapterPace.ALL, "chapter.many": paces.ChapterPace.MANY,
-        "chapter.share": parts.LEAST_SHARE, "missing.far": missing.FAR,
+        "chapter.share": parts.LEAST_SHARE, "missing.far": missing.FAR, "unseen": gaps.UNSEEN,
         "clock.places": clock.LEAST_PLACES, "clock.spacing": clock.SPACINGS[0], "clock.dropping": clock.SPACINGS[1],
         "clock.off": clock.OFF, "clock.kept": clock.KEPT[0], "clock.of": clock.KEPT[1], "clock.wide": clock.WIDE // 2,
         "clock.tenth": clock.TENTH_MINUTE // clock.MINUTE, "clock.short": clock.SHORT, "order.least": order.LEAST,

@@ -43,6 +43,17 @@ class Gaps(unittest.TestCase):
         twice 39."""
         check(self, "back | 1..59 20..60 | breaks back 117-119 59 to 20, 80 | said no: 1 jump (back)")
 
+    def test_a_still_that_is_not_seen(self):
+        """A player that stands still shows the number in each second field; over more than 24 fields without it the
+        player may have gone on, and have come back."""
+        check(self, """
+    22 blank fields | L 1..30 Bx22 30..60 O | stills 30@60-84 | said yes
+    24, and that of the picture | L 1..30 Bx24 30..60 O | no breaks
+        | said can't tell: the player stood still after field 60, or went on and came back
+    unread ones | L 1..30 -/?/-x30 30..60 O | said can't tell..
+    a still of as many | L 1..29 30x40 31..60 O | said yes
+    """)
+
     def test_numbers_of_which_the_library_has_no_gap(self):
         """Only one line of the times behind a skip has its minute, so that none of them is believed."""
         check(self, "a skip | t1..30 u2210..2221 73=s28.16/@0:01/- | no missing lost breaks "

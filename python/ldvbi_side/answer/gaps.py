@@ -12,6 +12,7 @@ from ..judge.readings import Answer, ByField
 # Reasons of gaps, which say why the first number and the last don't count to each other
 _BY_GAPS = Reason.is_lost | Reason.is_held | Reason.goes_back | Reason.is_joined
 _KINDS = {GapKind.lost: "lost", GapKind.held: "held", GapKind.back: "back"}
+UNSEEN = 24  # fields without a number in which a player is known to have stood still, at most
 
 
 class Gaps(NamedTuple):
@@ -94,12 +95,12 @@ def _more(judged):
 
 
 def _fate(places: Places, losses: List[Tuple[int, int]], gap: Gap) -> Optional[str]:
-    """Which of the lists of `Gaps` has this one; None of a still, and of one that the clock explains. `losses` are the
-    fields around each loss that is known here: one that the clock doesn't explain."""
+    """Which of the lists of `Gaps` has this one; None of a still that is seen, and of one that the clock explains.
+    `losses` are the fields around each loss that is known here: one that the clock doesn't explain."""
     if gap.kind == GapKind.joined:
         return "joins"
     if gap.kind == GapKind.still:
-        return None
+        return None if _is_seen(places.numbers.fields, gap) else "open"
     first, last = gap.after + 1, gap.before + 1
     if any(one.first <= last and first <= one.last for one in places.numbers.speeds):
         return "at_speed"
@@ -111,6 +112,12 @@ def _fate(places: Places, losses: List[Tuple[int, int]], gap: Gap) -> Optional[s
     place = bisect.bisect(losses, (last,)) - 1
     is_lost = places.numbers.unit.name == "time" and place >= 0 and first <= losses[place][1]
     return "breaks" if is_lost and not clock.open.intersection(between) else "open"
+
+
+def _is_seen(fields, gap):
+    """Whether the number of a still was read all along: else the player may have gone on, and have come back."""
+    inside = fields[bisect.bisect_left(fields, gap.after + 1):bisect.bisect(fields, gap.before + 1)]
+    return all(after - before <= UNSEEN for before, after in zip(inside, inside[1:]))
 
 
 def _are_rows(places, shown, gap):

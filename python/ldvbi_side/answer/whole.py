@@ -191,10 +191,12 @@ def _no_numbers(answer, judged):
 
 
 def _open(answer, gaps):
-    """Gaps in which the disc itself may skip."""
+    """Gaps in which the disc itself may skip, and stills that weren't seen."""
     if not gaps.open:
         return None
     one = gaps.open[0]
+    if one["from"] == one["to"]:
+        return "open", "the player stood still after field %(after)d, or went on and came back" % one
     what = "%s may be %s after field %d" % (
         counted(one["fields"], "field"), "lost" if one["kind"] == "lost" else "too many", one["after"])
     more = " and in %s" % counted(len(gaps.open) - 1, "more place") if len(gaps.open) > 1 else ""
