@@ -137,8 +137,9 @@ class Order(unittest.TestCase):
         known["numbers"]["least"] = 11
         known["lines"]["18"].update(pass1=0, pass2=0)
         judged = ldvbi.judge_side(made("5..30", side).readings, "PAL")
-        gaps = Gaps(judged._replace(reasons=judged.reasons | Reason.no_numbers), [], more=4,
-                    open=[{"kind": "lost", "after": 30, "before": 32, "from": 15, "to": 17, "fields": 2}], joins=[{"after": 9}])
+        open_ = {"kind": "lost", "after": 30, "before": 32, "from": 15, "to": 17, "fields": 2}
+        gaps = Gaps(judged._replace(reasons=judged.reasons | Reason.no_numbers), [], more=4, open=[open_],
+                    joins=[{"after": 9}])
         unit = Unit("picture", 30)
         reasons = reasons_of(known, gaps, unit, True)
         no = ["lost", "jumps", "speed", "missing", "swapped", "begins", "unread", "lead-out", "joined", "format",
