@@ -1,5 +1,5 @@
 """What the words of a side mean: its numbers, what is missing, lost, repeated or doubtful, and where. Plain data in,
-plain data out; docs/SIDES.md has the rules, docs/ANSWER.md the form of the answer. Every output is a view of this answer.
+plain data out; docs/SIDES.md has the rules, docs/ANSWER.md the form of the answer. Every output is a view of it.
 
 Where the rules of docs/SIDES.md are: 1 in paces.py, 2 in readings.py, 3 and 4 in chain.py, 5 in numbers.py and
 places.py, 6 and the end of 4 in order.py, 7 in parts.py and readings.py, 8 in places.py, missing.py and confirmed.py, 9
