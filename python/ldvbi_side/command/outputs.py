@@ -6,7 +6,7 @@ import hashlib
 import os
 import shutil
 import stat
-from typing import IO, Iterable, Iterator, Optional, Sequence, Union
+from typing import IO, Iterable, Iterator, Sequence, Union
 
 Place = Union[str, int, None]  # a file: its path, the number of an open one, or none
 _LONGEST_NAME = 255  # bytes of a file's name
