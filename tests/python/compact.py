@@ -183,9 +183,10 @@ def said_of(found):
 
 
 def cells_of(table):
-    """The rows of a table, with their cells; a row goes on where the next line begins with more than four spaces."""
+    """The rows of a table, with their cells; a row goes on where the next line begins with more than four spaces, and
+    || stands between two rows on a line."""
     text = re.sub(r"\n {5,}", " ", table)
-    return [[cell.strip() for cell in row.split(" | ")] for row in text.split("\n") if row.strip()]
+    return [[cell.strip() for cell in row.split(" | ")] for row in re.split(r"\n| \|\| ", text) if row.strip()]
 
 
 def check(test, table, **more):

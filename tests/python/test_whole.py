@@ -22,10 +22,8 @@ class Whole(unittest.TestCase):
         | said no: lead-out in field 65, and numbers behind it (two sides joined)
     CLV behind CAV | Lx4 1..30 Ox4 t0..9 | said no: codes of CLV in 20 fields, from field 69 on
     jumps of both kinds | 1..30 Bx6 31..60 41..80 | said no: 2 jumps (1 back, 1 with fields too many)
-    of one | 1..30 Bx6 31..60 | said no: 1 jump (with fields too many)
-    words of CLV | 1..60 21.16=8AE000 24.16=8AE000 91.16=8AE000 | said yes
-    side by side | 1..60 21.16=8AE000 23:24.16=8AE000 91.16=8AE000
-        | said no: codes of CLV in 3 fields, from field 21 on
+    words of CLV | 1..60 21.16=8AE000 24.16=8AE000 91.16=8AE000 | said yes || side by side
+        | 1..60 21.16=8AE000 23:24.16=8AE000 91.16=8AE000 | said no: codes of CLV in 3 fields, from field 21 on
     CAV behind CLV | t0..19 1..15 | said no: codes of CAV in 15 fields, from field 41 on
     the parity turns | PAL/31 1..30 | said no: 1 field or more lost
     and fields are lost | PAL/31 1..30 -41:44 | said no: 5 fields or more lost; 2 pictures lost
@@ -39,9 +37,7 @@ class Whole(unittest.TestCase):
 
     def test_whole(self):
         check(self, """
-    CAV | Lx4 1..30 Ox4 | said yes
-    from 0 on | 0..30 | said yes
-    three pictures | 1..3 | said yes
+    CAV | Lx4 1..30 Ox4 | said yes || from 0 on | 0..30 | said yes || three pictures | 1..3 | said yes
     CLV, whose first number may be left out | t1..39 | said yes
     numbers that weren't read | 1..30 5=? 21:25/2=? 51=? | said yes
     a chapter set aside | 1..5 6=-/c7/c7 | said yes
@@ -49,34 +45,28 @@ class Whole(unittest.TestCase):
 
     def test_strict(self):
         check(self, """
-    CAV | Lx4 1..30 Ox4 | said yes
-    without lead-in | 1..30 Ox4 | said no: no lead-in
+    CAV | Lx4 1..30 Ox4 | said yes || without lead-in | 1..30 Ox4 | said no: no lead-in
     numbers that weren't read | 1..30 5=? 21:25/2=? 51=? | said no: 5 pictures unread; no lead-in; no lead-out
     and losses | 1..30 5=? 21:25/2=? 51=? -41:44
         | said no: 4 fields lost; 2 pictures lost; 5 pictures unread; no lead-in; no lead-out
     first ones that weren't | Lx9 ?x6 4..30 O | said no: begins at 4, ends at 30
     """, is_strict=True, may_end=False)
+        check(self, "an open end | 1..30 | said no: no lead-in", is_strict=True, may_end=True)
 
     def test_ends(self):
         """Pictures 1 to 3 need six fields before picture 4. Time 0:00:00.04 is the fourth after 0:00:00.01, the last
-        one that may be the first. Of pictures 1 and 2 of film one has three fields; a field of film may be
-        another picture's. The clock of NTSC leaves out two
-        numbers a minute at most, so of three times before the first one one is sure to have its fields. Before picture
-        1 there is nothing to read, and the last picture has one field behind its number."""
+        one that may be the first. Of pictures 1 and 2 of film one has three fields; a field of film may be another
+        picture's. The clock of NTSC leaves out two numbers a minute at most, so of three times before the first one one
+        is sure to have its fields. The last picture has one field behind its number. What the library says of the
+        beginning, tests/library/whole.txt has."""
         check(self, """
     pictures | 2401..2440 | said no: begins at 2401, ends at 2440
     times | t3000..3039 | said no: begins at 0:02:00.00, ends at 0:02:01.14
     minutes | m9x3000 m10x3000 m11 | said no: begins at 0:09, ends at 0:11
-    6 fields behind lead-in | Lx9 ?x6 4..30 | said yes
     5 fields behind lead-in | Lx9 ?x5 4..30 | said no: begins at 4, ends at 30
-    6 fields | ?x6 4..30 | said yes
-    5 fields | ?x5 4..30 | said no: begins at 4, ends at 30
-    6 before times | ?x6 t4..39 | said yes
     5 before times | ?x5 t4..39 | said no: begins at 0:00:00.04, ends at 0:00:01.14
-    4 before film | NTSC ?x4 f3..39 | said yes
     3 before film | NTSC ?x3 f3..39 | said no: begins at 3, ends at 39
-    6 of a clock | NTSC ?x6 t4..39 | said yes
-    5 of a clock | NTSC ?x5 t4..39 | said can't tell: no number in fields 1 to 5
+    6 of a clock | NTSC ?x6 t4..39 | said yes || 5 | NTSC ?x5 t4..39 | said can't tell: no number in fields 1 to 5
     2 of a clock | NTSC ?x2 t4..39 | said can't tell: no number in fields 1 to 2
     1 of a clock | NTSC ? t4..39 | said no: begins at 0:00:00.04, ends at 0:00:01.09
     a minute of a clock | NTSC ?x3592 m1x3600 m2x3600 m3 | said can't tell: no number in fields 1 to 3592
@@ -84,38 +74,27 @@ class Whole(unittest.TestCase):
     a minute | ?x3000 m1x3000 m2x3000 m3 | said can't tell: no number in fields 1 to 3000
     one less | ?x2999 m1x3000 m2x3000 m3 | said no: begins at 0:01, ends at 0:03
     back to the least number | ?x40 11..30 5..40 | said no: 1 jump (back)
-    as many as a scratch has | ?x100 21..40 | said yes
-    one more | ?x101 21..40 | said can't tell: no number in fields 1 to 101
+    over a hundred fields | ?x101 21..40 | said can't tell: no number in fields 1 to 101
     behind lead-in | Lx9 ?x101 21..40 | said can't tell: no number in fields 10 to 110
     behind the last number | Lx4 1..30 ?x99 | said yes
     one more there | Lx4 1..30 ?x100 | said can't tell: no number in fields 64 to 164
     behind lead-out | Lx4 1..30 ?x99 Ox4 ?x200 | said yes
     before lead-out | Lx4 1..30 ?x100 Ox4 | said can't tell: no number in fields 64 to 164
-    before picture 1 | ?x200 Lx4 1..30 Ox4 | said yes
     """)
 
     def test_not_told(self):
         """Sides that may be whole, and what was read of them doesn't show it. Of film with 3 fields of even pictures
         picture 20 begins in field 48, picture 60 in field 148."""
         check(self, """
-    nothing |  | said can't tell: no picture number and no time
-    no number | L B | said can't tell: no picture number and no time
-    left out, or lost | NTSC t0..20 t22..40
-        | said can't tell: 2 fields may be lost after field 41, or the disc's clock left out a number
-        | lost 41-43 2 undecided
-    twice | NTSC t0..20 t22..40 t42..60
-        | said can't tell: 2 fields may be lost after field 41 and in 1 more place, or the disc's clock left out a
-        number
+    nothing |  | said can't tell: no picture number and no time || no number | L B | said ..picture number and no time
     two numbers | 1..2 | said can't tell: too few numbers to judge by
     film that may be swapped | NTSC e1..40 ~48 | said can't tell: fields 48 and 49 may be swapped
     with 3 fields of odd pictures | NTSC f1..30 ~11 | said can't tell: fields 11 and 12 may be swapped
     twice | NTSC e1..80 ~48 ~148 | said can't tell: 2 pairs of fields may be swapped
-    film that is cut once | NTSC e1..20 f21..40 | said yes
     a line without a word | 1..30 1:60.17=- | said can't tell: line 17 shows no code
     with words without a meaning | 1..30 1:60.17=88FFFB | said can't tell: line 17 shows no code
     less than a tenth set aside | 1..40 9:25/8.17=F70000 | said yes
     a tenth | 1..40 9:33/8.17=F70000 | said can't tell: numbers set aside in 4 of 40 fields
-    one of ten | 1..9 -/F70000/- | said can't tell: numbers set aside in 1 of 10 fields
     all, on one line | 1..30 1:60/2.17=#40000 | said ..numbers set aside in 30 of 30 fields
     """)
         known = made("NTSC t0..20 t22..40")
