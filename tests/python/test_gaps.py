@@ -87,6 +87,7 @@ class Ends(unittest.TestCase):
     def test_rows(self):
         """Minute 0 has 3000 fields, of which 100 are there, between lead-in and minute 1."""
         check(self, """
+    without it | 1..30 | said can't tell: no lead-out: the disc may go on behind picture 30
     with it | 1..30 O | said yes || after a scratch | 1..30 ?x99 O | said yes
     where another side begins | 1..30 L | said no: lead-in again in field 61 (two sides joined);
         no lead-out: the disc may go on behind picture 30
