@@ -26,7 +26,7 @@ test_into_run test_join test_once_wrong test_messages test_scan_ends test_classe
     cd "$here" && xargs -P "$(nproc)" -n 1 sh -c '
     [ ! -e "$1/failed" ] || exit 0
     case $2 in
-        test_chapters | test_classes | test_joined_sets) COVERAGE_PROCESS_START= ;;
+        test_classes | test_joined_sets) COVERAGE_PROCESS_START= ;;
         test_places | test_simulated | test_soundness) COVERAGE_PROCESS_START= ;;
     esac
     status=0

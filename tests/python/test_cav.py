@@ -16,12 +16,9 @@ class Cav(unittest.TestCase):
     on both | NTSC b1..30 | pace both | no missing breaks stills
     film | NTSC f1..60 | pace film | count 60 | no missing breaks stills lost
     the other film | NTSC e1..60 | pace film | count 60 | no missing breaks stills lost
-    of PAL there is none | f1..60 | pace video
-    one picture | NTSC 1 | pace video
+    of PAL there is none | f1..60 | pace video || one picture | NTSC 1 | pace video
     """)
-
-    def test_film_is_what_the_library_takes_for_film(self):
-        """Of pictures in a row that have 2 fields each, the library believes the numbers at the pace of video."""
+        # of pictures in a row that have 2 fields each, the library believes the numbers at the pace of video
         for every, pace in ((2, "film"), (5, "video"), (10, "video")):
             # the last picture's fields don't count: none comes behind it
             side = " ".join("%d%s" % (number, " C" * (number % every == 0)) for number in range(1, 6 * every + 32))
@@ -36,29 +33,27 @@ class Cav(unittest.TestCase):
         | doubtful 13/17 17 lines, 17/18 8 lines
     which nothing settles | -/#4/#5 | conflicts 1 4|5 None | count 0 | doubtful 1/17 4 lines, 1/18 5 lines
     but pass 1 does | -/#4/#5* | conflicts 1 4|5 4
+    line 18 without words | 1..100 1:200.18=? | count 100 | no missing | levels
     a scratch | 1..100 61:74=-/?/! | missing 31-37 unread | no lost | badLines x28
         | unread 31@61, 32@63, 33@65, 34@67, 35@69, 36@71, 37@73
-    line 18 without words | 1..100 1:200.18=? | count 100 | no missing | levels
     line 17 of film | NTSC f1..400 1:1000.17=! | pace film | count 400 | no missing lost breaks doubtful
     """)
         one = made("1..600 799=79999")["doubtful"][0]
         self.assertEqual((one["before"], one["after"]), ({"field": 797, "number": 399}, {"field": 801, "number": 401}))
 
     def test_a_line_on_which_a_digit_is_always_wrong(self):
+        """With line 18 read on half of the side alone, line 17 has the greater weight. Two short rows that lie far
+        apart are no second row, nor are wrong numbers by chance."""
         side = " ".join("-/#%d/#%d B" % (number, number + 1000) for number in range(1, 101))
         found, = made(side)["secondRows"]
         self.assertEqual((found["count"], found["weight"], found["against"]), (100, 200, 200))
-        # with line 18 read on half of the side alone, line 17 has the greater weight
-        check(self, "half | %s 101:200.18=- | numbers 100 1 to 100 | secondRows 1001-1050@1-99 50 100:100" % side)
-
-    def test_two_short_rows_that_lie_far_apart_are_no_second_row(self):
-        rows = ["%d=-/#%d/#%d" % (2 * number - 1, number, number + 1000) for number in (*range(1, 7), *range(295, 301))]
-        check(self, "two | 1..300 %s | no secondRows | count 300" % " ".join(rows))
-
-    def test_random_wrong_numbers_are_no_second_row(self):
+        far = ["%d=-/#%d/#%d" % (2 * number - 1, number, number + 1000) for number in (*range(1, 7), *range(295, 301))]
         wrong = ["%d=%d" % (2 * number - 1, number + (2, 200, -7, 5000, 40, 8)[place % 6])
                  for place, number in enumerate(range(10, 3000, 20))]
-        check(self, "random | 1..3000 %s | no secondRows | count 2850" % " ".join(wrong))
+        check(self, """
+    half | %s 101:200.18=- | numbers 100 1 to 100 | secondRows 1001-1050@1-99 50 100:100
+    two | 1..300 %s | no secondRows | count 300 || by chance | 1..3000 %s | no secondRows | count 2850
+        """ % (side, " ".join(far), " ".join(wrong)))
 
     def test_breaks(self):
         check(self, """
@@ -72,22 +67,13 @@ class Cav(unittest.TestCase):
     a still | 1..30 30x9 31..60 | stills 30@59-77 | no missing doubtful breaks | repeated 30@61-77 after 59
     of numbers on both fields | b1..30 b30x9 b31..60 | stills 30@59-78 | no missing doubtful lost
     fields that come twice | 1..60 +41=20 | stills 20@39-41 | no missing doubtful
-    """)
-
-    def test_fields_lost_where_both_have_the_number(self):
-        """A picture is lost before one of which one field was read."""
-        check(self, "picture 21, of 20 one field is read, 19 is no part | b1..30 40=? -41:42 | lost 39-41 2 number")
-
-    def test_other_formats_and_lines(self):
-        check(self, """
+    picture 21, before it a field of 20 is read, 19 is no part | b1..30 40=? -41:42 | lost 39-41 2 number
     stray marks | 1..30 39=-/M/#20 6=8AE000/-/- | format cav | no missing
         | stray 6/16 clv picture format, 39/17 clv format
     codes on lines that aren't theirs | 1..30 39=-/8DC0A1/#20 1=#77/#1/#1 | no missing doubtful
         | stray 1/16 picture line, 39/17 cx on line
     """)
-
-    def test_between_other_codes_alone_a_number_of_film_is_undecided(self):
-        """Picture 10 is due in field 24, which shows a chapter. It is unread if a line beside is no chapter."""
+        # Picture 10 of film is due in field 24, which shows a chapter. It is unread if a line beside is no chapter.
         film = " ".join("%d=-/#%d/-" % (5 * number // 2 - 1, number) for number in range(1, 31) if number != 10)
         check(self, """
     chapters alone | NTSC -/c5/c5x76 {0} | pace film | missing 10 undecided
@@ -101,19 +87,15 @@ class Cav(unittest.TestCase):
         check(self, """
     by turns | PAL/0 1..30 | no lost | frameBegin 1
     from a second field on | PAL/1 1..30 -1 S/-/- | no lost | frameBegin 2
-    a field | PAL/40 1..30 -40 | lost 39-40 1 both
-    three fields | PAL/41 1..30 -41:43 | lost 39-42 3 both
+    a field | PAL/40 1..30 -40 | lost 39-40 1 both || three fields | PAL/41 1..30 -41:43 | lost 39-42 3 both
     and in these once more | PAL/41,42 1..30 -41:43 | lost 39-42 3 both
     without parity | 1..30 -41:43 | lost 39-42 3 number
     beside another field | PAL/20,41 1..30 -41:43 | lost 19-20 None parity, 39-42 3 both
     a clock may have left out a number | NTSC/43 t0..20 t22..40 | lost 41-43 2 undecided
     no number is near | PAL/4 1 Bx4 4 | lost 3-4 None parity
-    at the beginning | PAL/2 b1..30 | lost 1-2 None parity
-    at the end | PAL/60 b1..30 | lost 59-60 None parity
-    before the first number | PAL/2 Lx4 1..30 | no lost
-    without numbers | PAL/2 Lx64 | no lost
-    without codes | PAL/2 Bx64 | no lost
-    behind the last number | PAL/63 1..30 Ox4 | no lost
+    at the beginning | PAL/2 b1..30 | lost 1-2 None parity || at the end | PAL/60 b1..30 | lost 59-60 None parity
+    before the first number | PAL/2 Lx4 1..30 | no lost || without numbers | PAL/2 Lx64 | no lost
+    without codes | PAL/2 Bx64 | no lost || behind the last number | PAL/63 1..30 Ox4 | no lost
     """)
         self.assertEqual(made("PAL/1 1..30 -1 S/-/-")["stops"],
                          [{"field": 60, "frame": 30, "number": None, "lines": [16]}])

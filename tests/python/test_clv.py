@@ -50,7 +50,7 @@ class Clv(unittest.TestCase):
         | doubtful 39/16 44.07 alone, 39/18 2:30 alone
     behind a loss of a second | t0..99 u125..144 221.18=@0:07 | @225 0:00:05.12
     behind one of more what two lines say | t0..99 u126..145 221.17=@0:07 221.18=@0:07 | @225 0:07:05.13
-    which one line doesn't | t0..99 u126..145 221.18=@0:07 | @225 
+    which one line doesn't | t0..99 u126..145 221.18=@0:07 | @225
     seconds without a minute | s7.0/M/M s7.1/M/M s7.2/M/M | format clv | unit None
         | doubtful 1/16 None minute, 2/16 None minute, 3/16 None minute
     a stop and a picture | t0..19 5.17=S 9.17=#7 | stray 5/17 picture stop format, 9/17 picture format | format clv
@@ -95,8 +95,7 @@ class Clv(unittest.TestCase):
     a stretch ends at a jump of 1000 numbers | NTSC t0..3100!500,1500,2500 t4101..4200!4150
         | missing .., 0:02:18.10 undecided
     not at one of 999 | NTSC t0..3100!500,1500,2500 t4100..4200!4150 | missing .., 0:02:18.10 lost
-    three places are enough | NTSC t0..3399!400%1001 | whys clock
-    two are not | NTSC t0..2399!400%1001 | whys undecided
+    three places | NTSC t0..3399!400%1001 | whys clock || two are not | NTSC t0..2399!400%1001 | whys undecided
     nor are three of many that are due | NTSC t0..7999!1000,2001,3002 | missing x3 | whys lost
     at a tenth minute | NTSC t17000..21001!18000,18001 | missing 0:10:00.00-0:10:00.01 lost
     three at once | NTSC t0..4002!500,501,502 | missing 0:00:16.20-0:00:16.22 lost

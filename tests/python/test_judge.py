@@ -229,6 +229,8 @@ class Sides(unittest.TestCase):
         states = ldvbi.judge_ends(made("L O -/88FFFF/- -/-/80EEEE* -/88FFFF*/80EEEE* 88FFFF/-/- 1", side).readings)
         self.assertEqual([state.name for state in states], [
             "lead_in", "lead_out", "lead_in", "doubtful", "doubtful", "none", "none", "none"])
+        stops = ldvbi.judge_stops(made("B S/S/- S*/-/- -/-/S -/S/-", side).readings)
+        self.assertEqual([state.name for state in stops], ["nothing", "believed", "doubtful", "nothing", "believed"])
 
 
 def side_of(fields, setup=PAL, rest=0):

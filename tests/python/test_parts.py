@@ -1,8 +1,11 @@
 """Chapters, stops, lead-in and lead-out, bad lines and levels of sides made by hand."""
 
+import random
 import unittest
 
+import ldvbi
 from compact import check, made
+from discs import side
 
 # Chapters 2 and 3, of ten pictures each, and chapters 0 to 2
 TWO = "1..20 2:20/2=-/c2/c2 22:40/2=-/c3/c3"
@@ -22,9 +25,9 @@ class Parts(unittest.TestCase):
             {"chapter": 1, "field": 22, "last": 40, "after": 20, "number": 11, "frame": 11}])
         self.assertEqual(made("t0..29")["chapters"][0]["number"], "0:00:00.00")
         for wrong in (0, 1, 4, 7, 79):
-            check(self, "{1} | {0} 30=-/c{1}/c{1} | chapters 2@2-20, 3@22-40 | doubtful 30/17 {1} chapter, 30/18 {1} "
-                  "chapter".format(TWO, wrong))
-        beside = " ".join("-/#%d/c%d" % (number, number // 10) if number % 2 else "S/S/c%d" % (number // 10)
+            check(self, "{1} | {0} 30=-/c{1}/c{1} | chapters 2@2-20, 3@22-40 "
+                        "| doubtful 30/17 {1} chapter, 30/18 {1} chapter".format(TWO, wrong))
+        beside = " ".join(("-/#%d/c%d" if number % 2 else "S/S/c%.0s%d") % (number, number // 10)
                           for number in range(1, 41))
         check(self, """
     at a jump any may follow | %s 11..30 62:80/2=-/c1/c1 82:100/2=-/c2/c2 | no doubtful
@@ -40,33 +43,34 @@ class Parts(unittest.TestCase):
     by pass | 1..10 2=S*/-/- 4=-/S^/- 6=S^/-/S 10=S*/S*/- 12=S*/S^/- 14=S^/S/- 16=S^/S*/S
         | stops 5@10, 6@12, 7@14, 8@16
         | stray 2/16 picture stop unsure, 4/17 picture stop unsure, 6/16 picture stop unsure, 6/18 picture stop unsure
-    of a picture that is due | 1..10 9=S/?/? | stops 5@9
-    without numbers | B S/-/- | format cav
+    of a picture that is due | 1..10 9=S/?/? | stops 5@9 || without numbers | B S/-/- | format cav | stops None@2
     """)
         found = made("1..10 5=S/S/#3 7=S/-/#4 16=S^/S*/S 2=S*/-/- 4=-/S^/-")
         self.assertEqual(found["stops"], [{"field": 5, "frame": 3, "number": 3, "lines": [16, 17]},
                                           {"field": 7, "frame": 4, "number": 4, "lines": [16]},
                                           {"field": 16, "frame": 8, "number": 8, "lines": [16, 17, 18]}])
         self.assertEqual([one["pass"] for one in found["stray"]], [2, 3])
-        self.assertEqual(made("B S/-/-")["stops"], [{"field": 2, "frame": 1, "number": None, "lines": [16]}])
-
-    def test_in_each_field_of_its_picture(self):
-        """Film has 3 fields of a picture with an odd number; the number itself is on the first one alone."""
-        for side, numbers in (("f1..40", (1, 1, 1, 2, 2, 3, 3, 3, 4, 4)), ("1..40", (1, 1, 2, 2, 3, 3))):
+        # film has 3 fields of a picture with an odd number; the number itself is on the first one alone
+        for text, numbers in (("f1..40", (1, 1, 1, 2, 2, 3, 3, 3, 4, 4)), ("1..40", (1, 1, 2, 2, 3, 3))):
             for field, number in enumerate(numbers, 1):
-                check(self, "{0} {1} | NTSC {0} {1}.16=S | stops {2}@{1}".format(side, field, number))
+                check(self, "{0} {1} | NTSC {0} {1}.16=S | stops {2}@{1}".format(text, field, number))
+
+    def test_the_stops_that_the_library_believes(self):
+        chance, items = random.Random(82), ["-", "?", "S", "S", "S*", "S^", "#7", "8BA0A1"]
+        text = " ".join("/".join(chance.choice(items) for _ in range(3)) for _ in range(500))
+        states = enumerate(ldvbi.judge_stops(made(text, side).readings), 1)
+        stops = [field for field, state in states if state == ldvbi.State.believed]
+        self.assertGreater(len(stops), 200)
+        self.assertEqual([one["field"] for one in made(text)["stops"]], stops)
 
     def test_ends(self):
         """A hundred fields without the code are the most within one stretch, counted from one of these to the next. Two
         fields with a chapter may be misread, a third ends it. A minute stands on half of its fields for 60
         seconds, so minutes that fit don't say that nothing is between."""
         check(self, """
-    stretches | L B L 1..3 Ox3 | leadIn 1-3 2 | leadOut 10-12 3
-    a hundred fields | L Bx99 L 1..3 | leadIn 1-101 2
-    one more | L Bx100 L 1..3 | leadIn 1 1, 102 1
-    two chapters | L -/c1/c1x2 L Bx4 | leadIn 1-4 2
-    three chapters | L -/c1/c1x3 L Bx4 | leadIn 1 1, 5 1
-    a picture | Lx5 1 Lx3 | leadIn 1-5 5, 8-10 3
+    stretches | L B L 1..3 Ox3 | leadIn 1-3 2 | leadOut 10-12 3 || a picture | Lx5 1 Lx3 | leadIn 1-5 5, 8-10 3
+    a hundred fields | L Bx99 L 1..3 | leadIn 1-101 2 || one more | L Bx100 L 1..3 | leadIn 1 1, 102 1
+    two chapters | L -/c1/c1x2 L Bx4 | leadIn 1-4 2 || three | L -/c1/c1x3 L Bx4 | leadIn 1 1, 5 1
     between numbers that fit | 1..30 12=-/-/80EEEE 21=-/88FFFF/#11 | no leadIn leadOut
         | stray 12/18 lead-out place, 21/17 lead-in place
     within a minute | n0 C n0 C n0 C Lx4 n0 C n0 C n0 C | unit minute | leadIn 7-10 4 | no stray
@@ -85,10 +89,10 @@ class Parts(unittest.TestCase):
     recovered | -/#1^/#1 ?/!/#2^ -/S*/#3^
         | badLines 1/17 change 170, 2/16 change 170, 2/17 hold 200, 2/18 change 170, 3/18 change 170
     """)
-        for side, wanted in (
+        for text, wanted in (
                 ("-/#1/#1* ?/!/~ S/S*/?", [[1, 0, 0, 1, 0, 1, 0], [1, 1, 0, 0, 0, 0, 1], [0, 1, 0, 0, 1, 1, 0]]),
                 ("-/#1^/#1 ?/!/#2^ -/S*/#3^", [[0, 0, 0, 2, 0, 1, 0], [0, 1, 1, 0, 0, 0, 1], [1, 0, 2, 0, 0, 0, 0]])):
-            lines = made(side)["lines"]
+            lines = made(text)["lines"]
             self.assertEqual([list(lines), list(lines["16"])], [["16", "17", "18"], [
                 "pass1", "pass2", "near", "blank", "unfinished", "change", "hold"]])
             self.assertEqual([list(one.values()) for one in lines.values()], wanted)
@@ -106,18 +110,12 @@ class Parts(unittest.TestCase):
         and a place to look at. As many blank lines as bad ones are blank."""
         recovered = " ".join("-/#%d^/#%d^" % (number, number) for number in range(1, 40))
         check(self, """
-    blank | Bx10 | levels blank 0 0 20 6/17
-    bad | ?/!/?x10 | levels bad 0 20 0 6/17
-    10 of 200 | -/88FFFF/?x10 ?x90 | levels
-    10 of 202 | -/88FFFF/?x10 ?x91 | levels bad 10..
-    as many blank ones | -/?/-x9 | levels blank..
-    one less | -/?/-x9 ? | levels bad..
-    3 of 4 | B ? | levels blank..
+    blank | Bx10 | levels blank 0 0 20 6/17 || bad | ?/!/?x10 | levels bad 0 20 0 6/17
+    10 of 200 | -/88FFFF/?x10 ?x90 | levels || of 202 | -/88FFFF/?x10 ?x91 | levels bad 10..
+    as many blank ones | -/?/-x9 | levels blank.. || one less | -/?/-x9 ? | levels bad.. || 3 of 4 | B ? | levels blank..
     3 of 80 lines | -/#0/! -/!/! -/#1/! -/!/! -/#2/! -/!/! -/!/!x34 | levels bad..
     4 of them | -/#0/! -/!/! -/#1/! -/!/! -/#2/! -/!/! -/#3/! -/!/! -/!/!x32 | levels
-    damage | ?x20 -/!/!x20 Bx20 1..10 | levels
-    no field |  | levels
-    recovered words | %s | levels bad 0 78 0 20/18
-    and words | %s 40..42 | levels
+    damage | ?x20 -/!/!x20 Bx20 1..10 | levels || no field |  | levels
+    recovered words | %s | levels bad 0 78 0 20/18 || and words | %s 40..42 | levels
     """ % (recovered, recovered))
         self.assertIsNone(made("Bx10")["levels"]["tried"])
