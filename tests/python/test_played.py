@@ -7,7 +7,7 @@ from ldvbi_side.seek import seek, wanted_of
 
 
 class Swaps(unittest.TestCase):
-    def test_one_pair(self):
+    def test_pairs(self):
         """Its number is believed where it was read. Time n stands in field 2n + 1, picture n in field 2n - 1; of
         numbers on both fields 5 stands in 9 and 10. In the last row first fields are swapped with their numbers."""
         for systems, side, number, field, shown in (
@@ -21,16 +21,11 @@ class Swaps(unittest.TestCase):
                       "no doubtful missing unread breaks lost repeated".format(system, side, number, field, shown))
         found = seek(made("t0..19 ~11"), wanted_of("0:00:00.05"))
         self.assertEqual((found["field"], found["read"]), (12, True))
-
-    def test_others(self):
         check(self, """
     two pairs | 1..30 ~11 ~32 | swapped 6@11, 17@32 | said no: 2 pairs of fields swapped
-    none | 1..20 | no swapped
-    beside its own field, where it was read, too | 1..20 12=6 | no swapped
-    on one line in pass 2 | 1..20 ~11 12=-/#6*/- | no swapped
-    three fields before its own | 1..20 ~11 12=7 | no swapped
-    a lost field | 1..20 -11 | no swapped
-    a jump back by a picture | b1..10 b9..30 | no swapped
+    none | 1..20 | no swapped || beside its own field, where it was read, too | 1..20 12=6 | no swapped
+    on one line in pass 2 | 1..20 ~11 12=-/#6*/- | no swapped || a lost field | 1..20 -11 | no swapped
+    three fields before its own | 1..20 ~11 12=7 | no swapped || back by a picture | b1..10 b9..30 | no swapped
     """)
 
 
@@ -82,23 +77,18 @@ class Speeds(unittest.TestCase):
         34=-/#318*/- 36=-/#321*/- | no speeds missing | doubtful x8
     a chapter of which one picture was shown | 0..90 89..70 71..110 182=-/c1/c1
         | chapters 0@2-180, 1@182, 0@184-302 | no doubtful
-    a few pictures back | 0..90 89..85 86..125 | no speeds
-    a few fast | 0..90 93..105/3 106..145 | no speeds
+    a few back | 0..90 89..85 86..125 | no speeds || a few fast | 0..90 93..105/3 106..145 | no speeds
     a still | 0..89 90x60 91..119 | no speeds
     """)
 
-    def test_turned_by_hand(self):
-        """Each picture was shown, though some are 3 off the one before and near the one behind by others alone."""
+    def test_shown_and_not(self):
+        """Each picture was shown that is turned by hand, though some are 3 off the one before and near the one behind
+        by others alone. At twice the speed, each on one line in pass 2, numbers before a jump back weigh less than the
+        jump costs. Where the disc goes on behind them as far ahead, they cost no more than it does without them."""
+        weak = " ".join("-/#%d*/- B" % number for number in range(22, 38, 2))
         check(self, """
     627 is near 624, which is near 621 | 610..618 619 618 619 620x3 621x2 624 627 625x3 626 629 630x2 631..650
         | no doubtful | missing 622-623 lost, 628 lost | @37 627
     183 is near 186 | 150..177 178x3 179x2 182 183 184x2 185x2 183 186x2 189x2 190x4 192..220 | no doubtful | @79 183
-    """)
-
-    def test_weak_numbers_before_a_jump_back_are_no_stretch(self):
-        """At twice the speed, each on one line in pass 2: they weigh less than a jump back behind them costs. Where
-        the disc goes on behind them as far ahead, they cost no more than it does without them."""
-        weak = " ".join("-/#%d*/- B" % number for number in range(22, 38, 2))
-        for behind, is_stretch in ((26, False), (60, True)):
-            found = made("1..19 %s %d..%d" % (weak, behind, behind + 19))
-            self.assertEqual(bool(found["speeds"]), is_stretch, behind)
+    weak numbers | 1..19 {0} 26..45 | no speeds || as far ahead | 1..19 {0} 60..79 | speeds x1
+    """.format(weak))
