@@ -26,7 +26,7 @@ def place_of(part):
         shown = [part.get("data-shown"), *whole(part.get("height"))] if part.get("data-shown") else []
         return [fields, "-".join(whole(left, left + width)), *shown]
     if part.tag == SPACE + "line":
-        return [*whole(part.get("x1"), part.get("y1"), part.get("y2"))]
+        return whole(part.get("x1"), part.get("y1"), part.get("y2"))
     if part.get("class") == "run":
         points = part.get("d")[1:].replace("h0", "").split()
         return [fields, str(len(points) // 2), *whole(*points[:2], *points[-2:])]
@@ -65,8 +65,6 @@ axis: 36 368 picture number; 630 692 field
 run: 3-13 6 188 484 338 439; 15-27 7 368 412 548 377; 31-33 2 608 359 638 350; 37-39 2 698 332 728 324;
     43-45 2 788 306 818 297; 49-53 3 878 279 938 261; 55-61 4 968 279 1058 252
 """
-
-
 # 40 fields, 24 pixels each, from 0:59:59.15 on. The minutes of two fields are wrong, those of a third no clock shows,
 # the picture of a fourth no clock shows. Whether the three times before the last four are lost isn't known, since the
 # library doesn't believe as few as these.
@@ -79,11 +77,6 @@ unread: 24-26 702-774
 doubtful: 9-9 342-366; 13-13 438-462; 17-17 534-558; 25-25 726-750
 run: 1-23 12 162 483 690 368; 27-31 3 786 347 882 326; 33-39 4 930 284 1074 253
 doubt: 9 M354.0 493.0; 13 M450.0 243.0
-"""
-# Each minute stands on all its fields: 48 fields, 20 pixels each, and the last minute stays to the end.
-MINUTES = """\
-number-label: 140 432 0:59; 140 312 1:00
-run: 1-48 4 160 428 1100 308
 """
 # 20 fields to a pixel: one damaged line is seen nevertheless.
 MANY = """\
@@ -99,11 +92,10 @@ line-18: 1-1 150-630 blank 28; 2-2 630-1110 hold 28
 stop: 1 M390.0 224
 empty: 630 368 no picture number and no time
 """
-
-
 ONE_LINE = "NTSC 1..9600 1:19200/2.18=- 2:19200/2=B "
-SIDES = ((FAULTS, FAULTY), (TIMES, CLOCKS), ("NTSC m59x20 m60x28", MINUTES), (ONE_LINE + "9601=-/?/#4801", MANY),
-         ("NTSC S/S*/- ~/?/!", EACH_CAUSE))
+# Each minute stands on all its fields: 48 fields, 20 pixels each, and the last minute stays to the end.
+SIDES = ((FAULTS, FAULTY), (TIMES, CLOCKS), (ONE_LINE + "9601=-/?/#4801", MANY), ("NTSC S/S*/- ~/?/!", EACH_CAUSE),
+         ("NTSC m59x20 m60x28", "number-label: 140 432 0:59; 140 312 1:00\nrun: 1-48 4 160 428 1100 308"))
 
 
 def places_of(text):
