@@ -27,7 +27,7 @@ test_page test_into_run test_join test_once_wrong test_messages test_scan_ends t
     [ ! -e "$1/failed" ] || exit 0
     case $2 in
         test_classes | test_joined_sets) COVERAGE_PROCESS_START= ;;
-        test_places | test_simulated | test_soundness) COVERAGE_PROCESS_START= ;;
+        test_simulated | test_soundness) COVERAGE_PROCESS_START= ;;
     esac
     status=0
     timeout -k 5 "$seconds" python3 -m unittest -v "$2" < /dev/null > "$1/$2.out" 2> "$1/$2.err" || status=$?

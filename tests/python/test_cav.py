@@ -178,8 +178,7 @@ class Clv(unittest.TestCase):
         | leftOut 0:00:13.10, 0:00:46.21, 0:01:20.02, 0:01:53.13
     two a minute | NTSC t12602..17999!0,1%1800 t18000..18001 t18002..19999!0,1%1800 | no missing
         | leftOut 0:08:00.00-0:08:00.01, 0:09:00.00-0:09:00.01, 0:11:00.00-0:11:00.01
-    damage beside them | NTSC t0..1999!1800,1801 3599=?/?/? | missing 0:00:59.29 unread
-        | leftOut 0:01:00.00-0:01:00.01
+    damage beside them | NTSC t0..1999!1800,1801 3599=?/?/? | missing 0:00:59.29 unread | leftOut 0:01:00.00-0:01:00.01
     half of it is lost | NTSC t0..8007!400%1001 -4001:12000 | lost 3999-4001 8008 number | leftOut x4 | missing x1
     two sides have a clock each | NTSC t0..3999!400%1001 t0..3999!750%1001 | no lost | breaks x1
     a short stretch by a long one | NTSC t0..5004!400%1001 t6507..8999!400%1001 | lost x1

@@ -123,8 +123,7 @@ class Anchors(unittest.TestCase):
     of four none is believed | 1..100 61=-/#71/? 63=-/#72/? 65=-/#73/? 67=-/#74/? | missing 31-34 unread
         | doubtful 61/17 71 neighbours, 63/17 72 neighbours, 65/17 73 neighbours, 67/17 74 neighbours
     five are | 1..100 61=-/#71/? 63=-/#72/? 65=-/#73/? 67=-/#74/? 69=-/#75/? | missing 31-35 lost | no doubtful
-        | repeated 71-75@141-149 after 61
-        | breaks lost 59-61 30 to 71, 80, back 69-71 75 to 36, 80 | whole no
+        | repeated 71-75@141-149 after 61 | breaks lost 59-61 30 to 71, 80, back 69-71 75 to 36, 80 | whole no
     one of them on another line as well | 1..100 61=-/#71/#31 63=-/#72/? 65=-/#73/? 67=-/#74/? 69=-/#75/?
         | conflicts 61 71|31 31
     a wrong one | 1..60 61=79999 | missing 31 unread | doubtful 61/17 79999 neighbours, 61/18 79999 neighbours

@@ -26,8 +26,7 @@ class Read(unittest.TestCase):
     behind a skip of 1000 pictures | t1200..1209 u2210..2221 33=s28.16/@0:01/@0:01 | no doubtful
         | numbers 22 0:00:48.00 to 0:01:28.21 | missing 0:00:48.10-0:01:28.09 lost
     on one line | t1200..1209 u2210..2221 33=s28.16/@0:01/- | count 10 | no missing
-    of more | t1200..1209 u31360..31371 33=s54.16/@0:20/@0:20 | no doubtful
-        | missing 0:00:48.10-0:20:54.09 lost
+    of more | t1200..1209 u31360..31371 33=s54.16/@0:20/@0:20 | no doubtful | missing 0:00:48.10-0:20:54.09 lost
     with two misread seconds | t1200..1209 u2210..2239 25=s28.12/@0:01/@0:01 33=s3.3/-/- 53=s3.3/-/- | aside 33, 53
         | missing 0:00:48.10-0:01:28.09 lost, ..
     pictures | 1..20 9=-/#17/#17* 13=-/#44/#45 17=? | unread 5@9=17, 7@13=44, 9@17
@@ -73,8 +72,7 @@ class Lost(unittest.TestCase):
     never captured | 1..59 Bx40 65..119 | missing 60-64 undecided | no unread lost
     something seen in 4 fields | 1..59 Bx2 -/?/-x4 Bx34 65..119 | missing 60-64 undecided
     something seen in 5 fields | 1..59 Bx2 -/?/-x5 Bx33 65..119 | missing 60-64 unread
-    as many as they need | 1..59 Bx10 65..119 | missing 60-64 unread
-        | unread 60@119, 61@121, 62@123, 63@125, 64@127
+    as many as they need | 1..59 Bx10 65..119 | missing 60-64 unread | unread 60@119, 61@121, 62@123, 63@125, 64@127
     """)
 
     def test_minutes(self):
@@ -141,8 +139,7 @@ class Stood(unittest.TestCase):
         is looked at picture by picture, one is shown a few times between two that stand."""
         check(self, """
     a wrong number in one | 1..29 30x20 31..59 75=31 | stills 30@59-97 | doubtful 75/17 31.. | aside 75, 75
-    a frozen field | 1..59 -/#60/#60x60 B 61..99 | pace video | stills 60@119-178
-        | breaks held 119-178 60 to 60, 59
+    a frozen field | 1..59 -/#60/#60x60 B 61..99 | pace video | stills 60@119-178 | breaks held 119-178 60 to 60, 59
     and a frozen field | b1..59 -/#60/#60x60 | pace both
     one field between two | 1..29 -/#30/#30x41 -/#31/#31 -/#32/#32x41 B 33..59 | no doubtful missing
         | stills 30@59-99, 32@101-141

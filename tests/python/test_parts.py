@@ -42,8 +42,7 @@ class Parts(unittest.TestCase):
         check(self, """
     on each line | 1..10 5=S/S/#3 7=S/-/#4 9=-/#5/S 12=-/S/800DDD | stops 3@5, 4@7, 6@12 | no missing doubtful
         | stray 9/18 picture stop unsure | chapters 0@2-20
-    by pass | 1..10 2=S*/-/- 4=-/S^/- 6=S^/-/S 10=S*/S*/- 12=S*/S^/- 14=S^/S/- 16=S^/S*/S
-        | stops 5@10, 6@12, 7@14, 8@16
+    by pass | 1..10 2=S*/-/- 4=-/S^/- 6=S^/-/S 10=S*/S*/- 12=S*/S^/- 14=S^/S/- 16=S^/S*/S | stops 5@10, 6@12, 7@14, 8@16
         | stray 2/16 picture stop unsure, 4/17 picture stop unsure, 6/16 picture stop unsure, 6/18 picture stop unsure
     of a picture that is due | 1..10 9=S/?/? | stops 5@9 || without numbers | B S/-/- | format cav | stops None@2
     """)

@@ -106,8 +106,7 @@ class Ends(unittest.TestCase):
     it has all | Lx60 n0x3000 n1x3000 n2x3000 Ox60 | said yes
     no lead-in shows where it begins | n0x100 n1x3000 n2x3000 Ox60 | said yes
     it is another minute | Lx60 n5x100 n6x3000 n7x3000 Ox60 | said no: begins at 0:05, ends at 0:07
-    without lead-out | Lx60 n0x3000 n1x3000 n2x9
-        | said can't tell: no lead-out: the disc may go on behind minute 0:02
+    without lead-out | Lx60 n0x3000 n1x3000 n2x9 | said can't tell: no lead-out: the disc may go on behind minute 0:02
     no minute has two neighbours | Lx60 n0x3000 n1x3000 Ox60 | said can't tell: no minute is between two others
     """, may_end=False)
 
@@ -119,8 +118,7 @@ class Whole(unittest.TestCase):
     second fields lost | 1..30 -46 -26 -12 | said no: 3 fields lost
     pictures lost | 1..30 -41:44 | said no: 4 fields lost; 2 pictures lost
     joined | Lx4 1..30 Ox4 Lx4 1..30 Ox4 | said no: lead-in again in field 69 (two sides joined)
-    without lead-in | Lx4 1..30 Ox4 1..30
-        | said no: lead-out in field 65, and numbers behind it (two sides joined)
+    without lead-in | Lx4 1..30 Ox4 1..30 | said no: lead-out in field 65, and numbers behind it (two sides joined)
     CLV behind CAV | Lx4 1..30 Ox4 t0..9 | said no: codes of CLV in 20 fields, from field 69 on
     jumps of both kinds | 1..30 Bx6 31..60 41..80 | said no: 2 jumps (1 back, 1 with fields too many)
     words of CLV | 1..60 21.16=8AE000 24.16=8AE000 91.16=8AE000 | said yes || side by side
