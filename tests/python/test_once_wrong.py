@@ -1,8 +1,8 @@
 """Sides on which the analysis once said something false, or on which that is easily done, each as small as it can be,
 with its truth."""
 
+import cProfile
 import random
-import sys
 import unittest
 
 from compact import check, made, rows
@@ -182,18 +182,9 @@ class Steps(unittest.TestCase):
     MOST = 16
 
     def calls(self, side):
-        counts = [0]
-
-        def count(_frame, event, _argument):
-            counts[0] += event in ("call", "c_call")
-
-        fields = plain(side)
-        sys.setprofile(count)
-        try:
-            analyse(fields)
-        finally:
-            sys.setprofile(None)
-        return counts[0] / len(side)
+        profile = cProfile.Profile()
+        profile.runcall(analyse, plain(side))
+        return sum(one.callcount for one in profile.getstats()) / len(side)
 
     def test_the_worst_sides(self):
         dice, count = random.Random(7), 2000
