@@ -104,10 +104,15 @@ class Parts(unittest.TestCase):
         self.assertEqual(Scale({"unit": "minute", "system": "PAL", "numbers": minutes}, 0, 9).ticks(), [0, 10, 20])
 
 
+def parts_of(text, **more):
+    """The parts of a drawing, each with its class."""
+    picture = xml.fromstring(drawing_of(made(text, side, **more), "side.tbc"))
+    return [(part.get("class"), part) for part in picture.iter()]
+
+
 def drawn(text, **more):
     """The parts of a drawing with a class, as pairs of this and their words or titles."""
-    picture = xml.fromstring(drawing_of(made(text, side, **more), "side.tbc"))
-    return [(part.get("class"), "".join(part.itertext())) for part in picture.iter() if part.get("class")]
+    return [(name, "".join(part.itertext())) for name, part in parts_of(text, **more) if name]
 
 
 def of_class(found, name):
@@ -183,17 +188,17 @@ class Drawings(unittest.TestCase):
         self.assertEqual(len(of_class(drawn("1..399!0%8"), "upright")), 2 * 49)
 
     def test_unread_numbers_are_pale(self):
-        picture = xml.fromstring(drawing_of(made("1..30 21=?", side), "side.tbc"))
-        marks = [part.get("fill") for part in picture.iter() if part.get("class") == "unread"]
-        labels = [part.get("fill") for part in picture.iter() if part.text == "unread: 1"]
+        parts = parts_of("1..30 21=?")
+        marks = [part.get("fill") for name, part in parts if name == "unread"]
+        labels = [part.get("fill") for _, part in parts if part.text == "unread: 1"]
         self.assertEqual((marks, labels), (["#fca5a5"], ["#64748b"]))
 
 
 class Legend(unittest.TestCase):
     def test_it_fits_on_a_narrow_page(self):
         """A page 900 pixels wide shows 850 of the drawing. Letters are 7 pixels wide, or less."""
-        texts = [(float(text.get("x")), float(text.get("y")), text.text)
-                 for text in xml.fromstring(drawing_of(made("1..8 5=-/#3^/#3^", side), "side")).iter(SPACE + "text")]
+        texts = [(float(part.get("x")), float(part.get("y")), part.text)
+                 for _, part in parts_of("1..8 5=-/#3^/#3^") if part.tag == SPACE + "text"]
         wanted = ["change", "hold", "unfinished", "recovered", "read only after smoothing", "word", "blank",
                   "lead-in, lead-out", "doubtful number"]
         found = [one for one in texts if one[2] in wanted]
@@ -293,20 +298,18 @@ SIDES = ((FAULTS, FAULTY), (TIMES, CLOCKS), (ONE_LINE + "9601=-/?/#4801", MANY),
 
 
 def places_of(text):
-    picture = xml.fromstring(drawing_of(made(text, side), "side.tbc"))
-    return [(part.get("class"), " ".join(place_of(part))) for part in picture.iter() if part.get("class")]
+    return [(name, " ".join(place_of(part))) for name, part in parts_of(text) if name]
 
 
 class Places(unittest.TestCase):
     def test_sides(self):
-        """What the drawing has of these classes is in these places, and there is no more of it."""
+        """What the drawing has of these classes is in these places, and there is no more of it. Marks that fall
+        together are one."""
         for text, wanted in SIDES:
             found = places_of(text)
             for line in wanted.replace(";\n   ", ";").splitlines():
                 name, _, places = line.partition(": ")
                 self.assertEqual("; ".join(place for other, place in found if other == name), places, (text, name))
-
-    def test_marks_that_fall_together_are_one(self):
         found = [place for name, place in places_of(ONE_LINE + "95:19200/192=B 10083=B") if name == "unread"]
         self.assertEqual(len(found), 100)
         self.assertIn("10078-10084 654-656", found)

@@ -145,20 +145,13 @@ class Swaps(unittest.TestCase):
     """)
 
 
-def played(step, begin=90, count=20):
-    """The numbers of a side whose picture `begin` is the first of so many steps at this speed, with 40 behind them."""
-    if step == "1/3":
-        stretch = [begin + place // 3 for place in range(3 * count)]
-    else:
-        stretch = [begin + int(step) * place for place in range(count + 1)]
-    return [*range(begin), *stretch, *range(stretch[-1] + 1, stretch[-1] + 41)], len(stretch)
-
-
 class Speeds(unittest.TestCase):
     def test_each_speed(self):
         """All numbers are believed, those passed over are lost, and the speed is why the side isn't whole."""
         for step in ("2", "3", "-1", "-2", "-3", "1/3"):
-            numbers, count = played(step)
+            stretch = [90 + place // 3 if step == "1/3" else 90 + int(step) * place
+                       for place in range(60 if step == "1/3" else 21)]
+            numbers = [*range(90), *stretch, *range(stretch[-1] + 1, stretch[-1] + 41)]
             gaps = sum(other - one > 1 for one, other in zip(numbers, numbers[1:]))
             for kind in ("PAL t", "PAL ", "NTSC t", "NTSC ", "NTSC b"):
                 system, _, letter = kind.partition(" ")
@@ -169,7 +162,7 @@ class Speeds(unittest.TestCase):
                     continue
                 check(self, "%s%s | %s | no breaks lost doubtful unread stills swapped | speeds %s 181-%d | count %d | "
                       "showings x%d | missing x%d | whys %s | reasons speed%s" % (
-                          kind, step, side, step, 179 + 2 * count, len(set(numbers)), len(numbers), gaps,
+                          kind, step, side, step, 179 + 2 * len(stretch), len(set(numbers)), len(numbers), gaps,
                           "lost" if gaps else "", ", missing" if gaps else ""))
 
     def test_stretches(self):
