@@ -50,14 +50,10 @@ def main():
     for seed, kind in enumerate(KINDS):
         one = simulated(seed, kind, 0.02, 400)
         known[kind] = analyse(fields_of(one, seed % 2 == 0))
-    write(folder, known)
-    write(other_folder, dict(together()))
-
-
-def write(folder, known):
-    for name, one in known.items():
-        with open(os.path.join(folder, name.replace(" ", "-") + ".json"), "w", encoding="ascii") as file:
-            json.dump(one, file)
+    for place, ones in ((folder, known), (other_folder, dict(together()))):
+        for name, one in ones.items():
+            with open(os.path.join(place, name.replace(" ", "-") + ".json"), "w", encoding="ascii") as file:
+                json.dump(one, file)
 
 
 if __name__ == "__main__":

@@ -59,8 +59,8 @@ def readings(*numbers, weight=4, first=1):
             for place, number in enumerate(numbers) if number is not None]
 
 
-def believed(ones, sure=(), kind="video"):
-    return [(one.field, one.number) for one in chosen(ones, Pace(kind), dict(sure))]
+def believed(ones, sure=()):
+    return [(one.field, one.number) for one in chosen(ones, Pace("video"), dict(sure))]
 
 
 class Chains(unittest.TestCase):

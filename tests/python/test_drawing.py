@@ -87,15 +87,13 @@ class Marks(unittest.TestCase):
 
 
 class Parts(unittest.TestCase):
-    def test_texts_that_fit(self):
+    def test_texts_and_ticks_that_fit(self):
         self.assertEqual(shortened("0123456789", 46, 10), "012\u2026789")  # 7 characters of 6.5 pixels
         self.assertEqual(shortened("0123456789", 65.1, 10), "0123456789")  # as wide as it may be
         self.assertEqual(shortened("0123456789", 64.9, 10), "0123\u20266789")
         svg = Svg(20, 10)
         svg.text(1, 2.5, "a < b", "\"&\"", font_size=None, class_="x")
         self.assertIn('<text x="1" y="2.5" class="x"><title>"&amp;"</title>a &lt; b</text>', svg.render())
-
-    def test_ticks(self):
         self.assertEqual(ticks(1, 52, 5, [1, 2, 5, 10, 20]), [1, 20, 40])
         self.assertEqual(ticks(1, 3, 5, [1, 2]), [1, 2, 3])
         self.assertEqual(ticks(7, 100, 5, [1, 2]), [7] + list(range(8, 101, 2)))  # no step is large enough
@@ -193,8 +191,6 @@ class Drawings(unittest.TestCase):
         labels = [part.get("fill") for _, part in parts if part.text == "unread: 1"]
         self.assertEqual((marks, labels), (["#fca5a5"], ["#64748b"]))
 
-
-class Legend(unittest.TestCase):
     def test_it_fits_on_a_narrow_page(self):
         """A page 900 pixels wide shows 850 of the drawing. Letters are 7 pixels wide, or less."""
         texts = [(float(part.get("x")), float(part.get("y")), part.text)

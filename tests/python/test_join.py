@@ -324,8 +324,6 @@ class Command(Calls):
         rows = self.joined("--ranges").decode().split("\n")
         self.assertEqual([*rows[:2], *rows[16:]], ["first,last,source,first field,last field", "0,0,side.vbi.json,1,1",
                                                    "15,15,other.tbc,10,10", ""])
-
-    def test_json(self):
         found = json.loads(self.joined("--json"))
         self.assertEqual([found["version"], found["system"], found["format"], found["unit"], found["captures"][1],
                           found["taken"][12], found["ranges"][12]], [

@@ -9,8 +9,6 @@ from compact import check, made, rows
 from discs import answer, picture, plain
 from ldvbi_side.answer.analysis import analyse
 
-# A disc that has its seconds on each fifth picture alone
-SPARSE = "t0..199 3:400/10.16=- 5:400/10.16=- 7:400/10.16=- 9:400/10.16=-"
 # A wheel is turned: 44 is passed over
 WHEEL = [40, 40, 41, 42, 42, 43, 45, 46, 47, 47, 48, 49, 49, 48, 47, 48, 49, 50]
 TURNED = "1..40 %s 50 49 48 48 50 51 52..90" % " ".join(map(str, WHEEL))
@@ -40,12 +38,13 @@ class Read(unittest.TestCase):
     """)
 
     def test_sparse(self):
-        """Something was seen on line 16 of a picture, say, or the fields of pictures 54 to 63 are lost."""
+        """A disc has its seconds on each fifth picture alone. Something was seen on line 16 of a picture, say, or the
+        fields of pictures 54 to 63 are lost."""
         check(self, """
     blank lines | {0} | no missing unread | count 40 || a time not read | {0} 101.16=? | unread 0:00:02.00@101
     something seen | {0} 101.16=? 103.16=? | unread 0:00:02.00@101, 0:00:02.01@103
     lost | {0} -109:128 | lost 81-131 20 number | no unread | missing 0:00:02.01-0:00:02.14..
-    """.format(SPARSE))
+    """.format("t0..199 3:400/10.16=- 5:400/10.16=- 7:400/10.16=- 9:400/10.16=-"))
         fields = [7, 9, 17, 19, 23, 31, 33, 35, 45, 49, 57, 59, 61, 69, 71, 81, 83, 91, 101, 103]  # a worn disc is none
         found = made("t0..59 " + " ".join("%d.16=-" % field for field in fields))
         self.assertEqual([one["field"] for one in found["unread"]], fields)

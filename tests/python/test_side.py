@@ -216,9 +216,7 @@ class Summaries(unittest.TestCase):
         self.assertRegex(bad, r"^levels: lines 17 and 18 have 0 words, 8 are bad, 0 blank: black and white may be "
                          r"wrong, or the signal is noise\. Look at one: dd ")
         self.assertRegex(recovered, "^levels: lines 17 and 18 have 0 words of their own, 60 are bad, 0 blank: ")
-
-    def test_levels_that_read_more_are_named(self):
-        one = made("NTSC Bx20", side)
+        one = made("NTSC Bx20", side)  # of which other levels read more
         one.answer["levels"]["tried"] = {"lines": 40, "read": 0, "black": 16384, "white": 51200, "best": {
             "system": None, "black": None, "white": 30000, "read": 40}}
         self.assertIn(": 0 of 40 lines read with black 16384, white 51200; 40 with --white 30000. Look at one: dd ",

@@ -173,8 +173,6 @@ class Played(unittest.TestCase):
         self.assertEqual(readable_in(Truth(side)), [])
         self.assertEqual(true_of(side, may_end=True), "either")
 
-
-class Columns(unittest.TestCase):
     def test_each_answer_beside_each_truth(self):
         self.assertEqual([[column_of(said, true) for true in ("yes", "no", "either")]
                           for said in ("yes", "no", "can't tell")],
