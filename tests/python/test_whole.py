@@ -164,6 +164,7 @@ class Whole(unittest.TestCase):
     minutes | m9x3000 m10x3000 m11 | said no: begins at 0:09, ends at 0:11
     5 fields behind lead-in | Lx9 ?x5 4..30 | said no: begins at 4, ends at 30
     5 before times | ?x5 t4..39 | said no: begins at 0:00:00.04, ends at 0:00:01.14
+    6 before times | ?x6 t4..39 | said yes || 4 before film | NTSC ?x4 f3..39 | said yes
     3 before film | NTSC ?x3 f3..39 | said no: begins at 3, ends at 39
     6 of a clock | NTSC ?x6 t4..39 | said yes || 5 | NTSC ?x5 t4..39 | said can't tell: no number in fields 1 to 5
     2 of a clock | NTSC ?x2 t4..39 | said can't tell: no number in fields 1 to 2
