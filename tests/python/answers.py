@@ -16,22 +16,11 @@ from simulate import KINDS, simulated
 
 # Sides with each form of a member, by name
 SIDES = """
-    none | PAL
-    blank | Bx3
-    bad | NTSC ?/!/~x3
-    lead-in | L 88FFFF/-/-
-    stop | S/-/-
-    line 16 | 83D0A1/88FFFB/- 8DC0A1/-/- 8BAFFF/-/-
-    conflict | -/#4/#5 -/c0/c1
-    tie | -/#3/#5
-    second | s7.0/-/- s7.1/-/- s7.2/-/-
-    clock | 8AE025/87FFFF/F0DD60x2
-    left out | NTSC t0..2409!400%1001
-    undecided | NTSC t0..1 t3..4
-    wrong | t0..29 s44.7/-/@9:59
-    swapped | 1..8 ~7
-    speed | t0..57/3
-    far | 1..30 60001..60030 60030x9
+    none | PAL || blank | Bx3 || bad | NTSC ?/!/~x3 || lead-in | L 88FFFF/-/- || stop | S/-/-
+    line 16 | 83D0A1/88FFFB/- 8DC0A1/-/- 8BAFFF/-/- || conflict | -/#4/#5 -/c0/c1 || tie | -/#3/#5
+    second | s7.0/-/- s7.1/-/- s7.2/-/- || clock | 8AE025/87FFFF/F0DD60x2 || left out | NTSC t0..2409!400%1001
+    undecided | NTSC t0..1 t3..4 || wrong | t0..29 s44.7/-/@9:59 || swapped | 1..8 ~7
+    speed | t0..57/3 || far | 1..30 60001..60030 60030x9
 """
 
 
@@ -61,14 +50,10 @@ def main():
     for seed, kind in enumerate(KINDS):
         one = simulated(seed, kind, 0.02, 400)
         known[kind] = analyse(fields_of(one, seed % 2 == 0))
-    write(folder, known)
-    write(other_folder, dict(together()))
-
-
-def write(folder, known):
-    for name, one in known.items():
-        with open(os.path.join(folder, name.replace(" ", "-") + ".json"), "w", encoding="ascii") as file:
-            json.dump(one, file)
+    for place, ones in ((folder, known), (other_folder, dict(together()))):
+        for name, one in ones.items():
+            with open(os.path.join(place, name.replace(" ", "-") + ".json"), "w", encoding="ascii") as file:
+                json.dump(one, file)
 
 
 if __name__ == "__main__":

@@ -29,14 +29,14 @@ where `..` stands at the end or the beginning, it begins or ends so."""
 import re
 import sys
 
-from discs import (BLANK, LEAD_IN, LEAD_OUT, STOP, answer, chapter, film, item, minutes, picture, pictures, plain,
-                   second, times)
+from discs import (BLANK, LEAD_IN, LEAD_OUT, STOP, answer, chapter, item, minutes, picture, pictures, plain, second,
+                   times)
 from ldvbi_side.answer.analysis import analyse
 
 NAMED = {"L": LEAD_IN, "O": LEAD_OUT, "B": BLANK, "?": "- ? ?", "C": "- 800DDD 800DDD"}
 FIELDS = {
-    "": lambda numbers, rate: pictures(numbers), "f": lambda numbers, rate: film(numbers),
-    "e": lambda numbers, rate: film(numbers, 0), "t": times,
+    "": lambda numbers, rate: pictures(numbers), "f": lambda numbers, rate: pictures(numbers, 1),
+    "e": lambda numbers, rate: pictures(numbers, 0), "t": times,
     "b": lambda numbers, rate: ["- %s %s" % (picture(number), picture(number)) for number in numbers for _ in (1, 2)],
     "u": lambda numbers, rate: [row.split(" ")[0] + " - -" if row[2] == "E" else BLANK for row in times(numbers, rate)],
     "m": lambda numbers, rate: ["- 87FFFF " + minutes(*divmod(number, 60)) for number in numbers],
@@ -44,8 +44,6 @@ FIELDS = {
 NUMBERS = re.compile(r"([a-z]?)(\d+)(?:\.\.(\d+)(?:/(\d+))?)?(?:!([\d,]+)(?:%(\d+))?)?")
 PLACES = r"(\d+)(?::(\d+)(?:/(\d+))?)?"
 CHANGE, GONE = re.compile(PLACES + r"(?:\.(\d\d))?=(.+)"), re.compile("-" + PLACES)
-
-
 WORDS = {"#": lambda text: picture(int(text)), "c": lambda text: chapter(int(text)),
          "@": lambda text: minutes(*map(int, text.split(":"))), "s": lambda text: second(*map(int, text.split(".")))}
 
@@ -155,6 +153,14 @@ ITEMS = {
 ITEMS.update(leadOut=ITEMS["leadIn"], chapterConflicts=ITEMS["conflicts"])
 
 
+def said_of(found):
+    """The answer with its reasons, as the first line of the summary has them."""
+    reasons = "; ".join(one["text"] for one in found["reasons"])
+    kinds = {one["whole"] for one in found["reasons"]}
+    assert found["whole"] == ("no" if "no" in kinds else "can't tell" if kinds else "yes"), found["reasons"]
+    return found["whole"] + (": " + reasons if reasons else "")
+
+
 # Of `numbers` the count and the ends; the fields of what is doubtful; why numbers are missing; the summary's first line
 MEMBERS = {
     "numbers": lambda found: "{count} {least} to {greatest}".format(**found["numbers"]),
@@ -162,7 +168,7 @@ MEMBERS = {
     "whys": lambda found: ", ".join(sorted({one["why"] for one in found["missing"] + found["leftOut"]})),
     "aside": lambda found: ", ".join(str(one["field"]) for one in found["doubtful"]),
     "levels": lambda found: found["levels"] and "{shows} {words} {bad} {blank} {field}/{line}".format(
-        **found["levels"]) or "", "said": lambda found: said_of(found)}
+        **found["levels"]) or "", "said": said_of}
 
 
 def of_member(found, name):
@@ -174,18 +180,11 @@ def of_member(found, name):
     return ", ".join(map(ITEMS[name], found[name])) if name in ITEMS else str(found[name])
 
 
-def said_of(found):
-    """The answer with its reasons, as the first line of the summary has them."""
-    reasons = "; ".join(one["text"] for one in found["reasons"])
-    kinds = {one["whole"] for one in found["reasons"]}
-    assert found["whole"] == ("no" if "no" in kinds else "can't tell" if kinds else "yes"), found["reasons"]
-    return found["whole"] + (": " + reasons if reasons else "")
-
-
 def cells_of(table):
-    """The rows of a table, with their cells; a row goes on where the next line begins with more than four spaces."""
+    """The rows of a table, with their cells; a row goes on where the next line begins with more than four spaces, and
+    || stands between two rows on a line."""
     text = re.sub(r"\n {5,}", " ", table)
-    return [[cell.strip() for cell in row.split(" | ")] for row in text.split("\n") if row.strip()]
+    return [[cell.strip() for cell in row.split(" | ")] for row in re.split(r"\n| \|\| ", text) if row.strip()]
 
 
 def check(test, table, **more):
@@ -198,12 +197,10 @@ def check(test, table, **more):
                 asked, _, wanted = member.partition(" ")
                 if asked == "no":
                     test.assertEqual({one: found[one] for one in wanted.split()}, dict.fromkeys(wanted.split(), []))
-                elif re.fullmatch(r"x\d+", wanted):
-                    test.assertEqual("x%d" % len(found[asked]), wanted, asked)
-                else:
-                    said = of_member(found, asked)
-                    if wanted.endswith(".."):
-                        said = said[:len(wanted) - 2] + ".."
-                    elif wanted.startswith(".."):
-                        said = ".." + said[len(said) - len(wanted) + 2:]
-                    test.assertEqual(said, wanted, asked)
+                    continue
+                said = "x%d" % len(found[asked]) if re.fullmatch(r"x\d+", wanted) else of_member(found, asked)
+                if wanted.endswith(".."):
+                    said = said[:len(wanted) - 2] + ".."
+                elif wanted.startswith(".."):
+                    said = ".." + said[len(said) - len(wanted) + 2:]
+                test.assertEqual(said, wanted, asked)

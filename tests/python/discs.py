@@ -37,16 +37,9 @@ def second(seconds, number):
     return "8%sE%d%02d" % ("ABCDEF"[seconds // 10], seconds % 10, number)
 
 
-def pictures(numbers):
-    """The two fields of each of these pictures: its number, and chapter 0."""
-    rows = []
-    for number in numbers:
-        rows += ["- %s %s" % (picture(number), picture(number)), "- 800DDD 800DDD"]
-    return rows
-
-
-def film(numbers, odd=1):
-    """The same of film: pictures with an odd number have 3 fields, or, with `odd` 0, those with an even one."""
+def pictures(numbers, odd=None):
+    """The two fields of each of these pictures: its number, and chapter 0. Those of film with an odd number have 3
+    fields where `odd` is 1, those with an even one where it is 0."""
     rows = []
     for number in numbers:
         rows += ["- %s %s" % (picture(number), picture(number))] + ["- 800DDD 800DDD"] * (1 + (number % 2 == odd))
@@ -77,16 +70,12 @@ def plain(rows, system="PAL", first=None, cut=None):
     """The plain data of a side with these rows, which may end without lead-out."""
     fields = [list(zip(*map(item, row.split(" ")))) for row in rows]
     words, passes, causes = ([field[part] for field in fields] for part in range(3))
-    return Fields(system, words, passes, causes, _packed(rows), cut, first, may_end=True)
-
-
-def _packed(rows):
-    """The readings of these rows as the library takes them."""
-    return b"".join(map(_packed_row, rows))
+    return Fields(system, words, passes, causes, b"".join(map(_packed, rows)), cut, first, may_end=True)
 
 
 @functools.lru_cache(maxsize=None)
-def _packed_row(row):
+def _packed(row):
+    """The readings of a row as the library takes them."""
     return PackedFields.of([FieldReadings(*map(_reading, row.split(" ")))]).data
 
 

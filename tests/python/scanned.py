@@ -39,18 +39,14 @@ class Scans(Commands):
         write_stream(self.named(name), setup, words_of(fields) if isinstance(fields, str) else fields, rest)
         self.metadata(name + ".json")
 
-    def add_minutes(self, name, count):
-        """The document of a PAL side that has so many minutes from 0 on, up to 9, no other numbers, and lead-out."""
-        words = [(0x87FFFF, 0xF0DD00 + field // 3000) for field in range(3000 * count)] + [(0x80EEEE, 0x80EEEE)]
-        records = [RECORD % (field, 0, *two, "blank", "word", "word", 0, 1, 1) for field, two in enumerate(words, 1)]
-        self.write(name, head_of(2, System.PAL, 16384, 54016) + ",\n".join(records) + tail_of(None))
-
     def add_twelve(self):
         more = {"a/cut.tbc": {"rest": 12345}, "a/levels.tbc": {"setup": DARK}}
         for name, fields, *_ in cells_of(TWELVE):
             if fields != "-":
                 self.add(name, fields, **more.get(name, {}))
-        self.add_minutes("b/minutes.vbi.json", 3)
+        words = [(0x87FFFF, 0xF0DD00 + field // 3000) for field in range(9000)] + [(0x80EEEE, 0x80EEEE)]
+        records = [RECORD % (field, 0, *two, "blank", "word", "word", 0, 1, 1) for field, two in enumerate(words, 1)]
+        self.write("b/minutes.vbi.json", head_of(2, System.PAL, 16384, 54016) + ",\n".join(records) + tail_of(None))
         self.write("a/broken.vbi.json", '{"version":2,"videoParameters":{')
         self.write("b/packed.tbc", gzip.compress(b"video"))
         os.rename(self.named("b/missing.tbc.json"), self.named("b/packed.tbc.json"))

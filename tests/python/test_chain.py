@@ -9,7 +9,6 @@ from ldvbi_side.answer.missing import Passed, PassedOver
 from ldvbi_side.judge.paces import ChapterPace, MinutePace, Pace, price
 from ldvbi_side.judge.readings import Reading
 
-
 PACES = {"video": Pace("video"), "both": Pace("both"), "film": Pace("film"), "minutes": MinutePace("PAL"),
          "chapters": ChapterPace()}
 # Of a pace: fields, a number, the step to the next one and their variants, and how many fields are too many or too few.
@@ -60,8 +59,8 @@ def readings(*numbers, weight=4, first=1):
             for place, number in enumerate(numbers) if number is not None]
 
 
-def believed(ones, sure=(), kind="video"):
-    return [(one.field, one.number) for one in chosen(ones, Pace(kind), dict(sure))]
+def believed(ones, sure=()):
+    return [(one.field, one.number) for one in chosen(ones, Pace("video"), dict(sure))]
 
 
 class Chains(unittest.TestCase):
@@ -79,8 +78,7 @@ class Chains(unittest.TestCase):
                 (readings(*[30] * 10, 31, *[30] * 10), [30] * 20)):
             self.assertEqual([number for _, number in believed(ones)], wanted)
         self.assertEqual(believed(readings(5, 70000, 7)), [(1, 5), (5, 7)])
-        ones = [Reading(1, 5, 4, (17, 18)), Reading(3, 7, 2, (17,)), Reading(3, 5, 2, (18,)),
-                Reading(5, 7, 4, (17, 18))]
+        ones = [*readings(5), Reading(3, 7, 2, (17,)), Reading(3, 5, 2, (18,)), *readings(7, first=5)]
         self.assertNotIn(3, dict(believed(ones)))
 
     def test_between_two_that_are_sure(self):
@@ -118,21 +116,16 @@ class Chains(unittest.TestCase):
 class Anchors(unittest.TestCase):
     """Numbers that the library believes, and what is believed between them."""
 
-    def test_a_number_that_the_library_believes_is_believed(self):
+    def test_rows(self):
         """Five words of weight 2 that fit one another weigh 10, as much as the library asks for, though the breaks
-        around them cost more."""
+        around them cost more. What stands between two that fit others is set aside."""
         check(self, """
     of four none is believed | 1..100 61=-/#71/? 63=-/#72/? 65=-/#73/? 67=-/#74/? | missing 31-34 unread
         | doubtful 61/17 71 neighbours, 63/17 72 neighbours, 65/17 73 neighbours, 67/17 74 neighbours
     five are | 1..100 61=-/#71/? 63=-/#72/? 65=-/#73/? 67=-/#74/? 69=-/#75/? | missing 31-35 lost | no doubtful
-        | repeated 71-75@141-149 after 61
-        | breaks lost 59-61 30 to 71, 80, back 69-71 75 to 36, 80 | whole no
+        | repeated 71-75@141-149 after 61 | breaks lost 59-61 30 to 71, 80, back 69-71 75 to 36, 80 | whole no
     one of them on another line as well | 1..100 61=-/#71/#31 63=-/#72/? 65=-/#73/? 67=-/#74/? 69=-/#75/?
         | conflicts 61 71|31 31
-    """)
-
-    def test_between_two_that_fit_others_are_set_aside(self):
-        check(self, """
     a wrong one | 1..60 61=79999 | missing 31 unread | doubtful 61/17 79999 neighbours, 61/18 79999 neighbours
     a few pictures later | 1..60 61=35 | missing 31 unread | aside 61, 61
     """)
@@ -142,13 +135,10 @@ class Anchors(unittest.TestCase):
 # missing. A field for a number is enough, and between two sides (50 to 200 in the last row) it is none of either.
 FATES = """
     at either end of a wide jump | 1-100 5 True | 1-5 undecided, 6-95 lost, 96-100 undecided
-    no field | 1-100 0 True | 1-100 lost
-    one | 1-100 1 True | 2-99 lost
+    no field | 1-100 0 True | 1-100 lost || one | 1-100 1 True | 2-99 lost
     for a tenth | 1-100 10 True | 1-10 undecided, 11-90 lost, 91-100 undecided
-    for more | 1-100 11 True | 1-100 undecided
-    no field is lost | 1-100 0 False | 1-100 unread
-    with fields for all | 1-100 100 False | 1-100 unread
-    it is left open | 1-100 0 None | 1-100 undecided
+    for more | 1-100 11 True | 1-100 undecided || no field is lost | 1-100 0 False | 1-100 unread
+    with fields for all | 1-100 100 False | 1-100 unread || it is left open | 1-100 0 None | 1-100 undecided
     with fields for all | 1-100 100 None | 1-100 undecided
     more than once | 1-100 0 True, 40-60 0 False, 55-80 0 None | 1-39 lost, 40-60 unread, 61-80 undecided, 81-100 lost,
         101-200 unshown, 201-201 undecided

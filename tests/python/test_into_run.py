@@ -10,7 +10,7 @@ from cases import in_database
 from command_runs import COMMAND, IN_PLACE, NO_METADATA, SIZE, Calls
 from ldvbi_side.command import into
 from streams import NTSC, pictures, worn_line, write_stream
-from test_into_rows import FORM
+from test_into import FORM
 
 MEMORY = 50 << 20  # bytes
 

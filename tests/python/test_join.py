@@ -68,6 +68,9 @@ class Taken(unittest.TestCase):
                 ("1..30 11..40 31=-/#16*/-", "1..10", 17, ["a", 33, 17, "read"])):
             self.assertEqual(taken(together(one, other), number), wanted, (one, other))
         self.assertEqual({one[1] for one in together("1..40", "1..40", "1..40")["taken"]}, {"a"})
+        # frames of a capture that begins with a second field
+        found = joined(made("PAL/1 1..40 -1", side), made("1..10", side))
+        self.assertEqual([taken(found, 1), taken(found, 2)], [["b", 1, 1, "read"], ["a", 2, 1, "read"]])
 
     def test_bad_lines_nearby(self):
         """Those of 25 fields on either side, of which there are fewer at the end of a side."""
@@ -84,10 +87,6 @@ class Taken(unittest.TestCase):
         near.answer["showings"].append([4, 7, 7])
         self.assertEqual(taken(joined(due, near), 4), ["b", 7, 4, "near"])
         self.assertEqual(taken(joined(due, near, made("1..40 7=-/-/#4*", side)), 4), ["c", 7, 4, "read"])
-
-    def test_frames_of_a_capture_that_begins_with_a_second_field(self):
-        found = joined(made("PAL/1 1..40 -1", side), made("1..10", side))
-        self.assertEqual([taken(found, 1), taken(found, 2)], [["b", 1, 1, "read"], ["a", 2, 1, "read"]])
 
 
 class Stretches(unittest.TestCase):
@@ -156,12 +155,11 @@ ROWS = (
      "pictures 64 to 120 in fields 157 to 285 of a and fields 159 to 300 of b, further from those before them in one "
      "than in the other"),
     (CUT, "f1..120 -201:225", "NTSC", "distance: a 64-80@157-190, b 64-80@159-200", None),  # 81 to 90 are lost
-    # a skip, a way back; and what one capture says of itself: a still, a loss, swapped fields, another speed
-    ("1..50 31..100", "1..100", "PAL", "", None), ("1..50 71..100", "1..100", "PAL", "", None),
-    ("1..20 21x6 22..100", "1..100", "PAL", "", None), ("1..100 -41", "1..100", "PAL", "", None),
-    ("1..100 ~41", "1..100", "PAL", "", None), ("1..30 32..69/2 69..100", "1..100", "PAL", "", None),
-    # a stretch further on in steps of three, and backwards, between two jumps that take as many fields as on the disc
-    ("1..50 151..210/3 71..100", "1..100", "PAL", "", None), ("1..50 170..151 71..100", "1..100", "PAL", "", None),
+    # a skip, a way back; and what one capture says of itself: a still, a loss, swapped fields, another speed; a stretch
+    # further on in steps of three, and backwards, between two jumps that take as many fields as on the disc
+    *((one, "1..100", "PAL", "", None) for one in (
+        "1..50 31..100", "1..50 71..100", "1..20 21x6 22..100", "1..100 -41", "1..100 ~41", "1..30 32..69/2 69..100",
+        "1..50 151..210/3 71..100", "1..50 170..151 71..100")),
     # of the first picture, and of those from 41 on, each capture reads another one of both fields
     ("b1..80 2=B 82:160/4=B 83:160/4=B", "b1..80 1=B 81:160/4=B 84:160/4=B", "PAL", "", None))
 
@@ -172,6 +170,7 @@ class Disagreements(unittest.TestCase):
             part, "field", "lastField")) for part in each["between"])) for each in found["disagreements"]]
 
     def test_rows(self):
+        """Numbers of a detour are taken elsewhere."""
         for one, other, system, wanted, text in ROWS:
             with self.subTest((one, other)):
                 found = together(one, other, system=system)
@@ -180,8 +179,6 @@ class Disagreements(unittest.TestCase):
                     self.assertEqual(list(joined_text(found))[-1], "disagreements: 1 (%s)" % text)
                 if not wanted:
                     self.assertEqual(self.texts(together(other, one, system=system)), [])
-
-    def test_numbers_of_a_detour_are_taken_elsewhere(self):
         found = together(DETOUR, "1..100", "121..180")
         self.assertEqual([one["source"] for one in found["ranges"]], ["a", "b", "a", "c"])
         self.assertEqual(taken(found, 151), ["c", 61, 31, "read"])
@@ -191,21 +188,24 @@ class Disagreements(unittest.TestCase):
 # and of others.
 CHAPTERS = "1..40 2:30/2=-/c1/c1 32:80/2=-/c2/c2"
 REFUSED = (
-    ("a has pictures of PAL, b has times of PAL: two discs?", "1..40", "t0..29"),
     ("a has pictures of PAL, c has pictures of NTSC: two discs?", "1..40", "1..40", "NTSC 1..40"),
-    ("b has no numbers to join", "1..40", "B"), ("a has no numbers to join", "", "1..40"),
     ("a and b differ in the chapter of 25 of 40 numbers (at 16 it is 2 and 3): two discs?",
      CHAPTERS, "1..40 2:30/2=-/c1/c1 32:80/2=-/c3/c3"),
     (None, CHAPTERS, "1..40 2:30/2=-/c1/c1 32:40/2=-/c2/c2 42:80/2=-/c3/c3"),
     (None, CHAPTERS, "32..59 2:56/2=-/c5/c5"), (None, CHAPTERS, "50..89 2:80/2=-/c5/c5"),
     ("a and b differ in the programme status of 40 of 40 numbers (at 0:00:00.00 it is 8BA000 and 8DC0A1): two discs?",
      "t0..39", "t0..39 2:80/2.16=8DC0A1"), (None, "t0..39", "t0..39 2:40/2.16=8DC0A1"))
+# Why they aren't compared, either
+ALIKE = (("a has pictures of PAL, b has times of PAL: two discs?", "1..40", "t0..29"),
+         ("a has pictures of NTSC, b has pictures of PAL: two discs?", "NTSC 1..9", "1..9"),
+         ("b has no numbers to %s", "1..40", "B"), ("a has no numbers to %s", "", "1..40"))
 
 
 class Refused(unittest.TestCase):
     def test_rows(self):
-        for text, *sides in REFUSED:
-            self.assertEqual(reason(joined, *(made(one, side) for one in sides)), text, sides)
+        for call, name, rows in ((joined, "join", REFUSED + ALIKE), (compare, "compare", ALIKE)):
+            for text, *sides in rows:
+                self.assertEqual(reason(call, *(made(one, side) for one in sides)), text and text.replace("%s", name))
 
 
 class Page(unittest.TestCase):
@@ -299,13 +299,7 @@ class Comparing(unittest.TestCase):
         found = compare(made("1..40 -21:30", side), made("1..40 -29:34", side))
         self.assertEqual(found["missing"][0]["why"], "lost")
         self.assertEqual(list(comparison_text(found, ("x", "y")))[-1], "together: pictures 1 to 40, 1 lost")
-
-    def test_refused(self):
-        for one, other, text in (("1..30", "t0..29", "x has pictures of PAL, y has times of PAL: two discs?"),
-                                 ("NTSC 1..9", "1..9", "x has pictures of NTSC, y has pictures of PAL: two discs?"),
-                                 ("B", "1..9", "x has no numbers to compare"),
-                                 ("1..9", "", "y has no numbers to compare")):
-            self.assertEqual(reason(compare, made(one, side), made(other, side), "xy"), text)
+        self.assertEqual(reason(compare, made("B", side), made("1..9", side), "xy"), "x has no numbers to compare")
 
 
 class Command(Calls):
@@ -330,8 +324,6 @@ class Command(Calls):
         rows = self.joined("--ranges").decode().split("\n")
         self.assertEqual([*rows[:2], *rows[16:]], ["first,last,source,first field,last field", "0,0,side.vbi.json,1,1",
                                                    "15,15,other.tbc,10,10", ""])
-
-    def test_json(self):
         found = json.loads(self.joined("--json"))
         self.assertEqual([found["version"], found["system"], found["format"], found["unit"], found["captures"][1],
                           found["taken"][12], found["ranges"][12]], [

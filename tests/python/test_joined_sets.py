@@ -52,26 +52,20 @@ class Sets(unittest.TestCase):
         for name, least in (("taken", 25000), ("due", 80), ("lost", 90), ("lacking", 2000), ("alone", 200)):
             self.assertGreater(counts[name], least, name)
 
-    def test_what_is_taken_is_there(self):
+    def test_what_is_taken_lost_and_lacking(self):
         """Each number is taken from a field that has it on the disc, and from the frame of that. None that can be read
-        in a capture is missing."""
+        in a capture is missing. What is lost is in no capture, and what one lacks another has. No two disagree."""
         for one in self.sets:
+            self.assertEqual(one.joined["disagreements"], [], one.text)
             for number, source, field, frame, _ in one.joined["taken"]:
                 self.assertEqual(one.ones[int(source)].numbers[field - 1], one.number(number), (one.text, field))
                 self.assertEqual(frame, (field + 1) // 2)
             for truth in one.truths:
                 self.assertLessEqual(truth.read.keys(), one.taken, one.text)
-
-    def test_what_is_lost_is_in_no_capture(self):
-        for one in self.sets:
             lost = one.numbers_in(stretch for stretch in one.joined["missing"] if stretch["why"] == "lost")
             self.assertLessEqual(lost, set(one.ones[0].on_disc), one.text)
-            for numbers in one.numbers.values():
-                self.assertEqual(lost & numbers, set(), one.text)
+            self.assertEqual(lost & set().union(*one.numbers.values()), set(), one.text)
             self.assertEqual(one.numbers_in(one.joined["leftOut"]) & set(one.ones[0].on_disc), set(), one.text)
-
-    def test_what_one_lacks_another_has(self):
-        for one in self.sets:
             for stretch in one.joined["lacks"]:
                 numbers = one.numbers_in([stretch]) & one.taken
                 self.assertEqual(len(numbers), stretch["count"], one.text)
@@ -93,7 +87,3 @@ class Sets(unittest.TestCase):
                     order = one.ones[int(stretch["source"])].order[stretch["field"] - 1:last]
                     self.assertEqual(order, list(range(order[0], order[-1] + 1)), (one.text, stretch))
             self.assertEqual(rows, [])
-
-    def test_captures_of_one_disc_do_not_disagree(self):
-        for one in self.sets:
-            self.assertEqual(one.joined["disagreements"], [], one.text)

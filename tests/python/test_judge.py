@@ -91,6 +91,19 @@ class Forms(InFolder):
             self.assertIs(ldvbi.find_pace(one, "NTSC"), Pace.video)
             self.assertIsNone(ldvbi.first_of(ldvbi.judge(one, "NTSC"), 5))
 
+    def test_refused(self):
+        line = (0, 0, 0, 0)
+        for readings, text in ((None, "readings are none of fields, but of the type NoneType"),
+                               (5, "readings are none of fields, but of the type int"),
+                               (b"12345", "packed readings have 24 bytes to a field, and these are 5"),
+                               ([[line] * 3, [line] * 2], "readings[1] is not three readings"),
+                               ([[line, line, (0, 0, 0)]], "readings[0] is not three readings"),
+                               ([[line, line, (0, 0, 0, 2 ** 32)]], "readings[0] is not three readings"),
+                               ("ab", "readings[0] is not three readings")):
+            for call, *words in ((ldvbi.judge, "PAL"), (ldvbi.find_pace, "PAL"), (ldvbi.complete_times, "PAL"),
+                                 (ldvbi.judge_chapters,), (ldvbi.judge_stops,), (ldvbi.judge_side, "PAL")):
+                self.assertEqual(reason(call, readings, *words), text)
+
 
 BLANK = (1, 0, 0, 0)
 
@@ -145,21 +158,6 @@ class Completed(InFolder):
             completed = ldvbi.complete_times(stream, "NTSC")
             self.assertEqual(completed[:48], b"".join(stream.packed(0, 2)))
         self.assertEqual(completed[48:], packed([[(0, 1, 0, 0x8AE711), (0, 1, 0, 0xF0DD02), (0, 1, 0, 0xF12345)]]))
-
-
-class Refusals(unittest.TestCase):
-    def test_refused(self):
-        line = (0, 0, 0, 0)
-        for readings, text in ((None, "readings are none of fields, but of the type NoneType"),
-                               (5, "readings are none of fields, but of the type int"),
-                               (b"12345", "packed readings have 24 bytes to a field, and these are 5"),
-                               ([[line] * 3, [line] * 2], "readings[1] is not three readings"),
-                               ([[line, line, (0, 0, 0)]], "readings[0] is not three readings"),
-                               ([[line, line, (0, 0, 0, 2 ** 32)]], "readings[0] is not three readings"),
-                               ("ab", "readings[0] is not three readings")):
-            for call, *words in ((ldvbi.judge, "PAL"), (ldvbi.find_pace, "PAL"), (ldvbi.complete_times, "PAL"),
-                                 (ldvbi.judge_chapters,), (ldvbi.judge_stops,), (ldvbi.judge_side, "PAL")):
-                self.assertEqual(reason(call, readings, *words), text)
 
 
 # Sides that are judged by all defaults, their verdicts and reasons, and their gaps: the kind, the fields around it, the
@@ -229,6 +227,8 @@ class Sides(unittest.TestCase):
         states = ldvbi.judge_ends(made("L O -/88FFFF/- -/-/80EEEE* -/88FFFF*/80EEEE* 88FFFF/-/- 1", side).readings)
         self.assertEqual([state.name for state in states], [
             "lead_in", "lead_out", "lead_in", "doubtful", "doubtful", "none", "none", "none"])
+        stops = ldvbi.judge_stops(made("B S/S/- S*/-/- -/-/S -/S/-", side).readings)
+        self.assertEqual([state.name for state in stops], ["nothing", "believed", "doubtful", "nothing", "believed"])
 
 
 def side_of(fields, setup=PAL, rest=0):
@@ -281,8 +281,6 @@ class Seeking(unittest.TestCase):
         side.close()
         self.assertEqual(reason(ldvbi.seek, side, 7), "the stream is closed")
 
-
-class BesideTheJudge(unittest.TestCase):
     def test_most_numbers_of_simulated_sides_are_found(self):
         found, known = 0, 0
         for seed in range(SEEDS):

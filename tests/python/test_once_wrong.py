@@ -1,16 +1,14 @@
 """Sides on which the analysis once said something false, or on which that is easily done, each as small as it can be,
 with its truth."""
 
+import cProfile
 import random
-import sys
 import unittest
 
 from compact import check, made, rows
 from discs import answer, picture, plain
 from ldvbi_side.answer.analysis import analyse
 
-# A disc that has its seconds on each fifth picture alone
-SPARSE = "t0..199 3:400/10.16=- 5:400/10.16=- 7:400/10.16=- 9:400/10.16=-"
 # A wheel is turned: 44 is passed over
 WHEEL = [40, 40, 41, 42, 42, 43, 45, 46, 47, 47, 48, 49, 49, 48, 47, 48, 49, 50]
 TURNED = "1..40 %s 50 49 48 48 50 51 52..90" % " ".join(map(str, WHEEL))
@@ -19,42 +17,34 @@ TURNED = "1..40 %s 50 49 48 48 50 51 52..90" % " ".join(map(str, WHEEL))
 class Read(unittest.TestCase):
     """What was read, and what is due."""
 
-    def test_minutes_behind_a_skip(self):
-        """Of the times behind a skip one has its minute: on both lines, that is enough."""
+    def test_read_instead_and_due(self):
+        """Of the times behind a skip one has its minute: on both lines, that is enough. Nothing is due where a chapter
+        stands, a time where line 16 has another code, or both another number."""
         check(self, """
-    of 1000 pictures | t1200..1209 u2210..2221 33=s28.16/@0:01/@0:01 | numbers 22 0:00:48.00 to 0:01:28.21
-        | missing 0:00:48.10-0:01:28.09 lost | no doubtful
+    behind a skip of 1000 pictures | t1200..1209 u2210..2221 33=s28.16/@0:01/@0:01 | no doubtful
+        | numbers 22 0:00:48.00 to 0:01:28.21 | missing 0:00:48.10-0:01:28.09 lost
     on one line | t1200..1209 u2210..2221 33=s28.16/@0:01/- | count 10 | no missing
-    of more | t1200..1209 u31360..31371 33=s54.16/@0:20/@0:20 | no doubtful
-        | missing 0:00:48.10-0:20:54.09 lost
+    of more | t1200..1209 u31360..31371 33=s54.16/@0:20/@0:20 | no doubtful | missing 0:00:48.10-0:20:54.09 lost
     with two misread seconds | t1200..1209 u2210..2239 25=s28.12/@0:01/@0:01 33=s3.3/-/- 53=s3.3/-/- | aside 33, 53
         | missing 0:00:48.10-0:01:28.09 lost, ..
-    """)
-
-    def test_read_instead_and_due(self):
-        """Nothing is due where a chapter stands, a time where line 16 has another code, or both another number."""
-        check(self, """
     pictures | 1..20 9=-/#17/#17* 13=-/#44/#45 17=? | unread 5@9=17, 7@13=44, 9@17
     times, of which no clock shows picture 25 | t1490..1509 15=s19.22/-/@0:00 17=8AE025/-/@0:00 19=?/-/@5:50
         23=?/-/@0:01 | unread 0:00:59.22@15=19.22, 0:00:59.23@17=8AE025, 0:00:59.24@19=5:50, 0:01:00.01@23
     a chapter | 1..30 19=C | no unread | missing 10 unread
-    programme status | t0..29 19=8DC0A1/-/- | no unread
-    and off | t0..29 19=8BA0A1/-/- | no unread
-    neither | t0..29 19=?/?/? | unread 0:00:00.09@19
-    one in pass 2 | 1..60 59=-/#70030/#70030* | unread 30@59=70030
-    as many of both formats | -/#1/#1 -/M/- | format cav
-    in one field | -/M/#1 | format cav
+    programme status | t0..29 19=8DC0A1/-/- | no unread || and off | t0..29 19=8BA0A1/-/- | no unread
+    neither | t0..29 19=?/?/? | unread 0:00:00.09@19 || in pass 2 | 1..60 59=-/#70030/#70030* | unread 30@59=70030
+    as many of both formats | -/#1/#1 -/M/- | format cav || in one field | -/M/#1 | format cav
     other codes of both | S/-/- 8AE000/-/- | format cav
     """)
 
     def test_sparse(self):
-        """Something was seen on line 16 of a picture, say, or the fields of pictures 54 to 63 are lost."""
+        """A disc has its seconds on each fifth picture alone. Something was seen on line 16 of a picture, say, or the
+        fields of pictures 54 to 63 are lost."""
         check(self, """
-    blank lines | {0} | no missing unread | count 40
-    a time not read | {0} 101.16=? | unread 0:00:02.00@101
+    blank lines | {0} | no missing unread | count 40 || a time not read | {0} 101.16=? | unread 0:00:02.00@101
     something seen | {0} 101.16=? 103.16=? | unread 0:00:02.00@101, 0:00:02.01@103
     lost | {0} -109:128 | lost 81-131 20 number | no unread | missing 0:00:02.01-0:00:02.14..
-    """.format(SPARSE))
+    """.format("t0..199 3:400/10.16=- 5:400/10.16=- 7:400/10.16=- 9:400/10.16=-"))
         fields = [7, 9, 17, 19, 23, 31, 33, 35, 45, 49, 57, 59, 61, 69, 71, 81, 83, 91, 101, 103]  # a worn disc is none
         found = made("t0..59 " + " ".join("%d.16=-" % field for field in fields))
         self.assertEqual([one["field"] for one in found["unread"]], fields)
@@ -64,39 +54,31 @@ class Lost(unittest.TestCase):
     """What is lost, and what is there."""
 
     def test_lost_or_damaged(self):
-        """A player that searched in the dark leaves blank fields, too. Of a wide jump two pictures were there: those
-        behind it, those before it, or one of each. Of film 11 to 13 begin in fields 26, 29 and 31."""
+        """A player that searches in the dark leaves more blank fields than the numbers need. Of a wide jump two
+        pictures were there: those behind it, those before it, or one of each. Of film 11 to 13 begin in fields 26, 29
+        and 31."""
         check(self, """
     a field too many in nine damaged pictures | 20..25 Bx19 35..40 | missing 26-34 undecided | no lost unread
     in which something is seen | 20..25 -/?/- B -/?/- B -/?/- B -/?/- B -/?/- B -/?/- B -/?/- B -/?/- B -/?/- B -/?/-
         35..40 | missing 26-34 unread
     a picture lost of nine damaged ones | 20..25 Bx16 35..40 | missing 26-34 undecided | lost 11-29 2 number
     a wide jump | 1..20 Bx4 321..339 | missing 21-22 undecided, 23-318 lost, 319-320 undecided
-    a field between chapters | 1..30 -19 | missing 10 lost
-    beside a blank one | 1..30 -19 18=B | missing 10 undecided
+    a field between chapters | 1..30 -19 | missing 10 lost || beside a blank one | 1..30 -19 18=B | missing 10 undecided
     passed over twice, and there once | 1..19 Bx2 21..30 5..30!20 | missing 20 unread
     film | NTSC f1..60 26:33=B -29:31 | missing 11-13 undecided
     without a field | NTSC f1..60 26:33=B -29:31 -26:30 | missing 11-13 lost
-    a field of two | b1..30 -22 21=B | missing 11 unread
-    none of two | b1..30 -21:22 | missing 11 lost
-    """)
-
-    def test_dark(self):
-        """A player that searches in the dark leaves more blank fields than the numbers need."""
-        check(self, """
+    a field of two | b1..30 -22 21=B | missing 11 unread || none of two | b1..30 -21:22 | missing 11 lost
     never captured | 1..59 Bx40 65..119 | missing 60-64 undecided | no unread lost
     something seen in 4 fields | 1..59 Bx2 -/?/-x4 Bx34 65..119 | missing 60-64 undecided
     something seen in 5 fields | 1..59 Bx2 -/?/-x5 Bx33 65..119 | missing 60-64 unread
-    as many as they need | 1..59 Bx10 65..119 | missing 60-64 unread
-        | unread 60@119, 61@121, 62@123, 63@125, 64@127
+    as many as they need | 1..59 Bx10 65..119 | missing 60-64 unread | unread 60@119, 61@121, 62@123, 63@125, 64@127
     """)
 
     def test_minutes(self):
         """Four minutes alone. Where fields over the end of a minute are lost, each of both has lost its own. What may
         be unread at the ends of a minute is not sure to be lost."""
         check(self, """
-    whole | n0..3x3000 | no lost missing | whole yes
-    of NTSC | NTSC n0..3x3590 | no lost missing | whole yes
+    whole | n0..3x3000 | no lost missing | whole yes || of NTSC | NTSC n0..3x3590 | no lost missing | whole yes
     of 3600 | NTSC n0..3x3600 | no lost missing | whole yes
     a third | n0..3x3000 -3501:4500 | lost 3000-5001 1000 number | no missing | whole no
     nearly all | n0..3x3000 -3051:5950 | lost 3000-3101 2900 number | no missing
@@ -111,12 +93,10 @@ class Lost(unittest.TestCase):
     def test_joined(self):
         """Where lead-out or lead-in stands between two numbers, one side ends and another one begins."""
         for between in ("Ox10 Lx10", "Ox10", "L", "O"):
-            for begin in (560, 75, 62):
+            for begin in (560, 75, 62, 1):
                 check(self, "%s %d | Lx10 1..59 %s %d..%d | no lost missing breaks | reasons joined" % (
                     between, begin, between, begin, begin + 59))
         check(self, """
-    again | Lx10 1..59 Ox10 1..79 | no lost missing breaks | reasons joined
-    lower numbers | 500..559 Ox10 1..59 | no lost missing
     the same number on both | Lx10 1..59 Ox10 59..98 | no lost missing stills | reasons joined
     lost within one | Lx10 1..59 Ox10 560..619 -41:44 | missing 16-17 lost | lost 39-41 4 number
     far off | Lx10 1..59 Ox10 60000..60059 | no lost missing | reasons joined | count 119
@@ -131,8 +111,7 @@ class Lost(unittest.TestCase):
         time needs, it stands between no two losses."""
         check(self, """
     two times | t0..29 t80..81 t140..169 | count 62 | lost 59-65 216 number | no doubtful
-    outside | t0..29 t20..21 t140..169 | showings x60
-    one time | t0..29 t292 t1490..1519 | showings x61
+    outside | t0..29 t20..21 t140..169 | showings x60 || one time | t0..29 t292 t1490..1519 | showings x61
     between two searches | t0..29 Bx300 t200..201 Bx300 t500..529 | showings x62 | no doubtful
     behind a search | t0..29 Bx500 t205 t1490..1519 | showings x60 | doubtful x1
     """)
@@ -141,36 +120,31 @@ class Lost(unittest.TestCase):
 
 
 class Stood(unittest.TestCase):
-    """Loops and stills."""
+    """Loops, stills, and pictures that are turned by hand."""
 
     def test_loops(self):
         """In fields 95 to 99 stand the times 98 and 99; a round ends before 98 comes again."""
         side = rows("t50..139")
-        found = answer(side[:100] + 12 * side[95:100] + side[100:])
-        self.assertEqual({(one["kind"], one["from"], one["to"]) for one in found["breaks"]},
-                         {("back", "0:00:03.24", "0:00:03.23")})
-        self.assertEqual(sum(one["fields"] for one in found["breaks"]), 12 * 5)
+        found = answer(side[:100] + 12 * side[95:100] + side[100:])["breaks"]
+        self.assertEqual({(one["from"], one["to"]) for one in found}, {("0:00:03.24", "0:00:03.23")})
         for length in range(4, 12):
             for side in (rows("t50..139"), rows("50..139")):
-                found = answer(side[:100] + 9 * side[100 - length:100] + side[100:])
-                self.assertEqual({one["kind"] for one in found["breaks"]}, {"back"}, length)
-                self.assertEqual(sum(one["fields"] for one in found["breaks"]), 9 * length)
+                found = answer(side[:100] + 9 * side[100 - length:100] + side[100:])["breaks"]
+                self.assertEqual({one["kind"] for one in found}, {"back"}, length)
+                self.assertEqual(sum(one["fields"] for one in found), 9 * length)
 
     def test_stills(self):
-        """One frozen field is no number on both fields, and a still with a wrong number in it stays one."""
+        """One frozen field is no number on both fields, and a still with a wrong number in it stays one. Of a disc that
+        is looked at picture by picture, one is shown a few times between two that stand."""
         check(self, """
     a wrong number in one | 1..29 30x20 31..59 75=31 | stills 30@59-97 | doubtful 75/17 31.. | aside 75, 75
-    a frozen field | 1..59 -/#60/#60x60 B 61..99 | pace video | stills 60@119-178
-        | breaks held 119-178 60 to 60, 59
+    a frozen field | 1..59 -/#60/#60x60 B 61..99 | pace video | stills 60@119-178 | breaks held 119-178 60 to 60, 59
     and a frozen field | b1..59 -/#60/#60x60 | pace both
     one field between two | 1..29 -/#30/#30x41 -/#31/#31 -/#32/#32x41 B 33..59 | no doubtful missing
         | stills 30@59-99, 32@101-141
     three fields | 1..29 -/#30/#30x41 -/#31/#31x3 -/#32/#32x41 B 33..59 | no doubtful missing
         | stills 30@59-99, 31@100-102, 32@103-143
     """)
-
-    def test_pictures_one_after_the_other(self):
-        """Of a disc that is looked at picture by picture, one is shown a few times between two that stand."""
         for step, least in ((20, 2), (200, 2), (-2, 1), (-20, 3), (-200, 3)):
             for count in range(least, 4):
                 side = "1000x20 %dx%d %dx20" % (1000 + step, count, 1000 + 2 * step)
@@ -178,17 +152,13 @@ class Stood(unittest.TestCase):
         for words in ("-/#7*/#7", "-/#7/#9", "-/?/#7"):  # a wrong number
             check(self, "%s | 1000x20 %s B 1200x20 | showings x40 | @41 " % (words, words))
 
-
-class Turned(unittest.TestCase):
-    """Each picture of these is shown, though two others fit by chance."""
-
     def test_no_number_is_due_where_both_lines_say_another(self):
-        """The numbers of a stretch that fit the ones around it by chance say nothing of the others."""
+        """The numbers of a stretch that fit the ones around it by chance say nothing of the others. In the last side 42
+        stands twice and 44 is passed over, so that 45 comes in the field in which it is due."""
         sides = ["1..40 %s 51..90" % " ".join(map(str, WHEEL[:begin] + WHEEL[begin - 2:])) for begin in range(2, 13)]
-        # 42 stands twice and 44 is passed over, so that 45 comes in the field in which it is due
         for side in sides + ["1..42 42 42 43 43 45 48..79"]:
-            self.assertEqual([one for one in made(side)["unread"] if "F" in rows(side)[one["field"] - 1]], [], side)
-        found = made("1..42 42 42 43 43 45 48..79")
+            found = made(side)
+            self.assertEqual([one for one in found["unread"] if "F" in rows(side)[one["field"] - 1]], [], side)
         self.assertEqual({one["why"] for one in found["missing"]} - {"lost", "undecided"}, set())
 
     def test_all_that_was_shown_is_believed(self):
@@ -197,9 +167,7 @@ class Turned(unittest.TestCase):
         shown = [place for place, row in enumerate(rows(TURNED), 1) if " F" in row]
         self.assertEqual([field for _, field, _ in made(TURNED)["showings"]], shown)
         check(self, """
-    all | {0} | no doubtful
-    far off | {0} 87=99 | aside 87, 87
-    one near | 1..60 101=53 | aside 101, 101
+    all | {0} | no doubtful || far off | {0} 87=99 | aside 87, 87 || one near | 1..60 101=53 | aside 101, 101
     again | 1..40 {1} 53 53 54..89 117=-/?/#53* | no doubtful
     two in each step, backwards | b100..146 b146 b145x2 b143x2 b141x2 b139x2 b137x2 b135x2 b136..169
         | no speeds unread doubtful
@@ -213,18 +181,9 @@ class Steps(unittest.TestCase):
     MOST = 16
 
     def calls(self, side):
-        counts = [0]
-
-        def count(_frame, event, _argument):
-            counts[0] += event in ("call", "c_call")
-
-        fields = plain(side)
-        sys.setprofile(count)
-        try:
-            analyse(fields)
-        finally:
-            sys.setprofile(None)
-        return counts[0] / len(side)
+        profile = cProfile.Profile()
+        profile.runcall(analyse, plain(side))
+        return sum(one.callcount for one in profile.getstats()) / len(side)
 
     def test_the_worst_sides(self):
         dice, count = random.Random(7), 2000

@@ -8,7 +8,6 @@ import os
 import re
 import shutil
 import time
-import unittest
 from unittest import mock
 from urllib.parse import quote
 
@@ -231,15 +230,11 @@ class Folders(InFolder):
             self.assertTrue(of_side.startswith(begin), name)
             self.assertTrue(begin == of_side or 100 < len(os.fsencode(name)) < 220, name)
         self.assertEqual(page_name("d/a.tbc"), page_name(os.path.abspath("d/../d/a.tbc")))
-
-    def test_files(self):
         self.add("a.tbc", "a.tbc.db")
         self.assertEqual(files_of("a.tbc"), ["a.tbc", "a.tbc.db"])
         self.assertEqual(files_of("b.tbc"), ["b.tbc"])
 
-
-class Packed(unittest.TestCase):
-    def test_forms(self):
+    def test_packed_forms(self):
         for begin, name in ((gzip.compress(b""), "gzip"), (b"\x1f\x8b\x08\x08" + bytes(8), "gzip"),
                             (b"\x28\xb5\x2f\xfd" + bytes(8), "zstd"), (b"fLaC\x00\x00\x00\x22", "FLAC"),
                             (b"fLaC\x80\x00\x00\x22\x10", "FLAC"), (b"", None), (bytes(64), None),

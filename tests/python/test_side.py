@@ -37,15 +37,6 @@ SOUGHT = (
     ("PAL/1 1..20 -1", {"2": "2 1", "chapter 0": "1 0"}))
 
 
-class Collector(unittest.TestCase):
-    def test_it_runs_behind_an_analysis_where_it_ran_before(self):
-        self.addCleanup(gc.enable)
-        for is_enabled, set_so in ((True, gc.enable), (False, gc.disable)):
-            set_so()
-            made("1 2")
-            self.assertEqual(gc.isenabled(), is_enabled)
-
-
 class Seeking(unittest.TestCase):
     def test_texts(self):
         for text, wanted in (("00123", ("picture", (123,))), ("1:09", ("time", (1, 9))),
@@ -122,8 +113,6 @@ class Tables(unittest.TestCase):
              "picture 70000 on line 18, pass 2: neighbours"],
             [23, 12, "both", 12, "", "", "", "clv picture on line 16, pass 1: format; clv on line 17, pass 1: format"],
             [32, 16, "neither", "", "", "", ""]])
-
-    def test_bad_lines(self):
         for text, wanted in (("NTSC -/?/#1", [[1, 17, "change 170", 29120, "", "", ""]]), ("B", [])):
             self.assertEqual(list(bad_line_rows(made(text, side))), wanted)
 
@@ -227,9 +216,7 @@ class Summaries(unittest.TestCase):
         self.assertRegex(bad, r"^levels: lines 17 and 18 have 0 words, 8 are bad, 0 blank: black and white may be "
                          r"wrong, or the signal is noise\. Look at one: dd ")
         self.assertRegex(recovered, "^levels: lines 17 and 18 have 0 words of their own, 60 are bad, 0 blank: ")
-
-    def test_levels_that_read_more_are_named(self):
-        one = made("NTSC Bx20", side)
+        one = made("NTSC Bx20", side)  # of which other levels read more
         one.answer["levels"]["tried"] = {"lines": 40, "read": 0, "black": 16384, "white": 51200, "best": {
             "system": None, "black": None, "white": 30000, "read": 40}}
         self.assertIn(": 0 of 40 lines read with black 16384, white 51200; 40 with --white 30000. Look at one: dd ",
@@ -258,14 +245,13 @@ class Summaries(unittest.TestCase):
 
 class Plotting(InFolder):
     def test_the_command(self):
+        """From another folder the script's whole path is printed, and its name where it isn't there."""
         self.assertEqual([tbc_name(name) for name in ("a/side.vbi.json", "side.json", "side.tbc", "-")],
                          ["a/side.tbc", "side.tbc", "side.tbc", "side.tbc"])
         command = plot_command(made("B", side), "my side.tbc", 1, 16)
         self.assertIn("dd if='my side.tbc' bs=2270 skip=15 ", command)
         self.assertIn("--title 'my side.tbc, field 1, line 16'", command)
 
-    def test_where_the_script_is(self):
-        """From another folder its whole path is printed, and its name where it isn't there."""
         def path():
             return plot_command(made("B", side), "side.tbc", 1, 16).split("python3 ")[1].split(" ")[0]
         self.assertTrue(os.path.exists(path()))
@@ -278,6 +264,13 @@ class Plotting(InFolder):
 
 
 class Sides(unittest.TestCase):
+    def test_the_collector_runs_behind_an_analysis_where_it_ran_before(self):
+        self.addCleanup(gc.enable)
+        for is_enabled, set_so in ((True, gc.enable), (False, gc.disable)):
+            set_so()
+            made("1 2")
+            self.assertEqual(gc.isenabled(), is_enabled)
+
     def test_tables(self):
         cav, clv = made("5..24 11..40 5=S/-/#7", side), made("t0..19", side)
         self.assertEqual([cav.pictures()[5], cav.pictures()[11], cav.pictures()[40]], [1, 13, 99])
