@@ -1,5 +1,4 @@
-"""What breaks cost, how far apart numbers stand, which readings are believed, and what becomes of numbers that are
-passed over, each by itself."""
+"""What breaks cost, how far apart numbers stand, which are believed, and what becomes of those passed over."""
 
 import unittest
 
@@ -53,10 +52,9 @@ class Paces(unittest.TestCase):
                     self.assertEqual(abs(least or 0), offs[0], (pace.kind, number, step, fields))
 
 
-def readings(*numbers, weight=4, first=1):
-    """Readings of these numbers in each second field; None is a field without one."""
-    return [Reading(first + 2 * place, number, weight, (17, 18))
-            for place, number in enumerate(numbers) if number is not None]
+def readings(*numbers, first=1):
+    """Readings of these numbers in each second field."""
+    return [Reading(first + 2 * place, number, 4, (17, 18)) for place, number in enumerate(numbers)]
 
 
 def believed(ones, sure=()):

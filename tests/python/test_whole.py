@@ -15,12 +15,11 @@ from ldvbi_side.answer.whole import counted_by, reasons_of
 
 class FromGaps(unittest.TestCase):
     def test_what_is_lost_and_what_is_not(self):
-        """A film that is cut loses nothing, whether its numbers there are read or not. A field that was written twice
-        is one more than the disc has. Of a still of 802 fields the disc has two. Only one line of the times behind the
-        skip has its minute, so that none of them is believed; nor is picture 5 alone, nor 5 and 6, so that there are
-        too few fields before the next one. Pictures 19 and 20 of film have five fields: in three one is lost, or one of
-        the two has fewer; in seven one is too many. A number that one line shows in pass 2 is enough for the library,
-        so that no pair of fields is named; one on both fields of its picture is none."""
+        """A film that is cut loses nothing. A field that was written twice is one more than the disc has. Only one line
+        of the times behind the skip has its minute, so that none of them is believed; nor is picture 5 alone, nor 5 and
+        6, so that there are too few fields before the next one. Pictures 19 and 20 of film have five fields: in three
+        one is lost, or one of the two has fewer. Over more than 24 fields in which a still isn't read the player may
+        have gone on, and have come back. A number that one line shows in pass 2 is enough for the library."""
         check(self, """
     a film that is cut | NTSC f1..39 e40..79 | said yes || twice alike | NTSC f1..39 e40..80 f81..120 | said yes
     over a number that is unread | NTSC f1..39 e40..79 99=? | said yes | missing 40 unread
@@ -40,6 +39,9 @@ class FromGaps(unittest.TestCase):
     two beside each other | 1..60 90 B 91 B B 120 240..299
         | missing 61-65 undecided, 66-89 lost, 90-91 undecided, 92-119 lost..
     back | 1..59 20..60 | breaks back 117-119 59 to 20, 80 | said no: 1 jump (back)
+    a still | L 1..30 Bx22 30..60 O | stills 30@60-84 | said yes || of pictures | L 1..29 30x40 31..60 O | said yes
+    not seen | L 1..30 Bx24 30..60 O | said can't tell: the player stood still after field 60, or went on and came back
+    nor read | L 1..30 -/?/-x30 30..60 O | said can't tell.. | no breaks
     a skip | t1..30 u2210..2221 73=s28.16/@0:01/- | no missing lost breaks
         | said can't tell: numbers set aside in 12 of 42 fields
     one | -/#5/#5 Bx9 11..40 | said no: fields lost before picture 11; 5 pictures undecided
@@ -54,17 +56,6 @@ class FromGaps(unittest.TestCase):
         self.assertEqual(found["breaks"], [
             {"kind": "lost", "after": 119, "before": 131, "from": 60, "to": 240, "fields": 348}])
         self.assertEqual(({90, 120, 150, 180, 210} & lost, {70, 100, 200} - lost), (set(), set()))
-
-    def test_a_still_that_is_not_seen(self):
-        """A player that stands still shows the number in each second field; over more than 24 fields without it the
-        player may have gone on, and have come back."""
-        check(self, """
-    22 blank fields | L 1..30 Bx22 30..60 O | stills 30@60-84 | said yes
-    24, and that of the picture | L 1..30 Bx24 30..60 O | no breaks
-        | said can't tell: the player stood still after field 60, or went on and came back
-    unread ones | L 1..30 -/?/-x30 30..60 O | said can't tell..
-    a still of as many | L 1..29 30x40 31..60 O | said yes
-    """)
 
     def test_the_clock(self):
         """Of gaps of one number in an NTSC CLV disc those are the clock's that are evenly apart. One that isn't is a
@@ -227,9 +218,8 @@ class Order(unittest.TestCase):
         known["numbers"]["least"] = 11
         known["lines"]["18"].update(pass1=0, pass2=0)
         judged = ldvbi.judge_side(made("5..30", side).readings, "PAL")
-        open_ = {"kind": "lost", "after": 30, "before": 32, "from": 15, "to": 17, "fields": 2}
-        gaps = Gaps(judged._replace(reasons=judged.reasons | Reason.no_numbers), [], more=4, open=[open_],
-                    joins=[{"after": 9}])
+        open_, joins = [{"kind": "lost", "after": 30, "from": 15, "to": 17, "before": 32, "fields": 2}], [{"after": 9}]
+        gaps = Gaps(judged._replace(reasons=judged.reasons | Reason.no_numbers), [], 4, open_, joins)
         unit = Unit("picture", 30)
         reasons = reasons_of(known, gaps, unit, True)
         no = ["lost", "jumps", "speed", "missing", "swapped", "begins", "unread", "lead-out", "joined", "format",
