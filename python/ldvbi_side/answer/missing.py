@@ -4,12 +4,12 @@ lost, by the gaps; numbers that are shown again."""
 import bisect
 from typing import Any, Dict, Iterator, List, NamedTuple, Optional, Sequence, Set, Tuple
 
-from ldvbi import Kind, Reason
+from ldvbi import Reason
 from ..judge.believed import stretch_at
 from ..judge.order import pairs_of
 from ..judge.paces import RATES, Unit
 from ..judge.places import Places
-from ..judge.readings import WEIGHTS, Answer, Codes
+from ..judge.readings import Answer, Codes
 from .gaps import Gaps
 
 _BLANK = frozenset(["blank"])
@@ -138,18 +138,12 @@ def _passed_over(places: Places, losses: _Losses, gaps: Gaps, codes: Codes) -> P
             passed = Passed(one["from"] + 1, one["to"] - 1, *_fate(one, places.numbers, codes.fields))
             for why, first, last in passed.parts():
                 spans[why].append((first, last))
-            spans["undecided"] += _shown_surely(codes, one)
+            shown = map(codes.sure_picture, range(one["after"] + 1, one["before"]))
+            spans["undecided"] += [(number, number) for number in shown if number is not None]
     between = (sorted((before.number, after.number)) for before, after in places.joins)
     others = [(0, losses.begin - 1)] if losses.begin else []
     others += [(one["from"] + 1, one["to"] - 1) for one in gaps.at_speed if one["kind"] == "lost"]
     return PassedOver([*spans.items(), ("unshown", [(low + 1, high - 1) for low, high in between]), ("lost", others)])
-
-
-def _shown_surely(codes, one):
-    """The numbers that the fields in a break show in pass 1 on both lines, each as a span."""
-    pictures = codes.kinds[Kind.picture]
-    return [(number, number) for field in range(one["after"] + 1, one["before"])
-            for number, lines in pictures.get(field, {}).items() if codes.weight(field, lines) == 2 * WEIGHTS[1]]
 
 
 def _why(places: Places, number: int, unread: Set[int], passed: PassedOver) -> str:

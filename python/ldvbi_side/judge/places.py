@@ -9,7 +9,7 @@ from ldvbi import Kind
 from .believed import Numbers, off_at_speed, passed_between
 from .clock import WIDE, Clock, Gap, Played, clock_of
 from .paces import MinutePace, Pace
-from .readings import WEIGHTS, Answer, Codes, Reading
+from .readings import Answer, Codes, Reading
 
 NEAR = (-3, -2, -1, 1, 2, 3)  # fields from a number to those before and behind it
 LEAST = 8  # steps from one number to the next of a disc that shows it on each k-th picture alone
@@ -66,7 +66,8 @@ def places_of(numbers: Numbers, codes: Codes) -> Places:
     joins = [(step.before, step.after) for step in steps if ends and _is_join(step, ends)]
     steps = [_joined(step) if (step.before, step.after) in set(joins) else step for step in steps] if joins else steps
     due, without_field, unshown, unseen = _due(numbers, steps, codes)
-    others = {one: said for one in due for said in [_shown_surely(codes, one[1])] if said is not None}
+    # where both lines show another number surely, none is due
+    others = {one: said for one in due for said in [codes.sure_picture(one[1])] if said is not None}
     for (number, field), said in others.items():
         (unseen if _is_played(codes, field, said) else without_field).add(number)
     due = [one for one in due if one not in others] if others else due
@@ -161,12 +162,6 @@ def _due(numbers, steps, codes):
     # a field that shows a code in the place of a number has none
     without_field.update(number for number, field in found if field in numbers.others)
     return [one for one in found if one[1] not in numbers.others], without_field, unshown, unseen
-
-
-def _shown_surely(codes, field):
-    """The number that a field shows in pass 1 on both lines, so that no other is due there; else None."""
-    shown = codes.kinds[Kind.picture].get(field, {})
-    return next((number for number, lines in shown.items() if codes.weight(field, lines) == 2 * WEIGHTS[1]), None)
 
 
 def _is_played(codes, field, said):

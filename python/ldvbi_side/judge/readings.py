@@ -67,6 +67,11 @@ class Codes(NamedTuple):
         smoothed levels or a recovered one, more of which are wrong."""
         return _weight(self.fields.passes[field - 1], tuple(lines))
 
+    def sure_picture(self, field: int) -> Optional[int]:
+        """The picture number that a field shows in pass 1 on both lines, or None."""
+        shown = self.kinds[Kind.picture].get(field, {})
+        return next((number for number, lines in shown.items() if self.weight(field, lines) == 2 * WEIGHTS[1]), None)
+
     def sure_fields(self, kind: Kind) -> Set[int]:
         """The fields that have a code of this kind on a line of pass 1, or on two lines."""
         passes = self.fields.passes
