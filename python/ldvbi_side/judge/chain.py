@@ -24,6 +24,7 @@ from .readings import Fields, Reading
 
 PAIRS = 10  # believed numbers to one that stands on the next field as well, at most, of what looks like film and isn't
 LAST = 4  # readings before one that are asked in any case
+NOISE = 1000, 4  # readings between two anchors that are noise, if there are more, and one to so many fields or more
 LEAST = price(1)  # that a break costs
 TIE = 2 ** -20  # of chains that are worth the same the one with more readings is taken
 BACK = 4 * TIE  # and with fewer jumps back
@@ -42,10 +43,10 @@ def judged_of(fields: Fields, counted: Counted) -> JudgedSide:
     if counted == Counted.times:
         packed = complete_times(packed, fields.system)
     judged = judge_side(packed, fields.system, counted, may_end=fields.may_end)
-    believed = [one.number if one.state == State.believed else None for one in judged.numbers]
-    pairs = sum(one == other is not None for one, other in zip(believed, believed[1:]))
+    sure = sure_in(judged.numbers)
+    pairs = sum([sure.get(field + 1) == number for field, number in sure.items()])
     is_film = judged.pace == JudgedPace.film
-    is_on_both = pairs > 0 and (PAIRS * pairs >= len(believed) - believed.count(None) if is_film else judged.on_both)
+    is_on_both = pairs > 0 and (PAIRS * pairs >= len(sure) if is_film else judged.on_both)
     if is_on_both == judged.on_both:
         return judged
     both = Both.on_both if is_on_both else Both.on_one
@@ -67,8 +68,9 @@ def anchored(readings: List[Reading], pace: Pace, judged: JudgedSide) -> List[Re
 
 def sure_in(numbers: List[Number]) -> Dict[int, int]:
     """The fields, from 1, of which the library believes a number, each with that."""
+    believed = State.believed
     return {field: number for field, (number, state) in enumerate(numbers, 1)
-            if state == State.believed and number is not None}
+            if state is believed and number is not None}
 
 
 # ---- Between them
@@ -76,21 +78,30 @@ def sure_in(numbers: List[Number]) -> Dict[int, int]:
 def chosen(readings: List[Reading], pace: AnyPace, sure: Mapping[int, int]) -> List[Reading]:
     """Of these readings those that are believed: in the fields of `sure` the one with the number that is sure, and
     between these the best chain from one to the next. They ascend by field."""
-    found: List[Reading] = []
-    part: List[Reading] = []  # from one that is sure on
-    is_first_sure = is_still = False
-    for one in readings:
-        number = sure.get(one.field)
-        if number is None:
-            part.append(one)
-        elif number == one.number:
-            if is_first_sure and len(part) == 1:  # as most are
-                found += part
-            else:
-                found += _between(part + [one], pace, is_first_sure, True, is_still)[:-1]
-            is_still = bool(found) and found[-1].number == number
-            part, is_first_sure = [one], True
-    return found + _between(part, pace, is_first_sure, False, is_still)
+    get, found, begin = sure.get, [], 0
+    kept = [one for one in readings if get(one.field, one.number) == one.number]
+    for first, last in _stretches([place for place, one in enumerate(kept) if one.field not in sure]):
+        found += kept[begin:first]
+        around = kept[max(first - 1, 0):last + 1]
+        is_still = len(found) > 1 and found[-2].number == found[-1].number
+        begin = last
+        if not _is_noise(around):
+            row = _between(around, pace, first > 0, last < len(kept), is_still)
+            found += row[first > 0:len(row) - (last < len(kept))]
+    return found + kept[begin:]
+
+
+def _is_noise(part):
+    """Whether so many numbers are read between two of the library that it would believe some if the disc had them."""
+    count, share = NOISE
+    return len(part) > count and share * len(part) > part[-1].field - part[0].field
+
+
+def _stretches(places):
+    """The stretches of these places, which ascend: of each the first one, and the one behind the last."""
+    begins = [one for one, before in zip(places, [None] + places) if before is None or one - before > 1]
+    ends = [one for one, after in zip(places, places[1:] + [None]) if after is None or after - one > 1]
+    return zip(begins, [one + 1 for one in ends])
 
 
 def chain(readings: List[Reading], pace: AnyPace) -> List[Reading]:
@@ -115,9 +126,9 @@ class _Earlier:
                 yield self.of_row[row + step], 0
         if one.number in self.of_number:
             yield self.of_number[one.number], 0
+        yield top, LEAST  # first, since few of the others are worth more then
         for before in range(index - 1, max(index - 1 - LAST, -1), -1):
             yield before, LEAST
-        yield top, LEAST
 
     def add(self, index: int, one: Reading) -> None:
         """Takes in a reading."""

@@ -153,7 +153,7 @@ def _completions(times, numbers, readings):
     """The times of fields whose minute isn't believed: each second and picture with the minute that brings it nearest
     to a believed time beside it."""
     more, said = [], {(reading.field, reading.number) for reading in readings}
-    for field in sorted(times.parts.keys() - set(numbers.fields)):
+    for field in sorted(times.parts.keys() - numbers.taken.keys()):
         dues = [near.number + (field - near.field) // 2 for near in numbers.around(field) if near]
         found = {number for due in dues for number in [times.nearest(due, field)]
                  if abs(number - due) <= CARRIED * times.rate}

@@ -31,24 +31,20 @@ def with_rest_between(numbers: Numbers, readings: List[Reading]) -> Numbers:
     misread."""
     assert isinstance(numbers.pace, Pace)  # minutes alone have none of these
     more: List[Reading] = []
-    for place, ones in _between(numbers, readings).items():
-        before, after = numbers.believed[place - 1:place + 1]
-        inside = [one for one in ones if before.number < one.number < after.number]
-        row = chain(inside, numbers.pace) if inside and numbers.off(before, after) != 0 else []
+    for before, after, inside in _between(numbers, readings):
+        row = chain(inside, numbers.pace) if numbers.off(before, after) != 0 else []
         if row and not any(map(numbers.off, row, row[1:])):
             more += row if len(row) > 1 or _is_another(numbers, before, row[0], after) else []
     return numbers.believing(sorted(numbers.believed + more, key=lambda one: one.field)) if more else numbers
 
 
 def _between(numbers, readings):
-    """The readings that are set aside between two believed ones, by the place of the second of these."""
-    taken, found = set(numbers.fields), {}
-    for one in readings:
-        if one.field not in taken and one.weight >= WEIGHTS[1]:
-            place = bisect.bisect(numbers.fields, one.field)
-            if 0 < place < len(numbers.fields):
-                found.setdefault(place, []).append(one)
-    return found
+    """The believed readings between which some are set aside whose numbers are between, too, with these."""
+    found = {}
+    for one, before, after in numbers.beside(numbers.aside(readings)):
+        if before and after and before.number < one.number < after.number and one.weight >= WEIGHTS[1]:
+            found.setdefault(before.field, (before, after, []))[2].append(one)
+    return found.values()
 
 
 def _is_another(numbers, before, one, after):
@@ -73,30 +69,41 @@ def _digits(unit, number):
 def with_turned(numbers: Numbers, readings: List[Reading]) -> Numbers:
     """These numbers, with those that a disc showed while it was turned by hand: near those before and behind it, among
     breaks that are as near. The chain passes over them where two others fit by chance."""
-    believed, taken = numbers.believed, set(numbers.fields)
-    near = [one for one in readings if one.field not in taken and _is_turned(numbers, one)] if taken else []
-    marks = [one.field for one in near]
-    is_still = False
-    for before, after in zip(believed, believed[1:]) if near else ():
-        off = numbers.off(before, after)
-        if abs(after.number - before.number) <= TURN and (off or off is None and not is_still):
-            marks.append(after.field)
-        is_still = off is None
-    marks.sort()
+    near = [one for one, *around in numbers.beside(numbers.aside(readings)) if _is_turned(one, around)
+            ] if numbers.believed else []
+    if not near:
+        return numbers
+    marks = sorted([one.field for one in near] + _turns(numbers))
     more = {one.field: one for one in near if
             bisect.bisect(marks, one.field + TURNED) - bisect.bisect_left(marks, one.field - TURNED) > SIGNS}
-    return numbers.believing(sorted(believed + list(more.values()), key=lambda one: one.field)) if more else numbers
+    return numbers.believing(sorted(numbers.believed + list(more.values()), key=lambda one: one.field)
+                             ) if more else numbers
 
 
-def _is_turned(numbers, one):
+def _turns(numbers):
+    """The fields of believed readings that don't go on from the one before, and whose numbers are near."""
+    turns, last = [], None
+    for place in numbers.odd_places:
+        before, after = numbers.believed[place - 1:place + 1]
+        off = numbers.off(before, after)
+        is_still = last == place - 1
+        if abs(after.number - before.number) <= TURN and (off or off is None and not is_still):
+            turns.append(after.field)
+        last = place if off is None else None
+    return turns
+
+
+def _is_turned(one, around):
     """Whether a number is near the believed ones around it, and is read in pass 1 or on two lines, or is one of
     these."""
-    place = bisect.bisect(numbers.fields, one.field)
-    around = numbers.believed[max(place - 1, 0):place + 1]
-    is_near = all(abs(one.number - other.number) <= TURN and abs(one.field - other.field) <= TURNED
-                  for other in around)
-    return is_near and (one.weight >= WEIGHTS[1] or any(one.number == other.number for other in around))
-
+    _, number, weight, *_ = one
+    is_one = False
+    for other in around:
+        if other:
+            if abs(one.field - other.field) > TURNED or abs(number - other.number) > TURN:
+                return False
+            is_one = is_one or number == other.number
+    return weight >= WEIGHTS[1] or is_one
 
 
 # ---- Other speeds
@@ -158,9 +165,11 @@ def _loose(numbers, readings):
     """The readings that fit neither the one before nor the one behind at the disc's own speed, and the believed ones
     whose number stays."""
     believed = numbers.believed
-    goes_on = [one.number != other.number and other.field - one.field - other.variant + one.variant ==
-               2 * (other.number - one.number) for one, other in zip(believed, believed[1:])]
-    fits = {one.field for one, before, after in zip(believed, [False] + goes_on, goes_on + [False]) if before or after}
+    begins, values = [one.field - one.variant for one in believed], numbers.values
+    goes_on = [step != 0 and apart == 2 * step for apart, step in
+               zip(map(operator.sub, begins[1:], begins), map(operator.sub, values[1:], values))]
+    fits = {field for field, before, after in zip(numbers.fields, [False] + goes_on, goes_on + [False])
+            if before or after}
     stays = set()
     for place in [place for place, is_fit in enumerate(goes_on) if not is_fit]:
         one, other = believed[place:place + 2]
@@ -256,8 +265,7 @@ def with_swaps(numbers: Numbers, readings: List[Reading], shown: Collection[int]
     """These numbers, with each that was read in pass 1 or on two lines and stands one field off between two that fit,
     where no number was read in the field in which it is due. `shown` are the fields in which a number was read."""
     kind = numbers.pace.kind if numbers.pace else None
-    taken = set(numbers.fields)
-    aside = [one for one in readings if one.field not in taken and one.weight >= WEIGHTS[1]]
+    aside = [one for one in numbers.aside(readings) if one.weight >= WEIGHTS[1]]
     if kind in ("video", "film"):
         found = {one.field: (one, due) for one, due in _off_by_one(numbers, aside) if due not in shown}
     else:
@@ -272,12 +280,11 @@ def with_swaps(numbers: Numbers, readings: List[Reading], shown: Collection[int]
 def _off_by_one(numbers, aside):
     """The numbers that stand one field off between two that fit each other, each with the field in which it is due."""
     believed = numbers.believed
-    threes = [(before, one, after) for before, one, after in zip(believed, believed[1:], believed[2:])
+    threes = [believed[place - 1:place + 2] for place in numbers.odd_places if place + 1 < len(believed)]
+    threes = [(before, one, after) for before, one, after in threes
               if one.field - before.field != 2 * (one.number - before.number)]
-    for one in aside if believed else ():
-        place = bisect.bisect(numbers.fields, one.field)  # of no believed one
-        if 0 < place < len(believed) and believed[place - 1].number < one.number < believed[place].number:
-            threes.append((believed[place - 1], one, believed[place]))
+    threes += [(before, one, after) for one, before, after in numbers.beside(aside)
+               if before and after and before.number < one.number < after.number]
     for before, one, after in threes:
         if before.number < one.number < after.number and before.variant == after.variant and (
                 numbers.fit((before, after))):

@@ -2,6 +2,7 @@
 one side and the start of another."""
 
 import bisect
+import operator
 from collections import Counter
 from typing import Dict, List, NamedTuple, Set, Tuple
 
@@ -48,9 +49,11 @@ class Places(NamedTuple):
 
 
 class _Step(NamedTuple):
-    """Two believed readings, one behind the other. `kind` is `same` (one showing of a number), `still` (it is shown
-    again), `next` (they fit), `speed` (they fit at another speed), `join` (another side begins between them), `gap`
-    (the clock may have left out what is between them) or `break`; `off` are the fields that are too many or too few."""
+    """Two believed readings, one behind the other, of which `place` is that of the second. `kind` is `same` (one
+    showing of a number), `still` (it is shown again), `next` (they fit), `speed` (they fit at another speed), `join`
+    (another side begins between them), `gap` (the clock may have left out what is between them) or `break`; `off` are
+    the fields that are too many or too few."""
+    place: int
     before: Reading
     after: Reading
     kind: str
@@ -61,8 +64,8 @@ def places_of(numbers: Numbers, codes: Codes) -> Places:
     """The places of these numbers."""
     may_leave_out = numbers.unit.name == "time" and codes.fields.system == "NTSC"
     ends = sorted(codes.sure_fields(Kind.lead_in) | codes.sure_fields(Kind.lead_out))
-    steps = [_step(numbers, before, after, may_leave_out)
-             for before, after in zip(numbers.believed, numbers.believed[1:])]
+    # of all other believed readings the next one is that of the next number
+    steps = [_step(numbers, place, may_leave_out) for place in numbers.odd_places]
     joins = [(step.before, step.after) for step in steps if ends and _is_join(step, ends)]
     steps = [_joined(step) if (step.before, step.after) in set(joins) else step for step in steps] if joins else steps
     due, without_field, unshown, unseen = _due(numbers, steps, codes)
@@ -71,15 +74,14 @@ def places_of(numbers: Numbers, codes: Codes) -> Places:
     for (number, field), said in others.items():
         (unseen if _is_played(codes, field, said) else without_field).add(number)
     due = [one for one in due if one not in others] if others else due
-    clock, showings = clock_of(_played(steps)), _showings(numbers.believed, steps)
+    clock, showings = clock_of(_played(steps, len(numbers.believed))), _showings(numbers.believed, steps)
     breaks = [_break(numbers, step.before, step.after, step.off) for step in steps if step.kind == "break"]
     breaks += [_break(numbers, before, after, numbers.off(before, after)) for before, after in clock.breaks]
     if isinstance(numbers.pace, MinutePace):
         breaks += _minute_breaks(numbers.pace, showings, ends)
-    number_of = {field: number for number, field in due}
-    number_of.update((reading.field, reading.number) for reading in numbers.believed)
+    number_of = {**{field: number for number, field in due}, **numbers.taken}
     return Places(numbers, showings, sorted(breaks, key=lambda one: one["after"]), joins,
-                  _stills(numbers.believed, steps), due, without_field, unseen, unshown, clock, number_of)
+                  _stills(steps), due, without_field, unseen, unshown, clock, number_of)
 
 
 def _is_join(step, ends):
@@ -93,18 +95,19 @@ def _joined(step):
     return step if step.after.number < step.before.number else step._replace(kind="join")
 
 
-def _step(numbers, before, after, may_leave_out):
+def _step(numbers, place, may_leave_out):
+    before, after = numbers.believed[place - 1:place + 1]
     is_second = _is_second(before, after)
     if numbers.speeds and not is_second and off_at_speed(numbers, before, after) == 0:
-        return _Step(before, after, "speed")
+        return _Step(place, before, after, "speed")
     if before.number == after.number:
         kind = numbers.pace.kind
-        return _Step(before, after, "same" if kind == "minute" or kind == "both" and is_second else "still")
+        return _Step(place, before, after, "same" if kind == "minute" or kind == "both" and is_second else "still")
     off = numbers.off(before, after)
     if off == 0:
-        return _Step(before, after, "next")
+        return _Step(place, before, after, "next")
     is_gap = may_leave_out and after.number > before.number and off in (-2, -4)
-    return _Step(before, after, "gap" if is_gap else "break", off)
+    return _Step(place, before, after, "gap" if is_gap else "break", off)
 
 
 def _is_second(before, after):
@@ -113,19 +116,20 @@ def _is_second(before, after):
 
 
 def _showings(believed, steps):
-    showings = [[reading.number, reading.field, reading.field] for reading in believed[:1]]
-    for step in steps:
-        if step.kind == "same":
-            showings[-1][2] = step.after.field
-        else:
-            showings.append([step.after.number, step.after.field, step.after.field])
-    return showings
+    showings = [[number, field, field] for field, number, *_ in believed]
+    same = [step.place for step in steps if step.kind == "same"]
+    for place in reversed(same):
+        showings[place - 1][2] = showings[place][2]
+    again = set(same)
+    return [one for place, one in enumerate(showings) if place not in again] if again else showings
 
 
-def _stills(believed, steps):
+def _stills(steps):
     """The numbers that stand still, each with its fields."""
-    stills, begin = [], believed[0].field if believed else None  # the first field of the last showing
+    stills, begin, last = [], None, None  # the first field of the last showing, and the place of its step
     for step in steps:
+        if last != step.place - 1:
+            begin = step.before.field
         is_still = bool(stills) and stills[-1]["last"] == step.before.field
         if is_still and step.kind in ("same", "still"):
             stills[-1]["last"] = step.after.field
@@ -133,6 +137,7 @@ def _stills(believed, steps):
             stills.append({"number": step.after.number, "first": begin, "last": step.after.field})
         if step.kind != "same":
             begin = step.after.field
+        last = step.place
     return stills
 
 
@@ -141,7 +146,7 @@ def _due(numbers, steps, codes):
     that the disc doesn't show; and those in whose place nothing was seen but other codes."""
     found, spacing = [], _spacing_of(numbers)
     without_field, unshown, unseen = set(), set(), set()
-    for before, after, kind, _ in steps:
+    for _, before, after, kind, _ in steps:
         if kind == "speed":
             found += passed_between(numbers, before, after)
         elif kind == "next" and after.number - before.number > 1:
@@ -179,18 +184,21 @@ def _due_between(numbers, before, after):
             for step in range(1, after.number - before.number)]
 
 
-def _played(steps):
-    """The numbers as they were played from one wide jump to the next, with the gaps that the clock may have made."""
-    played, count, gaps = [], 1, []
-    for step in steps:
-        if step.kind in ("next", "gap"):
-            count += step.after.number - step.before.number
-            if step.kind == "gap":
-                gaps.append(Gap(step.before, step.after, -step.off // 2))
-        elif step.kind == "join" or step.kind == "break" and abs(step.off) >= WIDE:
-            played.append(Played(count, gaps))
-            count, gaps = 1, []
-    return played + [Played(count, gaps)]
+def _played(steps, count):
+    """The numbers as they were played from one wide jump to the next, with the gaps that the clock may have made.
+    `count` are the believed readings."""
+    played, numbers, gaps, begin = [], 1, [], 0
+    for place, before, after, kind, off in steps:
+        numbers += place - 1 - begin  # those in between go on by one each
+        begin = place
+        if kind in ("next", "gap"):
+            numbers += after.number - before.number
+            if kind == "gap":
+                gaps.append(Gap(before, after, -off // 2))
+        elif kind == "join" or kind == "break" and abs(off) >= WIDE:
+            played.append(Played(numbers, gaps))
+            numbers, gaps = 1, []
+    return played + [Played(numbers + max(count - 1 - begin, 0), gaps)]
 
 
 def _break(numbers, before, after, off):
@@ -210,9 +218,9 @@ def _spacing_of(numbers: Numbers) -> int:
     next are longer, and all as long. Where numbers aren't read by chance, more of them are one apart than two."""
     if numbers.unit.name != "time":
         return 1
-    believed = numbers.believed
-    steps = Counter(after.number - before.number for before, after in zip(believed, believed[1:])
-                    if after.field - before.field == 2 * (after.number - before.number))
+    fields, values = numbers.fields, numbers.values
+    steps = Counter(step for apart, step in zip(map(operator.sub, fields[1:], fields),
+                                                map(operator.sub, values[1:], values)) if apart == 2 * step)
     step, count = max(steps.items(), key=lambda one: one[1], default=(1, 0))
     return step if count >= LEAST and 2 * count > sum(steps.values()) else 1
 

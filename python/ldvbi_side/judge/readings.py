@@ -4,6 +4,7 @@ import functools
 from typing import Any, Callable, Dict, Iterable, List, NamedTuple, Optional, Set, Tuple, cast
 
 from ldvbi import Kind, classify
+from ldvbi.classes import usual_picture
 from ldvbi.codes import CAV_KINDS, CLV_KINDS, LINES, STANDARD_LINES, code_of, name_of, value_of
 
 WEIGHTS = (0, 2, 1, 1)  # of a line without a word, with one of pass 1, of pass 2, with a recovered one (pass 3)
@@ -74,9 +75,12 @@ class Codes(NamedTuple):
 
     def sure_fields(self, kind: Kind) -> Set[int]:
         """The fields that have a code of this kind on a line of pass 1, or on two lines."""
-        passes = self.fields.passes
-        return {field for field, values in self.kinds[kind].items()
-                if _weight(passes[field - 1], sum(values.values(), ())) >= WEIGHTS[1]}
+        passes, weight, found = self.fields.passes, _weight, set()
+        for field, values in self.kinds[kind].items():
+            lines = sum(values.values(), ()) if len(values) > 1 else next(iter(values.values()))
+            if weight(passes[field - 1], lines) >= WEIGHTS[1]:
+                found.add(field)
+        return found
 
     def readings(self, kind: Kind) -> List[Reading]:
         """The values of a kind as readings, by field."""
@@ -138,13 +142,18 @@ class _Known(Dict[int, Any]):
 
     def __init__(self, kinds: Dict[Kind, ByField], lines: Lines) -> None:
         super().__init__()
-        self.kinds, self.lines = kinds, lines
+        self.lines = lines
+        self.of_kind = [kinds.get(kind) for kind in Kind]  # by the kind's number
+        self.is_there = [lines[0] in STANDARD_LINES.get(kind, ()) for kind in Kind]
 
     def __missing__(self, word: int) -> Any:
-        code = classify(word)
-        is_there = self.lines[0] in STANDARD_LINES.get(code.kind, ())
-        said = {value_of(code): self.lines} if is_there else None
-        self[word] = known = self.kinds.get(code.kind), said, self.lines
+        value: Any = usual_picture(word)  # as most of the words of a CAV disc are, and no two alike
+        kind = Kind.picture
+        if value is None:
+            code = classify(word)
+            kind, value = code.kind, value_of(code)
+        said = {value: self.lines} if self.is_there[kind] else None
+        self[word] = known = self.of_kind[kind], said, self.lines
         return known
 
 
