@@ -31,15 +31,18 @@ def chapters_of(codes: Codes, places: Places) -> Tuple[List[Answer], List[Answer
     breaks += [field for one in places.numbers.speeds if one.line.step < 0
                for field in (one.first + 1, one.first + 2, one.last, one.last + 2)]
     breaks.sort()
-    readings = codes.readings(Kind.chapter)
-    sure = sure_in(judge_chapters(codes.fields.packed))
+    found, sure = codes.kinds[Kind.chapter], sure_in(judge_chapters(codes.fields.packed))
     if breaks:  # at each any chapter may follow, so the breaks up to its field are part of a reading's number
+        sure = {field: 100 * bisect.bisect(breaks, field) + chapter for field, chapter in sure.items()}
+    sure = _in_order(sure)
+    inside = _inside(found, sure)
+    readings = codes.readings({field: values for field, values in found.items() if field not in inside})
+    if breaks:
         readings = [Reading(field, 100 * bisect.bisect(breaks, field) + chapter, weight, lines)
                     for field, chapter, weight, lines, _ in readings]
-        sure = {field: 100 * bisect.bisect(breaks, field) + chapter for field, chapter in sure.items()}
-    believed = chosen(readings, ChapterPace(), _in_order(sure))
-    if LEAST_SHARE * len(believed) < len(codes.fields.words):
-        believed = []
+    believed = chosen(readings, ChapterPace(), sure)
+    if LEAST_SHARE * (len(believed) + len(inside)) < len(codes.fields.words):
+        believed, readings = [], codes.readings(found)
     aside = chapters_aside(codes, readings, {reading.field: reading.number % 100 for reading in believed})
     return (_chapters(believed, places), *aside)
 
@@ -47,10 +50,19 @@ def chapters_of(codes: Codes, places: Places) -> Tuple[List[Answer], List[Answer
 def _in_order(sure):
     """These chapters by field, without those that stand between two others of which they aren't in order: what is
     misread for the next chapter just before it is believed by the library."""
-    fields = list(sure)
-    late = {one for before, one, after in zip(fields, fields[1:], fields[2:])
-            if sure[before] <= sure[after] and not sure[before] <= sure[one] <= sure[after]}
-    return {field: chapter for field, chapter in sure.items() if field not in late}
+    fields, numbers = list(sure), list(sure.values())
+    late = [fields[place] for place, (before, one, after) in enumerate(zip(numbers, numbers[1:], numbers[2:]), 1)
+            if not before <= one <= after and before <= after]
+    for field in late:
+        del sure[field]
+    return sure
+
+
+def _inside(found, sure):
+    """The fields whose chapter is sure, as the same one is before and behind them: of most chapters all but two."""
+    numbers = list(map(sure.get, found))
+    return {field for field, before, one, after in zip(list(found)[1:], numbers, numbers[1:], numbers[2:])
+            if before == one == after is not None and len(found[field]) == 1}
 
 
 def _chapters(believed, places):

@@ -92,7 +92,7 @@ def numbers_of(codes: Codes) -> Found:
 def _pictures_of(codes):
     """The picture numbers of a CAV side, or of one without codes of either format."""
     system, judged = codes.fields.system, judged_of(codes.fields, Counted.pictures)
-    readings = codes.readings(Kind.picture)
+    readings = codes.readings(codes.kinds[Kind.picture])
     if not readings:
         return Found(no_numbers(system, judged), [])
     pace = pace_of(judged)

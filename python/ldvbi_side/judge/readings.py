@@ -82,12 +82,12 @@ class Codes(NamedTuple):
                 found.add(field)
         return found
 
-    def readings(self, kind: Kind) -> List[Reading]:
-        """The values of a kind as readings, by field."""
+    def readings(self, found: ByField) -> List[Reading]:
+        """The values of these fields as readings."""
         passes = self.fields.passes
         make = cast(Callable[..., Reading], functools.partial(tuple.__new__, Reading))  # there are many
         return [make((field, value, _weight(passes[field - 1], lines), lines, 0))
-                for field, values in self.kinds[kind].items() for value, lines in values.items()]
+                for field, values in found.items() for value, lines in values.items()]
 
     def words_of(self, kinds: Iterable[Kind]) -> List[Tuple[int, Dict[str, int]]]:
         """The different words of kinds that have a line to themselves: of each the word, its fields' count, the first
