@@ -3,7 +3,9 @@ library is needed here: the tests compare each word that begins with 8 or F with
 
 import enum
 import operator
-from typing import NamedTuple, Optional, SupportsIndex, Tuple
+import re
+import struct
+from typing import Collection, Dict, NamedTuple, SupportsIndex, Tuple
 
 
 class Kind(enum.IntEnum):
@@ -69,6 +71,7 @@ CLASSES = (
 _CAV_KINDS = frozenset(one.kind for one in CLASSES if one.disc == "cav")
 _CLV_KINDS = frozenset(one.kind for one in CLASSES if one.disc == "clv")
 _OTHER = Code(Kind.other, 0, 0)
+_USUAL_PICTURE = re.compile("00f([0-7][0-9]{4})|.{8}")  # of eight digits each
 
 
 def whole_number(name: str, value: SupportsIndex) -> int:
@@ -116,11 +119,11 @@ def _code_of(word, first, second, third, fourth, fifth, sixth):
     return _OTHER
 
 
-def usual_picture(word: int) -> Optional[int]:
-    """The number of a picture's word whose six digits are F, one below 8 and four below 10, as most are; None of all
-    other words. It takes half the time of `classify`."""
-    digits = "%X" % word
-    return int(digits[1:]) if digits < "F8" and digits[0] == "F" and digits[1:].isdecimal() else None
+def usual_pictures(words: Collection[int]) -> Dict[int, int]:
+    """The numbers of those of these words whose six digits are F, one below 8 and four below 10, as those of most
+    pictures are. `classify` says the same of each, in ten times the time."""
+    digits = struct.pack(">%dI" % len(words), *words).hex()
+    return {word: int(number) for word, number in zip(words, _USUAL_PICTURE.findall(digits)) if number}
 
 
 def format_of(first: SupportsIndex, second: SupportsIndex, third: SupportsIndex) -> Format:

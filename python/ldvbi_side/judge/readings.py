@@ -4,7 +4,7 @@ import functools
 from typing import Any, Callable, Dict, Iterable, List, NamedTuple, Optional, Set, Tuple, cast
 
 from ldvbi import Kind, classify
-from ldvbi.classes import usual_picture
+from ldvbi.classes import usual_pictures
 from ldvbi.codes import CAV_KINDS, CLV_KINDS, LINES, STANDARD_LINES, code_of, name_of, value_of
 
 WEIGHTS = (0, 2, 1, 1)  # of a line without a word, with one of pass 1, of pass 2, with a recovered one (pass 3)
@@ -147,13 +147,9 @@ class _Known(Dict[int, Any]):
         self.is_there = [lines[0] in STANDARD_LINES.get(kind, ()) for kind in Kind]
 
     def __missing__(self, word: int) -> Any:
-        value: Any = usual_picture(word)  # as most of the words of a CAV disc are, and no two alike
-        kind = Kind.picture
-        if value is None:
-            code = classify(word)
-            kind, value = code.kind, value_of(code)
-        said = {value: self.lines} if self.is_there[kind] else None
-        self[word] = known = self.of_kind[kind], said, self.lines
+        code = classify(word)
+        said = {value_of(code): self.lines} if self.is_there[code.kind] else None
+        self[word] = known = self.of_kind[code.kind], said, self.lines
         return known
 
 
@@ -175,10 +171,16 @@ def _collected(words):
             for value in said:
                 merged[value] = merged.get(value, ()) + lines
 
+    # no two pictures have the same word, so that it doesn't pay to keep what these say
+    pictures, on_both = kinds[Kind.picture], both.lines
+    picture_of = usual_pictures(set().union(*([ones[place] for ones in words] for place in (1, 2)))).get
     for field, (one, two, three) in enumerate(words, 1):
         if one:
             take(field, first[one])
-        if two and two == three:
+        number, other = picture_of(two), picture_of(three)
+        if number is not None and other is not None:
+            pictures[field] = {number: on_both} if number == other else {number: second.lines, other: third.lines}
+        elif two and two == three:
             fields, said, _ = known = both[two]
             if said is None or field in fields:
                 take(field, known)
