@@ -5,6 +5,7 @@ Where the rules of docs/SIDES.md are: 1 in paces.py, 2 in readings.py, 3 and 4 i
 places.py, 6 and the end of 4 in order.py, 7 in parts.py and readings.py, 8 in places.py, missing.py and confirmed.py, 9
 in clock.py. What the library says of the side is taken in by gaps.py."""
 
+import operator
 from typing import List, NamedTuple
 
 from ldvbi import Kind
@@ -107,8 +108,9 @@ def _of_parts(codes: Codes, places: Places, doubts: Doubts, begin: int) -> Answe
     lead_out, stray_out = ends_of(codes, Kind.lead_out, places.numbers)
     stops, stray_stops = stops_of(codes, places)
     return {
-        "doubtful": _by_place(doubts.doubtful + doubtful), "conflicts": _by_place(doubts.conflicts),
-        "chapterConflicts": _by_place(conflicts), "secondRows": doubts.second_rows,
+        "doubtful": _by_place(doubts.doubtful + doubtful),
+        "conflicts": sorted(doubts.conflicts, key=operator.itemgetter("field")),
+        "chapterConflicts": conflicts, "secondRows": doubts.second_rows,
         "chapters": [dict(one, frame=frame_of(one["field"], begin)) for one in chapters],
         "stops": [{"field": one["field"], "frame": frame_of(one["field"], begin), **one} for one in stops],
         "leadIn": lead_in, "leadOut": lead_out, "stray": _by_place(codes.stray + stray_in + stray_out + stray_stops),
@@ -116,4 +118,4 @@ def _of_parts(codes: Codes, places: Places, doubts: Doubts, begin: int) -> Answe
 
 
 def _by_place(ones: List[Answer]) -> List[Answer]:
-    return sorted(ones, key=lambda one: (one["field"], one.get("line", 0)))
+    return sorted(ones, key=operator.itemgetter("field", "line"))

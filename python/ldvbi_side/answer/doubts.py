@@ -1,19 +1,22 @@
 """What is set aside, by name: doubtful numbers, lines that differ, and rows of numbers that weren't taken. All of it is
 in the form of the answer."""
 
+import array
 import bisect
 from typing import Any, Collection, Dict, Iterable, List, Mapping, NamedTuple, Optional, Tuple
 
-from ldvbi import Counted, Kind, Pace as JudgedPace, State, judge
+from ldvbi import Cause, Counted, Kind, Pace as JudgedPace, judge
 from ldvbi.codes import LINES, name_of
-from ldvbi.readings import PACKED_FIELD, PACKED_LINE
+from ldvbi.readings import PACKED_LINE
 from ..judge.believed import Numbers
+from ..judge.chain import sure_in
 from ..judge.numbers import Found
 from ..judge.paces import minute_text, price
 from ..judge.readings import Answer, Codes, Lines, Reading
 
 WIDEST = price(1 << 18)  # more than the widest break of a side costs
 SHARE = 10  # believed readings to one of a second row, at most
+_NAMES = {kind: name_of(kind) for kind in Kind}
 
 
 class Doubts(NamedTuple):
@@ -78,13 +81,9 @@ def doubts_in(codes: Codes, found: Found) -> Doubts:
 
 def doubts_of(codes: Codes, kind: Kind, field: int, lines: Lines, text: Any, beside: Beside) -> List[Answer]:
     """The words of these lines, which are of this kind, and whose number is this text, by name."""
-    words, passes, name = codes.fields.words[field - 1], codes.fields.passes[field - 1], name_of(kind)
-    why, before, after = beside
-    found = []
-    for line in lines:
-        found.append({"field": field, "line": line, "word": "%06X" % words[line - 16], "kind": name,
-                      "pass": passes[line - 16], "why": why, "number": text, "before": before, "after": after})
-    return found
+    words, passes, name = codes.fields.words[field - 1], codes.fields.passes[field - 1], _NAMES[kind]
+    return [{"field": field, "line": line, "word": "%06X" % words[line - 16], "kind": name, "pass": passes[line - 16],
+             "why": beside[0], "number": text, "before": beside[1], "after": beside[2]} for line in lines]
 
 
 def conflict_of(field: int, said: Iterable[Tuple[Any, Lines]], taken: Any) -> Answer:
@@ -176,17 +175,16 @@ def _second_rows(codes: Codes, numbers: Numbers, rest: List[Reading]) -> List[An
 
 def _row_of(codes, numbers, rest):
     """Those of these readings that the library believes of a side on which nothing else was read."""
-    fields, size = codes.fields, PACKED_FIELD.size
-    packed = bytearray(PACKED_FIELD.pack(*(1, 0, 0, 0) * len(LINES)) * len(fields.words))
-    for one in rest:
-        for line in one.lines:
-            place = line - LINES[0]
-            word, of_pass = fields.words[one.field - 1][place], fields.passes[one.field - 1][place]
-            PACKED_LINE.pack_into(packed, size * (one.field - 1) + PACKED_LINE.size * place, 0, of_pass, 0, word)
+    fields, lines = codes.fields, array.array("Q", codes.fields.packed)  # a line has eight bytes
+    left = array.array("Q", PACKED_LINE.pack(Cause.blank, 0, 0, 0)) * len(lines)
+    for field, _, _, ones, _ in rest:
+        for line in ones:
+            place = len(LINES) * (field - 1) + line - LINES[0]
+            left[place] = lines[place]
     pace = JudgedPace.film if numbers.pace.kind == "film" else JudgedPace.video
     counted = Counted.pictures if numbers.unit.name == "picture" else Counted.times
-    answers = judge(packed, fields.system, counted, pace)
-    return [one for one in rest if answers[one.field - 1] == (one.number, State.believed)]
+    get = sure_in(judge(left, fields.system, counted, pace)).get
+    return [one for one in rest if get(one.field) == one.number]
 
 
 # ---- Times

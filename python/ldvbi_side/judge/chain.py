@@ -24,7 +24,8 @@ from .readings import Fields, Reading
 
 PAIRS = 10  # believed numbers to one that stands on the next field as well, at most, of what looks like film and isn't
 LAST = 4  # readings before one that are asked in any case
-NOISE = 1000, 4  # readings between two anchors that are noise, if there are more, and one to so many fields or more
+LONG = 1000  # readings between two anchors that may be noise, if there are more
+DENSE = 4  # fields to one of these, at most, and of so many one that goes on
 LEAST = price(1)  # that a break costs
 TIE = 2 ** -20  # of chains that are worth the same the one with more readings is taken
 BACK = 4 * TIE  # and with fewer jumps back
@@ -85,16 +86,20 @@ def chosen(readings: List[Reading], pace: AnyPace, sure: Mapping[int, int]) -> L
         around = kept[max(first - 1, 0):last + 1]
         is_still = len(found) > 1 and found[-2].number == found[-1].number
         begin = last
-        if not _is_noise(around):
+        if not _is_noise(around, pace):
             row = _between(around, pace, first > 0, last < len(kept), is_still)
             found += row[first > 0:len(row) - (last < len(kept))]
     return found + kept[begin:]
 
 
-def _is_noise(part):
-    """Whether so many numbers are read between two of the library that it would believe some if the disc had them."""
-    count, share = NOISE
-    return len(part) > count and share * len(part) > part[-1].field - part[0].field
+def _is_noise(part, pace):
+    """Whether this is a long part with a number in many of its fields, of which few go on with one of those just
+    before. Any other one has to be looked at: the disc may have two numbers on each picture, or be turned by hand."""
+    if len(part) <= LONG or DENSE * len(part) < part[-1].field - part[0].field:
+        return False
+    rows = [pace.row(one.field, one.number) for one in part]
+    around = zip(rows[LAST:], *(rows[LAST - back:len(rows) - back] for back in range(1, LAST + 1)))
+    return DENSE * sum([row in before for row, *before in around]) < len(part)
 
 
 def _stretches(places):
