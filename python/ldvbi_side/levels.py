@@ -2,10 +2,11 @@
 them: what comes of the trial is said, for somebody to look at."""
 
 import struct
-from typing import Any, Dict, Iterator, List, NamedTuple, Optional, Tuple
+from typing import Iterator, List, NamedTuple, Optional, Tuple
 
 from ldvbi import Stream, System, field_bytes, line_bytes, read_rows
 from ldvbi.readings import Levels
+from .answer.entries import Best, Tried
 
 FIELDS = 100  # whose lines 17 and 18 are looked at, in pairs all over the side
 FEW = 20  # lines to a word of one that is found, at most
@@ -22,7 +23,7 @@ class Setup(NamedTuple):
     levels: Levels
 
 
-def tried_on(stream: Stream) -> Dict[str, Any]:
+def tried_on(stream: Stream) -> Tried:
     """What comes of other levels, and of the other system, on some lines of a stream: how many lines these are, how
     many of them are read as the side was, by which levels; and `best`, the levels and the system by which most of them
     are read, as far as these differ from the side's. It is None where hardly any is read by any."""
@@ -32,8 +33,7 @@ def tried_on(stream: Stream) -> Dict[str, Any]:
     trials = [(_read(of_system, setup), setup) for of_system, setup in _trials(stream, own, rows)]
     count, best = max(trials, key=lambda trial: trial[0], default=(0, own))
     is_found = count > read and FEW * count >= 2 * len(rows)
-    return {"lines": 2 * len(rows), "read": read, "black": own.levels.black, "white": own.levels.white,
-            "best": dict(_changes(own, best), read=count) if is_found else None}
+    return Tried(2 * len(rows), read, *own.levels, best=_changes(own, best, count) if is_found else None)
 
 
 def _trials(stream: Stream, own: Setup, rows: List[bytes]) -> Iterator[Tuple[List[bytes], Setup]]:
@@ -91,13 +91,14 @@ def _rounded(level: float) -> int:
     return STEP * round(level / STEP)
 
 
-def _changes(own: Setup, best: Setup) -> Dict[str, Any]:
-    """What of the setup is another than the side's own; None for what isn't."""
-    return {"system": best.system.name if best.system != own.system else None,
-            "black": best.levels.black if best.levels.black != own.levels.black else None,
-            "white": best.levels.white if best.levels.white != own.levels.white else None}
+def _changes(own: Setup, best: Setup, count: int) -> Best:
+    """What of the setup by which so many lines are read is another than the side's own; None for what isn't."""
+    system, (black, white) = best
+    return Best(system.name if system != own.system else None, black if black != own.levels.black else None,
+                white if white != own.levels.white else None, count)
 
 
-def options_of(best: Dict[str, Any]) -> str:
+def options_of(best: Best) -> str:
     """The options that name what is another, as they are given to the command."""
-    return " ".join("--%s %s" % (name, best[name]) for name in ("system", "black", "white") if best[name] is not None)
+    named = (("system", best.system), ("black", best.black), ("white", best.white))
+    return " ".join("--%s %s" % one for one in named if one[1] is not None)

@@ -3,8 +3,7 @@
 import re
 from typing import Any, Dict, NamedTuple, Optional, Tuple
 
-from .answer.analysis import frame_of
-from .judge.readings import Answer
+from .answer.entries import Answer, frame_of
 
 _WANTED = re.compile(r"(?P<picture>[0-9]+)|(?P<time>[0-9]+:[0-9]+:[0-9]+\.[0-9]+)"
                      r"|(?P<part>[0-9]+:[0-9]{2}(:[0-9]{2})?)|chapter (?P<chapter>[0-9]+)")
@@ -33,7 +32,7 @@ def seek(answer: Answer, wanted: Wanted) -> Optional[Dict[str, Any]]:
     numbers around it; `other` is what was read there instead, or None. A number that was set aside is never answered
     with. Of a part of a time the first field that has any of it counts."""
     if wanted.kind == "chapter":
-        found = [(one["field"], True, None) for one in answer["chapters"] if one["chapter"] == wanted.numbers[0]]
+        found = [(one.field, True, None) for one in answer.chapters if one.chapter == wanted.numbers[0]]
     else:
         found = _numbered(answer, wanted)
     if not found:
@@ -43,14 +42,14 @@ def seek(answer: Answer, wanted: Wanted) -> Optional[Dict[str, Any]]:
     if is_exact:
         found = [one for one in found if one[1]] or found
     field, read, other = min(found, key=lambda one: one[0])
-    return {"field": field, "frame": frame_of(field, answer["frameBegin"]), "read": read, "other": other}
+    return {"field": field, "frame": frame_of(field, answer.frame_begin), "read": read, "other": other}
 
 
 def _numbered(answer, wanted):
     """The fields with the wanted number, or with one that is part of the wanted time, whether it was read there, and
     what was instead."""
     units = ("picture",) if wanted.kind == "picture" else ("time", "minute")
-    if answer["unit"] not in units:
+    if answer.unit not in units:
         return []
     if wanted.kind == "picture":
         fits = wanted.numbers[0].__eq__
@@ -60,8 +59,8 @@ def _numbered(answer, wanted):
 
         def fits(number):
             return number == begin or number.startswith(begins)
-    found = [(field, True, None) for number, field, _ in answer["showings"] if fits(number)]
-    return found + [(one["field"], False, one["read"]) for one in answer["unread"] if fits(one["number"])]
+    found = [(field, True, None) for number, field, _ in answer.showings if fits(number)]
+    return found + [(one.field, False, one.read) for one in answer.unread if fits(one.number)]
 
 
 def text_of(found: Optional[Dict[str, Any]]) -> str:

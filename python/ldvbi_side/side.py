@@ -11,7 +11,8 @@ from ldvbi.metadata import Metadata, Settings
 from ldvbi.readings import PACKED_FIELD, Cut, Levels, PackedFields
 from ldvbi.stream import BLOCK, StreamDropouts, cut_of
 from .answer.analysis import Analysis, analysed
-from .judge.readings import Answer, Fields
+from .answer.as_json import as_json
+from .judge.readings import Fields
 from .levels import tried_on
 from .near import nearest_word_in
 from .seek import seek, wanted_of
@@ -28,7 +29,8 @@ class Side:
     and with `may_end` one without lead-out may be. `samples` is the stream from which words were recovered, or None.
 
     `answer` is what the words mean, as docs/ANSWER.md describes it; `pictures`, `times`, `chapters`, `stops` and
-    `format` are parts of it. `codes` is what each field says, judged by nothing."""
+    `format` are parts of it. `analysis` has the same as an `Answer` of answer/entries.py. `codes` is what each field
+    says, judged by nothing."""
 
     def __init__(self, system: System, readings: Iterable[FieldReadings], cut: Optional[Cut] = None,
                  levels: Optional[Levels] = None, first: Optional[List[bool]] = None,
@@ -49,22 +51,21 @@ class Side:
 
     def plain(self) -> Fields:
         """The side as plain data, for the analysis."""
-        cut = self.cut and {"seqNo": self.cut.field, "bytes": self.cut.bytes}
         nearest_word = functools.partial(nearest_word_in, self.samples) if self.samples else None
         try_levels = functools.partial(tried_on, self.samples) if self.samples else None
         fields = self.readings
-        return Fields(self.system.name, fields.words(), fields.passes(), fields.causes(), fields.data, cut, self.first,
-                      self.expected, self.is_strict, self.may_end, nearest_word, try_levels)
+        return Fields(self.system.name, fields.words(), fields.passes(), fields.causes(), fields.data, self.cut,
+                      self.first, self.expected, self.is_strict, self.may_end, nearest_word, try_levels)
 
     @functools.cached_property
     def analysis(self) -> Analysis:
-        """What the words of the side mean, as plain data."""
+        """What the words of the side mean."""
         return analysed(self.plain())
 
-    @property
-    def answer(self) -> Answer:
-        """The answer of the analysis."""
-        return self.analysis.answer
+    @functools.cached_property
+    def answer(self) -> Dict[str, Any]:
+        """The answer of the analysis as plain data."""
+        return as_json(self.analysis.answer)
 
     def codes(self) -> Iterator[Dict[str, Any]]:
         """For each field its number, its format, the codes of lines 16, 17 and 18, and those that stand on a line of
@@ -84,25 +85,26 @@ class Side:
 
     def chapters(self) -> Dict[Any, int]:
         """The first field of each believed chapter."""
-        return _firsts((one["chapter"], one["field"]) for one in self.answer["chapters"])
+        return _firsts((one.chapter, one.field) for one in self.analysis.answer.chapters)
 
     def stops(self) -> List[int]:
         """The numbers of the fields that have a picture stop."""
-        return [one["field"] for one in self.answer["stops"]]
+        return [one.field for one in self.analysis.answer.stops]
 
     def seek(self, text: str) -> Optional[Dict[str, Any]]:
         """Where `123`, `1:09`, `1:09:30`, `1:09:30.12` or `chapter 3` begins: a dict of its field, its frame and
         whether the number was read there; None where it isn't there."""
-        return seek(self.answer, wanted_of(text))
+        return seek(self.analysis.answer, wanted_of(text))
 
     def format(self) -> str:
         """cav, clv or neither, by the codes of most fields."""
-        return self.answer["format"]
+        return self.analysis.answer.format
 
     def _first_fields(self, unit):
-        if self.answer["unit"] != unit:
+        answer = self.analysis.answer
+        if answer.unit != unit:
             return {}
-        return _firsts((number, field) for number, field, _ in self.answer["showings"])
+        return _firsts((number, field) for number, field, _ in answer.showings)
 
 
 def _firsts(pairs):

@@ -10,7 +10,9 @@ import sys
 
 from compact import cells_of, made
 from discs import answer, joined, pictures, plain, side
+from ldvbi.readings import Cut
 from ldvbi_side.answer.analysis import analyse
+from ldvbi_side.answer.entries import Best, Tried
 from measure import fields_of
 from simulate import KINDS, simulated
 
@@ -27,13 +29,12 @@ SIDES = """
 def hand_made():
     for name, text in cells_of(SIDES):
         yield name, made(text)
-    yield "cut", answer(pictures([1, 2]), cut={"seqNo": 5, "bytes": 7}, first=[False, True, True, False])
+    yield "cut", answer(pictures([1, 2]), cut=Cut(5, 7), first=[False, True, True, False])
     yield "second row", made(" ".join("-/#%d/#%d B" % (number, number + 1000) for number in range(60)))
     yield "confirmed", analyse(made("1..2 ? B 4..6", plain)._replace(nearest_word=lambda *_: 0xF00003))
     yield "open end", analyse(made("1..8", plain)._replace(may_end=False))
-    yield "levels", analyse(made("Bx3", plain)._replace(try_levels=lambda: {
-        "lines": 6, "read": 0, "black": 16384, "white": 51200,
-        "best": {"system": "NTSC", "black": None, "white": 30000, "read": 6}}))
+    yield "levels", analyse(made("Bx3", plain)._replace(
+        try_levels=lambda: Tried(6, 0, 16384, 51200, Best("NTSC", None, 30000, 6))))
 
 
 def together():

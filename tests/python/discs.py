@@ -10,7 +10,7 @@ from ldvbi import Cause, FieldReadings, Reading, System
 from ldvbi.readings import Levels, PackedFields
 from ldvbi_side.join.captures import capture_of
 from ldvbi_side.join.joined import join
-from ldvbi_side.answer.analysis import analyse
+from ldvbi_side.answer.analysis import analyse, analysed
 from ldvbi_side.judge.readings import Fields
 from ldvbi_side.side import Side
 
@@ -80,8 +80,13 @@ def _packed(row):
 
 
 def answer(rows, system="PAL", first=None, cut=None):
-    """What the analysis says of a side with these rows."""
+    """What the analysis says of a side with these rows, as plain data."""
     return analyse(plain(rows, system, first, cut))
+
+
+def typed(rows, system="PAL", first=None, cut=None):
+    """The same as an `Answer`."""
+    return analysed(plain(rows, system, first, cut)).answer
 
 
 def _reading(text):

@@ -5,26 +5,25 @@ import unittest
 import xml.etree.ElementTree as xml
 
 from compact import made
-from discs import side
+from discs import side, typed
+from ldvbi import Kind
 from ldvbi.readings import Cut
+from ldvbi_side.answer.entries import Doubt, Extent, Lost, Missing, Neighbour, Repeated, Speed, Swapped
 from ldvbi_side.draw.curve import Scale, ticks
 from ldvbi_side.draw.drawing import drawing_of
 from ldvbi_side.draw.marks import Mark, marks_of
 from ldvbi_side.draw.svg import Svg, shortened
+from ldvbi_side.judge.places import Break, Still
+from ldvbi_side.judge.readings import Stray
 
 SPACE = "{http://www.w3.org/2000/svg}"
-LISTS = ("missing", "lost", "breaks", "swapped", "speeds", "stills", "repeated", "doubtful", "stray")
 # Entries of an answer's lists, of which each row below changes a part
 ENTRIES = {
-    "missing": {"first": 5, "last": 5, "count": 1, "why": "lost", "after": 9, "before": 13},
-    "lost": {"after": 9, "before": 10, "fields": 1, "by": "number"},
-    "breaks": {"after": 9, "before": 12, "from": 5, "to": 6, "fields": 4, "kind": "held"},
-    "doubtful": {"field": 7, "line": 18, "word": "F79999", "kind": "picture", "pass": 2, "number": 79999,
-                 "why": "lines", "before": None, "after": None},
-    "stray": {"field": 7, "line": 16, "word": "87FFFF", "kind": "clv", "pass": 1, "why": "line"},
-    "swapped": {"field": 9, "number": 5}, "speeds": {"first": 9, "last": 49, "numbers": "1/3"},
-    "stills": {"number": 5, "first": 9, "last": 15},
-    "repeated": {"first": 5, "last": 6, "field": 21, "lastField": 23, "before": 9}}
+    "missing": Missing(5, 5, 1, "lost", 9, 13), "lost": Lost(9, 10, 1, "number"),
+    "breaks": Break("held", 9, 12, 5, 6, 4),
+    "doubtful": Doubt(7, 18, 0xF79999, Kind.picture, 2, "lines", 79999, None, None),
+    "stray": Stray(7, 16, 0x87FFFF, Kind.clv_mark, 1, "line"), "swapped": Swapped(9, 5),
+    "speeds": Speed(9, 49, "1/3"), "stills": Still(5, 9, 15), "repeated": Repeated(5, 6, 21, 23, 9)}
 PLACE, LOST = ", after field 9, before field 13: ", " between fields 9 and 10, "
 DOUBT, PASS_2 = "doubtful: picture 79999 in field 7, line 18", ", read only after smoothing: "
 # Each reason that an answer can have: the list, what is other there, the lane, its fields, and what it says
@@ -34,7 +33,7 @@ MARKS = (
     ("missing", {}, "lost", 13, 13, "lost: 5" + PLACE + "no field is there for it"),
     ("missing", {"why": "undecided"}, "undecided", 13, 13,
      "undecided: 5" + PLACE + "lost or unread, or skipped by the disc itself"),
-    ("missing", {"last": 7, "count": 3}, "lost", 13, 13, "lost: 5 to 7" + PLACE + "no field is there for it"),
+    ("missing", {"last": 7, "count_": 3}, "lost", 13, 13, "lost: 5 to 7" + PLACE + "no field is there for it"),
     ("lost", {}, "lost fields", 10, 10, "lost: 1 field" + LOST + "by the numbers"),
     ("lost", {"by": "both", "fields": 3}, "lost fields", 10, 10,
      "lost: 3 fields" + LOST + "by the numbers and by isFirstField"),
@@ -48,11 +47,11 @@ MARKS = (
         ("neighbours", "the numbers around it fit each other"),
         ("alone", "there is a break, or the end of the side, here too"), ("lines", "lines 17 and 18 differ"),
         ("minute", "no minutes are there to join it"), ("chapter", "it doesn't fit the chapters around it"))),
-    ("doubtful", {"why": "clock", "number": None, "kind": "time", "word": "F0DD75"}, "doubtful", 7, 7,
+    ("doubtful", {"why": "clock", "number": None, "kind": Kind.time, "word": 0xF0DD75}, "doubtful", 7, 7,
      "doubtful: time F0DD75 in field 7, line 18" + PASS_2 + "no clock shows it"),
-    ("doubtful", {"pass": 1}, "doubtful", 7, 7, DOUBT + ": lines 17 and 18 differ"),
-    ("doubtful", {"pass": 3}, "doubtful", 7, 7, DOUBT + ", recovered: lines 17 and 18 differ"),
-    ("doubtful", {"before": {"field": 5, "number": 3}}, "doubtful", 7, 7,
+    ("doubtful", {"pass_": 1}, "doubtful", 7, 7, DOUBT + ": lines 17 and 18 differ"),
+    ("doubtful", {"pass_": 3}, "doubtful", 7, 7, DOUBT + ", recovered: lines 17 and 18 differ"),
+    ("doubtful", {"before": Neighbour(5, 3)}, "doubtful", 7, 7,
      DOUBT + PASS_2 + "lines 17 and 18 differ (3 in field 5)"),
     *(("stray", {"why": why}, "out of place", 7, 7, "out of place: clv in field 7, line 16: " + text) for why, text in (
         ("line", "no disc has it on this line"), ("format", "a code of the other format"),
@@ -65,11 +64,11 @@ MARKS = (
 
 
 def entry(name, **other):
-    return dict(ENTRIES[name], **other)
+    return ENTRIES[name]._replace(**other)
 
 
-def answer_with(**lists):
-    return dict({name: [] for name in LISTS}, **{"unit": "picture", **lists})
+def answer_with(unit="picture", **lists):
+    return made("", typed)._replace(unit=unit, **lists)
 
 
 class Marks(unittest.TestCase):
@@ -98,8 +97,8 @@ class Parts(unittest.TestCase):
         self.assertEqual(ticks(1, 3, 5, [1, 2]), [1, 2, 3])
         self.assertEqual(ticks(7, 100, 5, [1, 2]), [7] + list(range(8, 101, 2)))  # no step is large enough
         self.assertEqual(ticks(1, 0, 5, [1]), [])
-        minutes = {"least": "0:00", "greatest": "0:29"}  # whose least step is a minute
-        self.assertEqual(Scale({"unit": "minute", "system": "PAL", "numbers": minutes}, 0, 9).ticks(), [0, 10, 20])
+        minutes = Extent(30, "0:00", "0:29")  # whose least step is a minute
+        self.assertEqual(Scale("minute", "PAL", minutes, 0, 9).ticks(), [0, 10, 20])
 
 
 def parts_of(text, **more):

@@ -16,6 +16,7 @@ from ldvbi_side.draw.bars import COLOURS, bars_of
 from ldvbi_side.draw.together import page_of_joined
 from ldvbi_side.join.captures import capture_of
 from ldvbi_side.join.joined import join
+from ldvbi_side.judge.places import Showing
 from streams import NTSC, pictures, write_stream
 
 SPACE = "{http://www.w3.org/2000/svg}"
@@ -83,8 +84,9 @@ class Taken(unittest.TestCase):
 
     def test_a_confirmed_number_is_between_those_that_are_read_and_due(self):
         due, near = made("1..40 7=B", side), made("1..40 7=B", side)
-        near.answer.update(confirmed=[7], unread=[])
-        near.answer["showings"].append([4, 7, 7])
+        known = near.analysis.answer
+        near.analysis = near.analysis._replace(answer=known._replace(
+            confirmed=[7], unread=[], showings=[*known.showings, Showing(4, 7, 7)]))
         self.assertEqual(taken(joined(due, near), 4), ["b", 7, 4, "near"])
         self.assertEqual(taken(joined(due, near, made("1..40 7=-/-/#4*", side)), 4), ["c", 7, 4, "read"])
 

@@ -16,7 +16,7 @@ from compact import check, made, of_member
 from discs import plain, second
 from ldvbi.metadata import read_metadata
 from ldvbi_side.command.map import map_rows
-from ldvbi_side.answer.analysis import analyse
+from ldvbi_side.answer.analysis import analyse, analysed
 from ldvbi_side.near import measured, nearest_word_in
 from ldvbi_side.seek import seek, wanted_of
 from ldvbi_side.side import side_of_tbc
@@ -52,9 +52,9 @@ class Lines(unittest.TestCase):
 DUE = "1..20 9=?"  # picture 5, in field 9
 
 
-def asked(text, words):
+def asked(text, words, analysis=analyse):
     """The answer of a side, of whose lines these are the nearest words, by field, first and last line."""
-    return analyse(made(text, plain)._replace(nearest_word=lambda *place: words.get(place)))
+    return analysis(made(text, plain)._replace(nearest_word=lambda *place: words.get(place)))
 
 
 class Confirmed(InFolder):
@@ -81,7 +81,7 @@ class Confirmed(InFolder):
             check(self, "none | %s | no confirmed" % text, nearest_word=nearest)
 
     def test_sought_and_mapped(self):
-        found = asked(DUE, {(9, 17, 17): 0xF00005})
+        found = asked(DUE, {(9, 17, 17): 0xF00005}, analysed).answer
         self.assertEqual(seek(found, wanted_of("5")), {"field": 9, "frame": 5, "read": True, "other": None})
         self.assertEqual([row for row in map_rows(found) if row[0] == "picture"][3:6],
                          [("picture", 4, 7, 4, "read"), ("picture", 5, 9, 5, "near"), ("picture", 6, 11, 6, "read")])

@@ -88,7 +88,7 @@ META = '<meta name="%s" content="%%s">' % MARK
 class Pages(InFolder):
     def setUp(self):
         super().setUp()
-        self.said = said_of(discs.answer(discs.pictures(range(1, 9))))
+        self.said = said_of(discs.typed(discs.pictures(range(1, 9))))
 
     def page_saying(self, said):
         content = json.dumps(said).replace("&", "&amp;").replace('"', "&quot;")

@@ -36,7 +36,7 @@ class Page:
 
 
 def page(one, plot=None, title="side.tbc", command="dd"):
-    return page_of(one, title, summary(one.answer, lambda *line: command), plot)
+    return page_of(one, title, summary(one.analysis.answer, lambda *line: command), plot)
 
 
 def cell(value):
@@ -79,7 +79,7 @@ class Pages(unittest.TestCase):
         one = damaged()
         read = Page(page(one))
         self.assertEqual(list(map(": ".join, zip(read.texts["dt"], read.texts["dd"]))),
-                         list(summary(one.answer, lambda *line: "dd"))[1:])
+                         list(summary(one.analysis.answer, lambda *line: "dd"))[1:])
         self.assertEqual(read.texts["li"], [reason["text"] for reason in one.answer["reasons"]])
         self.assertLessEqual({"numbers lost, undecided or unread: 2", "unread, and their fields: 1"},
                              set(read.texts["summary"]))
@@ -122,7 +122,7 @@ class Pages(unittest.TestCase):
                 ("?/?/?x67", 200, [(67, 17)], "the first 200 of 201, drawn"),
                 ("?/?/?x67 ?", 200, [(67, 17)], "the first 200 of 203, drawn")):
             one, drawn = side(rows(text)), []
-            found = page(one, lambda bad, drawn=drawn: drawn.append((bad["field"], bad["line"])) or "<svg></svg>")
+            found = page(one, lambda bad, drawn=drawn: drawn.append((bad.field, bad.line)) or "<svg></svg>")
             self.assertEqual(re.findall("<h2>Bad lines, (.*)</h2>", found), [head] if head else [])
             self.assertEqual((len(drawn), drawn[:1], drawn[-1:]), (count, [(1, 16)] if count else [], last))
             self.assertNotIn("<h2>", page(one))

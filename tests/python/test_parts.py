@@ -6,7 +6,7 @@ import unittest
 
 import ldvbi
 from compact import check, made
-from discs import side
+from discs import side, typed
 from ldvbi_side.seek import seek, wanted_of
 
 # Chapters 2 and 3, of ten pictures each, and chapters 0 to 2
@@ -135,7 +135,7 @@ class Swaps(unittest.TestCase):
             for system in systems.split():
                 check(self, "{0} {1} | {0} {1} | swapped {2}@{3} | @{4} {2} | reasons swapped | "
                       "no doubtful missing unread breaks lost repeated".format(system, side, number, field, shown))
-        found = seek(made("t0..19 ~11"), wanted_of("0:00:00.05"))
+        found = seek(made("t0..19 ~11", typed), wanted_of("0:00:00.05"))
         self.assertEqual((found["field"], found["read"]), (12, True))
         check(self, """
     two pairs | 1..30 ~11 ~32 | swapped 6@11, 17@32 | said no: 2 pairs of fields swapped

@@ -12,6 +12,7 @@ from command_runs import Calls
 from discs import times
 from ldvbi import draw_line as steep
 from ldvbi.readings import Levels
+from ldvbi_side.answer.entries import Best
 from ldvbi_side.join.captures import capture_of
 from ldvbi_side.join.joined import join
 from ldvbi_side.join.piles import _levelled
@@ -220,7 +221,7 @@ class TriedLevels(InFolder):
         side = side_of_tbc(self.path, ldvbi.System[system], black, white)
         self.addCleanup(side.samples.close)
         self.assertEqual(side.levels, (black, white))
-        return side.answer["levels"]
+        return side.analysis.answer.levels
 
     def draw(self, setup, line_of=steep):
         write_stream(self.path, setup, [[line_of(word, *setup) for word in field] for field in pictures(60)])
@@ -228,9 +229,9 @@ class TriedLevels(InFolder):
     def best(self, setup):
         """What is said of the side that was drawn: how many of its lines are read, of how many, and by which options
         how many."""
-        tried = self.levels(setup)["tried"]
-        best = tried["best"]
-        return [tried["read"], tried["lines"], best and options_of(best), best and best["read"]]
+        tried = self.levels(setup).tried
+        best = tried.best
+        return [tried.read, tried.lines, best and options_of(best), best and best.read]
 
     def test_rows(self):
         """A sample is high above the middle of the levels. So where codes are at 40 % of white no line has a high one;
@@ -258,9 +259,9 @@ class TriedLevels(InFolder):
         """Its fields are of another size, so of its lines hardly any are where they are looked for."""
         for setup, other in ((NTSC, PAL), (PAL, NTSC)):
             self.draw(setup)
-            tried = self.levels(other)["tried"]
-            self.assertEqual(tried["best"], {"system": setup[0], "black": None, "white": None, "read": 120})
-            self.assertLess(20 * tried["read"], tried["lines"])
+            tried = self.levels(other).tried
+            self.assertEqual(tried.best, Best(setup[0], None, None, 120))
+            self.assertLess(20 * tried.read, tried.lines)
         self.draw(at_share(NTSC, 40))
         self.assertEqual(self.best(PAL)[2:], ["--system NTSC --white 30000", 120])
 

@@ -8,12 +8,13 @@ from unittest import mock
 
 from cases import InFolder, reason
 from compact import made
-from discs import plain, side
+from discs import plain, side, typed
 from ldvbi.readings import Cut
 from ldvbi_side.command.map import map_rows
 from ldvbi_side.command.summary import MOST_LINES, summary
 from ldvbi_side.command.tables import bad_line_rows, field_rows
 from ldvbi_side.draw.plot import plot_command, tbc_name
+from ldvbi_side.answer.entries import Best, FewWords, Swapped, Tried
 from ldvbi_side.answer.lines import SIZES
 from ldvbi_side.seek import seek, text_of, wanted_of
 
@@ -50,7 +51,7 @@ class Seeking(unittest.TestCase):
         for text, asked in SOUGHT:
             for number, wanted in asked.items():
                 with self.subTest((text, number)):
-                    found = text_of(seek(made(text), wanted_of(number)))
+                    found = text_of(seek(made(text, typed), wanted_of(number)))
                     self.assertEqual(re.sub(r"^field (\d+), frame ", r"\1 ", found), wanted or "not found")
 
 
@@ -68,18 +69,18 @@ MAPS = (
 class Maps(unittest.TestCase):
     def test_rows(self):
         for text, wanted in MAPS:
-            self.assertEqual(", ".join(" ".join(map(str, row)) for row in map_rows(made(text))), wanted, text)
+            self.assertEqual(", ".join(" ".join(map(str, row)) for row in map_rows(made(text, typed))), wanted, text)
         # a stop at picture 0
-        self.assertEqual(list(map_rows(made("0..9 1=S/#0/#0")))[-1], ("stop", 0, 1, 1, "read"))
+        self.assertEqual(list(map_rows(made("0..9 1=S/#0/#0", typed)))[-1], ("stop", 0, 1, 1, "read"))
 
     def test_a_time_is_sought_where_it_was_read(self):
         """Not in the field before, in which it is only due; of a second the first field that has any of it counts."""
-        known = made("t1500..1529 t1510..1539 31=?/?/?")  # 0:01:00.15, which is read in field 71
+        known = made("t1500..1529 t1510..1539 31=?/?/?", typed)  # 0:01:00.15, which is read in field 71
         found = [seek(known, wanted_of(text)) for text in ("0:01:00.15", "0:01:00", "0:01:00.14")]
         self.assertEqual([(one["field"], one["read"]) for one in found], [(71, True), (1, True), (29, True)])
 
     def test_it_says_what_seeking_says(self):
-        known = made("1..40 21..60 60x4 70..90 1:210/14=?")
+        known = made("1..40 21..60 60x4 70..90 1:210/14=?", typed)
         mapped = {number: row for kind, number, *row in map_rows(known) if kind == "picture"}
         for number in range(100):
             found = seek(known, wanted_of(str(number)))
@@ -118,7 +119,7 @@ class Tables(unittest.TestCase):
 
 
 def lines_of(one):
-    return list(summary(one.answer, lambda *line: plot_command(one, "side.tbc", *line)))
+    return list(summary(one.analysis.answer, lambda *line: plot_command(one, "side.tbc", *line)))
 
 
 DAMAGED = """
@@ -217,8 +218,9 @@ class Summaries(unittest.TestCase):
                          r"wrong, or the signal is noise\. Look at one: dd ")
         self.assertRegex(recovered, "^levels: lines 17 and 18 have 0 words of their own, 60 are bad, 0 blank: ")
         one = made("NTSC Bx20", side)  # of which other levels read more
-        one.answer["levels"]["tried"] = {"lines": 40, "read": 0, "black": 16384, "white": 51200, "best": {
-            "system": None, "black": None, "white": 30000, "read": 40}}
+        tried = Tried(40, 0, 16384, 51200, Best(None, None, 30000, 40))
+        levels = one.analysis.answer.levels._replace(tried=tried)
+        one.analysis = one.analysis._replace(answer=one.analysis.answer._replace(levels=levels))
         self.assertIn(": 0 of 40 lines read with black 16384, white 51200; 40 with --white 30000. Look at one: dd ",
                       lines_of(one)[6])
 
@@ -234,10 +236,9 @@ class Summaries(unittest.TestCase):
 
     def test_at_most_25_lines(self):
         # a second row of numbers on line 17
-        known = made("NTSC t0..8999!400%1001 -101:110 1:17972/2.17=@2:20")
-        self.assertTrue(known["secondRows"] and known["leftOut"])
-        known.update(levels={"shows": "bad", "words": 1, "bad": 9, "blank": 1, "field": 1, "line": 17, "tried": None},
-                     swapped=[{"field": 1, "number": "2:20:00.00"}])
+        known = made("NTSC t0..8999!400%1001 -101:110 1:17972/2.17=@2:20", typed)
+        self.assertTrue(known.second_rows and known.left_out)
+        known = known._replace(levels=FewWords("bad", 1, 9, 1, 1, 17, None), swapped=[Swapped(1, "2:20:00.00")])
         lines = list(summary(known, lambda *line: "dd"))
         self.assertEqual((len(lines), MOST_LINES), (25, 25))
         self.assertTrue([line for line in lines if line.startswith("a second row of numbers, not taken: 2:20:")])
@@ -287,7 +288,7 @@ class Sides(unittest.TestCase):
 
     def test_plain_data(self):
         one = made("NTSC/0 -/#1/#1* ?/!/~", side, cut=Cut(3, 99))
-        self.assertEqual(one.plain(), made("NTSC/0 -/#1/#1* ?/!/~", plain, cut={"seqNo": 3, "bytes": 99}))
+        self.assertEqual(one.plain(), made("NTSC/0 -/#1/#1* ?/!/~", plain, cut=Cut(3, 99)))
         self.assertEqual(one.answer["cutField"], {"seqNo": 3, "bytes": 99})
         self.assertIs(one.answer, one.answer)
         self.assertEqual(SIZES, {"NTSC": (910 * 2, 263), "PAL": (1135 * 2, 313)})

@@ -5,11 +5,16 @@ import unittest
 
 import ldvbi
 from compact import check, made, of_member
-from discs import plain, side
-from ldvbi import Reason
+from discs import plain, side, typed
+from ldvbi import Kind, Reason
+from ldvbi.readings import Cut
 from ldvbi_side.answer.analysis import analysed
+from ldvbi_side.answer.as_json import as_json
+from ldvbi_side.answer.entries import Doubt, Lost, Missing, Speed, Stretch, Swapped
 from ldvbi_side.answer.gaps import Gaps
 from ldvbi_side.judge.paces import Unit
+from ldvbi_side.judge.places import Break
+from ldvbi_side.judge.readings import Stray
 from ldvbi_side.answer.whole import counted_by, reasons_of
 
 
@@ -78,8 +83,8 @@ class FromGaps(unittest.TestCase):
                                    ("b1..30 18=? 20=? -21", "lost 21-22 11 to 12, 1", "lost 16-22 11 to 12, 1"),
                                    ("b1..30 23=? 25=? -22", "lost 25-26 13 to 14, 1", "lost 20-26 13 to 14, 1")):
             known = analysed(made(text, plain))
-            self.assertEqual([of_member(one, "breaks") for one in (known.answer, {"breaks": known.breaks})],
-                             [said, breaks], text)
+            both = known.answer, known.answer._replace(breaks=known.breaks)
+            self.assertEqual([of_member(as_json(one), "breaks") for one in both], [said, breaks], text)
         rows = [" ".join("-/#%d/#%d B" % (n, n - 1) for n in numbers) for numbers in (range(21, 30), range(35, 61))]
         lag = " ".join("-/-/#%d B" % n for n in range(29, 34))
         sparse = " ".join("%d Bx28" % n for n in (*range(15, 151, 15), *range(180, 301, 15)))
@@ -131,10 +136,10 @@ class Whole(unittest.TestCase):
     """)
         for more, said in (({"expected": 68}, "yes"), ({"expected": 67}, "yes"),
                            ({"expected": 69}, "no: 68 fields of 69 that the metadata has"),
-                           ({"cut": {"seqNo": 69, "bytes": 5}}, "no: field 69 is cut")):
+                           ({"cut": Cut(69, 5)}, "no: field 69 is cut")):
             check(self, "known | Lx4 1..30 Ox4 | said %s" % said, **more)
         check(self, "a cut field alone | B | said no: field 2 is cut; no picture number and no time",
-              cut={"seqNo": 2, "bytes": 5})
+              cut=Cut(2, 5))
 
     def test_whole(self):
         check(self, """
@@ -199,40 +204,40 @@ class Whole(unittest.TestCase):
     a tenth | 1..40 9:33/8.17=F70000 | said can't tell: numbers set aside in 4 of 40 fields
     all, on one line | 1..30 1:60/2.17=#40000 | said ..numbers set aside in 30 of 30 fields
     """)
-        known = made("NTSC t0..20 t22..40")
+        known = made("NTSC t0..20 t22..40", typed)
         self.assertEqual([counted_by(known, why) for why in ("undecided", "lost")], [1, 0])
 
 
 class Order(unittest.TestCase):
     def test_the_order_of_all(self):
-        known = made("NTSC e1..40 ~48")  # the first fields of picture 20
-        self.assertEqual([one["why"] for one in known["reasons"]], ["order"])
-        place = {"after": 9, "before": 10}
-        known.update(
-            lost=[dict(place, fields=2, by="number")], breaks=[dict(place, kind="back")], swapped=[{"field": 9}],
-            speeds=[{"first": 9, "last": 49}], leadIn=[{"first": 40, "last": 40}],
-            missing=[dict(place, count=1, why=why) for why in ("undecided", "unread", "lost")],
-            stray=[{"field": field, "why": "format"} for field in (9, 10)], metadataFields=999, fields=500,
-            cutField={"seqNo": 501},
-            doubtful=[{"field": field, "kind": "picture"} for field in range(9, 50, 3)])
-        known["numbers"]["least"] = 11
-        known["lines"]["18"].update(pass1=0, pass2=0)
+        known = made("NTSC e1..40 ~48", typed)  # the first fields of picture 20
+        self.assertEqual([one.why for one in known.reasons], ["order"])
+        lines = dict(known.lines)
+        lines[18] = lines[18]._replace(pass1=0, pass2=0)
+        known = known._replace(
+            numbers=known.numbers._replace(least=11), lines=lines, lost=[Lost(9, 10, 2, "number")],
+            breaks=[Break("back", 9, 10, 5, 4, 1)], swapped=[Swapped(9, None)], speeds=[Speed(9, 49, "2")],
+            lead_in=[Stretch(40, 40, 1)], missing=[Missing(9, 9, 1, why, 9, 10)
+                                                   for why in ("undecided", "unread", "lost")],
+            stray=[Stray(field, 17, 0x87FFFF, Kind.clv_mark, 1, "format") for field in (9, 10)], metadata_fields=999,
+            fields=500, cut_field=Cut(501, 1), doubtful=[
+                Doubt(field, 17, 0xF79999, Kind.picture, 1, "alone", 79999, None, None) for field in range(9, 50, 3)])
         judged = ldvbi.judge_side(made("5..30", side).readings, "PAL")
-        open_, joins = [{"kind": "lost", "after": 30, "from": 15, "to": 17, "before": 32, "fields": 2}], [{"after": 9}]
+        open_, joins = [Break("lost", 30, 32, 15, 17, 2)], [Break("lost", 9, 10, 5, 6, 2)]
         gaps = Gaps(judged._replace(reasons=judged.reasons | Reason.no_numbers), [], 4, open_, joins)
         unit = Unit("picture", 30)
         reasons = reasons_of(known, gaps, unit, True)
         no = ["lost", "jumps", "speed", "missing", "swapped", "begins", "unread", "lead-out", "joined", "format",
               "metadata", "cut"]
-        self.assertEqual([one["why"] for one in reasons if one["whole"] == "no"], no)
-        self.assertEqual([one["why"] for one in reasons][len(no):],
+        self.assertEqual([one.why for one in reasons if one.whole == "no"], no)
+        self.assertEqual([one.why for one in reasons][len(no):],
                          ["numbers", "open", "off", "undecided", "ends", "order", "line", "doubtful"])
-        known["leadIn"] = []
+        known = known._replace(lead_in=[])
         reasons = reasons_of(known, gaps, unit, True)
-        self.assertEqual([one["why"] for one in reasons][7:9], ["lead-in", "lead-out"])
-        self.assertIn("another side begins after field 9", [one["text"] for one in reasons])
+        self.assertEqual([one.why for one in reasons][7:9], ["lead-in", "lead-out"])
+        self.assertIn("another side begins after field 9", [one.text for one in reasons])
         reasons = reasons_of(known, gaps._replace(judged=judged), unit)
-        self.assertEqual([one["why"] for one in reasons if one["whole"] != "no"],
+        self.assertEqual([one.why for one in reasons if one.whole != "no"],
                          ["open", "off", "undecided", "ends", "lead-out", "order", "line", "doubtful"])
         self.assertIn("a field may be lost or too many in fields 1 to 51", [
-            one["text"] for one in reasons_of(known, gaps._replace(more=0), unit)])
+            one.text for one in reasons_of(known, gaps._replace(more=0), unit)])

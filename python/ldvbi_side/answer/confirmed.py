@@ -6,7 +6,7 @@ from typing import Any, Dict, Optional, Tuple
 from ldvbi import Kind, classify
 from ldvbi.codes import value_of
 from ..judge.paces import Unit
-from ..judge.places import Places
+from ..judge.places import Places, Showing
 from ..judge.readings import NearestWord
 
 # Of a unit the lines that are tried together, each time the first and the last of them
@@ -22,9 +22,9 @@ def with_confirmed(places: Places, nearest_word: Optional[NearestWord]) -> Place
     confirmed = [(number, field) for number, field in places.due if _is_nearest(number, field, unit, nearest_word)]
     if not confirmed:
         return places
-    showings = places.showings + [[number, field, field] for number, field in confirmed]
+    showings = places.showings + [Showing(number, field, field) for number, field in confirmed]
     return places._replace(
-        showings=sorted(showings, key=lambda showing: showing[1]),
+        showings=sorted(showings, key=lambda showing: showing.first),
         confirmed=tuple(sorted(field for _, field in confirmed)),
         due=[one for one in places.due if one not in set(confirmed)])
 

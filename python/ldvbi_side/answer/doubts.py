@@ -1,36 +1,38 @@
-"""What is set aside, by name: doubtful numbers, lines that differ, and rows of numbers that weren't taken. All of it is
-in the form of the answer."""
+"""What is set aside, as entries of the answer: doubtful numbers, lines that differ, and rows of numbers that weren't
+taken."""
 
 import array
 import bisect
-from typing import Any, Collection, Dict, Iterable, List, Mapping, NamedTuple, Optional, Tuple
+import functools
+from typing import Any, Callable, Collection, Dict, Iterable, List, Mapping, NamedTuple, Optional, Tuple, cast
 
 from ldvbi import Cause, Counted, Kind, Pace as JudgedPace, judge
-from ldvbi.codes import LINES, name_of
+from ldvbi.codes import LINES
 from ldvbi.readings import PACKED_LINE
 from ..judge.believed import Numbers
 from ..judge.chain import sure_in
 from ..judge.numbers import Found
 from ..judge.paces import minute_text, price
-from ..judge.readings import Answer, Codes, Lines, Reading
+from ..judge.readings import Codes, Lines, Reading
+from .entries import Conflict, Doubt, Neighbour, SecondRow
 
 WIDEST = price(1 << 18)  # more than the widest break of a side costs
 SHARE = 10  # believed readings to one of a second row, at most
-_NAMES = {kind: name_of(kind) for kind in Kind}
+_doubt = cast(Callable[..., Doubt], functools.partial(tuple.__new__, Doubt))  # there may be many
 
 
 class Doubts(NamedTuple):
     """The numbers of a side that are set aside, the fields whose lines differ, and second rows of numbers."""
-    doubtful: List[Answer]
-    conflicts: List[Answer]
-    second_rows: List[Answer]
+    doubtful: List[Doubt]
+    conflicts: List[Conflict]
+    second_rows: List[SecondRow]
 
 
 class Beside(NamedTuple):
     """Why a number that is set aside is doubtful, and the believed readings around, as the answer has them."""
     why: str
-    before: Optional[Answer] = None
-    after: Optional[Answer] = None
+    before: Optional[Neighbour] = None
+    after: Optional[Neighbour] = None
 
 
 class AllBeside:
@@ -39,7 +41,7 @@ class AllBeside:
     def __init__(self, numbers: Numbers) -> None:
         self.numbers = numbers
         self.found: Dict[int, Beside] = {}
-        self.known: Dict[int, Optional[Answer]] = {-1: None, len(numbers.fields): None}  # believed readings by place
+        self.known: Dict[int, Optional[Neighbour]] = {-1: None, len(numbers.fields): None}  # believed readings by place
 
     def at(self, field: int, is_conflict: bool = False) -> Beside:
         """What is beside a field, and why a number of it is set aside: because there is another one, or else by the
@@ -55,11 +57,11 @@ class AllBeside:
             found = self.found[key] = Beside(why, before, after)
         return found
 
-    def _reading(self, place: int) -> Optional[Answer]:
+    def _reading(self, place: int) -> Optional[Neighbour]:
         """The believed reading of this place as the answer has it."""
         if place not in self.known:
             one = self.numbers.believed[place]
-            self.known[place] = {"field": one.field, "number": self.numbers.unit.text_of(one.number)}
+            self.known[place] = Neighbour(one.field, self.numbers.unit.text_of(one.number))
         return self.known[place]
 
 
@@ -79,37 +81,37 @@ def doubts_in(codes: Codes, found: Found) -> Doubts:
     return Doubts(doubtful, conflicts, rows)
 
 
-def doubts_of(codes: Codes, kind: Kind, field: int, lines: Lines, text: Any, beside: Beside) -> List[Answer]:
-    """The words of these lines, which are of this kind, and whose number is this text, by name."""
-    words, passes, name = codes.fields.words[field - 1], codes.fields.passes[field - 1], _NAMES[kind]
-    return [{"field": field, "line": line, "word": "%06X" % words[line - 16], "kind": name, "pass": passes[line - 16],
-             "why": beside[0], "number": text, "before": beside[1], "after": beside[2]} for line in lines]
+def doubts_of(codes: Codes, kind: Kind, field: int, lines: Lines, text: Any, beside: Beside) -> List[Doubt]:
+    """The words of these lines, which are of this kind, and whose number is this text."""
+    words, passes, (why, before, after) = codes.fields.words[field - 1], codes.fields.passes[field - 1], beside
+    return [_doubt((field, line, words[line - 16], kind, passes[line - 16], why, text, before, after))
+            for line in lines]
 
 
-def conflict_of(field: int, said: Iterable[Tuple[Any, Lines]], taken: Any) -> Answer:
+def conflict_of(field: int, said: Iterable[Tuple[Any, Lines]], taken: Any) -> Conflict:
     """A field whose lines 17 and 18 have these numbers, each with its lines, of which one was taken, or none."""
     lines = dict.fromkeys(LINES)
     for text, ones in said:
         for line in ones:
             lines[line] = text
-    return {"field": field, "line17": lines[17], "line18": lines[18], "taken": taken}
+    return Conflict(field, lines[17], lines[18], taken)
 
 
-def read_in(doubtful: List[Answer], fields: Collection[int]) -> Dict[int, Any]:
+def read_in(doubtful: List[Doubt], fields: Collection[int]) -> Dict[int, Any]:
     """What was read in these fields instead of a number that is due there, as text or number: of each field the first
     word that is set aside, by its number or, where no clock shows that, by its digits."""
     found: Dict[int, Any] = {}
     for one in doubtful:
-        if one["field"] in fields:
-            found.setdefault(one["field"], one["word"] if one["number"] is None else one["number"])
+        if one.field in fields:
+            found.setdefault(one.field, one.said())
     return found
 
 
 def chapters_aside(codes: Codes, readings: List[Reading],
-                   taken: Mapping[int, int]) -> Tuple[List[Answer], List[Answer]]:
-    """The chapters that aren't believed, by name, and the fields whose lines differ. `taken` are the believed ones by
+                   taken: Mapping[int, int]) -> Tuple[List[Doubt], List[Conflict]]:
+    """The chapters that aren't believed, and the fields whose lines differ. `taken` are the believed ones by
     field."""
-    doubtful: List[Answer] = []
+    doubtful: List[Doubt] = []
     said: Dict[int, Dict[Any, Lines]] = {}
     aside = {reading.field for reading in readings if taken.get(reading.field) != reading.number % 100}
     for reading in readings:
@@ -123,11 +125,11 @@ def chapters_aside(codes: Codes, readings: List[Reading],
                       for field, ones in said.items() if len(ones) > 1]
 
 
-def _numbers_aside(codes: Codes, numbers: Numbers, readings: List[Reading]) -> Tuple[List[Answer], List[Answer]]:
-    """The readings that aren't believed, by name, and the fields whose lines differ."""
+def _numbers_aside(codes: Codes, numbers: Numbers, readings: List[Reading]) -> Tuple[List[Doubt], List[Conflict]]:
+    """The readings that aren't believed, and the fields whose lines differ."""
     text_of, taken = numbers.unit.text_of, numbers.taken
-    doubtful: List[Answer] = []
-    conflicts: List[Answer] = []
+    doubtful: List[Doubt] = []
+    conflicts: List[Conflict] = []
     kind, all_beside = Kind.picture if numbers.unit.name == "picture" else Kind.time, AllBeside(numbers)
     for field, ones in _aside(numbers, readings).items():
         right, texts = taken.get(field), [text_of(one.number) for one in ones]
@@ -153,7 +155,7 @@ def _aside(numbers, readings):
     return said
 
 
-def _second_rows(codes: Codes, numbers: Numbers, rest: List[Reading]) -> List[Answer]:
+def _second_rows(codes: Codes, numbers: Numbers, rest: List[Reading]) -> List[SecondRow]:
     """Readings that aren't believed, but of which the library believes a row where it is shown these alone: as of a
     line on which one digit is always read wrong, or of a second disc. Which of two rows is the right one isn't known
     where their weights are near. A few of many wrong numbers always fit, so a row weighs more than the widest break,
@@ -167,10 +169,8 @@ def _second_rows(codes: Codes, numbers: Numbers, rest: List[Reading]) -> List[An
         return []
     fields = {reading.field for reading in row}
     text_of = numbers.unit.text_of
-    return [{
-        "first": text_of(row[0].number), "last": text_of(row[-1].number), "field": row[0].field,
-        "lastField": row[-1].field, "count": len(row), "weight": weight,
-        "against": sum(one.weight for one in numbers.believed if one.field in fields)}]
+    return [SecondRow(text_of(row[0].number), text_of(row[-1].number), row[0].field, row[-1].field, len(row), weight,
+                      sum(one.weight for one in numbers.believed if one.field in fields))]
 
 
 def _row_of(codes, numbers, rest):
@@ -201,7 +201,7 @@ def _off_the_clock(codes, times):
 
 
 def _times_aside(times, numbers):
-    """The minutes and the seconds that aren't believed, each for itself by name, and the fields whose lines differ."""
+    """The minutes and the seconds that aren't believed, each for itself, and the fields whose lines differ."""
     taken, doubtful, conflicts, all_beside = numbers.taken, [], [], AllBeside(numbers)
     for field in sorted(times.parts.keys() | times.minutes.keys()):
         said, number = times.minutes.get(field, {}), taken.get(field)

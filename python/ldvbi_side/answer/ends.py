@@ -1,14 +1,15 @@
 """The two ends of a side: whether it has fields for the numbers before its first one, and how far it goes on without
 numbers. By the answer's other members, and the library's reasons."""
 
-from typing import Any, NamedTuple, Optional, Tuple
+from typing import Any, Dict, NamedTuple, Optional, Tuple
 
 from ldvbi import JudgedSide, Reason
 from ..judge.paces import RATES, Unit
-from ..judge.readings import Answer
+from .entries import Answer
 
 # The numbers with which a disc may begin
-FIRST = {"picture": (0, 1), "time": ("0:00:00.00", "0:00:00.01"), "minute": ("0:00",)}
+FIRST: Dict[Optional[str], Tuple[Any, ...]] = {
+    "picture": (0, 1), "time": ("0:00:00.00", "0:00:00.01"), "minute": ("0:00",)}
 LONGEST = 100  # fields without a number at an end that may be a scratch
 LEFT_OUT = 2  # numbers that the clock of an NTSC disc leaves out in a minute, at most
 
@@ -23,11 +24,11 @@ class Begin(NamedTuple):
 def begin_of(answer: Answer, judged: Optional[JudgedSide], unit: Unit, is_strict: bool = False) -> Optional[Begin]:
     """How a side begins, by the library, or of minutes alone by the fields before the first one; None where nothing is
     to be said. With `is_strict` all from the disc's first number on have to be read, too."""
-    least = answer["numbers"]["least"]
+    least = answer.numbers.least
     if least is None:
         return None
-    number, field, _ = answer["showings"][0]
-    is_first = least in FIRST[answer["unit"]]
+    number, field, _ = answer.showings[0]
+    is_first = least in FIRST[answer.unit]
     if judged is None:
         if is_first:
             return None
@@ -47,35 +48,35 @@ def begin_of(answer: Answer, judged: Optional[JudgedSide], unit: Unit, is_strict
 
 def _fields_there(answer, field):
     """How many fields stand before this one, from the lead-in on."""
-    return field - 1 - max((one["last"] for one in answer["leadIn"] if one["last"] < field), default=0)
+    return field - 1 - max((one.last for one in answer.lead_in if one.last < field), default=0)
 
 
 def end_of(answer: Answer) -> Optional[Tuple[int, int]]:
     """The first and the last field behind the last number and before the lead-out, or the end of the side, where they
     are more than a scratch has."""
-    if not answer["showings"]:
+    if not answer.showings:
         return None
-    shown = answer["showings"][-1][2]
-    last = min((one["first"] - 1 for one in answer["leadOut"] if one["first"] > shown), default=answer["fields"])
+    shown = answer.showings[-1].last
+    last = min((one.first - 1 for one in answer.lead_out if one.first > shown), default=answer.fields)
     return (shown + 1, last) if last - shown > LONGEST else None
 
 
 def is_end_seen(answer: Answer) -> bool:
     """Whether lead-out, or another side's lead-in, stands after the last number."""
-    last = answer["showings"][-1][2] if answer["showings"] else 0
-    return any(one["last"] > last for one in answer["leadOut"] + answer["leadIn"])
+    last = answer.showings[-1].last if answer.showings else 0
+    return any(one.last > last for one in answer.lead_out + answer.lead_in)
 
 
 def _fields_before(number, answer):
     """How many fields a disc has before this number, from the last one on with which it may begin, at least and at
     most: on NTSC the clock may leave out times."""
-    rate, unit = RATES[answer["system"]], answer["unit"]
+    rate, unit = RATES[answer.system], answer.unit
     count = ordinal_of(number, rate) - ordinal_of(FIRST[unit][-1], rate)
     if unit == "picture":
-        fields = 5 * count // 2 if answer["pace"] == "film" else 2 * count
+        fields = 5 * count // 2 if answer.pace == "film" else 2 * count
         return fields, fields
     times = 60 * rate * count if unit == "minute" else count
-    left_out = LEFT_OUT * (times // (60 * rate) + 1) if answer["system"] == "NTSC" else 0
+    left_out = LEFT_OUT * (times // (60 * rate) + 1) if answer.system == "NTSC" else 0
     return 2 * (times - left_out), 2 * times
 
 

@@ -6,8 +6,8 @@ import bisect
 from typing import Dict, List, NamedTuple, Optional, Tuple
 
 from ldvbi import Gap, GapKind, JudgedSide, Pace as JudgedPace, Reason, State
-from ..judge.places import Places
-from ..judge.readings import Answer, ByField
+from ..judge.places import Break, Places
+from ..judge.readings import ByField
 
 # Reasons of gaps, which say why the first number and the last don't count to each other
 _BY_GAPS = Reason.is_lost | Reason.is_held | Reason.goes_back | Reason.is_joined
@@ -16,7 +16,7 @@ UNSEEN = 24  # fields without a number in which a player is known to have stood 
 
 
 class Gaps(NamedTuple):
-    """Where numbers and fields don't go on together, in the form of the answer's breaks, with numbers as counts.
+    """Where numbers and fields don't go on together, as breaks with numbers as counts.
     `judged` is the library's answer, or None of minutes alone, which it doesn't judge. `breaks` are lost fields, fields
     too many, and jumps back; `open` are gaps where the disc itself may skip, `joins` those between two sides.
     `at_speed` are those that another speed explains: there the breaks are those of the numbers that are believed here.
@@ -24,11 +24,11 @@ class Gaps(NamedTuple):
     library reports without a gap that numbers don't count to each other, and nothing here explains it; else None. It is
     0 if they don't only over a stretch between these two."""
     judged: Optional[JudgedSide]
-    breaks: List[Answer]
+    breaks: List[Break]
     more: Optional[int] = None
-    open: List[Answer] = []
-    joins: List[Answer] = []
-    at_speed: List[Answer] = []
+    open: List[Break] = []
+    joins: List[Break] = []
+    at_speed: List[Break] = []
 
 
 def gaps_of(places: Places, shown: ByField) -> Gaps:
@@ -37,8 +37,8 @@ def gaps_of(places: Places, shown: ByField) -> Gaps:
     judged = places.numbers.judged
     if judged is None:
         return Gaps(None, places.breaks)
-    found: Dict[str, List[Answer]] = {name: [] for name in ("breaks", "open", "joins", "at_speed")}
-    losses = [(one["after"], one["before"]) for one in places.breaks if one["kind"] == "lost"]
+    found: Dict[str, List[Break]] = {name: [] for name in ("breaks", "open", "joins", "at_speed")}
+    losses = [(one.after, one.before) for one in places.breaks if one.kind == "lost"]
     for gap in judged.gaps:
         fate = _fate(places, losses, gap)
         if fate == "breaks" and _are_rows(places, shown, gap):
@@ -46,18 +46,18 @@ def gaps_of(places: Places, shown: ByField) -> Gaps:
         if fate:
             _add(found[fate], _entry(places, gap, judged.on_both))
     inside = [one for one in places.breaks if any(
-        gap["after"] < one["before"] and one["after"] < gap["before"] for gap in found["at_speed"])]
-    found["breaks"] = sorted(found["breaks"] + inside, key=lambda one: one["after"])
+        gap.after < one.before and one.after < gap.before for gap in found["at_speed"])]
+    found["breaks"] = sorted(found["breaks"] + inside, key=lambda one: one.after)
     if judged.reasons & Reason.no_numbers:
         # What this package believes besides may show a loss, if too little for the library was read.
         found["breaks"] = places.breaks
     if not judged.reasons & Reason.is_off or judged.reasons & _BY_GAPS:
         return Gaps(judged, more=None, **found)
     known = _off_in(places, judged)
-    found["breaks"] = sorted(found["breaks"] + known, key=lambda one: one["after"])
+    found["breaks"] = sorted(found["breaks"] + known, key=lambda one: one.after)
     if judged.on_both:
         # A player that stands still shows both fields of a picture equally often.
-        is_explained = all((one["last"] - one["first"]) % 2 for one in places.stills)
+        is_explained = all((one.last - one.first) % 2 for one in places.stills)
     else:
         is_explained = not (judged.tally.stills or _shifts(judged))
     return Gaps(judged, more=None if known or is_explained else _more(judged), **found)
@@ -70,7 +70,7 @@ def _off_in(places, judged):
         return places.breaks
     shifts = _shifts(judged)
     return [one for one in places.breaks
-            if any(one["after"] <= last and first < one["before"] - 1 for first, last in shifts)]
+            if any(one.after <= last and first < one.before - 1 for first, last in shifts)]
 
 
 def _shifts(judged):
@@ -135,9 +135,9 @@ def _are_rows(places, shown, gap):
 def _add(entries, one):
     """Adds an entry. A field that was frozen is one, of all its fields too many."""
     last = entries[-1] if entries else None
-    if last and last["kind"] == one["kind"] == "held" and (
-            last["before"], last["from"], last["to"]) == (one["after"], one["to"], one["from"]):
-        last.update({"before": one["before"], "fields": last["fields"] + one["fields"]})
+    if last and last.kind == one.kind == "held" and (last.before, last.from_, last.to) == (
+            one.after, one.to, one.from_):
+        entries[-1] = last._replace(before=one.before, fields=last.fields + one.fields)
     else:
         entries.append(one)
 
@@ -151,7 +151,7 @@ def _entry(places, gap, is_on_both):
         fields = abs(_off(places, gap))
     elif is_on_both:
         fields = _fields_on_both(places.numbers, gap, kind)
-    return {"kind": kind, "after": after, "before": before, "from": gap.from_, "to": gap.to, "fields": fields}
+    return Break(kind, after, before, gap.from_, gap.to, fields)
 
 
 def _off(places, gap):

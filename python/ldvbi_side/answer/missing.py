@@ -8,15 +8,16 @@ from ldvbi import Reason
 from ..judge.believed import stretch_at
 from ..judge.order import pairs_of
 from ..judge.paces import RATES, Unit
-from ..judge.places import Places
-from ..judge.readings import Answer, Codes
+from ..judge.places import Break, Places, Showing
+from ..judge.readings import Codes
+from .entries import Lost, Missing, Repeated
 from .gaps import Gaps
 
 _BLANK = frozenset(["blank"])
 FAR = 10  # numbers passed over to one that fields may be there for: from here on most of them are sure to be lost
 
 
-def missing_of(places: Places, gaps: Gaps, codes: Codes) -> Tuple[List[Answer], List[Answer]]:
+def missing_of(places: Places, gaps: Gaps, codes: Codes) -> Tuple[List[Missing], List[Missing]]:
     """The numbers between the least and the greatest that no field has, in stretches of one reason; and those that were
     left out by the disc's clock. None is lost but in a gap that lacks fields."""
     firsts, losses = _first_fields(places.showings), _Losses(gaps, places.numbers.unit)
@@ -45,7 +46,7 @@ class _Losses:
     those before it. An NTSC disc's clock may leave out times."""
 
     def __init__(self, gaps: Gaps, unit: Unit) -> None:
-        lost = sorted((one["after"], one["before"]) for one in gaps.breaks + gaps.at_speed if one["kind"] == "lost")
+        lost = sorted((one.after, one.before) for one in gaps.breaks + gaps.at_speed if one.kind == "lost")
         self.begin, judged = None, gaps.judged
         if judged and judged.reasons & Reason.begins_late and (unit.name, unit.rate) != ("time", RATES["NTSC"]):
             self.begin = judged.numbers[judged.first or 0].number
@@ -68,15 +69,14 @@ def _parts(first, last, passed, known):
 
 def _first_fields(showings):
     firsts = {}
-    for number, field, _ in showings:
-        firsts.setdefault(number, field)
+    for one in showings:
+        firsts.setdefault(one.number, one.first)
     return firsts
 
 
 def _stretch(stretch, unit):
     first, last, why, fields = stretch
-    return {"first": unit.text_of(first), "last": unit.text_of(last), "count": last - first + 1, "why": why,
-            "after": fields[0], "before": fields[1]}
+    return Missing(unit.text_of(first), unit.text_of(last), last - first + 1, why, *fields)
 
 
 # ---- Lost or unread
@@ -134,15 +134,15 @@ def _passed_over(places: Places, losses: _Losses, gaps: Gaps, codes: Codes) -> P
     only in a gap that lacks fields, and none that a field in it shows in pass 1 on both lines."""
     spans: Dict[str, List[Tuple[int, int]]] = {"unread": [], "undecided": [], "lost": []}
     for one in places.breaks:
-        if one["from"] < one["to"] and (one["kind"] == "held" or losses.are_between(one["after"], one["before"])):
-            passed = Passed(one["from"] + 1, one["to"] - 1, *_fate(one, places.numbers, codes.fields))
+        if one.from_ < one.to and (one.kind == "held" or losses.are_between(one.after, one.before)):
+            passed = Passed(one.from_ + 1, one.to - 1, *_fate(one, places.numbers, codes.fields))
             for why, first, last in passed.parts():
                 spans[why].append((first, last))
-            shown = map(codes.sure_picture, range(one["after"] + 1, one["before"]))
+            shown = map(codes.sure_picture, range(one.after + 1, one.before))
             spans["undecided"] += [(number, number) for number in shown if number is not None]
     between = (sorted((before.number, after.number)) for before, after in places.joins)
     others = [(0, losses.begin - 1)] if losses.begin else []
-    others += [(one["from"] + 1, one["to"] - 1) for one in gaps.at_speed if one["kind"] == "lost"]
+    others += [(one.from_ + 1, one.to - 1) for one in gaps.at_speed if one.kind == "lost"]
     return PassedOver([*spans.items(), ("unshown", [(low + 1, high - 1) for low, high in between]), ("lost", others)])
 
 
@@ -165,26 +165,26 @@ def _fate(one, numbers, fields):
     """For how many of the numbers that are passed over at a break there may be fields, and whether some are lost. Where
     no field is too few, each of them had one in which something was read or seen: else, the player may have searched in
     the dark."""
-    between = range(one["after"] + 1, one["before"])
-    if one["kind"] == "held":
+    between, passed = range(one.after + 1, one.before), one.to - one.from_ - 1
+    if one.kind == "held":
         seen = sum(field not in numbers.others and not _BLANK.issuperset(fields.causes[field - 1])
                    for field in between)
-        return 0, False if seen > one["to"] - one["from"] - 2 else None
-    is_lost = one["fields"] >= numbers.pace.least
+        return 0, False if seen >= passed else None
+    is_lost = one.fields >= numbers.pace.least
     if all(field in numbers.others for field in between):  # so that each number was in a field that is lost
-        return 0, is_lost if one["fields"] >= one["to"] - one["from"] - 1 else None
-    return max(one["to"] - one["from"] - 1 - numbers.pace.numbers_in(one["fields"]), 0), is_lost
+        return 0, is_lost if one.fields >= passed else None
+    return max(passed - numbers.pace.numbers_in(one.fields), 0), is_lost
 
 
 # ---- Lost fields
 
-def lost_fields(places: Places, gaps: Gaps, first: Sequence[bool]) -> List[Answer]:
+def lost_fields(places: Places, gaps: Gaps, first: Sequence[bool]) -> List[Lost]:
     """Where fields are lost: by the gaps, and between the first number and the last by two fields of one parity in a
     row, where `first` says of each field whether it is the first one of its frame."""
-    lost = [{"after": one["after"], "before": one["before"], "fields": one["fields"], "by": by}
+    lost = [Lost(one.after, one.before, one.fields, by)
             for by, ones in (("number", gaps.breaks), ("undecided", gaps.open))
-            for one in ones if one["kind"] == "lost"]
-    lost.sort(key=lambda one: one["after"])
+            for one in ones if one.kind == "lost"]
+    lost.sort(key=lambda one: one.after)
     swapped, numbered = _swapped_parity(places.numbers, first), places.numbers.fields
     fields = [field for field in range(numbered[0] + 1, min(numbered[-1], len(first)) + 1)
               if first[field - 1] == first[field - 2]] if numbered else []
@@ -195,23 +195,27 @@ def lost_fields(places: Places, gaps: Gaps, first: Sequence[bool]) -> List[Answe
 def _is_between_sides(places, gaps, field):
     """Whether a field stands between the numbers of two sides."""
     return any(before.field < field <= after.field for before, after in places.joins) or any(
-        one["after"] < field <= one["before"] for one in gaps.joins)
+        one.after < field <= one.before for one in gaps.joins)
 
 
-def own_breaks(places: Places) -> List[Answer]:
+def own_breaks(places: Places) -> List[Break]:
     """The breaks of the numbers that are believed here. Of a picture that was read in one of its two fields it isn't
     known in which. So where one field is lost, such pictures before the loss may stand behind it, if their field is
     taken for the first one. (The chain of numbers has the break as late as it can be.)"""
-    numbers = places.numbers
-    breaks = [dict(one) for one in places.breaks]
-    for one in breaks if numbers.pace and numbers.pace.kind == "both" else ():
-        if one["kind"] == "lost" and one["fields"] == 1:
-            place = bisect.bisect(numbers.fields, one["after"]) - 1
-            while place > 0 and numbers.believed[place].variant == 0 and numbers.off(
-                    numbers.believed[place - 1], numbers.believed[place]) == 0:
-                place -= 1
-            one["after"] = numbers.fields[place]
-    return breaks
+    pace = places.numbers.pace
+    if not pace or pace.kind != "both":
+        return places.breaks
+    return [one._replace(after=_first_after(places.numbers, one.after)) if one.kind == "lost" and one.fields == 1
+            else one for one in places.breaks]
+
+
+def _first_after(numbers, after):
+    """The first field after which the one may be lost that is lost after this one."""
+    place = bisect.bisect(numbers.fields, after) - 1
+    while place > 0 and numbers.believed[place].variant == 0 and numbers.off(
+            numbers.believed[place - 1], numbers.believed[place]) == 0:
+        place -= 1
+    return numbers.fields[place]
 
 
 def _swapped_parity(numbers, first):
@@ -229,43 +233,41 @@ def _with_parity(lost, fields):
     between them."""
     found, place = [], 0
     for field in fields:
-        while place < len(lost) and lost[place]["before"] < field:
+        while place < len(lost) and lost[place].before < field:
             place += 1
-        if place == len(lost) or lost[place]["after"] >= field:
-            found.append({"after": field - 1, "before": field, "fields": None, "by": "parity"})
-        elif lost[place]["by"] == "number":
-            lost[place]["by"] = "both"
-            if lost[place]["fields"] == 1:
-                lost[place].update({"after": field - 1, "before": field})
-    return sorted(lost + found, key=lambda one: one["after"])
+        if place == len(lost) or lost[place].after >= field:
+            found.append(Lost(field - 1, field, None, "parity"))
+        elif lost[place].by == "number":
+            one = lost[place]
+            after, before = (field - 1, field) if one.fields == 1 else (one.after, one.before)
+            lost[place] = Lost(after, before, one.fields, "both")
+    return sorted(lost + found, key=lambda one: one.after)
 
 
 # ---- Shown again
 
-def repeated_of(places: Places) -> List[Answer]:
+def repeated_of(places: Places) -> List[Repeated]:
     """Numbers that are shown again, in stretches. A number that is due in a damaged field counts as shown there, so
     that damage doesn't break a stretch."""
-    shown = places.showings + [[number, field, field] for number, field in places.due]
+    shown = places.showings + [Showing(number, field, field) for number, field in places.due]
     if places.numbers.pace and places.numbers.pace.kind == "both":  # of a swapped pair the pictures' other fields count
-        shown = [one for one in shown if one[1] not in places.numbers.swapped]
-    if len(shown) == len({number for number, _, _ in shown}):  # as mostly
+        shown = [one for one in shown if one.first not in places.numbers.swapped]
+    if len(shown) == len({one.number for one in shown}):  # as mostly
         return []
     seen: Dict[int, int] = {}
-    stretches: List[Answer] = []
-    # the last stretch, if it may go on with greater numbers, or with any at the other speed at which it was played
-    goes_on: Optional[Answer] = None
-    speed = None
+    stretches: List[Repeated] = []
+    # whether the last stretch may go on with greater numbers, or with any at the other speed at which it was played
+    goes_on, speed = False, None
     speeds = places.numbers.speeds
-    for number, first, last in sorted(shown, key=lambda showing: showing[1]):
+    for number, first, last in sorted(shown, key=lambda showing: showing.first):
         played = stretch_at(speeds, first) if speeds else None
         if number not in seen:
             seen[number] = first
-            goes_on = goes_on if played else None
-        elif goes_on and played == speed and (played or number >= goes_on["last"]):
-            goes_on.update({"last": number, "lastField": last})
+            goes_on = goes_on and played is not None
+        elif goes_on and played == speed and (played or number >= stretches[-1].last):
+            stretches[-1] = stretches[-1]._replace(last=number, last_field=last)
         else:
-            goes_on = {"first": number, "last": number, "field": first, "lastField": last, "before": seen[number]}
-            speed = played
-            stretches.append(goes_on)
+            stretches.append(Repeated(number, number, first, last, seen[number]))
+            goes_on, speed = True, played
     text_of = places.numbers.unit.text_of
-    return [dict(one, first=text_of(one["first"]), last=text_of(one["last"])) for one in stretches]
+    return [one._replace(first=text_of(one.first), last=text_of(one.last)) for one in stretches]

@@ -9,8 +9,9 @@ from ..judge.believed import Numbers
 from ..judge.chain import chosen, sure_in
 from ..judge.paces import ChapterPace
 from ..judge.places import Places
-from ..judge.readings import WEIGHTS, Answer, Codes, Reading
+from ..judge.readings import WEIGHTS, Codes, Reading, Stray
 from .doubts import chapters_aside
+from .entries import Chapter, Conflict, Doubt, Status, Stop, Stretch, Users, frame_of
 
 LEAST_SHARE = 200  # fields to a chapter code at most: of a disc with chapters each picture has one
 APART = 100  # fields without the code between two stretches of lead-in or lead-out: a scratch on a disc is shorter
@@ -21,11 +22,11 @@ _STOP_LINES = (16, 17)  # on which a disc has its stops; line 18 alone makes non
 
 # ---- Chapters
 
-def chapters_of(codes: Codes, places: Places) -> Tuple[List[Answer], List[Answer], List[Answer]]:
-    """The stretches of chapters, in the form of the answer but for the frame; the chapters that aren't believed, and
-    the fields whose lines differ."""
+def chapters_of(codes: Codes, places: Places, begin: int) -> Tuple[List[Chapter], List[Doubt], List[Conflict]]:
+    """The stretches of chapters, the chapters that aren't believed, and the fields whose lines differ. `begin` is the
+    first field that begins a frame."""
     # a field between the two numbers of a break may belong to either side
-    breaks = [field for one in places.breaks for field in (one["after"] + 1, one["before"])]
+    breaks = [field for one in places.breaks for field in (one.after + 1, one.before)]
     breaks += [field for before, after in places.joins for field in (before.field + 1, after.field)]
     # backwards there is one at each end: of a chapter there one picture may be shown
     breaks += [field for one in places.numbers.speeds if one.line.step < 0
@@ -44,7 +45,7 @@ def chapters_of(codes: Codes, places: Places) -> Tuple[List[Answer], List[Answer
     if LEAST_SHARE * (len(believed) + len(inside)) < len(codes.fields.words):
         believed, readings = [], codes.readings(found)
     aside = chapters_aside(codes, readings, {reading.field: reading.number % 100 for reading in believed})
-    return (_chapters(believed, places), *aside)
+    return (_chapters(believed, places, begin), *aside)
 
 
 def _in_order(sure):
@@ -65,23 +66,21 @@ def _inside(found, sure):
             if before == one == after is not None and len(found[field]) == 1}
 
 
-def _chapters(believed, places):
+def _chapters(believed, places, begin):
     chapters = []
     for reading in believed:
-        number = reading.number % 100
-        if chapters and chapters[-1]["chapter"] == number:
-            chapters[-1]["last"] = reading.field
+        number, field = reading.number % 100, reading.field
+        if chapters and chapters[-1].chapter == number:
+            chapters[-1] = chapters[-1]._replace(last=field)
         else:
-            chapters.append({"chapter": number, "field": reading.field, "last": reading.field})
-    for place, chapter in enumerate(chapters):
-        chapter["after"] = chapters[place - 1]["last"] if place else None
-        chapter["number"] = places.number_at(chapter["field"])
+            after = chapters[-1].last if chapters else None
+            chapters.append(Chapter(number, field, field, after, places.number_at(field), frame_of(field, begin)))
     return chapters
 
 
 # ---- Lead-in and lead-out
 
-def ends_of(codes: Codes, kind: Kind, numbers: Numbers) -> Tuple[List[Answer], List[Answer]]:
+def ends_of(codes: Codes, kind: Kind, numbers: Numbers) -> Tuple[List[Stretch], List[Stray]]:
     """The stretches of fields with a code of lead-in or lead-out, and the lines on which that is stray. A stretch ends
     before a believed number, before more than two fields with a number or a chapter, or before a hundred fields without
     its code. Such a code in a field with a number, or between two numbers that fit each other, is stray. Two minutes
@@ -92,49 +91,48 @@ def ends_of(codes: Codes, kind: Kind, numbers: Numbers) -> Tuple[List[Answer], L
         between = bisect.bisect_left(others, field) - bisect.bisect(others, last)
         return field - last <= APART and between <= FEW and bisect.bisect(numbers.fields, last) == place
 
-    found: List[Answer] = []
-    stray: List[Answer] = []
+    found: List[Stretch] = []
+    stray: List[Stray] = []
     is_minute = numbers.unit.name == "minute"
     for field, values in sorted(codes.kinds[kind].items()):
         place = bisect.bisect(numbers.fields, field)
         has_number = place > 0 and numbers.fields[place - 1] == field
         if has_number or numbers.fit(numbers.around(field)) and not is_minute:
             stray += codes.strays({field: values}, "place")
-        elif found and is_one_with(found[-1]["last"], field, place):
-            found[-1]["last"] = field
-            found[-1]["count"] += 1
+        elif found and is_one_with(found[-1].last, field, place):
+            found[-1] = Stretch(found[-1].first, field, found[-1].count_ + 1)
         else:
-            found.append({"first": field, "last": field, "count": 1})
-    single = [one for one in found if one["count"] == 1 and numbers.fit(numbers.around(one["first"]))]
+            found.append(Stretch(field, field, 1))
+    single = [one for one in found if one.count_ == 1 and numbers.fit(numbers.around(one.first))]
     for one in single:
-        stray += codes.strays({one["first"]: codes.kinds[kind][one["first"]]}, "place")
+        stray += codes.strays({one.first: codes.kinds[kind][one.first]}, "place")
     return [one for one in found if one not in single], stray
 
 
 # ---- Stops and other codes
 
-def stops_of(codes: Codes, places: Places) -> Tuple[List[Answer], List[Answer]]:
-    """The fields with a picture stop, in the form of the answer but for the frame, each with its picture, and the lines
-    on which a stop isn't believed, as stray ones. As the library's judge does, it believes a stop that line 16 or 17
-    shows in pass 1, or that both show."""
-    found: List[Answer] = []
-    stray: List[Answer] = []
+def stops_of(codes: Codes, places: Places, begin: int) -> Tuple[List[Stop], List[Stray]]:
+    """The fields with a picture stop, each with its picture, and the lines on which a stop isn't believed, as stray
+    ones. As the library's judge does, it believes a stop that line 16 or 17 shows in pass 1, or that both show. `begin`
+    is the first field that begins a frame."""
+    found: List[Stop] = []
+    stray: List[Stray] = []
     for field, values in sorted(codes.kinds[Kind.picture_stop].items()):
         lines = [line for lines in values.values() for line in lines]
         if codes.weight(field, [line for line in lines if line in _STOP_LINES]) >= WEIGHTS[1]:
-            found.append({"field": field, "number": places.number_at(field), "lines": lines})
+            found.append(Stop(field, frame_of(field, begin), places.number_at(field), lines))
         else:
             stray += codes.strays({field: values}, "unsure")
     return found, stray
 
 
-def status_of(codes: Codes) -> List[Answer]:
+def status_of(codes: Codes) -> List[Status]:
     """The programme status codes that differ: whether CX is on, and the three digits behind that as they are."""
-    return [{"cx": word >> 12 == 0x8DC, "digits": "%03X" % (word & 0xFFF), **fields}
-            for word, fields in codes.words_of((Kind.cx_on, Kind.cx_off))]
+    return [Status(word >> 12 == 0x8DC, "%03X" % (word & 0xFFF), *fields)
+            for word, *fields in codes.words_of((Kind.cx_on, Kind.cx_off))]
 
 
-def users_of(codes: Codes) -> List[Answer]:
+def users_of(codes: Codes) -> List[Users]:
     """The users' codes that differ."""
-    return [{"digit": word >> 16 & 7, "digits": "%03X" % (word & 0xFFF), **fields}
-            for word, fields in codes.words_of((Kind.users,))]
+    return [Users(word >> 16 & 7, "%03X" % (word & 0xFFF), *fields)
+            for word, *fields in codes.words_of((Kind.users,))]

@@ -3,23 +3,22 @@ are the library's reasons, and what the answer's other members say beyond gaps."
 
 import bisect
 from collections import Counter, defaultdict
-from typing import List
+from typing import Dict, List, Optional
 
-from ldvbi import Reason, State
+from ldvbi import Kind, Reason, State
 from ..judge.paces import Unit
-from ..judge.readings import Answer
 from .ends import begin_of, end_of, is_end_seen, ordinal_of
+from .entries import Answer, Ground
 from .gaps import Gaps
-from .lines import words_of
 
 YES, NO, OPEN = "yes", "no", "can't tell"
-UNITS = {"picture": "pictures", "time": "times", "minute": "minutes"}
+UNITS: Dict[Optional[str], str] = {"picture": "pictures", "time": "times", "minute": "minutes"}
 _OTHER = {"cav": "CLV", "clv": "CAV"}
 NEAR = 2  # fields from one code of the other format to the next, where they aren't wrong words by chance
 SHARE = 10  # numbers to one that is set aside, at most, where what was read shows whether a side is whole
 
 
-def reasons_of(answer: Answer, gaps: Gaps, unit: Unit, is_strict: bool = False, may_end: bool = False) -> List[Answer]:
+def reasons_of(answer: Answer, gaps: Gaps, unit: Unit, is_strict: bool = False, may_end: bool = False) -> List[Ground]:
     """Why a side with this answer and these gaps isn't whole, or why that can't be told, in order of weight: `why` is a
     word for programs, `text` says it, and `whole` is what the reason alone would make of the side. Each reason that the
     library has is among them, if nothing explains it. Numbers that weren't read while their fields are there are no
@@ -31,22 +30,21 @@ def reasons_of(answer: Answer, gaps: Gaps, unit: Unit, is_strict: bool = False, 
     known += [_joined(answer, gaps), _other_format(answer), _fewer(answer), _cut(answer)]
     open_ = [_no_numbers(answer, gaps.judged), _open(answer, gaps), _off(gaps), _undecided(answer, gaps),
              _unread_at(begin and begin.unread), _unread_at(end_of(answer)),
-             _end_unseen(answer, gaps.judged, may_end or is_strict and not answer["leadOut"]), _minutes(answer),
+             _end_unseen(answer, gaps.judged, may_end or is_strict and not answer.lead_out), _minutes(answer),
              _order(answer), _lines(answer), _doubtful(answer, gaps.judged)]
-    return [{"why": one[0], "whole": whole, "text": one[1]}
-            for whole, found in ((NO, known), (OPEN, open_)) for one in found if one]
+    return [Ground(one[0], whole, one[1]) for whole, found in ((NO, known), (OPEN, open_)) for one in found if one]
 
 
-def whole_of(reasons: List[Answer]) -> str:
+def whole_of(reasons: List[Ground]) -> str:
     """Whether a side with these reasons is whole: what is known to be lacking outweighs what isn't known."""
-    said = {one["whole"] for one in reasons}
+    said = {one.whole for one in reasons}
     return NO if NO in said else OPEN if OPEN in said else YES
 
 
 def other_file(answer: Answer) -> bool:
     """Whether the bytes that were read aren't those that the metadata speaks of: of another count of fields, or no
     whole number of them. Then the levels needn't be wrong."""
-    return answer["cutField"] is not None or answer["metadataFields"] not in (None, answer["fields"])
+    return answer.cut_field is not None or answer.metadata_fields not in (None, answer.fields)
 
 
 def counted(count: int, name: str) -> str:
@@ -56,15 +54,15 @@ def counted(count: int, name: str) -> str:
 
 def counted_by(answer: Answer, why: str) -> int:
     """How many numbers that no field shows are `lost`, `unread` or `undecided`."""
-    return sum(one["count"] for one in answer["missing"] if one["why"] == why)
+    return sum(one.count_ for one in answer.missing if one.why == why)
 
 
 def lost_fields_text(answer: Answer) -> str:
     """How many fields are lost for sure; nothing where none is. Of minutes alone the least is known."""
-    lost = [one for one in answer["lost"] if one["by"] != "undecided"]
-    least = "at least " if answer["unit"] == "minute" else ""
-    more = " or more" if any(one["fields"] is None for one in lost) else ""
-    return least + counted(sum(one["fields"] or 1 for one in lost), "field") + more if lost else ""
+    lost = [one for one in answer.lost if one.by != "undecided"]
+    least = "at least " if answer.unit == "minute" else ""
+    more = " or more" if any(one.fields is None for one in lost) else ""
+    return least + counted(sum(one.fields or 1 for one in lost), "field") + more if lost else ""
 
 
 # ---- What is known not to be in the capture, or not as the disc has it
@@ -75,7 +73,7 @@ def _lost(answer):
 
 
 def _jumps(answer):
-    kinds = Counter(one["kind"] for one in answer["breaks"] if one["kind"] != "lost")
+    kinds = Counter(one.kind for one in answer.breaks if one.kind != "lost")
     if not kinds:
         return None
     back = kinds["back"]
@@ -101,24 +99,24 @@ def _off(gaps):
 
 def _missing(answer):
     count = counted_by(answer, "lost")
-    return ("missing", "%s lost" % counted(count, answer["unit"])) if count else None
+    return ("missing", "%s lost" % counted(count, answer.unit)) if count else None
 
 
 def _unread(answer):
     count = counted_by(answer, "unread")
-    return ("unread", "%s unread" % counted(count, answer["unit"])) if count else None
+    return ("unread", "%s unread" % counted(count, answer.unit)) if count else None
 
 
 def _speed(answer):
-    speeds = answer["speeds"]
+    speeds = answer.speeds
     if not speeds:
         return None
-    where = "fields %(first)d to %(last)d" % speeds[0] if len(speeds) == 1 else "%d stretches" % len(speeds)
+    where = "fields %d to %d" % speeds[0][:2] if len(speeds) == 1 else "%d stretches" % len(speeds)
     return "speed", "played at another speed in " + where
 
 
 def _swapped(answer, judged):
-    count = len(answer["swapped"])
+    count = len(answer.swapped)
     if count:
         return "swapped", "%s of fields swapped" % counted(count, "pair")
     is_swapped = judged and judged.reasons & Reason.is_swapped
@@ -130,62 +128,63 @@ def _begins(answer, begin):
     doesn't believe."""
     if not begin or begin.lacks is None:
         return None
-    if answer["numbers"]["least"] == begin.lacks:
-        return "begins", "begins at %(least)s, ends at %(greatest)s" % answer["numbers"]
-    return "begins", "fields lost before %s %s" % (answer["unit"], begin.lacks)
+    _, least, greatest = answer.numbers
+    if least == begin.lacks:
+        return "begins", "begins at %s, ends at %s" % (least, greatest)
+    return "begins", "fields lost before %s %s" % (answer.unit, begin.lacks)
 
 
 def _ends(answer, may_end):
-    return [(name, "no " + name) for name, member in (("lead-in", "leadIn"), ("lead-out", "leadOut"))
-            if not answer[member] and not (may_end and member == "leadOut")]
+    return [(name, "no " + name) for name, stretches, is_needed in (
+        ("lead-in", answer.lead_in, True), ("lead-out", answer.lead_out, not may_end)) if is_needed and not stretches]
 
 
 def _joined(answer, gaps):
     """Lead-in behind a number, or lead-out before one: two sides in one capture, or two runs of one."""
     found = _end_between(answer)
     if not found and gaps.joins:
-        found = "joined", "another side begins after field %(after)d" % gaps.joins[0]
+        found = "joined", "another side begins after field %d" % gaps.joins[0].after
     return found
 
 
 def _end_between(answer):
-    showings = answer["showings"]
+    showings = answer.showings
     if not showings:
         return None
-    again = [one["first"] for one in answer["leadIn"] if one["first"] > showings[0][1]]
+    again = [one.first for one in answer.lead_in if one.first > showings[0].first]
     if again:
         return "joined", "lead-in again in field %d (two sides joined)" % again[0]
-    early = [one["first"] for one in answer["leadOut"] if one["last"] < showings[-1][2]]
+    early = [one.first for one in answer.lead_out if one.last < showings[-1].last]
     return ("joined", "lead-out in field %d, and numbers behind it (two sides joined)" % early[0]) if early else None
 
 
 def _other_format(answer):
     """A wrong word may look like a code of the other format, but it stands alone."""
-    fields = sorted({one["field"] for one in answer["stray"] if one["why"] == "format"})
+    fields = sorted({one.field for one in answer.stray if one.why == "format"})
     near = set()
     for one, other in zip(fields, fields[1:]):
         if other - one <= NEAR:
             near |= {one, other}
     return ("format", "codes of %s in %s, from field %d on" % (
-        _OTHER[answer["format"]], counted(len(near), "field"), min(near))) if near else None
+        _OTHER[answer.format], counted(len(near), "field"), min(near))) if near else None
 
 
 def _fewer(answer):
-    expected = answer["metadataFields"]
-    if expected is None or expected <= answer["fields"]:
+    expected = answer.metadata_fields
+    if expected is None or expected <= answer.fields:
         return None
-    return "metadata", "%s of %d that the metadata has" % (counted(answer["fields"], "field"), expected)
+    return "metadata", "%s of %d that the metadata has" % (counted(answer.fields, "field"), expected)
 
 
 def _cut(answer):
-    cut = answer["cutField"]
-    return ("cut", "field %d is cut" % cut["seqNo"]) if cut else None
+    cut = answer.cut_field
+    return ("cut", "field %d is cut" % cut.field) if cut else None
 
 
 # ---- What leaves it open
 
 def _no_numbers(answer, judged):
-    if not answer["numbers"]["count"]:
+    if not answer.numbers.count_:
         return "numbers", "no picture number and no time"
     return ("numbers", "too few numbers to judge by") if judged and judged.reasons & Reason.no_numbers else None
 
@@ -195,37 +194,37 @@ def _open(answer, gaps):
     if not gaps.open:
         return None
     one = gaps.open[0]
-    if one["from"] == one["to"]:
-        return "open", "the player stood still after field %(after)d, or went on and came back" % one
+    if one.from_ == one.to:
+        return "open", "the player stood still after field %d, or went on and came back" % one.after
     what = "%s may be %s after field %d" % (
-        counted(one["fields"], "field"), "lost" if one["kind"] == "lost" else "too many", one["after"])
+        counted(one.fields, "field"), "lost" if one.kind == "lost" else "too many", one.after)
     more = " and in %s" % counted(len(gaps.open) - 1, "more place") if len(gaps.open) > 1 else ""
-    why = ("the disc's clock left out a number" if answer["unit"] == "time" else
-           "the film is cut there" if answer["pace"] == "film" else "lines 17 and 18 count apart there")
+    why = ("the disc's clock left out a number" if answer.unit == "time" else
+           "the film is cut there" if answer.pace == "film" else "lines 17 and 18 count apart there")
     return "open", "%s%s, or %s" % (what, more, why)
 
 
 def _undecided(answer, gaps):
     """Numbers that are undecided elsewhere than in open gaps."""
-    count = sum(one["count"] for one in answer["missing"] if one["why"] == "undecided" and not any(
-        gap["after"] <= one["after"] and one["before"] <= gap["before"] for gap in gaps.open))
-    return ("undecided", "%s undecided" % counted(count, answer["unit"])) if count else None
+    count = sum(one.count_ for one in answer.missing if one.why == "undecided" and not any(
+        gap.after <= one.after and one.before <= gap.before for gap in gaps.open))
+    return ("undecided", "%s undecided" % counted(count, answer.unit)) if count else None
 
 
 def _end_unseen(answer, judged, is_accepted):
     """No end of a side after the last number: the capture may end before the disc does."""
-    if is_accepted or not answer["showings"] or judged and judged.reasons & Reason.no_numbers:
+    if is_accepted or not answer.showings or judged and judged.reasons & Reason.no_numbers:
         return None
     is_unseen = judged.reasons & Reason.end_unseen if judged else not is_end_seen(answer)
-    return ("lead-out", "no lead-out: the disc may go on behind %s %s" % (answer["unit"], answer["showings"][-1][0])
+    return ("lead-out", "no lead-out: the disc may go on behind %s %s" % (answer.unit, answer.showings[-1].number)
             ) if is_unseen else None
 
 
 def _minutes(answer):
     """Minutes alone, of which none stands between two others: of none the length is known."""
-    if answer["unit"] != "minute":
+    if answer.unit != "minute":
         return None
-    minutes = [ordinal_of(number, 1) for number, _, _ in answer["showings"]]
+    minutes = [ordinal_of(number, 1) for number, _, _ in answer.showings]
     is_known = any(after - one == one - before == 1 for before, one, after in zip(minutes, minutes[1:], minutes[2:]))
     return None if is_known else ("minutes", "no minute is between two others")
 
@@ -239,11 +238,11 @@ def _order(answer):
     """On film a number one field before or behind its place, while those around it go on as before. Either two fields
     are swapped there, or the film is cut twice within three pictures. Two pictures of film have five fields, so each
     even number is compared with even ones, and each odd one with odd ones."""
-    if answer["pace"] != "film":
+    if answer.pace != "film":
         return None
-    begins, known = [one["before"] for one in answer["breaks"]], {one["field"] for one in answer["swapped"]}
+    begins, known = [one.before for one in answer.breaks], {one.field for one in answer.swapped}
     rows = defaultdict(list)
-    for number, field, _ in answer["showings"]:
+    for number, field, _ in answer.showings:
         rows[bisect.bisect(begins, field), number % 2].append((field, 2 * field - 5 * number))
     pairs = {field - (here > before) for row in rows.values()
              for (_, before), (field, here), (_, after) in zip(row, row[1:], row[2:])
@@ -257,17 +256,16 @@ def _order(answer):
 
 def _lines(answer):
     """A line without any code, beside one that shows some."""
-    unknown = Counter(str(one["line"]) for one in answer["unknown"])
-    silent = [line for line in ("17", "18")
-              if words_of(answer["lines"][line]) == unknown[line]]
-    return ("line", "line %s shows no code" % silent[0]) if len(silent) == 1 else None
+    unknown = Counter(one.line for one in answer.unknown)
+    silent = [line for line in (17, 18) if answer.lines[line].words() == unknown[line]]
+    return ("line", "line %d shows no code" % silent[0]) if len(silent) == 1 else None
 
 
 def _doubtful(answer, judged):
     """A tenth or more of the fields that show a number have one that was set aside, here or by the library, which
     doesn't believe those at another speed."""
     found = _set_aside(answer)
-    if found or answer["speeds"] or not judged or not judged.reasons & Reason.many_doubtful:
+    if found or answer.speeds or not judged or not judged.reasons & Reason.many_doubtful:
         return found
     states = Counter(number.state for number in judged.numbers)
     return _doubtful_text(states[State.doubtful], states[State.doubtful] + states[State.believed])
@@ -278,14 +276,14 @@ def _doubtful_text(count, shown):
 
 
 def _set_aside(answer):
-    doubtful = {one["field"] for one in answer["doubtful"] if one["kind"] != "chapter"}
+    doubtful = {one.field for one in answer.doubtful if one.kind != Kind.chapter}
     if not doubtful:
         return None
-    shown = sum(last - first + 1 for _, first, last in answer["showings"])
-    begins = [first for _, first, _ in answer["showings"]]
+    begins = [one.first for one in answer.showings]
+    shown = sum([one.last + 1 for one in answer.showings]) - sum(begins)
     for field in doubtful:
         place = bisect.bisect(begins, field)
-        shown += place == 0 or answer["showings"][place - 1][2] < field
+        shown += place == 0 or answer.showings[place - 1].last < field
     if SHARE * len(doubtful) < shown:
         return None
     return _doubtful_text(len(doubtful), shown)

@@ -8,7 +8,7 @@ from ..join.captures import NUMBERS, capture_of
 from ..join.joined import together_of
 from ..answer.ends import ordinal_of
 from ..judge.paces import RATES
-from ..judge.readings import WEIGHTS, Answer
+from ..judge.readings import WEIGHTS
 from ..answer.whole import UNITS
 from ..side import Side
 from .join import together_text
@@ -16,14 +16,15 @@ from .summary import listed, named
 
 VERSION = 1  # of the form of what is compared
 VERDICTS = ("a", "b", "betterA", "betterB", "same")
+Compared = Dict[str, Any]  # what is found
 
 
-def compare(a: Side, b: Side, names: Sequence[str] = ("a", "b")) -> Answer:
+def compare(a: Side, b: Side, names: Sequence[str] = ("a", "b")) -> Compared:
     """What two sides have, as plain data: `counts` of their numbers, and for each verdict its stretches of numbers,
     `{first, last, count}`: `a` and `b` are in that side alone; of those in both `betterA` and `betterB` are shown by
     more lines there, or by lines read without smoothing for others, and `same` are alike. What the two have together is
     in `numbers`, `missing` and `leftOut`. A ValueError, by these names, where they can't be of one disc."""
-    kinds = [(side.answer["unit"], side.answer["system"]) for side in (a, b)]
+    kinds = [(answer.unit, answer.system) for answer in (a.analysis.answer, b.analysis.answer)]
     for name, (unit, _) in zip(names, kinds):
         if unit is None:
             raise ValueError("%s has no numbers to compare" % name)
@@ -43,15 +44,14 @@ def compare(a: Side, b: Side, names: Sequence[str] = ("a", "b")) -> Answer:
 
 def _weights(side):
     """Of each number that can be sought what its lines weigh: 0 where it is only due in its field."""
-    answer = side.answer
-    doubtful = {(one["field"], one["line"]) for one in answer["doubtful"] + answer["stray"]}
-    weights = {}
-    for number, field, _ in answer["showings"]:
+    answer = side.analysis.answer
+    doubtful, weights = answer.aside(), {}
+    for number, field, _ in answer.showings:
         weight = sum(WEIGHTS[reading.pass_] for line, reading in zip(LINES, side.readings[field - 1])
                      if reading.word and code_of(reading.word).kind in NUMBERS and (field, line) not in doubtful)
         weights[number] = max(weight, weights.get(number, 0))
-    for one in answer["unread"]:
-        weights.setdefault(one["number"], 0)
+    for one in answer.unread:
+        weights.setdefault(one.number, 0)
     return weights
 
 
@@ -71,7 +71,7 @@ def _add(stretches, number, rate):
         stretches.append([number, number, 1, ordinal])
 
 
-def comparison_text(found: Answer, names: Sequence[str]) -> Iterator[str]:
+def comparison_text(found: Compared, names: Sequence[str]) -> Iterator[str]:
     """What was found, as lines: stretches by their numbers, four of each verdict at most."""
     unit, (one, other) = found["unit"], found["counts"]
     both = sum(stretch["count"] for verdict in VERDICTS[2:] for stretch in found[verdict])
@@ -80,6 +80,6 @@ def comparison_text(found: Answer, names: Sequence[str]) -> Iterator[str]:
              "alike in both")
     for verdict, text in zip(VERDICTS, texts):
         stretches = found[verdict]
-        yield "%s: %s" % (text, listed(sum(stretch["count"] for stretch in stretches), (
-            named(unit, stretch["first"], stretch["last"]) for stretch in stretches)))
+        yield "%s: %s" % (text, listed(sum(stretch["count"] for stretch in stretches), stretches, lambda stretch: named(
+            unit, stretch["first"], stretch["last"])))
     yield together_text(found)

@@ -8,8 +8,7 @@ from typing import Any, Callable, Dict, Iterator, List, Tuple
 
 from ..draw.marks import SKIPPED, fields_text
 from ..join.captures import TOGETHER, capture_of
-from ..join.joined import join
-from ..judge.readings import Answer
+from ..join.joined import Joined, join
 from ..outside import printable
 from ..side import Side
 from .outputs import refuse_inputs, whole_file
@@ -79,7 +78,7 @@ def _print_rows(columns, rows):
     table.writerows(rows)
 
 
-def range_rows(joined: Answer) -> Iterator[Tuple[Any, ...]]:
+def range_rows(joined: Joined) -> Iterator[Tuple[Any, ...]]:
     """A row for each stretch that can be taken at once."""
     for one in joined["ranges"]:
         yield one["first"], one["last"], one["source"], one["field"], one["lastField"]
@@ -87,33 +86,33 @@ def range_rows(joined: Answer) -> Iterator[Tuple[Any, ...]]:
 
 # ---- As text
 
-def joined_text(joined: Answer) -> Iterator[str]:
+def joined_text(joined: Joined) -> Iterator[str]:
     """What was joined, as lines: lists in the disc's order, four places of each at most."""
     unit, missing = joined["unit"], joined["missing"]
     yield together_text(joined)
     for one in joined["captures"]:
         lacks = [lack for lack in joined["lacks"] if lack["capture"] == one["name"]]
-        yield "%s: has %d, lacks %s" % (one["name"], one["numbers"]["count"], listed(_count(lacks), (
-            "%s in %s" % (named(unit, lack["first"], lack["last"]), " and ".join(lack["in"])) for lack in lacks)))
-    yield "lacking in all: " + listed(_count(missing), (
-        "%s %s" % (named(unit, one["first"], one["last"]), one["why"]) for one in missing))
+        yield "%s: has %d, lacks %s" % (one["name"], one["numbers"]["count"], listed(
+            _count(lacks), lacks, lambda lack: "%s in %s" % (_numbers_of(lack, unit), " and ".join(lack["in"]))))
+    yield "lacking in all: " + listed(_count(missing), missing, lambda one: "%s %s" % (
+        _numbers_of(one, unit), one["why"]))
     if joined["leftOut"]:
         yield "%s: %d" % (SKIPPED, _count(joined["leftOut"]))
     piled = [one[0] for one in joined["taken"] if one[4] == TOGETHER]
     if piled:
-        yield "read together: " + listed(len(piled), (named(unit, number, number) for number in piled))
+        yield "read together: " + listed(len(piled), piled, lambda number: named(unit, number, number))
     found = joined["disagreements"]
-    yield "disagreements: " + listed(len(found), (_disagreement_text(one, unit) for one in found))
+    yield "disagreements: " + listed(len(found), found, lambda one: _disagreement_text(one, unit))
 
 
-def together_text(joined: Answer) -> str:
+def together_text(joined: Joined) -> str:
     """The numbers that captures have together, from the least to the greatest, and how many between these none has."""
     numbers, counts = joined["numbers"], _counts(joined["missing"])
     texts = ["%d %s" % (count, why) for why, count in counts.items()] or ["none lost"]
     return "together: %s, %s" % (named(joined["unit"], numbers["least"], numbers["greatest"]), ", ".join(texts))
 
 
-def _counts(missing: List[Answer]) -> Dict[str, int]:
+def _counts(missing: List[Joined]) -> Dict[str, int]:
     """How many numbers are missing for each reason, of which lost ones stand in front."""
     counts = {"lost": 0}
     for one in missing:

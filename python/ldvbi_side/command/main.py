@@ -15,7 +15,7 @@ from ldvbi.stream import cut_of
 from ..draw.plot import plot_command
 from ..outside import NAME, bytes_of_document, drop_standard_output, flush, flush_or_drop, printable, say
 from ..seek import seek, text_of
-from ..judge.readings import Answer
+from ..answer.entries import Answer
 from ..side import Side, side_of_document, side_of_stream, stream_of_tbc
 from .compare import compare, comparison_text
 from .faults import SETTINGS, STANDARD_INPUT, fault_text, naming, no_metadata, refuse_folder
@@ -162,12 +162,13 @@ def _write_files(side, options, is_tbc):
             file.write(drawing_of(side, os.path.basename(options.side)))
     if options.map:
         with whole_file(options.map) as file:
-            _print_table(MAP_COLUMNS, map_rows(side.answer), file)
+            _print_table(MAP_COLUMNS, map_rows(side.analysis.answer), file)
     if options.html:
         from ..draw.page import page_of
         from ..draw.plotting import plotter
         with whole_file(options.html) as file:
-            file.write(page_of(side, os.path.basename(options.side), summary(side.answer, _plot_command(side, options)),
+            lines = summary(side.analysis.answer, _plot_command(side, options))
+            file.write(page_of(side, os.path.basename(options.side), lines,
                                plotter(side, options.side) if is_tbc else None))
 
 
@@ -268,7 +269,7 @@ def answer_of(path: str, page: Optional[str], may_end: bool) -> Answer:
     source, metadata = _source(options)
     side = _loaded(source, metadata, options)
     _write_files(side, options, not isinstance(source, Side))
-    return side.answer
+    return side.analysis.answer
 
 
 def _run(options):
@@ -298,7 +299,7 @@ def _answer(options):
         cut = source.cut if isinstance(source, Side) else cut_of(source)
         return _cut_status(cut, source.system, _name_of(options))
     side = _loaded(source, metadata, options)
-    answer = side.answer  # whose faults come before all that is printed
+    answer = side.analysis.answer  # whose faults come before all that is printed
     _write_files(side, options, not isinstance(source, Side))
     if options.seek:
         found = seek(answer, options.seek)
@@ -306,9 +307,9 @@ def _answer(options):
         return int(found is None)
     if options.summary:
         print(*map(printable, summary(answer, _plot_command(side, options))), sep="\n")
-        return OF_SIDE[answer["whole"]]
+        return OF_SIDE[answer.whole]
     if options.json:
-        json.dump(answer, sys.stdout)
+        json.dump(side.answer, sys.stdout)
         print()
     elif options.bad_lines:
         _print_table(BAD_LINE_COLUMNS, bad_line_rows(side))

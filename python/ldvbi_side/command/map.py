@@ -2,8 +2,7 @@
 
 from typing import Any, Dict, Iterator, Tuple
 
-from ..answer.analysis import frame_of
-from ..judge.readings import Answer
+from ..answer.entries import Answer, frame_of
 
 # The columns with what they hold, which docs/FORMATS.md has from here
 COLUMNS = {
@@ -20,16 +19,16 @@ def map_rows(answer: Answer) -> Iterator[Tuple[Any, ...]]:
     """A row for each number that `--seek` finds, by number, then one for each chapter and for each picture stop, by
     field. `how` is `read` where the field shows the number, `near` where it was due there and is the nearest word, and
     `neighbours` where it is only due."""
-    begin, unit = answer["frameBegin"], answer["unit"]
-    confirmed = set(answer["confirmed"])
+    begin, unit = answer.frame_begin, answer.unit
+    confirmed = set(answer.confirmed)
     places: Dict[Any, Tuple[int, str]] = {}
-    for number, field, _ in answer["showings"]:
+    for number, field, _ in answer.showings:
         places.setdefault(number, (field, "near" if field in confirmed else "read"))
-    for one in answer["unread"]:
-        places.setdefault(one["number"], (one["field"], "neighbours"))
+    for one in answer.unread:
+        places.setdefault(one.number, (one.field, "neighbours"))
     for number, (field, how) in sorted(places.items()):
         yield unit, number, field, frame_of(field, begin), how
-    for one in answer["chapters"]:
-        yield "chapter", one["chapter"], one["field"], one["frame"], "read"
-    for one in answer["stops"]:
-        yield "stop", NONE if one["number"] is None else one["number"], one["field"], one["frame"], "read"
+    for chapter in answer.chapters:
+        yield "chapter", chapter.chapter, chapter.field, chapter.frame, "read"
+    for stop in answer.stops:
+        yield "stop", NONE if stop.number is None else stop.number, stop.field, stop.frame, "read"

@@ -16,7 +16,7 @@ from ldvbi.packed import refuse_packed
 from ..draw.index import head_of, index_of
 from ..draw.page import said_of
 from ..answer.analysis import VERSION
-from ..judge.readings import Answer
+from ..answer.entries import Answer
 from ..outside import say
 from .faults import fault_text, no_metadata
 from .folders import files_of, page_name, sides_in

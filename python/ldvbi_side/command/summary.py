@@ -1,32 +1,32 @@
 """A side at a glance: whether it is whole, and what to look at first, in at most MOST_LINES lines. Lists stand in the
 order of the disc or the side."""
 
-from typing import Any, Callable, Iterable, Iterator
+from typing import Any, Callable, Collection, Iterator, TypeVar
 
-from ldvbi.codes import LINES
+from ldvbi.codes import LINES, name_of
 from ..draw.marks import OUT_OF_PLACE, SKIPPED, fields_text
-from ..answer.lines import words_of
-from ..judge.readings import Answer
+from ..answer.entries import Answer
 from ..answer.whole import UNITS, counted, other_file
 from ..levels import options_of
 
 MOST_LINES = 25
 MOST_LISTED = 4  # places in a line
+Item = TypeVar("Item")
 
 
 def summary(answer: Answer, plot_command: Callable[[int, int], str]) -> Iterator[str]:
     """The lines of the summary. `plot_command` makes the command that draws a line, of its field and its number."""
-    reasons = "; ".join(one["text"] for one in answer["reasons"])
-    yield "whole: " + answer["whole"] + (": " + reasons if reasons else "")
-    cut = answer["cutField"]
-    film = ", film (2 and 3 fields a picture)" if answer["pace"] == "film" else ""
-    yield "system: %s, %s%s" % (answer["system"], _FORMATS[answer["format"]], film)
-    yield "fields: %d, cut: %s" % (answer["fields"], "field %(seqNo)d, of %(bytes)d bytes" % cut if cut else "none")
+    reasons = "; ".join(one.text for one in answer.reasons)
+    yield "whole: " + answer.whole + (": " + reasons if reasons else "")
+    cut = answer.cut_field
+    film = ", film (2 and 3 fields a picture)" if answer.pace == "film" else ""
+    yield "system: %s, %s%s" % (answer.system, _FORMATS[answer.format], film)
+    yield "fields: %d, cut: %s" % (answer.fields, "field %d, of %d bytes" % cut if cut else "none")
     for line in LINES:
-        yield _line_text(line, answer["lines"][str(line)])
-    if answer["levels"]:
+        yield _line_text(line, answer.lines[line])
+    if answer.levels:
         yield _levels_text(answer, plot_command)
-    if answer["numbers"]["count"]:
+    if answer.numbers.count_:
         yield from _number_lines(answer)
     else:
         yield "pictures: none"
@@ -38,40 +38,39 @@ _FORMATS = {"cav": "CAV", "clv": "CLV", "neither": "no code of CAV or CLV"}
 
 
 def _line_text(line, rates):
-    words, bad = words_of(rates), rates["change"] + rates["hold"] + rates["unfinished"]
+    words, bad = rates.words(), rates.bad()
     share = 100 * bad / (words + bad) if bad else 0
-    recovered = ", %d recovered" % rates["near"] if rates["near"] else ""
+    recovered = ", %d recovered" % rates.near if rates.near else ""
     return "line %d: %d words, %d of them read only after smoothing%s; %d bad (%.2f %%), %d blank" % (
-        line, words, rates["pass2"], recovered, bad, share, rates["blank"])
+        line, words, rates.pass2, recovered, bad, share, rates.blank)
 
 
 def _levels_text(answer, plot_command):
-    levels = answer["levels"]
-    if levels["tried"] and levels["tried"]["best"]:
-        why = _tried_text(levels["tried"])
+    levels = answer.levels
+    if levels.tried and levels.tried.best:
+        why = _tried_text(levels.tried)
     elif other_file(answer):
         why = "perhaps another system, or another file's metadata"
-    elif levels["shows"] == "blank":
+    elif levels.shows == "blank":
         why = "black and white may be too high, or the side has no codes"
     else:
         why = "black and white may be wrong, or the signal is noise"
-    own = " of their own" if any(answer["lines"][line]["near"] for line in ("17", "18")) else ""
+    own = " of their own" if any(answer.lines[line].near for line in (17, 18)) else ""
     return "levels: lines 17 and 18 have %d words%s, %d are bad, %d blank: %s. Look at one: %s" % (
-        levels["words"], own, levels["bad"], levels["blank"], why, plot_command(levels["field"], levels["line"]))
+        levels.words, own, levels.bad, levels.blank, why, plot_command(levels.field, levels.line))
 
 
 def _tried_text(tried):
     """What other levels, or the other system, read of some lines."""
-    return "%(read)d of %(lines)d lines read with black %(black)d, white %(white)d; " % tried + "%d with %s" % (
-        tried["best"]["read"], options_of(tried["best"]))
+    return "%d of %d lines read with black %d, white %d; %d with %s" % (
+        tried.read, tried.lines, tried.black, tried.white, tried.best.read, options_of(tried.best))
 
 
-def listed(count: int, texts: Iterable[str]) -> str:
-    """How many there are, and the first ones of them."""
-    texts = list(texts)
-    more = len(texts) - MOST_LISTED
-    shown = ", ".join(texts[:MOST_LISTED]) + (" and %d more" % more if more > 0 else "")
-    return "%d (%s)" % (count, shown) if count else "none"
+def listed(count: int, ones: Collection[Item], text_of: Callable[[Item], str]) -> str:
+    """How many there are, and the texts of the first ones of them."""
+    more = len(ones) - MOST_LISTED
+    shown = ", ".join(text_of(one) for one, _ in zip(ones, range(MOST_LISTED)))
+    return "%d (%s)" % (count, shown + (" and %d more" % more if more > 0 else "")) if count else "none"
 
 
 def named(unit: str, first: Any, last: Any) -> str:
@@ -80,84 +79,83 @@ def named(unit: str, first: Any, last: Any) -> str:
 
 
 def _number_lines(answer):
-    unit = answer["unit"]
-    yield "%s: %d, from %s to %s" % ((UNITS[unit],) + tuple(answer["numbers"].values()))
+    unit, lost = answer.unit, answer.lost
+    yield "%s: %d, from %s to %s" % (UNITS[unit], *answer.numbers)
     yield "lost: " + _missing_text(answer, "lost")
     undecided = _missing_text(answer, "undecided")
     yield "unread: " + _missing_text(answer, "unread") + ("" if undecided == "none" else ", undecided: " + undecided)
-    if answer["leftOut"]:
-        yield "%s: %d" % (SKIPPED, sum(one["count"] for one in answer["leftOut"]))
-    lost = answer["lost"]
-    yield "lost fields: " + listed(sum(one["fields"] or 1 for one in lost), (_lost_text(one, unit) for one in lost))
-    jumps = [one for one in answer["breaks"] if one["kind"] != "lost"]
-    yield "jumps: " + listed(len(jumps), (
-        "%s %s to %s in field %d" % (unit, one["from"], one["to"], one["before"]) for one in jumps))
-    if answer["swapped"] or answer["speeds"]:
+    if answer.left_out:
+        yield "%s: %d" % (SKIPPED, sum(one.count_ for one in answer.left_out))
+    yield "lost fields: " + listed(sum(one.fields or 1 for one in lost), lost, lambda one: _lost_text(one, unit))
+    jumps = [one for one in answer.breaks if one.kind != "lost"]
+    yield "jumps: " + listed(len(jumps), jumps, lambda one: "%s %s to %s in field %d" % (
+        unit, one.from_, one.to, one.before))
+    if answer.swapped or answer.speeds:
         yield _order_text(answer)
-    yield "stills: " + listed(len(answer["stills"]), (
-        "%s %s in fields %d to %d" % (unit, one["number"], one["first"], one["last"]) for one in answer["stills"]))
-    yield "shown again: " + listed(len(answer["repeated"]), (
-        "%s in field %d" % (named(unit, one["first"], one["last"]), one["field"]) for one in answer["repeated"]))
+    yield "stills: " + listed(len(answer.stills), answer.stills, lambda one: "%s %s in fields %d to %d" % (unit, *one))
+    yield "shown again: " + listed(len(answer.repeated), answer.repeated, lambda one: "%s in field %d" % (
+        named(unit, one.first, one.last), one.field))
 
 
 def _lost_text(one, unit):
     """Lost fields with their place. Those of a minute may be lost anywhere in it, and be more."""
     if unit == "minute":
-        return "at least %d, between fields %d and %d" % (one["fields"], one["after"] + 1, one["before"] - 1)
-    return "%s after field %d" % (one["fields"] or "1 or more", one["after"])
+        return "at least %d, between fields %d and %d" % (one.fields, one.after + 1, one.before - 1)
+    return "%s after field %d" % (one.fields or "1 or more", one.after)
 
 
 def _order_text(answer):
     """Fields in another order than the disc's: swapped ones, and those that were played at another speed."""
-    speeds = answer["speeds"]
+    swapped, speeds = answer.swapped, answer.speeds
     return "swapped fields: %s, other speeds: %s" % (
-        listed(len(answer["swapped"]), (
-            "%s in field %d or %d" % (named(answer["unit"], one["number"], one["number"]), one["field"],
-                                      one["field"] + 1) for one in answer["swapped"])),
-        listed(len(speeds), ("%(numbers)s numbers a picture in fields %(first)d to %(last)d" % one for one in speeds)))
+        listed(len(swapped), swapped, lambda one: "%s in field %d or %d" % (
+            named(answer.unit, one.number, one.number), one.field, one.field + 1)),
+        listed(len(speeds), speeds, lambda one: "%s numbers a picture in fields %d to %d" % (
+            one.numbers, one.first, one.last)))
 
 
 def _missing_text(answer, why):
-    ones = [one for one in answer["missing"] if one["why"] == why]
-    return listed(sum(one["count"] for one in ones), (
-        "%s after field %d" % (named(answer["unit"], one["first"], one["last"]), one["after"]) for one in ones))
+    ones = [one for one in answer.missing if one.why == why]
+    return listed(sum(one.count_ for one in ones), ones, lambda one: "%s after field %d" % (
+        named(answer.unit, one.first, one.last), one.after))
 
 
 def _doubt_lines(answer):
-    doubtful = answer["doubtful"]
-    unit = "picture" if answer["unit"] == "picture" else "time"
-    conflicts = [dict(one, unit=unit) for one in answer["conflicts"]]
-    conflicts += [dict(one, unit="chapter") for one in answer["chapterConflicts"]]
-    conflicts.sort(key=lambda one: one["field"])
-    yield "doubtful, set aside: " + listed(len(doubtful), (
-        "%s %s in field %d line %d" % (one["kind"], one["word"] if one["number"] is None else one["number"],
-                                       one["field"], one["line"]) for one in doubtful))
-    yield "lines 17 and 18 differ: " + listed(len(conflicts), (
-        "field %d: %s %s and %s, %s taken" % (one["field"], one["unit"], one["line17"], one["line18"],
-                                              "none" if one["taken"] is None else one["taken"]) for one in conflicts))
-    for one in answer["secondRows"]:
-        yield "a second row of numbers, not taken: %(first)s to %(last)s in fields %(field)d to %(lastField)d" % one
+    doubtful = answer.doubtful
+    unit = "picture" if answer.unit == "picture" else "time"
+    conflicts = [(one, unit) for one in answer.conflicts] + [(one, "chapter") for one in answer.chapter_conflicts]
+    conflicts.sort(key=lambda pair: pair[0].field)
+    yield "doubtful, set aside: " + listed(len(doubtful), doubtful, lambda one: "%s %s in field %d line %d" % (
+        name_of(one.kind), one.said(), one.field, one.line))
+    yield "lines 17 and 18 differ: " + listed(len(conflicts), conflicts, _conflict_text)
+    for one in answer.second_rows:
+        yield "a second row of numbers, not taken: %s to %s in fields %d to %d" % one[:4]
+
+
+def _conflict_text(conflict):
+    one, unit = conflict
+    return "field %d: %s %s and %s, %s taken" % (
+        one.field, unit, one.line17, one.line18, "none" if one.taken is None else one.taken)
 
 
 def _part_lines(answer):
-    chapters, stops, stray = answer["chapters"], answer["stops"], answer["stray"]
-    yield "chapters: " + listed(len(chapters), ("chapter %(chapter)d in field %(field)d" % one for one in chapters))
-    yield "picture stops: " + listed(len(stops), (
-        "field %(field)d" % one if one["number"] is None else "picture %(number)s in field %(field)d" % one
-        for one in stops))
-    yield ", ".join("%s: %s" % (name, listed(sum(one["count"] for one in stretches), (
-        fields_text(one["first"], one["last"]) for one in stretches)))
-        for name, stretches in (("lead-in", answer["leadIn"]), ("lead-out", answer["leadOut"])))
-    yield "unknown words: " + listed(len(answer["unknown"]), (
-        "%(word)s in field %(field)d line %(line)d" % one for one in answer["unknown"]))
+    chapters, stops, stray = answer.chapters, answer.stops, answer.stray
+    yield "chapters: " + listed(len(chapters), chapters, lambda one: "chapter %d in field %d" % (
+        one.chapter, one.field))
+    yield "picture stops: " + listed(len(stops), stops, lambda one: ("" if one.number is None else "picture %s in " % (
+        one.number)) + "field %d" % one.field)
+    yield ", ".join("%s: %s" % (name, listed(sum(one.count_ for one in stretches), stretches, lambda one: fields_text(
+        one.first, one.last))) for name, stretches in (("lead-in", answer.lead_in), ("lead-out", answer.lead_out)))
+    yield "unknown words: " + listed(len(answer.unknown), answer.unknown, lambda one: "%06X in field %d line %d" % (
+        one.word, one.field, one.line))
     yield "programme status: %s, users' codes: %s" % (
-        _words_text(answer["programmeStatus"], lambda one: "CX %s %s" % ("on" if one["cx"] else "off", one["digits"])),
-        _words_text(answer["users"], lambda one: "%(digit)d %(digits)s" % one))
-    yield "%s: %s" % (OUT_OF_PLACE, listed(len(stray), (
-        "%(kind)s in field %(field)d line %(line)d" % one for one in stray)))
+        _words_text(answer.programme_status, lambda one: "CX %s %s" % ("on" if one.cx else "off", one.digits)),
+        _words_text(answer.users, lambda one: "%d %s" % (one.digit, one.digits)))
+    yield "%s: %s" % (OUT_OF_PLACE, listed(len(stray), stray, lambda one: "%s in field %d line %d" % (
+        name_of(one.kind), one.field, one.line)))
 
 
 def _words_text(words, text_of):
     """How many fields have words of a kind, and the first of them."""
-    return listed(sum(one["count"] for one in words), (
-        "%s in %s" % (text_of(one), counted(one["count"], "field")) for one in words))
+    return listed(sum(one.count_ for one in words), words, lambda one: "%s in %s" % (
+        text_of(one), counted(one.count_, "field")))

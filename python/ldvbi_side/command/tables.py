@@ -1,10 +1,10 @@
 """A side as tables: the rows of --csv and of --bad-lines."""
 
-from typing import Any, Iterator, List, Tuple
+from typing import Any, Dict, Iterator, List, Tuple
 
 from ldvbi import Kind, format_of
 from ldvbi.codes import LINES, code_of, name_of, value_of
-from ..answer.analysis import frame_of
+from ..answer.entries import Answer, frame_of
 from ..judge.paces import minute_text
 from ..near import measured
 from ..side import Side
@@ -30,10 +30,10 @@ NONE = "-"  # of a line to which the row of no word is as near as any
 def field_rows(side: Side) -> Iterator[List[Any]]:
     """A row for each field with any word: what is believed of it, in the column `doubt` what isn't, and in the last one
     the words that are no code."""
-    answer = side.answer
+    answer = side.analysis.answer
     numbers = _numbers_by_field(answer)
     doubts = _doubts_by_field(answer)
-    stops = {one["field"] for one in answer["stops"]}
+    stops = {one.field for one in answer.stops}
     for field, readings in side.numbered():
         words = [reading.word for reading in readings]
         codes = [code_of(word) for word in words]
@@ -42,9 +42,9 @@ def field_rows(side: Side) -> Iterator[List[Any]]:
         doubtful = doubts.get(field, {})
         said = {code.kind: value_of(code) for line, code in zip(LINES, codes) if code and line not in doubtful}
         number = numbers.get(field, "")
-        yield [field, frame_of(field, answer["frameBegin"]), format_of(*words).name,
-               number if answer["unit"] == "picture" else "", said.get(Kind.chapter, ""),
-               "" if answer["unit"] == "picture" else number or _minute_of(said), "stop" if field in stops else "",
+        yield [field, frame_of(field, answer.frame_begin), format_of(*words).name,
+               number if answer.unit == "picture" else "", said.get(Kind.chapter, ""),
+               "" if answer.unit == "picture" else number or _minute_of(said), "stop" if field in stops else "",
                "; ".join(doubtful.values()), _status_of(codes[0]), _users_of(codes[0]), _unknown_of(codes, words)]
 
 
@@ -66,9 +66,9 @@ def _unknown_of(codes, words):
 
 def _numbers_by_field(answer):
     """The number of each field that shows one. A minute stands in the fields that say it."""
-    if answer["unit"] == "minute":
+    if answer.unit == "minute":
         return {}
-    return {field: number for number, first, last in answer["showings"] for field in range(first, last + 1)}
+    return {field: number for number, first, last in answer.showings for field in range(first, last + 1)}
 
 
 def _minute_of(said):
@@ -76,23 +76,28 @@ def _minute_of(said):
     return "" if minutes is None else minute_text(minutes)
 
 
-def _doubts_by_field(answer):
+def _doubts_by_field(answer: Answer) -> Dict[int, Dict[int, str]]:
     """Of each field the lines whose word isn't believed, each with a text that says why."""
-    found = {}
-    for one in answer["doubtful"] + answer["stray"]:
-        number = "" if one.get("number") is None else " %s" % one["number"]
-        found.setdefault(one["field"], {})[one["line"]] = "%s%s on line %d, pass %d: %s" % (
-            one["kind"], number, one["line"], one["pass"], one["why"])
+    found: Dict[int, Dict[int, str]] = {}
+    for one in answer.doubtful:
+        number = "" if one.number is None else " %s" % one.number
+        found.setdefault(one.field, {})[one.line] = _doubt_text(one, number)
+    for stray in answer.stray:
+        found.setdefault(stray.field, {})[stray.line] = _doubt_text(stray, "")
     return found
+
+
+def _doubt_text(one, number):
+    return "%s%s on line %d, pass %d: %s" % (name_of(one.kind), number, one.line, one.pass_, one.why)
 
 
 def bad_line_rows(side: Side) -> Iterator[List[Any]]:
     """A row for each line that shows no word of its own and isn't blank, with its place in the TBC file, in bytes, and
     with its nearest word, the distance of that and of its rival, in hundredths of a column: empty where the samples
     aren't at hand."""
-    for one in side.answer["badLines"]:
+    for one in side.analysis.answer.bad_lines:
         near: Tuple[Any, ...] = ("", "", "")
         if side.samples:
-            word, *distances = measured(side.samples, one["field"], one["line"])
+            word, *distances = measured(side.samples, one.field, one.line)
             near = (NONE if word is None else "%06X" % word, *distances)
-        yield [one["field"], one["line"], one["cause"], one["offset"], *near]
+        yield [one.field, one.line, one.cause, one.offset, *near]

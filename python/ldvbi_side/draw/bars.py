@@ -1,10 +1,11 @@
 """Several captures of one side as bars, one above the other, over the numbers that they have together. A bar says which
 numbers its capture has, and which of these are to be taken from it; below all of them is what none has."""
 
-from typing import Any, Iterable, Iterator, List, Tuple
+from typing import Any, Dict, Iterable, Iterator, List, Tuple
 
-from ..judge.readings import Answer
+from ..answer.entries import Extent
 from ..answer.whole import counted
+from ..join.joined import Joined
 from .axis import LEFT, WIDTH, Axis
 from .curve import AXES, Scale
 from .marks import fields_text, span
@@ -28,19 +29,19 @@ Stretch = Tuple[int, int, str]  # the first and the last number, and what is sai
 class _Numbers:
     """The numbers along the bars."""
 
-    def __init__(self, joined: Answer) -> None:
-        self.scale = Scale(joined, 0, 0)
+    def __init__(self, joined: Joined) -> None:
+        self.scale = Scale(joined["unit"], joined["system"], Extent(*joined["numbers"].values()), 0, 0)
         self.axis = Axis(self.scale.greatest - self.scale.least + 1)
 
     def place(self, number: Any) -> int:
         """The place of a number, from 1."""
         return self.scale.count_of(number) - self.scale.least + 1
 
-    def stretch(self, one: Answer, text: str) -> Stretch:
+    def stretch(self, one: Dict[str, Any], text: str) -> Stretch:
         return self.place(one["first"]), self.place(one["last"]), "%s: %s" % (span(one["first"], one["last"]), text)
 
 
-def bars_of(joined: Answer) -> str:
+def bars_of(joined: Joined) -> str:
     """The text of the SVG of what captures have together."""
     names = [one["name"] for one in joined["captures"]]
     lanes = len(names) + 2
@@ -107,7 +108,7 @@ def _joined(axis: Axis, stretches: Iterable[Stretch]) -> Iterator[Tuple[int, int
         yield begin, end, (first, last, text + ("; and %d more" % more if more else ""))
 
 
-def _disagreeing(numbers: _Numbers, joined: Answer) -> Iterator[Stretch]:
+def _disagreeing(numbers: _Numbers, joined: Joined) -> Iterator[Stretch]:
     """What both of two captures say where they disagree."""
     for found in joined["disagreements"]:
         for one, other in (found["between"], found["between"][::-1]):

@@ -3,7 +3,8 @@
 import itertools
 from typing import Any, Iterable, Iterator, List, Optional, Tuple
 
-from ..judge.readings import Answer
+from ldvbi import Kind
+from ..answer.entries import Answer, Doubt, Extent
 from .axis import Axis
 from .marks import doubt_text, fields_text, span
 from .svg import Svg
@@ -14,13 +15,13 @@ DOUBTFUL_COLOUR = "#be185d"
 
 
 class Scale:
-    """The numbers of an answer as counts (pictures, or minutes), and where they stand on the height of the curve. The
+    """The numbers of a side as counts (pictures, or minutes), and where they stand on the height of the curve. The
     believed numbers alone make the scale."""
 
-    def __init__(self, answer: Answer, top: int, height: int) -> None:
-        self.unit, self.rate = answer["unit"], RATES[answer["system"]]
+    def __init__(self, unit: str, system: str, numbers: Extent, top: int, height: int) -> None:
+        self.unit, self.rate = unit, RATES[system]
         self.top, self.height = top, height
-        self.least, self.greatest = (self.count_of(answer["numbers"][name]) for name in ("least", "greatest"))
+        self.least, self.greatest = self.count_of(numbers.least), self.count_of(numbers.greatest)
 
     def count_of(self, number: Any) -> int:
         """The count of a number of the answer: a picture, `h:mm:ss.pp` or `h:mm`."""
@@ -55,15 +56,12 @@ class Scale:
             steps = seconds + [minute * minutes for minutes in (1, 5, 10, 15, 30, 60)]
         return ticks(self.least, self.greatest, 5, steps)
 
-    def place_of(self, doubt: Answer) -> Optional[Tuple[float, int]]:
+    def place_of(self, doubt: Doubt) -> Optional[Tuple[float, int]]:
         """The height of a number that was set aside, and whether it is beyond the scale, above (1) or below (-1). None
         for what has no number of its own."""
-        number = doubt["number"]
-        has_place = {"picture": doubt["kind"] == "picture", "time": doubt["kind"] == "time",
-                     "minute": doubt["kind"] == "time"}.get(self.unit, False)
-        if number is None or not has_place:
+        if doubt.number is None or doubt.kind != (Kind.picture if self.unit == "picture" else Kind.time):
             return None
-        count = self.count_of(number)
+        count = self.count_of(doubt.number)
         if count > self.greatest:
             return self.top, 1
         if count < self.least:
@@ -85,9 +83,9 @@ def draw_numbers_axis(svg: Svg, axis: Axis, scale: Scale) -> None:
 def draw_curve(svg: Svg, axis: Axis, scale: Scale, answer: Answer) -> None:
     """A line for each run of showings in which every number is the next one or stays, with a point for each column of
     pixels; where that is too short to be seen, a dot."""
-    starts = {one["before"] for one in answer["breaks"]}
+    starts = {one.before for one in answer.breaks}
     run: List[Tuple[int, int, int, Any]] = []
-    for number, first, last in answer["showings"]:
+    for number, first, last in answer.showings:
         count = scale.count_of(number)
         if run and (first in starts or count - run[-1][0] not in (0, 1)):
             _draw_run(svg, axis, scale, run)
@@ -118,10 +116,10 @@ def draw_doubts(svg: Svg, axis: Axis, scale: Scale, answer: Answer) -> None:
     """The numbers that were set aside, as rings off the curve, or as triangles on the edge where they are beyond it.
     Those that would cover each other are one."""
     drawn = set()
-    for one in answer["doubtful"]:
+    for one in answer.doubtful:
         place = scale.place_of(one)
         if place is not None:
-            (y, beyond), x = place, axis.x(one["field"] + 0.5)
+            (y, beyond), x = place, axis.x(one.field + 0.5)
             key = (round(x / 3), round(y / 3))
             if key not in drawn:
                 drawn.add(key)
@@ -129,7 +127,7 @@ def draw_doubts(svg: Svg, axis: Axis, scale: Scale, answer: Answer) -> None:
 
 
 def _draw_doubt(svg, x, y, beyond, one):
-    marked = {"title": doubt_text(one), "class_": "doubt", "data_field": one["field"]}
+    marked = {"title": doubt_text(one), "class_": "doubt", "data_field": one.field}
     if beyond:
         svg.path("M%.1f %.1fl-5 %dh10z" % (x, y - 5 * beyond, 9 * beyond), fill=DOUBTFUL_COLOUR, **marked)
     else:

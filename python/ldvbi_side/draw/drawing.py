@@ -2,7 +2,7 @@
 picture stops, the numbers as a curve, and below it a lane for each kind of what there is to look at. It draws the
 answer of `answer.analysis`, and each mark has a title that says its fields and why it is there."""
 
-from ..answer.whole import other_file
+from ..answer.whole import counted, other_file
 from ..side import Side
 from . import bands, curve
 from .axis import LEFT, WIDTH, Axis
@@ -24,16 +24,16 @@ END_COLOUR, CHAPTER_COLOURS = "#94a3b8", ("#e0e7ff", "#c7d2fe")
 
 def drawing_of(side: Side, title: str) -> str:
     """The text of the SVG of a `ldvbi_side.side.Side`."""
-    answer, fields = side.answer, side.plain()
+    answer, fields = side.analysis.answer, side.plain()
     axis_top = LANES_TOP + LANE_STEP * len(lanes_of(marks_of(answer))) + 4
     svg = Svg(LEFT + WIDTH + RIGHT, axis_top + 56)
-    axis = Axis(answer["fields"])
+    axis = Axis(answer.fields)
     _draw_head(svg, answer, title)
     bands.draw_bands(svg, fields, axis, BANDS_TOP)
     _draw_disc(svg, axis, answer)
     _draw_stops(svg, axis, answer)
-    if answer["numbers"]["count"]:
-        scale = curve.Scale(answer, CURVE_TOP, CURVE_HEIGHT)
+    if answer.unit and answer.numbers.count_:
+        scale = curve.Scale(answer.unit, answer.system, answer.numbers, CURVE_TOP, CURVE_HEIGHT)
         curve.draw_numbers_axis(svg, axis, scale)
         _draw_chapter_lines(svg, axis, answer)
         _draw_lanes(svg, axis, answer)
@@ -42,25 +42,23 @@ def drawing_of(side: Side, title: str) -> str:
     else:
         _draw_lanes(svg, axis, answer)
         _draw_no_numbers(svg, answer)
-    _draw_fields_axis(svg, axis, answer["fields"], axis_top)
+    _draw_fields_axis(svg, axis, answer.fields, axis_top)
     return svg.render()
 
 
 def _draw_head(svg, answer, title):
     """The side's name, its system and format, the colours of the bands, and what else is drawn."""
     svg.text(LEFT, TITLE_Y, shortened(title, WIDTH, 17), title, class_="title", font_size=17, font_weight="bold")
-    cut = answer["cutField"]
-    parts = [answer["system"], {"neither": "no code of CAV or CLV"}.get(answer["format"], answer["format"].upper())]
-    parts += ["film (2 and 3 fields a picture)"] if answer["pace"] == "film" else []
-    parts += ["%d field%s" % (answer["fields"], "" if answer["fields"] == 1 else "s")]
-    parts += ["field %(seqNo)d is cut: %(bytes)d bytes of it" % cut] if cut else []
-    if answer["numbers"]["count"]:
-        name = "picture" if answer["unit"] == "picture" else answer["unit"]
-        parts.append("%d %s%s, %s to %s" % (
-            answer["numbers"]["count"], name, "" if answer["numbers"]["count"] == 1 else "s",
-            answer["numbers"]["least"], answer["numbers"]["greatest"]))
+    cut = answer.cut_field
+    parts = [answer.system, {"neither": "no code of CAV or CLV"}.get(answer.format, answer.format.upper())]
+    parts += ["film (2 and 3 fields a picture)"] if answer.pace == "film" else []
+    parts += [counted(answer.fields, "field")]
+    parts += ["field %d is cut: %d bytes of it" % cut] if cut else []
+    count, least, greatest = answer.numbers
+    if count:
+        parts.append("%s, %s to %s" % (counted(count, answer.unit), least, greatest))
     svg.text(LEFT, SYSTEM_Y, ", ".join(parts), class_="system")
-    bands.draw_legend(svg, LEFT, BANDS_LEGEND_Y, any(rates["near"] for rates in answer["lines"].values()))
+    bands.draw_legend(svg, LEFT, BANDS_LEGEND_Y, any(rates.near for rates in answer.lines.values()))
     svg.box(LEFT, LEGEND_Y - 11, 14, 14, END_COLOUR)
     svg.text(LEFT + 20, LEGEND_Y + 1, "lead-in, lead-out")
     curve.draw_ring(svg, LEFT + 167, LEGEND_Y - 4)
@@ -69,11 +67,12 @@ def _draw_head(svg, answer, title):
 
 def _draw_no_numbers(svg, answer):
     """What is said in the place of the curve, where there is none."""
-    texts = ["no picture number and no time" + (" is believed" if answer["unit"] else "")]
-    levels = answer["levels"]
+    texts = ["no picture number and no time" + (" is believed" if answer.unit else "")]
+    levels = answer.levels
     if levels:
         asked = "is it this system, and this file's metadata?" if other_file(answer) else "are black and white right?"
-        texts.append("lines 17 and 18 have %(words)d words, %(bad)d are bad, %(blank)d blank: " % levels + asked)
+        texts.append("lines 17 and 18 have %d words, %d are bad, %d blank: %s" % (
+            levels.words, levels.bad, levels.blank, asked))
     y = CURVE_TOP + CURVE_HEIGHT / 2
     for place, text in enumerate(texts):
         svg.text(LEFT + WIDTH / 2, y + 24 * place, text, text_anchor="middle", class_="empty")
@@ -83,22 +82,21 @@ def _draw_disc(svg, axis, answer):
     """A strip with lead-in, chapters and lead-out, in the order of the disc."""
     svg.text(LEFT - 10, DISC_TOP + 14, "disc", text_anchor="end")
     svg.box(LEFT, DISC_TOP, WIDTH, DISC_HEIGHT, "#f8fafc")
-    stretches = [("lead-in", "lead-in", one, "") for one in answer["leadIn"]]
-    stretches += [("lead-out", "lead-out", one, "") for one in answer["leadOut"]]
-    for one in answer["chapters"]:
-        place = "" if one["number"] is None else ", from %s" % one["number"]
-        stretch = {"first": one["field"], "last": one["last"]}
-        stretches.append(("chapter", "chapter %d" % one["chapter"], stretch, place))
+    stretches = [("lead-in", "lead-in", one.first, one.last, "") for one in answer.lead_in]
+    stretches += [("lead-out", "lead-out", one.first, one.last, "") for one in answer.lead_out]
+    for chapter in answer.chapters:
+        place = "" if chapter.number is None else ", from %s" % chapter.number
+        stretches.append(("chapter", "chapter %d" % chapter.chapter, chapter.field, chapter.last, place))
     chapters = 0
-    for kind, name, one, place in sorted(stretches, key=lambda stretch: stretch[2]["first"]):
+    for kind, name, first, last, place in sorted(stretches, key=lambda stretch: stretch[2]):
         fill = END_COLOUR
         if kind == "chapter":
             fill = CHAPTER_COLOURS[chapters % 2]
             chapters += 1
-        begin, end = axis.extent(one["first"], one["last"])
-        title = "%s: %s%s" % (name, fields_text(one["first"], one["last"]), place)
+        begin, end = axis.extent(first, last)
+        title = "%s: %s%s" % (name, fields_text(first, last), place)
         svg.box(begin, DISC_TOP, end - begin, DISC_HEIGHT, fill, title, class_=kind,
-                data_fields="%(first)d-%(last)d" % one)
+                data_fields="%d-%d" % (first, last))
         short = name.rpartition(" ")[2]
         label = next((text for text in (name, short) if text_width(text, 11) + 6 <= end - begin), None)
         if label:
@@ -107,22 +105,22 @@ def _draw_disc(svg, axis, answer):
 
 
 def _draw_stops(svg, axis, answer):
-    svg.text(LEFT - 10, STOPS_TOP + 11, "stops: %d" % len(answer["stops"]), text_anchor="end", class_="count")
+    svg.text(LEFT - 10, STOPS_TOP + 11, "stops: %d" % len(answer.stops), text_anchor="end", class_="count")
     drawn = set()
-    for one in answer["stops"]:
-        x = axis.x(one["field"] + 0.5)
+    for one in answer.stops:
+        x = axis.x(one.field + 0.5)
         if round(x / 2) not in drawn:
             drawn.add(round(x / 2))
-            number = "" if one["number"] is None else " of %s" % one["number"]
-            lines = ("lines " if len(one["lines"]) > 1 else "line ") + " and ".join(map(str, sorted(one["lines"])))
-            title = "picture stop%s in field %d, %s" % (number, one["field"], lines)
-            svg.path("M%.1f %dl4 6l-4 6l-4 -6z" % (x, STOPS_TOP), title, class_="stop", data_field=one["field"],
+            number = "" if one.number is None else " of %s" % one.number
+            lines = ("lines " if len(one.lines) > 1 else "line ") + " and ".join(map(str, sorted(one.lines)))
+            title = "picture stop%s in field %d, %s" % (number, one.field, lines)
+            svg.path("M%.1f %dl4 6l-4 6l-4 -6z" % (x, STOPS_TOP), title, class_="stop", data_field=one.field,
                      fill="#b91c1c")
 
 
 def _draw_chapter_lines(svg, axis, answer):
     """An upright at each chapter's begin, below the strip that names it, where these are few."""
-    pixels = sorted({axis.pixel(one["field"]) for one in answer["chapters"]})
+    pixels = sorted({axis.pixel(one.field) for one in answer.chapters})
     for x in pixels if len(pixels) <= MOST_UPRIGHTS else []:
         svg.line(x, CURVE_TOP, x, CURVE_TOP + CURVE_HEIGHT, "#94a3b8", class_="chapter-line", stroke_dasharray="2 4")
 

@@ -6,11 +6,10 @@ import json
 import os
 from collections import Counter
 from html.parser import HTMLParser
-from typing import Iterable, Sequence, Tuple
+from typing import Any, Dict, Iterable, Sequence, Tuple
 from urllib.parse import quote
 
 from ..answer.analysis import VERSION
-from ..judge.readings import Answer
 from ..answer.whole import NO, OPEN, YES, counted
 from .page import MARK, STYLE, escaped
 
@@ -66,7 +65,7 @@ def _is_said(said):
         return False
 
 
-def head_of(page: str) -> Tuple[str, Answer]:
+def head_of(page: str) -> Tuple[str, Dict[str, Any]]:
     """The title of a page, and what it says of itself. Of its body, which may be long, little is read. A ValueError
     where it is no page of a side, or has another form."""
     head = _Head()

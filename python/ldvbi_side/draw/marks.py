@@ -3,7 +3,8 @@ a lane of the drawing."""
 
 from typing import Any, Dict, List, NamedTuple
 
-from ..judge.readings import Answer
+from ldvbi.codes import name_of
+from ..answer.entries import Answer, Doubt
 from ..answer.whole import counted_by
 
 # What a reader is told of the answer's `leftOut` and `stray`
@@ -72,20 +73,20 @@ def fields_text(first: int, last: int) -> str:
 def marks_of(answer: Answer) -> Dict[str, List[Mark]]:
     """The marks of each lane, by field."""
     found = {
-        **{why: [_missing(one) for one in answer["missing"] if one["why"] == why] for why in _MISSING},
-        "lost fields": [_lost(one, answer["unit"]) for one in answer["lost"]],
-        "jumps": [_jump(one) for one in answer["breaks"] if one["kind"] != "lost"],
-        "swapped fields": [Mark(one["field"], one["field"] + 1, "fields %d and %d are swapped: %s" % (
-            one["field"], one["field"] + 1, one["number"])) for one in answer["swapped"]],
-        "other speeds": [Mark(one["first"], one["last"], "%s numbers a picture in %s" % (
-            one["numbers"], fields_text(one["first"], one["last"]))) for one in answer["speeds"]],
-        "stills": [Mark(one["first"], one["last"], "%s stands still in %s" % (
-            one["number"], fields_text(one["first"], one["last"]))) for one in answer["stills"]],
-        "shown again": [Mark(one["field"], one["lastField"], "%s again in %s; first shown in field %d" % (
-            span(one["first"], one["last"]), fields_text(one["field"], one["lastField"]), one["before"]))
-            for one in answer["repeated"]],
-        "doubtful": [Mark(one["field"], one["field"], doubt_text(one)) for one in answer["doubtful"]],
-        "out of place": [Mark(one["field"], one["field"], _stray(one)) for one in answer["stray"]],
+        **{why: [_missing(one) for one in answer.missing if one.why == why] for why in _MISSING},
+        "lost fields": [_lost(one, answer.unit) for one in answer.lost],
+        "jumps": [_jump(one) for one in answer.breaks if one.kind != "lost"],
+        "swapped fields": [Mark(one.field, one.field + 1, "fields %d and %d are swapped: %s" % (
+            one.field, one.field + 1, one.number)) for one in answer.swapped],
+        "other speeds": [Mark(one.first, one.last, "%s numbers a picture in %s" % (
+            one.numbers, fields_text(one.first, one.last))) for one in answer.speeds],
+        "stills": [Mark(one.first, one.last, "%s stands still in %s" % (
+            one.number, fields_text(one.first, one.last))) for one in answer.stills],
+        "shown again": [Mark(one.field, one.last_field, "%s again in %s; first shown in field %d" % (
+            span(one.first, one.last), fields_text(one.field, one.last_field), one.before))
+            for one in answer.repeated],
+        "doubtful": [Mark(one.field, one.field, doubt_text(one)) for one in answer.doubtful],
+        "out of place": [Mark(one.field, one.field, _stray(one)) for one in answer.stray],
     }
     return {lane: sorted(marks) for lane, marks in found.items()}
 
@@ -99,44 +100,43 @@ def counts_of(answer: Answer) -> Dict[str, int]:
     """How many there are of each lane, as the summary counts them."""
     counts = {lane: len(marks) for lane, marks in marks_of(answer).items()}
     counts.update((why, counted_by(answer, why)) for why in _MISSING)
-    counts["lost fields"] = sum(one["fields"] or 1 for one in answer["lost"])
+    counts["lost fields"] = sum(one.fields or 1 for one in answer.lost)
     return counts
 
 
-def doubt_text(one: Answer) -> str:
+def doubt_text(one: Doubt) -> str:
     """A doubtful number with its place, why it is set aside, and the numbers around it."""
-    number = one["word"] if one["number"] is None else one["number"]
-    around = ["%s in field %d" % (near["number"], near["field"]) for near in (one["before"], one["after"]) if near]
+    around = ["%s in field %d" % (near.number, near.field) for near in (one.before, one.after) if near]
     text = "doubtful: %s %s in field %d, line %d%s: %s" % (
-        one["kind"], number, one["field"], one["line"], _READ[one["pass"]], _DOUBTFUL[one["why"]])
+        name_of(one.kind), one.said(), one.field, one.line, _READ[one.pass_], _DOUBTFUL[one.why])
     return text + (" (%s)" % ", ".join(around) if around else "")
 
 
 def _missing(one):
-    is_there = one["why"] == "unread"
-    first, last = (one["after"] + 1, one["before"] - 1) if is_there else (one["before"], one["before"])
+    is_there = one.why == "unread"
+    first, last = (one.after + 1, one.before - 1) if is_there else (one.before, one.before)
     return Mark(first, max(first, last), "%s: %s, after field %d, before field %d: %s" % (
-        one["why"], span(one["first"], one["last"]), one["after"], one["before"], _MISSING[one["why"]]))
+        one.why, span(one.first, one.last), one.after, one.before, _MISSING[one.why]))
 
 
 def _lost(one, unit):
     """Lost fields, where the numbers go on. Those of a minute may be lost anywhere in it, and be more."""
-    count = "one or more fields" if one["fields"] is None else "%d field%s" % (one["fields"], "s" * (one["fields"] > 1))
-    after, before = one["after"], one["before"]
+    count = "one or more fields" if one.fields is None else "%d field%s" % (one.fields, "s" * (one.fields > 1))
+    after, before = one.after, one.before
     if unit == "minute":
         first, last = after + 1, before - 1
         return Mark(first, last, "lost: at least %s between fields %d and %d, by the minute's length" % (
             count, first, last))
-    return Mark(before, before, "lost: %s between fields %d and %d, %s" % (count, after, before, _LOST[one["by"]]))
+    return Mark(before, before, "lost: %s between fields %d and %d, %s" % (count, after, before, _LOST[one.by]))
 
 
 def _jump(one):
-    place = "from %(from)s in field %(after)d to %(to)s in field %(before)d" % one
-    if one["kind"] == "back":
-        return Mark(one["before"], one["before"], "back " + place)
-    return Mark(one["before"], one["before"], "%d fields too many, %s" % (one["fields"], place))
+    place = "from %s in field %d to %s in field %d" % (one.from_, one.after, one.to, one.before)
+    if one.kind == "back":
+        return Mark(one.before, one.before, "back " + place)
+    return Mark(one.before, one.before, "%d fields too many, %s" % (one.fields, place))
 
 
 def _stray(one):
     return "out of place: %s in field %d, line %d%s: %s" % (
-        one["kind"], one["field"], one["line"], _READ[one["pass"]], _STRAY[one["why"]])
+        name_of(one.kind), one.field, one.line, _READ[one.pass_], _STRAY[one.why])

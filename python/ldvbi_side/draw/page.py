@@ -3,10 +3,11 @@ answer behind a fold, and its bad lines drawn, where the TBC file is there."""
 
 import html
 import json
-from typing import Any, Callable, Iterable, Optional
+from typing import Any, Callable, Dict, Iterable, Optional
 
 from ldvbi.codes import LINES
-from ..judge.readings import Answer
+from ..answer.as_json import entries, entry
+from ..answer.entries import Answer, BadLine
 from ..answer.whole import NO, OPEN, YES, counted, counted_by, lost_fields_text
 from ..outside import shown
 from ..side import Side
@@ -40,18 +41,18 @@ LISTS = {
 _COLUMNS = {"completed": ("field",), "confirmed": ("field",), "showings": ("number", "first", "last")}
 
 
-def page_of(side: Side, title: str, summary: Iterable[str], plot: Optional[Callable[[Answer], str]] = None) -> str:
+def page_of(side: Side, title: str, summary: Iterable[str], plot: Optional[Callable[[BadLine], str]] = None) -> str:
     """The text of the page. `summary` are the lines of the side's summary. `plot` draws one of the answer's bad lines
     as an SVG; it is None where the TBC file isn't there."""
-    answer = side.answer
+    answer, plain = side.analysis.answer, side.answer
     facts = [line.partition(": ") for line in summary][1:]
     parts = [_head(title, answer), "<h1>%s</h1>" % escaped(title), _verdict(answer),
              '<div class="wide">%s</div>' % drawing_of(side, title),
              "<dl>%s</dl>" % "".join("<dt>%s</dt><dd>%s</dd>" % (escaped(name), escaped(text))
                                      for name, _, text in facts)]
-    parts += [_fold(name, answer[name]) for name in LISTS]
+    parts += [_fold(name, plain[name]) for name in LISTS]
     # a list that a later answer has is on the page, too
-    parts += [_fold(name, ones) for name, ones in answer.items()
+    parts += [_fold(name, ones) for name, ones in plain.items()
               if isinstance(ones, list) and name not in LISTS and name != "reasons"]
     parts += _plots(side, plot)
     return "\n".join(parts + ["</body></html>", ""])
@@ -62,13 +63,14 @@ def escaped(value: Any) -> str:
     return html.escape(shown(str(value)))
 
 
-def said_of(answer: Answer) -> Answer:
-    """What a page says of itself: the members of the answer that a row for its side has."""
-    said = {name: answer[name] for name in (
-        "version", "whole", "reasons", "system", "format", "unit", "fields", "numbers", "openEnd")}
-    said["last"] = answer["showings"][-1][0] if answer["showings"] else None
-    said.update((name, sum(one["count"] for one in answer[name])) for name in ("leadIn", "leadOut"))
-    return dict(said, lost=_lost_text(answer), counts={why: counted_by(answer, why) for why in ("lost", "unread")})
+def said_of(answer: Answer) -> Dict[str, Any]:
+    """What a page says of itself: of the answer what a row for its side has, as plain data."""
+    return {"version": answer.version, "whole": answer.whole, "reasons": entries(answer.reasons),
+            "system": answer.system, "format": answer.format, "unit": answer.unit, "fields": answer.fields,
+            "numbers": entry(answer.numbers), "openEnd": answer.open_end,
+            "last": answer.showings[-1].number if answer.showings else None,
+            "leadIn": sum(one.count_ for one in answer.lead_in), "leadOut": sum(one.count_ for one in answer.lead_out),
+            "lost": _lost_text(answer), "counts": {why: counted_by(answer, why) for why in ("lost", "unread")}}
 
 
 def _head(title, answer):
@@ -80,14 +82,14 @@ def _head(title, answer):
 def _lost_text(answer):
     """How many numbers and fields are lost for sure."""
     count = counted_by(answer, "lost")
-    texts = [counted(count, answer["unit"]) if count else "", lost_fields_text(answer)]
+    texts = [counted(count, answer.unit) if count else "", lost_fields_text(answer)]
     return ", ".join(filter(None, texts)) or "none"
 
 
 def _verdict(answer):
-    reasons = "".join("<li>%s</li>" % escaped(one["text"]) for one in answer["reasons"])
+    reasons = "".join("<li>%s</li>" % escaped(one.text) for one in answer.reasons)
     return '<div class="%s">whole: %s%s</div>' % (
-        CLASSES[answer["whole"]], escaped(answer["whole"]), "<ul>%s</ul>" % reasons if reasons else "")
+        CLASSES[answer.whole], escaped(answer.whole), "<ul>%s</ul>" % reasons if reasons else "")
 
 
 def _fold(name, ones):
@@ -121,13 +123,13 @@ def _cell(value):
 
 def _plots(side, plot):
     """The first bad lines, drawn, each behind a fold that says its cause and its word, if that was recovered."""
-    bad = side.answer["badLines"]
+    bad = side.analysis.answer.bad_lines
     if plot is None or not bad:
         return []
     more = len(bad) - MOST_PLOTS
     shown = "the first %d of %d, drawn" % (MOST_PLOTS, len(bad)) if more > 0 else "drawn"
-    folds = ["<details><summary>field %(field)d, line %(line)d: %(cause)s" % one
-             + _recovered(side.readings[one["field"] - 1][one["line"] - LINES[0]])
+    folds = ["<details><summary>field %d, line %d: %s" % one[:3]
+             + _recovered(side.readings[one.field - 1][one.line - LINES[0]])
              + "</summary>\n" + plot(one) + "</details>" for one in bad[:MOST_PLOTS]]
     return ["<h2>Bad lines, %s</h2>" % shown] + folds
 

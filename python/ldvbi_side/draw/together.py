@@ -1,9 +1,9 @@
 """What several captures of one side have together, as one page of HTML that needs nothing else: in words, as bars, and
 in full lists."""
 
-from typing import Any, Iterable, List
+from typing import Any, Dict, Iterable, List
 
-from ..judge.readings import Answer
+from ..join.joined import Joined
 from .bars import bars_of
 from .page import STYLE, escaped
 
@@ -14,7 +14,7 @@ LISTS = {
 }
 
 
-def page_of_joined(joined: Answer, lines: Iterable[str]) -> str:
+def page_of_joined(joined: Joined, lines: Iterable[str]) -> str:
     """The text of the page. `lines` say in words what was joined."""
     title = ", ".join(one["name"] for one in joined["captures"])
     parts = ['<!DOCTYPE html>\n<html lang="en"><head><meta charset="utf-8"><title>%s</title>\n'
@@ -29,7 +29,7 @@ def page_of_joined(joined: Answer, lines: Iterable[str]) -> str:
     return "\n".join(parts + ["</body></html>", ""])
 
 
-def _fold(name: str, text: str, ones: List[Answer]) -> str:
+def _fold(name: str, text: str, ones: List[Dict[str, Any]]) -> str:
     """A list in full, behind its name and how many rows it has."""
     title = "%s: %d" % (escaped(text), len(ones))
     if not ones:

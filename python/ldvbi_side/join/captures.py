@@ -2,18 +2,19 @@
 
 import bisect
 import itertools
-from typing import Any, Dict, List, NamedTuple, Optional, Set, Tuple
+from typing import Any, Dict, Iterable, List, NamedTuple, Optional, Set, Tuple
 
 from ldvbi import Kind, Stream
 from ldvbi.codes import LINES, code_of
 from ..answer.ends import ordinal_of
+from ..answer.entries import Answer
 from ..judge.paces import RATES, Unit
-from ..judge.readings import Answer
+from ..judge.places import Break
 from ..side import Side
 
 NEARBY = 25  # fields before and behind one, in which its bad lines are counted
 NUMBERS = (Kind.picture, Kind.time, Kind.clv_picture)
-DUE = "unread"  # the answer's name of what is due and isn't read: of a list, and of a reason
+DUE = "unread"  # why a number is missing that is due in a field
 READ, NEAR, TOGETHER, NEIGHBOURS = "read", "near", "together", "neighbours"
 
 
@@ -40,27 +41,26 @@ class Capture(NamedTuple):
     words were recovered; None where it isn't at hand."""
     name: str
     answer: Answer
-    breaks: List[Answer]
+    breaks: List[Break]
     places: List[Place]
     first: Dict[int, Place]
     said: Dict[str, Dict[int, Any]]
     samples: Optional[Stream]
 
-    def kind(self) -> Tuple[str, str]:
+    def kind(self) -> Tuple[Optional[str], str]:
         """What its numbers count, and its system."""
-        return self.answer["unit"], self.answer["system"]
+        return self.answer.unit, self.answer.system
 
     def unit(self) -> Unit:
-        return Unit(self.answer["unit"], RATES[self.answer["system"]])
+        return Unit(self.answer.unit, RATES[self.answer.system])
 
     def ordinal(self, number: Any) -> int:
         """A number of the answer as a count."""
-        return ordinal_of(number, RATES[self.answer["system"]])
+        return ordinal_of(number, RATES[self.answer.system])
 
-    def numbers_of(self, stretches: List[Answer]) -> Set[int]:
-        """The numbers of some stretches of the answer."""
-        return {number for one in stretches
-                for number in range(self.ordinal(one["first"]), self.ordinal(one["last"]) + 1)}
+    def numbers_of(self, stretches: Iterable[Tuple[Any, Any]]) -> Set[int]:
+        """The numbers of some stretches, of which the first and the last one are as the answer has them."""
+        return {number for first, last in stretches for number in range(self.ordinal(first), self.ordinal(last) + 1)}
 
     def places_in(self, first: int, last: int) -> List[Place]:
         """The places of these fields."""
@@ -73,8 +73,9 @@ def capture_of(side: Side, name: str) -> Capture:
     first: Dict[int, Place] = {}
     for place in places:
         first.setdefault(place.number, place)
-    return Capture(name, side.answer, side.analysis.breaks, places, first, {
-        "chapter": _chapters(side.answer, first), "programme status": _status(side, first)}, side.samples)
+    answer, breaks = side.analysis
+    return Capture(name, answer, breaks, places, first, {
+        "chapter": _chapters(answer, first), "programme status": _status(side, first)}, side.samples)
 
 
 # ---- Places
@@ -89,35 +90,35 @@ class _Shown(NamedTuple):
 
 def _shown(answer):
     """What a side shows, and what is due in it, by field."""
-    rate, confirmed = RATES[answer["system"]], frozenset(answer["confirmed"])
+    rate, confirmed = RATES[answer.system], frozenset(answer.confirmed)
     found = [_Shown(field, last, ordinal_of(number, rate), NEAR if field in confirmed else READ)
-             for number, field, last in answer["showings"]]
-    found += [_Shown(one["field"], one["field"], ordinal_of(one["number"], rate), NEIGHBOURS) for one in answer[DUE]]
+             for number, field, last in answer.showings]
+    found += [_Shown(one.field, one.field, ordinal_of(one.number, rate), NEIGHBOURS) for one in answer.unread]
     return sorted(found)
 
 
 def _places(side):
-    answer = side.answer
+    answer, breaks = side.analysis
     bad = _bad_before(answer)
-    doubtful = {(one["field"], one["line"]) for one in answer["doubtful"] + answer["stray"]}
-    is_of_two = answer["pace"] in ("video", "film")
-    before_break = {field for one in answer["lost"] + side.analysis.breaks
-                    for field in range(one["after"], one["before"])}
+    doubtful = answer.aside()
+    is_of_two = answer.pace in ("video", "film")
+    spans = [(one.after, one.before) for one in answer.lost] + [(one.after, one.before) for one in breaks]
+    before_break = {field for first, last in spans for field in range(first, last)}
     shown = _shown(answer)
     for one, after in itertools.zip_longest(shown, shown[1:]):
         is_torn = one.field in before_break or is_of_two and after is not None and after.number == one.number
         last = _last_of(answer, one, after, is_torn)
         is_whole = not is_torn and (last > one.field or not is_of_two)
         lines, sure = {NEAR: (0, 0), NEIGHBOURS: (-1, 0)}.get(one.how) or _read_on(side, one.field, doubtful)
-        nearby = bad[min(one.field + NEARBY, answer["fields"])] - bad[max(one.field - NEARBY - 1, 0)]
+        nearby = bad[min(one.field + NEARBY, answer.fields)] - bad[max(one.field - NEARBY - 1, 0)]
         yield Place(one.number, one.field, last, one.how, is_whole, lines, sure, nearby)
 
 
 def _bad_before(answer):
     """Of each field, from 0 on, how many bad lines there are up to its end."""
-    counts = [0] * (answer["fields"] + 1)
-    for one in answer["badLines"]:
-        counts[one["field"]] += 1
+    counts = [0] * (answer.fields + 1)
+    for one in answer.bad_lines:
+        counts[one.field] += 1
     return list(itertools.accumulate(counts))
 
 
@@ -132,25 +133,25 @@ def _last_of(answer, one, after, is_torn):
     """The last field of a number, by the one that comes after it, if one does. A picture has two fields, or three on
     film where the next number says so and there is no break. Where both fields have the number, it is the last one that
     shows it, or the one before the next number, which may be read in its second field alone."""
-    pace = answer["pace"]
+    pace = answer.pace
     if pace == "minute":
         return after.field - 1 if after and after.number == one.number + 1 else one.last
     if after and after.field - one.field <= (3 if pace in ("film", "both") and not is_torn else 2):
         return after.field - 1
-    return one.last if pace == "both" else min(one.field + 1, answer["fields"])
+    return one.last if pace == "both" else min(one.field + 1, answer.fields)
 
 
 # ---- What stands beside the numbers
 
 def _chapters(answer, first):
     """The chapter that each number is in, where its picture has one."""
-    stretches = answer["chapters"]
-    begins = [one["field"] for one in stretches]
+    stretches = answer.chapters
+    begins = [one.field for one in stretches]
     found = {}
     for number, place in first.items():
         at = bisect.bisect(begins, place.last) - 1
-        if at >= 0 and place.field <= stretches[at]["last"]:
-            found[number] = stretches[at]["chapter"]
+        if at >= 0 and place.field <= stretches[at].last:
+            found[number] = stretches[at].chapter
     return found
 
 

@@ -60,34 +60,34 @@ def _part(capture, places):
 
 def _detours(one: Capture, other: Capture) -> Iterator[Disagreement]:
     """Numbers between two breaks of a capture, where those before and behind both breaks fit each other."""
-    if one.answer["pace"] == "minute":
+    if one.answer.pace == "minute":
         return
-    pace = Pace(one.answer["pace"])
+    pace = Pace(str(one.answer.pace))
     breaks = one.breaks
     for before, after in zip(breaks, breaks[1:]):
-        number, step = one.ordinal(before["from"]), one.ordinal(after["to"]) - one.ordinal(before["from"])
-        if step < 2 or pace.least_off(after["before"] - before["after"], number, step):
+        number, step = one.ordinal(before.from_), one.ordinal(after.to) - one.ordinal(before.from_)
+        if step < 2 or pace.least_off(after.before - before.after, number, step):
             continue
         due = range(number + 1, number + step)
-        inside = one.places_in(before["before"], after["after"])
+        inside = one.places_in(before.before, after.after)
         read = [place for place in other.places if place.number in due and place.how != NEIGHBOURS]
         is_other = any(place.number not in due for place in inside)
-        if read and is_other and not _at_speed(one, before["before"], after["after"]):
+        if read and is_other and not _at_speed(one, before.before, after.after):
             yield Disagreement(DETOUR, _part(one, inside), _part(other, read))
 
 
 def _at_speed(capture, first, last):
-    return any(one["first"] <= last and first <= one["last"] for one in capture.answer["speeds"])
+    return any(one.first <= last and first <= one.last for one in capture.answer.speeds)
 
 
 # ---- Numbers that the clock leaves out
 
 def _left_out(one: Capture, other: Capture) -> Iterator[Disagreement]:
-    for stretch in one.answer["leftOut"]:
-        first, last = one.ordinal(stretch["first"]), one.ordinal(stretch["last"])
+    for stretch in one.answer.left_out:
+        first, last = one.ordinal(stretch.first), one.ordinal(stretch.last)
         places = [other.first[number] for number in range(first, last + 1) if number in other.first]
         if places:
-            yield Disagreement(CLOCK, Part(one.name, first, last, stretch["after"], stretch["before"]),
+            yield Disagreement(CLOCK, Part(one.name, first, last, stretch.after, stretch.before),
                                _part(other, sorted(places, key=lambda place: place.field)))
 
 
@@ -96,9 +96,10 @@ def _left_out(one: Capture, other: Capture) -> Iterator[Disagreement]:
 def _distances(one: Capture, other: Capture) -> Iterator[Disagreement]:
     """Numbers of both that are further from those before them in one of the captures, up to where either says that its
     fields don't follow each other. A field more or less may be one that both have of a picture, so it says nothing."""
-    if "minute" in (one.answer["pace"], other.answer["pace"]):
+    paces = one.answer.pace, other.answer.pace
+    if "minute" in paces:
         return
-    slack = 2 if "both" in (one.answer["pace"], other.answer["pace"]) else 1
+    slack = 2 if "both" in paces else 1
     ones = [(capture, _told_before(capture)) for capture in (one, other)]
     before, offset = None, 0
     disputed: List[int] = []
@@ -128,13 +129,15 @@ def _is_told(before: Place, after: Place, told: List[int]) -> bool:
 def _told_before(capture: Capture) -> List[int]:
     """Of each field how many before it the capture says something of: a break, a loss, a still, a repetition, another
     speed, swapped fields, or a number that the clock leaves out."""
-    answer, told = capture.answer, [0] * (capture.answer["fields"] + 2)
-    spans = [(one["after"], one["before"]) for ones in (capture.breaks, answer["lost"], answer["leftOut"])
-             for one in ones]
-    spans += [(one["first"], one["last"] + 1) for name in ("stills", "speeds") for one in answer[name]]
-    spans += [(one["field"], one["lastField"] + 1) for one in answer["repeated"]]
-    spans += [(one["field"] - 1, one["field"] + 2) for one in answer["swapped"]]
+    answer, told = capture.answer, [0] * (capture.answer.fields + 2)
+    spans = [(lost.after, lost.before) for lost in answer.lost]
+    spans += [(one.after, one.before) for one in capture.breaks]
+    spans += [(out.after, out.before) for out in answer.left_out]
+    spans += [(still.first, still.last + 1) for still in answer.stills]
+    spans += [(speed.first, speed.last + 1) for speed in answer.speeds]
+    spans += [(again.field, again.last_field + 1) for again in answer.repeated]
+    spans += [(pair.field - 1, pair.field + 2) for pair in answer.swapped]
     for first, last in spans:
-        for field in range(max(first, 0) + 1, min(last, answer["fields"] + 1) + 1):
+        for field in range(max(first, 0) + 1, min(last, answer.fields + 1) + 1):
             told[field] = 1
     return list(itertools.accumulate(told))

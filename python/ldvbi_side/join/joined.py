@@ -2,31 +2,32 @@
 
 from typing import Any, Callable, Dict, Iterable, List, Set, Tuple
 
-from ..answer.analysis import frame_of
+from ..answer.as_json import entry
+from ..answer.entries import frame_of
 from ..judge.paces import Unit
-from ..judge.readings import Answer
 from .captures import DUE, TOGETHER, Capture
 from .disagreements import Disagreement, Part, disagreements_of, disputed_in
 from .others import refuse_other_discs
 from .piles import read_together
 from .taken import Taken, follows, stretches_of, taken_of
 
+Joined = Dict[str, Any]  # what captures have together, or a part of it
 VERSION = 1  # of the answer's form
 CLOCK, LOST, UNDECIDED = "clock", "lost", "undecided"
 # Why a number is missing that no capture has, the surest first: one that a capture has a field for isn't lost
 WHYS = (CLOCK, DUE, UNDECIDED)
 
 
-def join(captures: List[Capture]) -> Answer:
+def join(captures: List[Capture]) -> Joined:
     """What these captures have together. A ValueError where two of them can't be of one disc."""
     refuse_other_discs(captures)
     unit, found = captures[0].unit(), disagreements_of(captures)
     disputed = disputed_in(found)
     taken, piled = taken_of(captures, disputed), read_together(captures, disputed)
     together = together_of(captures)
-    left_out = captures[0].numbers_of(together["leftOut"])
+    left_out = captures[0].numbers_of((one["first"], one["last"]) for one in together["leftOut"])
     return {
-        "version": VERSION, "system": captures[0].answer["system"], "format": captures[0].answer["format"],
+        "version": VERSION, "system": captures[0].answer.system, "format": captures[0].answer.format,
         "unit": unit.name, "captures": [_of_capture(one) for one in captures], **together,
         "lacks": [one for capture in captures for one in _lacks(capture, captures, taken, left_out)],
         "disagreements": [_disagreement(one, unit) for one in found],
@@ -35,7 +36,7 @@ def join(captures: List[Capture]) -> Answer:
         "ranges": [_range(one, unit) for one in stretches_of(taken, left_out)]}
 
 
-def together_of(captures: List[Capture]) -> Answer:
+def together_of(captures: List[Capture]) -> Joined:
     """The numbers that any of these captures has, and those between them that none has."""
     unit = captures[0].unit()
     numbers = sorted(set().union(*(capture.first for capture in captures)))
@@ -54,13 +55,14 @@ def _whys_of(captures: List[Capture]) -> Dict[int, str]:
     whys: Dict[int, str] = {}
     for why in reversed(WHYS):
         for capture in captures:
-            stretches = [one for name in ("missing", "leftOut") for one in capture.answer[name] if one["why"] == why]
+            stretches = [(one.first, one.last) for ones in (capture.answer.missing, capture.answer.left_out)
+                         for one in ones if one.why == why]
             whys.update(dict.fromkeys(capture.numbers_of(stretches), why))
     return whys
 
 
 def _stretches(numbers: Iterable[int], said_of: Callable[[int], Any], unit: Unit,
-               left_out: Set[int]) -> List[Tuple[Answer, Any]]:
+               left_out: Set[int]) -> List[Tuple[Joined, Any]]:
     """Ascending numbers in stretches of which the same is said, each with that."""
     stretches: List[List[Any]] = []
     for number in numbers:
@@ -74,8 +76,8 @@ def _stretches(numbers: Iterable[int], said_of: Callable[[int], Any], unit: Unit
 
 
 def _of_capture(capture):
-    return {"name": capture.name, "fields": capture.answer["fields"], "numbers": {
-        **capture.answer["numbers"], "count": len(capture.first)}}
+    return {"name": capture.name, "fields": capture.answer.fields,
+            "numbers": entry(capture.answer.numbers._replace(count_=len(capture.first)))}
 
 
 def _lacks(capture, captures, taken, left_out):
@@ -88,19 +90,19 @@ def _lacks(capture, captures, taken, left_out):
             for one, names in _stretches(lacking, having, capture.unit(), left_out)]
 
 
-def _disagreement(one: Disagreement, unit: Unit) -> Answer:
+def _disagreement(one: Disagreement, unit: Unit) -> Joined:
     return {"why": one.why, "between": [_part(one.one, unit), _part(one.other, unit)]}
 
 
-def _part(part: Part, unit: Unit) -> Answer:
+def _part(part: Part, unit: Unit) -> Joined:
     return {"capture": part.name, "first": unit.text_of(part.first), "last": unit.text_of(part.last),
             "field": part.field, "lastField": part.last_field}
 
 
 def _frame(one: Taken) -> int:
-    return frame_of(one.place.field, one.capture.answer["frameBegin"])
+    return frame_of(one.place.field, one.capture.answer.frame_begin)
 
 
-def _range(ones: List[Taken], unit: Unit) -> Answer:
+def _range(ones: List[Taken], unit: Unit) -> Joined:
     return {"first": unit.text_of(ones[0].number), "last": unit.text_of(ones[-1].number), "count": len(ones),
             "source": ones[0].capture.name, "field": ones[0].place.field, "lastField": ones[-1].place.last}

@@ -24,7 +24,7 @@ def refuse_other_discs(captures: List[Capture]) -> None:
 
 
 def _kind_of(capture):
-    return capture.name, UNITS[capture.answer["unit"]], capture.answer["system"]
+    return capture.name, UNITS[capture.answer.unit], capture.answer.system
 
 
 def _refuse_contradiction(one, other, name):

@@ -2,23 +2,57 @@
 one side and the start of another."""
 
 import bisect
+import functools
 import operator
 from collections import Counter
-from typing import Dict, List, NamedTuple, Set, Tuple
+from typing import Any, Callable, Dict, Iterable, List, NamedTuple, Set, Tuple, cast
 
 from ldvbi import Kind
 from .believed import Numbers, off_at_speed, passed_between
 from .clock import WIDE, Clock, Gap, Played, clock_of
 from .paces import MinutePace, Pace
-from .readings import Answer, Codes, Reading
+from .readings import Codes, Reading
 
 NEAR = (-3, -2, -1, 1, 2, 3)  # fields from a number to those before and behind it
 LEAST = 8  # steps from one number to the next of a disc that shows it on each k-th picture alone
 Due = List[Tuple[int, int]]
 
 
+class Showing(NamedTuple):
+    """A number that is shown, as a count or as the answer has it, and its first and its last field."""
+    number: Any
+    first: int
+    last: int
+
+
+class Break(NamedTuple):
+    """Two fields, one behind the other, whose numbers (counts, or as the answer has them) don't go on together: `lost`
+    where `fields` are too few between them, `held` where these are too many, `back` where the numbers go back."""
+    kind: str
+    after: int
+    before: int
+    from_: Any
+    to: Any
+    fields: int
+
+
+class Still(NamedTuple):
+    """A number that stays, as a count or as the answer has it, and its first and its last field."""
+    number: Any
+    first: int
+    last: int
+
+
+_showing = cast(Callable[[Iterable[Any]], Showing], functools.partial(tuple.__new__, Showing))
+
+
+def showings_of(numbers: Iterable[Any], firsts: Iterable[int], lasts: Iterable[int]) -> List[Showing]:
+    """The showings of these numbers, from these fields to these. There are many."""
+    return list(map(_showing, zip(numbers, firsts, lasts)))
+
+
 class Places(NamedTuple):
-    """Where the numbers of a side are. `showings` are lists of a number, its first and its last field; `joins` are the
+    """Where the numbers of a side are: `showings`, `breaks` and `stills` have them as counts. `joins` are the
     readings between which another side begins; `due` are pairs of a number that isn't there and the field that it
     belongs to; `without_field` are missing numbers whose field is unknown although no field was lost; `open` are those
     in whose place other codes alone were seen, and `unshown` those that the disc doesn't
@@ -26,10 +60,10 @@ class Places(NamedTuple):
     number of each field that shows one or in which one is due. `confirmed` are the fields whose number was due, and
     counts as shown since it is the nearest word of their lines."""
     numbers: Numbers
-    showings: List[List[int]]
-    breaks: List[Answer]
+    showings: List[Showing]
+    breaks: List[Break]
     joins: List[Tuple[Reading, Reading]]
-    stills: List[Answer]
+    stills: List[Still]
     due: Due
     without_field: Set[int]
     open: Set[int]
@@ -74,13 +108,13 @@ def places_of(numbers: Numbers, codes: Codes) -> Places:
     for (number, field), said in others.items():
         (unseen if _is_played(codes, field, said) else without_field).add(number)
     due = [one for one in due if one not in others] if others else due
-    clock, showings = clock_of(_played(steps, len(numbers.believed))), _showings(numbers.believed, steps)
+    clock, showings = clock_of(_played(steps, len(numbers.believed))), _showings(numbers, steps)
     breaks = [_break(numbers, step.before, step.after, step.off) for step in steps if step.kind == "break"]
     breaks += [_break(numbers, before, after, numbers.off(before, after)) for before, after in clock.breaks]
     if isinstance(numbers.pace, MinutePace):
         breaks += _minute_breaks(numbers.pace, showings, ends)
     number_of = {**{field: number for number, field in due}, **numbers.taken}
-    return Places(numbers, showings, sorted(breaks, key=lambda one: one["after"]), joins,
+    return Places(numbers, showings, sorted(breaks, key=lambda one: one.after), joins,
                   _stills(steps), due, without_field, unseen, unshown, clock, number_of)
 
 
@@ -115,11 +149,12 @@ def _is_second(before, after):
     return after.variant > before.variant and (after.field, after.number) == (before.field + 1, before.number)
 
 
-def _showings(believed, steps):
-    showings = [[number, field, field] for field, number, *_ in believed]
+def _showings(numbers, steps):
+    showings = showings_of(numbers.values, numbers.fields, numbers.fields)
     same = [step.place for step in steps if step.kind == "same"]
     for place in reversed(same):
-        showings[place - 1][2] = showings[place][2]
+        number, first, _ = showings[place - 1]
+        showings[place - 1] = _showing((number, first, showings[place].last))
     again = set(same)
     return [one for place, one in enumerate(showings) if place not in again] if again else showings
 
@@ -130,11 +165,11 @@ def _stills(steps):
     for step in steps:
         if last != step.place - 1:
             begin = step.before.field
-        is_still = bool(stills) and stills[-1]["last"] == step.before.field
+        is_still = bool(stills) and stills[-1].last == step.before.field
         if is_still and step.kind in ("same", "still"):
-            stills[-1]["last"] = step.after.field
+            stills[-1] = stills[-1]._replace(last=step.after.field)
         elif step.kind == "still":
-            stills.append({"number": step.after.number, "first": begin, "last": step.after.field})
+            stills.append(Still(step.after.number, begin, step.after.field))
         if step.kind != "same":
             begin = step.after.field
         last = step.place
@@ -207,8 +242,7 @@ def _break(numbers, before, after, off):
         kind = "back"
     elif isinstance(numbers.pace, MinutePace):
         off = numbers.pace.least_wrong(after.field - before.field, after.number - before.number)
-    return {"kind": kind, "after": before.field, "before": after.field, "from": before.number, "to": after.number,
-            "fields": abs(off)}
+    return Break(kind, before.field, after.field, before.number, after.number, abs(off))
 
 
 # ---- Discs of another kind
@@ -225,22 +259,21 @@ def _spacing_of(numbers: Numbers) -> int:
     return step if count >= LEAST and 2 * count > sum(steps.values()) else 1
 
 
-def _minute_breaks(pace: MinutePace, showings: List[List[int]], ends: List[int]) -> List[Answer]:
+def _minute_breaks(pace: MinutePace, showings: List[Showing], ends: List[int]) -> List[Break]:
     """The minutes that show more fields than they have, and those that have room for fewer: between two others, or of
     minute 0 between lead-in and minute 1. `ends` are the fields with lead-in or lead-out: another side may begin there.
     """
-    found: List[Answer] = []
+    found: List[Break] = []
     for number, first, last in showings:
         many = last - first + 1 - pace.longest
         if many > 0:
-            found.append({"kind": "held", "after": first, "before": last, "from": number, "to": number, "fields": many})
+            found.append(Break("held", first, last, number, number, many))
     for (before, _, last), (number, _, _), (after, first, _) in zip(showings, showings[1:], showings[2:]):
         few = pace.shortest - (first - last - 1)
         if after - number == number - before == 1 and few > 0:
-            found.append({"kind": "lost", "after": last, "before": first, "from": before, "to": after, "fields": few})
+            found.append(Break("lost", last, first, before, after, few))
     for (number, first, _), (after, begin, _) in zip(showings, showings[1:]):
         end = ends[bisect.bisect(ends, first) - 1] if ends and ends[0] < first else None
         if end is not None and (number, after) == (0, 1) and begin - end - 1 < pace.shortest:
-            found.append({"kind": "lost", "after": end, "before": begin, "from": number, "to": after,
-                          "fields": pace.shortest - (begin - end - 1)})
-    return [one for one in found if bisect.bisect(ends, one["after"]) == bisect.bisect_left(ends, one["before"])]
+            found.append(Break("lost", end, begin, number, after, pace.shortest - (begin - end - 1)))
+    return [one for one in found if bisect.bisect(ends, one.after) == bisect.bisect_left(ends, one.before)]

@@ -5,10 +5,10 @@ from typing import Any, Callable, Dict, Iterable, List, NamedTuple, Optional, Se
 
 from ldvbi import Kind, classify
 from ldvbi.classes import usual_pictures
-from ldvbi.codes import CAV_KINDS, CLV_KINDS, LINES, STANDARD_LINES, code_of, name_of, value_of
+from ldvbi.codes import CAV_KINDS, CLV_KINDS, LINES, STANDARD_LINES, code_of, value_of
+from ldvbi.readings import Cut
 
 WEIGHTS = (0, 2, 1, 1)  # of a line without a word, with one of pass 1, of pass 2, with a recovered one (pass 3)
-Answer = Dict[str, Any]  # the plain data that the judge answers with; docs/ANSWER.md has its members
 Lines = Tuple[int, ...]
 Values = Dict[Any, Lines]  # what a field says by codes of one kind, each value with its lines
 ByField = Dict[int, Values]
@@ -19,24 +19,24 @@ NearestWord = Callable[[int, int, int], Optional[int]]
 class Fields(NamedTuple):
     """The whole fields of a side as plain data: of each field the words, passes and causes of lines 16, 17 and 18, as
     the document of `ldvbi extract` has them, and all of them as the library takes them, in `packed`. A recovered word
-    has pass 3, and the cause for which its line shows none of its own. `cut` is the document's `cutField`. `first` says
-    of each field whether it is the first one of its frame (`isFirstField` of ld-decode's metadata), or is None where
-    that isn't known. `expected` is the number of fields that the metadata has, or None; `is_strict` says that a side
-    without lead-in or lead-out, or with an unread number, isn't whole, and `may_end` that it may end without lead-out.
-    `nearest_word` finds the nearest words of lines where their samples are at hand, and `try_levels` what other levels
-    would read."""
+    has pass 3, and the cause for which its line shows none of its own. `cut` is the field in which it was cut. `first`
+    says of each field whether it is the first one of its frame (`isFirstField` of ld-decode's metadata), or is None
+    where that isn't known. `expected` is the number of fields that the metadata has, or None; `is_strict` says that a
+    side without lead-in or lead-out, or with an unread number, isn't whole, and `may_end` that it may end without
+    lead-out. `nearest_word` finds the nearest words of lines where their samples are at hand, and `try_levels` what
+    other levels would read."""
     system: str
     words: List[Tuple[int, int, int]]
     passes: List[Tuple[int, int, int]]
     causes: List[Tuple[str, str, str]]
     packed: bytes
-    cut: Optional[Dict[str, int]] = None
+    cut: Optional[Cut] = None
     first: Optional[List[bool]] = None
     expected: Optional[int] = None
     is_strict: bool = False
     may_end: bool = False
     nearest_word: Optional[NearestWord] = None
-    try_levels: Optional[Callable[[], Answer]] = None
+    try_levels: Optional[Callable[[], Any]] = None
 
 
 class Reading(NamedTuple):
@@ -49,6 +49,24 @@ class Reading(NamedTuple):
     variant: int = 0
 
 
+class Stray(NamedTuple):
+    """A word that is a code where no disc has it, its kind, its pass, and why it is stray."""
+    field: int
+    line: int
+    word: int
+    kind: Kind
+    pass_: int
+    why: str
+
+
+class Unknown(NamedTuple):
+    """A word that is no code, and its pass."""
+    field: int
+    line: int
+    word: int
+    pass_: int
+
+
 class Codes(NamedTuple):
     """The codes of a side. `kinds` has for each kind its fields, and for each of these the values with their lines;
     `format` is `cav`, `clv` or `neither`; `stray` are the codes that stand where no disc has them, `unknown` the words
@@ -56,10 +74,10 @@ class Codes(NamedTuple):
     fields: Fields
     kinds: Dict[Kind, ByField]
     format: str
-    stray: List[Answer]
-    unknown: List[Answer]
+    stray: List[Stray]
+    unknown: List[Unknown]
 
-    def strays(self, found: ByField, why: str) -> List[Answer]:
+    def strays(self, found: ByField, why: str) -> List[Stray]:
         """Each line of these fields of a kind as a stray one."""
         return _strays(self.fields, found, why)
 
@@ -89,20 +107,21 @@ class Codes(NamedTuple):
         return [make((field, value, _weight(passes[field - 1], lines), lines, 0))
                 for field, values in found.items() for value, lines in values.items()]
 
-    def words_of(self, kinds: Iterable[Kind]) -> List[Tuple[int, Dict[str, int]]]:
+    def words_of(self, kinds: Iterable[Kind]) -> List[Tuple[int, int, int, int]]:
         """The different words of kinds that have a line to themselves: of each the word, its fields' count, the first
         and the last of them, by the first field."""
-        found: Dict[int, Dict[str, int]] = {}
+        found: Dict[int, List[int]] = {}
         for kind in kinds:
             place = STANDARD_LINES[kind][0] - LINES[0]
             for field in self.kinds[kind]:
                 word = self.fields.words[field - 1][place]
                 one = found.get(word)
                 if one is None:
-                    one = found[word] = {"count": 0, "first": field}
-                one["count"] += 1
-                one["last"] = field
-        return sorted(found.items(), key=lambda pair: pair[1]["first"])
+                    one = found[word] = [0, field, field]
+                one[0] += 1
+                one[2] = field
+        return sorted([(word, count, first, last) for word, (count, first, last) in found.items()],
+                      key=lambda one: one[2])
 
     def minutes(self) -> ByField:
         """The minutes of CLV times: for each field the values with their lines. Those that no clock shows are left
@@ -126,9 +145,8 @@ def codes_of(fields: Fields) -> Codes:
     """The codes of these fields. Where the side has codes of CAV and of CLV, it is of the format of which more fields
     have some, and the codes of the other one are stray."""
     kinds, aside = _collected(fields.words)
-    stray = [_entry(fields, field, line, "line") for field, line, is_code in aside if is_code]
-    named = [_entry(fields, field, line, "code") for field, line, is_code in aside if not is_code]
-    unknown = [{name: one[name] for name in ("field", "line", "word", "pass")} for one in named]
+    stray = [_stray(fields, field, line, "line") for field, line, is_code in aside if is_code]
+    unknown = [Unknown(field, line, *_said(fields, field, line)) for field, line, is_code in aside if not is_code]
     name, others = _format_of(kinds)
     for kind in others:
         stray += _strays(fields, kinds[kind], "format")
@@ -202,12 +220,16 @@ def _format_of(kinds):
     return ("cav", CLV_KINDS) if len(cav) >= len(clv) else ("clv", CAV_KINDS)
 
 
-def _entry(fields, field, line, why):
-    word = fields.words[field - 1][line - LINES[0]]
-    return {"field": field, "line": line, "word": "%06X" % word, "kind": name_of(code_of(word).kind),
-            "pass": fields.passes[field - 1][line - LINES[0]], "why": why}
+def _said(fields, field, line):
+    """The word of a line of a field, and its pass."""
+    return fields.words[field - 1][line - LINES[0]], fields.passes[field - 1][line - LINES[0]]
+
+
+def _stray(fields, field, line, why):
+    word, of_pass = _said(fields, field, line)
+    return Stray(field, line, word, code_of(word).kind, of_pass, why)
 
 
 def _strays(fields, found, why):
-    return [_entry(fields, field, line, why)
+    return [_stray(fields, field, line, why)
             for field, values in found.items() for lines in values.values() for line in lines]

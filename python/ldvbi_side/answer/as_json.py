@@ -1,0 +1,92 @@
+"""The answer as plain data, in the form that docs/ANSWER.md has: the members of each entry under their names there, in
+their order, with words and their kinds as texts. Nothing else knows the names of its lists' entries."""
+
+import functools
+import re
+from typing import Any, Callable, Dict, List, Optional, Sequence, Tuple
+
+from ldvbi import Kind
+from ldvbi.codes import name_of
+from ldvbi.collector import paused
+from ldvbi.readings import Cut
+from ..judge.places import Showing
+from ..judge.readings import Stray, Unknown
+from .entries import Answer, Doubt, FewWords, Rates, Stop
+
+Members = Dict[str, Any]
+
+
+@paused()
+def as_json(answer: Answer) -> Members:
+    """The plain data of an answer."""
+    return {name: _FORMS[name](value) if name in _FORMS else entries(value) if isinstance(value, list) else value
+            for name, value in zip(_names_of(Answer), answer)}
+
+
+def entries(ones: Sequence[Any]) -> List[Members]:
+    """Entries of one kind, whose members are plain data."""
+    names = _names_of(ones[0].__class__) if ones else ()
+    return [dict(zip(names, one)) for one in ones]
+
+
+def entry(one: Any, **others: Any) -> Members:
+    """An entry whose members are plain data but for these, which are given."""
+    return {**dict(zip(_names_of(one.__class__), one)), **others}
+
+
+@functools.lru_cache(maxsize=None)
+def _names_of(kind: Any) -> Tuple[str, ...]:
+    """What the members of a kind of entry are called: `last_field` is `lastField`, `from_` is `from`."""
+    return tuple(re.sub("_([a-z])", lambda found: found[1].upper(), name.rstrip("_")) for name in kind._fields)
+
+
+@functools.lru_cache(maxsize=None)
+def _names_of_kinds() -> Dict[Kind, str]:
+    return {kind: name_of(kind) for kind in Kind}
+
+
+# ---- Members of other forms
+
+def _cut(cut: Optional[Cut]) -> Optional[Members]:
+    return cut and {"seqNo": cut.field, "bytes": cut.bytes}
+
+
+def _showings(showings: List[Showing]) -> List[List[Any]]:
+    return list(map(list, showings))
+
+
+def _doubtful(doubtful: List[Doubt]) -> List[Members]:
+    """Doubtful words, of which there may be many: between two numbers all of them have the same ones beside them."""
+    beside = {one: one and entry(one) for one in {one for doubt in doubtful for one in (doubt.before, doubt.after)}}
+    names = _names_of_kinds()
+    return [{"field": field, "line": line, "word": "%06X" % word, "kind": names[kind], "pass": of_pass, "why": why,
+             "number": number, "before": beside[before], "after": beside[after]}
+            for field, line, word, kind, of_pass, why, number, before, after in doubtful]
+
+
+def _stray(stray: List[Stray]) -> List[Members]:
+    return [entry(one, word="%06X" % one.word, kind=name_of(one.kind)) for one in stray]
+
+
+def _unknown(unknown: List[Unknown]) -> List[Members]:
+    return [entry(one, word="%06X" % one.word) for one in unknown]
+
+
+def _stops(stops: List[Stop]) -> List[Members]:
+    return [entry(one, lines=list(one.lines)) for one in stops]
+
+
+def _lines(lines: Dict[int, Rates]) -> Dict[str, Members]:
+    return {str(line): entry(rates) for line, rates in lines.items()}
+
+
+def _levels(levels: Optional[FewWords]) -> Optional[Members]:
+    if levels is None:
+        return None
+    tried = levels.tried and entry(levels.tried, best=levels.tried.best and entry(levels.tried.best))
+    return entry(levels, tried=tried)
+
+
+_FORMS: Dict[str, Callable[[Any], Any]] = {
+    "cutField": _cut, "numbers": entry, "showings": _showings, "completed": list, "confirmed": list,
+    "doubtful": _doubtful, "stops": _stops, "stray": _stray, "unknown": _unknown, "lines": _lines, "levels": _levels}

@@ -1,0 +1,283 @@
+"""The answer of a side and the entries of its lists, under the names by which all of this package reads them;
+as_json.py gives them those of docs/ANSWER.md. A name that Python has taken ends with `_`. Numbers are as they are
+there: pictures are whole ones, times are texts. Words and their kinds are no texts here. Showings, breaks and stills
+are what `judge` makes (places.py), and so are stray and unknown words (readings.py)."""
+
+from typing import Any, Dict, List, NamedTuple, Optional, Sequence, Set, Tuple
+
+from ldvbi import Kind
+from ldvbi.readings import Cut
+from ..judge.places import Break, Showing, Still
+from ..judge.readings import Stray, Unknown
+
+
+# ---- Numbers
+
+class Extent(NamedTuple):
+    """How many numbers are believed, and the least and the greatest one, or None."""
+    count_: int
+    least: Any
+    greatest: Any
+
+
+class Unread(NamedTuple):
+    """A number that is due in a field where none is believed, and what was read there, or None."""
+    number: Any
+    field: int
+    read: Any
+
+
+class Repeated(NamedTuple):
+    """Numbers that are shown again, their fields, and where the first was before."""
+    first: Any
+    last: Any
+    field: int
+    last_field: int
+    before: int
+
+
+class Missing(NamedTuple):
+    """Numbers that no field has, `count_` of them, why, and the first fields of those around."""
+    first: Any
+    last: Any
+    count_: int
+    why: str
+    after: int
+    before: int
+
+
+class Lost(NamedTuple):
+    """How many fields are lost between two, or None where that isn't known, and by what that is known."""
+    after: int
+    before: int
+    fields: Optional[int]
+    by: str
+
+
+class Swapped(NamedTuple):
+    """The first of two swapped fields, and a number that they show, or None."""
+    field: int
+    number: Any
+
+
+class Speed(NamedTuple):
+    """Fields that were played at another speed, and how many numbers a picture has there."""
+    first: int
+    last: int
+    numbers: str
+
+
+# ---- What is set aside
+
+class Neighbour(NamedTuple):
+    """A believed number beside another one, and its field."""
+    field: int
+    number: Any
+
+
+class Doubt(NamedTuple):
+    """A word that is set aside, its pass, why, its number, or None where no clock shows it, and the believed numbers
+    around."""
+    field: int
+    line: int
+    word: int
+    kind: Kind
+    pass_: int
+    why: str
+    number: Any
+    before: Optional[Neighbour]
+    after: Optional[Neighbour]
+
+    def said(self) -> Any:
+        """What was read: the number or, where no clock shows that, the word by its digits."""
+        return "%06X" % self.word if self.number is None else self.number
+
+
+class Conflict(NamedTuple):
+    """A field with two numbers on lines 17 and 18, and the one that is taken, or None."""
+    field: int
+    line17: Any
+    line18: Any
+    taken: Any
+
+
+class SecondRow(NamedTuple):
+    """Numbers that are set aside and fit each other, `count_` of them, their fields and their weight, and that of the
+    believed ones in their fields."""
+    first: Any
+    last: Any
+    field: int
+    last_field: int
+    count_: int
+    weight: int
+    against: int
+
+
+# ---- The disc's other parts
+
+class Chapter(NamedTuple):
+    """A stretch of a chapter, from `field` to `last`, the last field of the one before, its first number and frame."""
+    chapter: int
+    field: int
+    last: int
+    after: Optional[int]
+    number: Any
+    frame: int
+
+
+class Stop(NamedTuple):
+    """A picture stop that is believed, its picture, or None, and the lines that show it."""
+    field: int
+    frame: int
+    number: Any
+    lines: Sequence[int]
+
+
+class Stretch(NamedTuple):
+    """A stretch of lead-in or of lead-out, and how many of its fields show it."""
+    first: int
+    last: int
+    count_: int
+
+
+class Status(NamedTuple):
+    """A programme status: whether CX is on, its digits, and how many fields show it, from the first to the last."""
+    cx: bool
+    digits: str
+    count_: int
+    first: int
+    last: int
+
+
+class Users(NamedTuple):
+    """A users' code, by its one digit and its three, and how many fields show it, from the first to the last."""
+    digit: int
+    digits: str
+    count_: int
+    first: int
+    last: int
+
+
+# ---- Lines
+
+class BadLine(NamedTuple):
+    """A line that shows no word of its own and isn't blank, its cause, with that one's column, or None, and its place
+    in the TBC file, in bytes."""
+    field: int
+    line: int
+    cause: str
+    column: Optional[int]
+    offset: int
+    bytes: int
+
+
+class Rates(NamedTuple):
+    """How many fields show what on a line; `near` are the recovered words."""
+    pass1: int
+    pass2: int
+    near: int
+    blank: int
+    unfinished: int
+    change: int
+    hold: int
+
+    def words(self) -> int:
+        """How many words the line has."""
+        return self.pass1 + self.pass2 + self.near
+
+    def bad(self) -> int:
+        """How many fields have no word of it, and show something."""
+        return self.change + self.hold + self.unfinished
+
+
+class Best(NamedTuple):
+    """The system and the levels by which most lines are read, as far as they differ from the side's, else None, and how
+    many lines these are."""
+    system: Optional[str]
+    black: Optional[int]
+    white: Optional[int]
+    read: int
+
+
+class Tried(NamedTuple):
+    """How many of some lines are read by the side's levels, and by what more of them are read, or None."""
+    lines: int
+    read: int
+    black: int
+    white: int
+    best: Optional[Best]
+
+
+class FewWords(NamedTuple):
+    """What lines 17 and 18 show where they have few words, by how many of each, one of these lines, and what other
+    levels read, or None. `shows` is `blank` or `bad`."""
+    shows: str
+    words: int
+    bad: int
+    blank: int
+    field: int
+    line: int
+    tried: Optional[Tried]
+
+
+# ---- The whole
+
+class Ground(NamedTuple):
+    """Why a side isn't whole, by a word and by a text, and what that alone would make of the side."""
+    why: str
+    whole: str
+    text: str
+
+
+class Answer(NamedTuple):
+    """All that is said of a side. Each list ascends by field, `missing` and `left_out` by number."""
+    version: int
+    system: str
+    format: str
+    unit: Optional[str]
+    fields: int
+    cut_field: Optional[Cut]
+    frame_begin: int
+    pace: Optional[str]
+    numbers: Extent
+    showings: List[Showing]
+    completed: List[int]
+    confirmed: List[int]
+    unread: List[Unread]
+    breaks: List[Break]
+    stills: List[Still]
+    repeated: List[Repeated]
+    missing: List[Missing]
+    left_out: List[Missing]
+    lost: List[Lost]
+    speeds: List[Speed]
+    swapped: List[Swapped]
+    doubtful: List[Doubt]
+    conflicts: List[Conflict]
+    chapter_conflicts: List[Conflict]
+    second_rows: List[SecondRow]
+    chapters: List[Chapter]
+    stops: List[Stop]
+    lead_in: List[Stretch]
+    lead_out: List[Stretch]
+    stray: List[Stray]
+    unknown: List[Unknown]
+    programme_status: List[Status]
+    users: List[Users]
+    bad_lines: List[BadLine]
+    lines: Dict[int, Rates]
+    levels: Optional[FewWords]
+    metadata_fields: Optional[int]
+    open_end: bool
+    whole: str = ""
+    reasons: Sequence[Ground] = ()
+
+    def aside(self) -> Set[Tuple[int, int]]:
+        """The fields and lines whose word is set aside: it is doubtful or stray."""
+        return {one[:2] for one in self.doubtful}.union([one[:2] for one in self.stray])
+
+
+def frame_of(field: int, begin: int) -> int:
+    """The frame of a field, from 1: a pair of fields, counted from `begin`, the first field that begins one; 0 for a
+    field before."""
+    return max((field - begin) // 2 + 1, 0)
