@@ -67,7 +67,7 @@ class Sound(unittest.TestCase):
             "NTSC", [(0, 0, 0), (0, 0, 0), (0, PICTURE, PICTURE), (0, 0, 0)],
             [(0, 0, 0), (0, 0, 0), (0, 1, 2), (0, 0, 0)],
             [("blank",) * 3, ("unfinished", "change 0", "hold 909"), ("blank", "word", "word"), ("blank",) * 3],
-            side.readings.data, {"seqNo": 5, "bytes": 85360}))
+            side.readings.data, Cut(5, 85360)))
         self.assertEqual(side.levels, Levels(16384, 51200))
         words = side_of_document(text_of(changed("fields.2.vbi.vbiData", [0, 0x800000, 0xFFFFFF])))
         self.assertEqual([line.word for line in words.readings[2]], [0, 0x800000, 0xFFFFFF])  # the least, the greatest

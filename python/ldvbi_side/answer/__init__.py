@@ -1,4 +1,5 @@
-"""What is said of a side, once its numbers are believed: `analysis.analyse` makes the whole answer, part by part.
-`gaps` takes in what the library says of the whole side, `missing` says which numbers and fields are lost, `parts` which
-other parts the disc has, `doubts` what is set aside, `lines` what the lines show, `ends` and `whole` whether the side
-is whole. `confirmed` looks for the due numbers in the samples."""
+"""What is said of a side, once its numbers are believed: `analysis.analysed` makes the whole answer, part by part.
+`entries` has the names of the answer and of what is in its lists, `as_json` gives it the form of docs/ANSWER.md. `gaps`
+takes in what the library says of the whole side, `missing` says which numbers and fields are lost, `parts` which other
+parts the disc has, `doubts` what is set aside, `lines` what the lines show, `ends` and `whole` whether the side is
+whole. `confirmed` looks for the due numbers in the samples."""

@@ -90,11 +90,11 @@ def doubts_of(codes: Codes, kind: Kind, field: int, lines: Lines, text: Any, bes
 
 def conflict_of(field: int, said: Iterable[Tuple[Any, Lines]], taken: Any) -> Conflict:
     """A field whose lines 17 and 18 have these numbers, each with its lines, of which one was taken, or none."""
-    lines = dict.fromkeys(LINES)
-    for text, ones in said:
-        for line in ones:
-            lines[line] = text
-    return Conflict(field, lines[17], lines[18], taken)
+    line17 = line18 = None
+    for text, lines in said:
+        line17 = text if 17 in lines else line17
+        line18 = text if 18 in lines else line18
+    return Conflict(field, line17, line18, taken)
 
 
 def read_in(doubtful: List[Doubt], fields: Collection[int]) -> Dict[int, Any]:
@@ -127,20 +127,16 @@ def chapters_aside(codes: Codes, readings: List[Reading],
 
 def _numbers_aside(codes: Codes, numbers: Numbers, readings: List[Reading]) -> Tuple[List[Doubt], List[Conflict]]:
     """The readings that aren't believed, and the fields whose lines differ."""
-    text_of, taken = numbers.unit.text_of, numbers.taken
-    doubtful: List[Doubt] = []
-    conflicts: List[Conflict] = []
-    kind, all_beside = Kind.picture if numbers.unit.name == "picture" else Kind.time, AllBeside(numbers)
-    for field, ones in _aside(numbers, readings).items():
-        right, texts = taken.get(field), [text_of(one.number) for one in ones]
-        beside = all_beside.at(field, len(ones) > 1)
-        for one, text in zip(ones, texts):
-            if right != one.number:
-                doubtful += doubts_of(codes, kind, field, one.lines, text, beside)
-        if len(ones) > 1:
-            conflicts.append(conflict_of(field, zip(texts, [one.lines for one in ones]),
-                                         None if right is None else text_of(right)))
-    return doubtful, conflicts
+    text_of, taken, words, passes = numbers.unit.text_of, numbers.taken, codes.fields.words, codes.fields.passes
+    kind, beside = Kind.picture if numbers.unit.name == "picture" else Kind.time, AllBeside(numbers)
+    aside = _aside(numbers, readings)
+    doubtful = [_doubt((field, line, words[field - 1][line - 16], kind, passes[field - 1][line - 16], why,
+                        text_of(one.number), before, after))
+                for field, ones in aside.items() for why, before, after in [beside.at(field, len(ones) > 1)]
+                for one in ones if taken.get(field) != one.number for line in one.lines]
+    return doubtful, [conflict_of(field, [(text_of(one.number), one.lines) for one in ones],
+                                  text_of(taken[field]) if field in taken else None)
+                      for field, ones in aside.items() if len(ones) > 1]
 
 
 def _aside(numbers, readings):
@@ -177,10 +173,10 @@ def _row_of(codes, numbers, rest):
     """Those of these readings that the library believes of a side on which nothing else was read."""
     fields, lines = codes.fields, array.array("Q", codes.fields.packed)  # a line has eight bytes
     left = array.array("Q", PACKED_LINE.pack(Cause.blank, 0, 0, 0)) * len(lines)
-    for field, _, _, ones, _ in rest:
-        for line in ones:
-            place = len(LINES) * (field - 1) + line - LINES[0]
-            left[place] = lines[place]
+    for one in rest:
+        begin = len(LINES) * (one.field - 1) - LINES[0]
+        for line in one.lines:
+            left[begin + line] = lines[begin + line]
     pace = JudgedPace.film if numbers.pace.kind == "film" else JudgedPace.video
     counted = Counted.pictures if numbers.unit.name == "picture" else Counted.times
     get = sure_in(judge(left, fields.system, counted, pace)).get

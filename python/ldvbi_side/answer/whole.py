@@ -276,7 +276,8 @@ def _doubtful_text(count, shown):
 
 
 def _set_aside(answer):
-    doubtful = {one.field for one in answer.doubtful if one.kind != Kind.chapter}
+    chapter = Kind.chapter
+    doubtful = {one.field for one in answer.doubtful if one.kind != chapter}
     if not doubtful:
         return None
     begins = [one.first for one in answer.showings]

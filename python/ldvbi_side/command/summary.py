@@ -1,7 +1,7 @@
 """A side at a glance: whether it is whole, and what to look at first, in at most MOST_LINES lines. Lists stand in the
 order of the disc or the side."""
 
-from typing import Any, Callable, Collection, Iterator, TypeVar
+from typing import Any, Callable, Collection, Iterator, Optional, TypeVar
 
 from ldvbi.codes import LINES, name_of
 from ..draw.marks import OUT_OF_PLACE, SKIPPED, fields_text
@@ -66,9 +66,10 @@ def _tried_text(tried):
         tried.read, tried.lines, tried.black, tried.white, tried.best.read, options_of(tried.best))
 
 
-def listed(count: int, ones: Collection[Item], text_of: Callable[[Item], str]) -> str:
-    """How many there are, and the texts of the first ones of them."""
-    more = len(ones) - MOST_LISTED
+def listed(count: int, ones: Collection[Item], text_of: Callable[[Item], str], places: Optional[int] = None) -> str:
+    """How many there are, and the texts of the first ones of them. `places` is how many texts there would be, if `ones`
+    are the first ones alone."""
+    more = (len(ones) if places is None else places) - MOST_LISTED
     shown = ", ".join(text_of(one) for one, _ in zip(ones, range(MOST_LISTED)))
     return "%d (%s)" % (count, shown + (" and %d more" % more if more > 0 else "")) if count else "none"
 
@@ -121,13 +122,14 @@ def _missing_text(answer, why):
 
 
 def _doubt_lines(answer):
-    doubtful = answer.doubtful
-    unit = "picture" if answer.unit == "picture" else "time"
-    conflicts = [(one, unit) for one in answer.conflicts] + [(one, "chapter") for one in answer.chapter_conflicts]
+    doubtful, of_numbers, of_chapters = answer.doubtful, answer.conflicts, answer.chapter_conflicts
+    unit, count = "picture" if answer.unit == "picture" else "time", len(of_numbers) + len(of_chapters)
+    conflicts = [(one, unit) for one in of_numbers[:MOST_LISTED]]  # of noise there are many
+    conflicts += [(one, "chapter") for one in of_chapters[:MOST_LISTED]]
     conflicts.sort(key=lambda pair: pair[0].field)
     yield "doubtful, set aside: " + listed(len(doubtful), doubtful, lambda one: "%s %s in field %d line %d" % (
         name_of(one.kind), one.said(), one.field, one.line))
-    yield "lines 17 and 18 differ: " + listed(len(conflicts), conflicts, _conflict_text)
+    yield "lines 17 and 18 differ: " + listed(count, conflicts, _conflict_text, count)
     for one in answer.second_rows:
         yield "a second row of numbers, not taken: %s to %s in fields %d to %d" % one[:4]
 
