@@ -1,5 +1,6 @@
 """The command `ldvbi-side`, also as `python3 -m ldvbi_side`."""
 
+import gc
 import sys
 from typing import List, Optional
 
@@ -16,7 +17,9 @@ def main(words: Optional[List[str]] = None) -> int:
         from .command.main import main as command
         if words is None:
             end_in_order()
-        return command(words)
+        status = command(words)
+        gc.freeze()  # as the process ends all is given back, and nobody has to look through it
+        return status
     except KeyboardInterrupt as stop:
         drop_standard_output()
         return getattr(stop, "status", INTERRUPTED)
