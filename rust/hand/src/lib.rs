@@ -82,6 +82,7 @@ mod cli;
 mod exports;
 #[allow(dead_code, unused_imports)]
 mod field;
+mod judged;
 #[allow(dead_code, unused_imports)]
 mod line;
 mod lines;
@@ -97,6 +98,7 @@ mod whole;
 #[allow(dead_code, unused_imports)]
 mod words;
 
+pub use crate::judged::Judged;
 pub use crate::lines::{Error, Feeder};
 pub use crate::near::Near;
 pub use crate::side::{Counted, Tally};
