@@ -1,5 +1,5 @@
-/* Loaded before a program's libraries (LD_PRELOAD), it says to the file that ADVISED names that the system shall not
- * read ahead in its mapped file, from which byte on and up to which, which bytes the program asks for ahead (their first
+/* Loaded before a program's libraries (LD_PRELOAD), it says to the file that ADVISED names of how many bytes of a
+ * mapped file, from its first on, the system shall read none ahead, which bytes the program asks for ahead (their first
  * byte and the byte behind the last), and how many fields it then reads from which byte on. It passes all calls on. */
 #define _GNU_SOURCE
 #include <dlfcn.h>

@@ -72,8 +72,8 @@ pub struct Field {
     pub readings: [Reading; 3],
 }
 
-/// The samples of a side, field after field, as in a TBC file that is read or mapped. Words of worn lines are recovered,
-/// as pass 3. Of a field lines 16, 17 and 18 are read, and no others:
+/// The samples of a side, field after field, as in a TBC file that is read or mapped. Words of worn lines are
+/// recovered, as pass 3. Of a field lines 16, 17 and 18 are read, and no others:
 ///
 /// | Call | Reads |
 /// |---|---|
@@ -162,9 +162,9 @@ impl<'a> Side<'a> {
 
     /// The first field whose number or chapter this is, believed or due.
     ///
-    /// A picture or a time is sought by halving, as by `ldvbi_seek` of the library for C, at the pace of the fields that
-    /// are read; where that finds none, and for a chapter, the whole side is judged. So if a capture goes back, and has
-    /// a number more than once, it may be another field with it than the first: that is [`Judged::seek`]'s.
+    /// A picture or a time is sought by halving, as by `ldvbi_seek` of the library for C, at the pace of the fields
+    /// that are read; where that finds none, and for a chapter, the whole side is judged. So if a capture goes back, and
+    /// has a number more than once, it may be another field with it than the first: that is [`Judged::seek`]'s.
     pub fn seek(&self, place: Place) -> Option<Field> {
         let (counted, number) = place.counted(self.system)?;
         match counted.and_then(|counted| self.halved(counted, number)) {
