@@ -1,8 +1,9 @@
 //! The biphase code words of LaserDiscs (IEC 60857 and IEC 60856), from fields in ld-decode's TBC format.
 //!
 //! A [`Side`] is the samples of a capture in memory: its fields, the number of its disc that each one shows, where a
-//! picture, a time or a chapter is found, where a player stops, and whether the capture is whole. A [`Feeder`] takes a
-//! stream in pieces. [`classify`] says what a word is, [`draw_line`] draws one.
+//! picture, a time or a chapter is found, where a player stops, and whether the capture is whole. It keeps what is
+//! [`Judged`] of all its fields. A [`Feeder`] takes a stream in pieces. [`classify`] says what a word is, [`draw_line`]
+//! draws one.
 //!
 //! ```
 //! use ldvbi::{classify, draw_line, Code, Counted, Levels, Number, Place, Side, SideOptions, System, Verdict, Word24};

@@ -89,6 +89,7 @@ pub struct Side<'a> {
     bytes: &'a [u8],
     system: System,
     levels: Levels,
+    // Not a OnceLock, which Rust has from 1.70 on
     kept: Arc<Mutex<Option<Arc<Judged>>>>,
 }
 
