@@ -21,7 +21,7 @@ from .compare import compare, comparison_text
 from .faults import SETTINGS, STANDARD_INPUT, fault_text, naming, no_metadata, refuse_folder
 from .into import Into
 from .join import run_join
-from .map import COLUMNS as MAP_COLUMNS, map_rows
+from .map import COLUMNS as MAP_COLUMNS, head_rows, map_rows
 from .outputs import refuse_inputs, whole_file
 from .parsers import parser_of_compare, parser_of_index, parser_of_side
 from .progress import Progress
@@ -162,7 +162,7 @@ def _write_files(side, options, is_tbc):
             file.write(drawing_of(side, os.path.basename(options.side)))
     if options.map:
         with whole_file(options.map) as file:
-            _print_table(MAP_COLUMNS, map_rows(side.answer), file)
+            _print_table(MAP_COLUMNS, [*head_rows(side.answer, side.levels), *map_rows(side.answer)], file)
     if options.html:
         from ..draw.page import page_of
         from ..draw.plotting import plotter

@@ -66,8 +66,9 @@ def parser_of_side(program: str) -> argparse.ArgumentParser:
                         "asks for")
     parser.add_argument("--html", metavar="FILE", help="write a page with all that is known of the side into this "
                         "file, with drawings of the bad lines of a TBC file; print only what another option asks for")
-    parser.add_argument("--map", metavar="FILE", help="write into this file where each number, chapter and picture "
-                        "stop is, for a player to seek by; print only what another option asks for")
+    parser.add_argument("--map", metavar="FILE", help="write into this file system, levels and count of fields, and "
+                        "where each number, chapter and picture stop is, for a player to seek by; print only what "
+                        "another option asks for")
     parser.add_argument("--into", metavar="FILE", help="write a copy of ld-decode's metadata into this file, of --meta "
                         "or beside the TBC file, in which each field has its words as vbi.vbiData (in a .tbc.db a row "
                         "of the table vbi); print only what another option asks for")
