@@ -1,3 +1,4 @@
+/* SPDX-License-Identifier: MIT OR Apache-2.0 */
 /* ldvbi: the code words of LaserDisc lines (IEC 60857 and IEC 60856), for C99 and C++98 and later. A player in short:
  *
  *     size_t bytes = ldvbi_field_bytes(LDVBI_NTSC);
