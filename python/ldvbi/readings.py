@@ -196,9 +196,14 @@ class _CauseTexts(Dict[Tuple[int, int, int], Tuple[str, str, str]]):
     same."""
 
     def __missing__(self, halves: Tuple[int, int, int]) -> Tuple[str, str, str]:
-        first, second, third = (PACKED_LINE.unpack(struct.pack("=II", half, 0)) for half in halves)
-        self[halves] = texts = tuple(cause_text(Reading(_CAUSES[cause], *line)) for cause, *line in (first, second, third))
+        one, two, three = map(_cause_text_of, halves)
+        self[halves] = texts = one, two, three
         return texts
+
+
+def _cause_text_of(half: int) -> str:
+    cause, pass_, column, word = PACKED_LINE.unpack(struct.pack("=II", half, 0))
+    return cause_text(Reading(_CAUSES[cause], pass_, column, word))
 
 
 def draw_line(word: int, system: AnySystem, black: int, white: int) -> bytes:
