@@ -4,7 +4,7 @@ import gc
 import sys
 from typing import List, Optional
 
-from .outside import INTERRUPTED, drop_standard_output, end_at_once, end_in_order, open_streams
+from .outside import INTERRUPTED, drop_standard_output, end_at_once, end_in_order, heeded, open_streams
 
 
 def main(words: Optional[List[str]] = None) -> int:
@@ -21,6 +21,7 @@ def main(words: Optional[List[str]] = None) -> int:
         gc.freeze()  # as the process ends all is given back, and nobody has to look through it
         return status
     except KeyboardInterrupt as stop:
+        heeded()
         drop_standard_output()
         return getattr(stop, "status", INTERRUPTED)
 

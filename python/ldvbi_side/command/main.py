@@ -13,7 +13,8 @@ from ldvbi.metadata import beside, read_metadata, settings_of
 from ldvbi.packed import refuse_packed
 from ldvbi.stream import cut_of
 from ..draw.plot import plot_command
-from ..outside import NAME, bytes_of_document, drop_standard_output, flush, flush_or_drop, printable, say
+from ..outside import (NAME, bytes_of_document, drop_standard_output, flush, flush_or_drop, printable, raise_lost,
+                       say)
 from ..seek import seek, text_of
 from ..judge.readings import Answer
 from ..side import Side, side_of_document, side_of_stream, stream_of_tbc
@@ -327,10 +328,12 @@ def main(words: Optional[List[str]] = None) -> int:
             flush()  # of --help, or of a refused command line
             raise
         flush()
+        raise_lost()
         return status
     except BrokenPipeError:
         drop_standard_output()
     except (OSError, ValueError) as error:
+        raise_lost()
         say(fault_text(error))
         flush_or_drop()
     return FAULT

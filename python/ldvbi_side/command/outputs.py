@@ -8,6 +8,8 @@ import shutil
 import stat
 from typing import IO, Iterable, Iterator, Sequence, Union
 
+from ..outside import raise_lost
+
 Place = Union[str, int, None]  # a file: its path, the number of an open one, or none
 _LONGEST_NAME = 255  # bytes of a file's name
 
@@ -28,6 +30,7 @@ def whole_file(path: str) -> Iterator[IO[str]]:
             file.flush()
             # Else the name could come through a loss of power, and the text not.
             os.fsync(file.fileno())
+        raise_lost()
         _rename(part, target)
     except BaseException:
         with contextlib.suppress(FileNotFoundError):
@@ -56,6 +59,7 @@ def whole_path(path: str, ends: Sequence[str]) -> Iterator[str]:
         yield part
         with open(part, "rb") as file:
             os.fsync(file.fileno())
+        raise_lost()
         _rename(part, target)
     finally:
         shutil.rmtree(folder, ignore_errors=True)
