@@ -89,8 +89,9 @@ class Closed(Runs):
         said = "ldvbi-side: standard output: No space left on device\n"
         for words, stream, *wanted in (("side.vbi.json", "stdout", None, said), ("--help", "stdout", None, said),
                                        ("absent", "stderr", b"", ""), ("--black", "stderr", b"", "")):
-            with self.subTest(words), open("/dev/full", "wb") as full:
-                self.assertEqual(self.run_command(words, env=BUFFERED, **{stream: full}), (2, *wanted))
+            for environment in (BUFFERED, {**BUFFERED, "PYTHONUNBUFFERED": "1"}):
+                with self.subTest((words, environment)), open("/dev/full", "wb") as full:
+                    self.assertEqual(self.run_command(words, env=environment, **{stream: full}), (2, *wanted))
 
 
 class Signals(Runs):
