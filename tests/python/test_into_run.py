@@ -163,7 +163,9 @@ class Interrupted(Copies):
             with mock.patch.object(into, "_words_of_stream", failing):
                 self.assertEqual(self.run_command("side.tbc --into copy --meta " + meta)[:2], (2, b""))
             self.assertEqual(self.names(), before)
-        self.assertEqual(parts, ["copy.%d.part" % os.getpid()] * 2)
+        self.assertEqual(len(parts), 2)
+        for part in parts:
+            self.assertRegex(part, r"^\.ldvbi-copy\.[0-9a-f]{8}-%d\.part$" % os.getpid())
 
 
 class Long(Copies):

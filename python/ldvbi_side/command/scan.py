@@ -20,7 +20,7 @@ from ..judge.readings import Answer
 from ..outside import say
 from .faults import fault_text, no_metadata
 from .folders import files_of, page_name, sides_in
-from .outputs import drop_part, refuse_inputs, whole_file
+from .outputs import drop_part, drop_parts, refuse_inputs, whole_file
 from .parser import Parser
 from .processes import Ended, SideBySide
 from .progress import SidesProgress, heard_by
@@ -105,6 +105,7 @@ def _pages(sides, folder):
     if not folder:
         return [None] * len(sides)
     os.makedirs(folder, exist_ok=True)
+    drop_parts(folder)
     return [os.path.join(folder, page_name(side.path)) for side in sides]
 
 
