@@ -11,7 +11,8 @@
 # the manual pages, completions, schema, contrib's files, the Python module, documents and examples to DIR/share, and
 # the library with its header to DIR/lib (or LIBDIR) and DIR/include where it is built, too; `make install-lib` installs
 # the library alone; DESTDIR goes before all of them; `make uninstall PREFIX=DIR` takes all of it away; `make wheel`
-# packs the Python module with the library for pip; `make check PROGRAM=./ldvbi` runs the gate's scripts on the program;
+# packs the Python module with the library for pip; `make venv` makes a virtual environment with
+# that in .venv; `make check PROGRAM=./ldvbi` runs the gate's scripts on the program;
 # `make dist` packs source and what is built, with checksums; `make peers` has other programs read what it reads, and
 # needs mame-tools and libzvbi-dev; `make channel` has the library read simulated lines of worn discs, and needs
 # python3-numpy and python3-scipy. With FROM=rust `install`, `install-lib` and `wheel` take what `make rust` built. The
@@ -37,8 +38,10 @@ SCHEMAS := ldvbi.schema.json ldvbi-join.schema.json ldvbi-recovered.schema.json 
 SHARED := $(addprefix share/schema/,$(SCHEMAS)) contrib/plot_line.py
 DOCUMENTS := $(ROOT)/share/doc/ldvbi
 PYTHON := $(wildcard python/*/*.py python/*/*/*.py)
-# What is installed and packed: what was proved and built here (proved), or what `make rust` leaves in rust/ (rust)
-FROM ?= proved
+# What is installed and packed: what was proved and built here (proved), or what `make rust` leaves in rust/ (rust). If
+# nobody says which, it is the proved one, unless only the other is there.
+ASKED := $(FROM)
+FROM ?= $(if $(wildcard ldvbi),proved,$(if $(wildcard rust/ldvbi),rust,proved))
 BUILT := $(if $(filter rust,$(FROM)),rust/)
 # Where `make wheel` puts the wheel
 WHEELS ?= dist
@@ -129,7 +132,7 @@ places:
 	    { echo "make: PREFIX, LIBDIR and DESTDIR can't have a space" >&2; exit 1; }
 	@[ "$(filter proved rust,$(FROM))" ] || { echo "make: FROM is 'proved' or 'rust'" >&2; exit 1; }
 
-install: places $(BUILT)ldvbi $(if $(wildcard $(BUILT)libldvbi.a),install-lib)
+install: places said-from $(BUILT)ldvbi $(if $(wildcard $(BUILT)libldvbi.a),install-lib)
 	install -D -m 755 $(BUILT)ldvbi $(ROOT)/bin/ldvbi
 	install -D -m 755 python/ldvbi-side $(ROOT)/bin/ldvbi-side
 	$(foreach command,$(COMMANDS),install -D -m 644 share/man/$(command).1 $(MANUALS)/$(command).1 &&) :
@@ -146,6 +149,9 @@ install: places $(BUILT)ldvbi $(if $(wildcard $(BUILT)libldvbi.a),install-lib)
 	install -m 644 $(wildcard examples/*.*) $(DOCUMENTS)/examples
 	install -m 644 examples/rust/Cargo.toml $(DOCUMENTS)/examples/rust
 	install -m 644 examples/rust/src/main.rs $(DOCUMENTS)/examples/rust/src
+
+said-from:
+	@[ "$(ASKED)" ] || [ $(FROM) = proved ] || echo "make: takes what make rust built, which is tested and not proved"
 
 # The descriptions for pkg-config and CMake find header and library from their own place, wherever that is moved, unless
 # the library is put outside PREFIX.
@@ -192,8 +198,16 @@ $(addprefix rust/,ldvbi libldvbi.a libldvbi.so.$(ABI)):
 	@echo "make: $@ isn't there: make rust builds it" >&2; exit 1
 
 # The Python module with the library inside, which `pip install` takes
-wheel: places $(if $(BUILT),rust/libldvbi.so.$(ABI),lib)
+wheel: places said-from $(if $(BUILT),rust/libldvbi.so.$(ABI),lib)
 	python3 packaging/make_wheel.py $(BUILT)libldvbi.so.$(ABI) $(WHEELS)
+
+# A virtual environment of Python with that wheel in it, for who needs no more than `ldvbi-side`
+venv: places said-from $(if $(BUILT),rust/libldvbi.so.$(ABI),lib)
+	rm -rf .venv
+	python3 -m venv .venv
+	python3 packaging/make_wheel.py $(BUILT)libldvbi.so.$(ABI) .venv/wheel
+	.venv/bin/pip install --quiet --disable-pip-version-check --no-index .venv/wheel/*.whl
+	@echo "ldvbi-side is $(CURDIR)/.venv/bin/ldvbi-side; after '. .venv/bin/activate' it is ldvbi-side alone"
 
 # Archives of one commit and one program are the same byte for byte, whenever they are made. Uncommitted changes aren't
 # in them. The source; what `make install` installs, as it is proved and as `make rust` built it; the crate that `make
@@ -241,10 +255,13 @@ channel:
 	    docs/measured/channel
 
 clean:
-	rm -rf ldvbi libldvbi.a libldvbi.so libldvbi.so.$(ABI) dist .ci/ran.new
+	rm -rf ldvbi libldvbi.a libldvbi.so libldvbi.so.$(ABI) dist .venv .ci/ran.new
 	rm -rf crates/*/out rust/out rust/crate rust/ldvbi rust/libldvbi.* rust/*-*-*
 
 toolchain:
-	@command -v rt > /dev/null || { echo "make: the command rt of the Rattle toolchain is not on the PATH" >&2; exit 1; }
+	@command -v rt > /dev/null || { \
+	    echo "make: the proved build needs the toolchain of Rattle, whose command rt is not on the PATH" >&2; \
+	    echo "make: without it: make rust && make install FROM=rust" >&2; exit 1; }
 
-.PHONY: lib test ran rust rust-compare setup places install install-lib uninstall check wheel dist bench peers channel clean toolchain
+.PHONY: lib test ran rust rust-compare setup places said-from install install-lib uninstall check wheel venv dist bench \
+	peers channel clean toolchain

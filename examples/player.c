@@ -1,8 +1,8 @@
 /* A player: searches a picture of a CAV side in a TBC file, or plays on to the next stop, and prints the field, from 1,
  * and the picture that it shows. What was misread is neither found nor shown, since the library judges each number by
  * the fields around it. Status 1: a command found nothing; 2: something can't be read, and standard error says what.
- *
  *     cc -o player player.c -lldvbi && ./player side.tbc NTSC 16384 51200 search 12345 play play */
+#define _DEFAULT_SOURCE
 #include <fcntl.h>
 #include <ldvbi.h>
 #include <stdio.h>
@@ -11,9 +11,7 @@
 #include <sys/mman.h>
 #include <unistd.h>
 
-static void require(int holds, const char *fault) {
-    if (!holds) exit((fprintf(stderr, "player: %s\n", fault), 2));
-}
+static void require(int holds, const char *fault) { if (!holds) exit((fprintf(stderr, "player: %s\n", fault), 2)); }
 static void check(uint32_t status) { require(status == LDVBI_DONE, ldvbi_status_text(status)); }
 
 static uint32_t parse_number(const char *text) {
@@ -35,6 +33,7 @@ int main(int count, char **words) {
     LdvbiNumber *shown = calloc(fields, sizeof *shown);
     uint32_t *stops = calloc(fields, sizeof *stops);
     require(side != MAP_FAILED && read && seen && shown && stops, "no field of the file can be mapped");
+    madvise(side, fields * bytes, MADV_RANDOM); /* few pages of a field are read, and none shall be read ahead */
     check(ldvbi_recover_fields(system, black, white, side, fields * bytes, read, fields));
     check(ldvbi_judge(system, LDVBI_PICTURES, LDVBI_FIND_PACE, read, fields, seen, fields, shown, fields));
     check(ldvbi_judge_stops(read, fields, stops, fields));

@@ -28,8 +28,9 @@ int main(int count, char **words) try {
     check(ldvbi_recover_fields(system, black, white, nullptr, 0, nullptr, 0)); // of no field: the numbers alone
     const int file = open(path.c_str(), O_RDONLY);
     const std::size_t bytes = ldvbi_field_bytes(system), fields = std::size_t(lseek(file, 0, SEEK_END)) / bytes;
-    const void *side = mmap(nullptr, fields * bytes, PROT_READ, MAP_SHARED, file, 0);
+    void *side = mmap(nullptr, fields * bytes, PROT_READ, MAP_SHARED, file, 0);
     require(side != MAP_FAILED, "no field of " + path + " can be mapped");
+    madvise(side, fields * bytes, MADV_RANDOM); // few pages of a field are read, and none shall be read ahead
     std::vector<LdvbiFieldReadings> read(fields);
     std::vector<LdvbiSightings> seen(fields);
     std::vector<LdvbiNumber> shown(fields);
@@ -46,8 +47,7 @@ int main(int count, char **words) try {
         const std::string command = words[i];
         require(command == "play" || (command == "search" && words[i + 1]), "no such command: " + command);
         if (command == "search") field = ldvbi_first_of(shown.data(), fields, parse_number(words[++i]));
-        else
-            while (++field < fields && stops[field] != LDVBI_BELIEVED) {}
+        else while (++field < fields && stops[field] != LDVBI_BELIEVED) {}
         if (field >= fields) return std::cout << command << ": not found\n", 1;
         std::cout << command << ": field " << field + 1;
         if (shown[field].state == LDVBI_BELIEVED || shown[field].state == LDVBI_DUE)

@@ -1,14 +1,17 @@
 /* Prints the fields of a TBC stream on standard input that have a picture stop, from 1, each as soon as it is read, and
  * at last how many they are. A stop is one that the library believes: line 16 or 17 shows it in pass 1, or both do.
- * Words of worn lines are recovered. Status 2: the stream can't be read so, and standard error says why. It also says
- * where the stream ends inside a field.
+ * Words of worn lines are recovered. Of a file only lines 16 to 18 are read. Status 2: the stream can't be read so, and
+ * standard error says why. It also says where the stream ends inside a field.
  *
  *     cc -std=c99 -o stops stops.c -lldvbi && ./stops NTSC 16384 51200 < side.tbc */
+#define _DEFAULT_SOURCE
 #include <errno.h>
 #include <ldvbi.h>
 #include <stdio.h>
 #include <stdlib.h>
 #include <string.h>
+#include <sys/stat.h>
+#include <unistd.h>
 
 static int refuse(const char *why) {
     fprintf(stderr, "stops: %s\n", why);
@@ -24,6 +27,22 @@ static int parse_number(const char *text, uint32_t *number) {
     return length > 0 && strspn(text, "0123456789") == length && errno == 0 && value <= UINT32_MAX;
 }
 
+/* Reads a field of standard input, which begins at byte `at` of a file: of that lines 16 to 18 alone. What is no file,
+ * as a pipe, can only be read whole. Returns how many bytes of the field there are, or -1 where reading fails. */
+static ssize_t read_field(uint32_t system, off_t at, uint8_t *field) {
+    size_t whole = ldvbi_field_bytes(system), line = ldvbi_line_bytes(system);
+    struct stat about;
+    if (fstat(STDIN_FILENO, &about) != 0) return -1;
+    if (!S_ISREG(about.st_mode)) {
+        size_t length = fread(field, 1, whole, stdin);
+        return ferror(stdin) ? -1 : (ssize_t)length;
+    }
+    if (about.st_size - at < (off_t)whole) return about.st_size < at ? 0 : about.st_size - at;
+    errno = EIO; /* where the file was made shorter meanwhile */
+    ssize_t length = pread(STDIN_FILENO, field + 15 * line, 3 * line, at + (off_t)(15 * line));
+    return length == (ssize_t)(3 * line) ? (ssize_t)whole : -1;
+}
+
 /* Whether a player stops at a field of these bytes. */
 static uint32_t judge_field(uint32_t system, uint32_t black, uint32_t white, const uint8_t *field, int *is_stop) {
     LdvbiFieldReadings readings;
@@ -36,8 +55,9 @@ static uint32_t judge_field(uint32_t system, uint32_t black, uint32_t white, con
 /* Reads whole fields into this room until the stream ends. Returns the program's status. */
 static int list_stops(uint32_t system, uint32_t black, uint32_t white, uint8_t *field) {
     unsigned long fields = 0, stops = 0;
-    size_t length, whole = ldvbi_field_bytes(system);
-    while ((length = fread(field, 1, whole, stdin)) == whole) {
+    ssize_t length, whole = (ssize_t)ldvbi_field_bytes(system);
+    off_t begin = lseek(STDIN_FILENO, 0, SEEK_CUR); /* of a file */
+    while ((length = read_field(system, begin + (off_t)fields * whole, field)) == whole) {
         int is_stop;
         uint32_t status = judge_field(system, black, white, field, &is_stop);
         if (status != LDVBI_DONE) return refuse(ldvbi_status_text(status));
@@ -47,9 +67,9 @@ static int list_stops(uint32_t system, uint32_t black, uint32_t white, uint8_t *
         printf("field %lu\n", fields);
         fflush(stdout); /* for whoever waits for it at the end of a pipe */
     }
-    if (ferror(stdin)) return refuse(strerror(errno));
+    if (length < 0) return refuse(strerror(errno));
     if (length > 0)
-        fprintf(stderr, "stops: the last field is cut: field %lu has %zu of %zu bytes\n", fields + 1, length, whole);
+        fprintf(stderr, "stops: the last field is cut: field %lu has %zd of %zd bytes\n", fields + 1, length, whole);
     printf("%lu stops\n", stops);
     return fflush(stdout) == 0 && !ferror(stdout) ? 0 : refuse(strerror(errno));
 }

@@ -1,5 +1,6 @@
-// Lists the picture stops of a TBC stream on standard input, field by field, as a player would meet them. Status 2: the
-// stream can't be read so, and standard error says why. It also says where the stream ends inside a field.
+// Lists the picture stops of a TBC stream on standard input, field by field, as a player would meet them. Of a file
+// lines 16 to 18 are read, and no others. Status 2: the stream can't be read so, and standard error says why. It also
+// says where the stream ends inside a field.
 //
 // The library recovers the words of worn lines. A stop is one that it believes by the lines of its field. A picture's
 // number is one that it believes by the fields around it, or that is due between such fields, so the list is printed
@@ -17,6 +18,8 @@
 #include <optional>
 #include <stdexcept>
 #include <string>
+#include <sys/stat.h>
+#include <unistd.h>
 #include <vector>
 
 namespace {
@@ -49,6 +52,24 @@ public:
 
     std::size_t field_bytes() const { return ldvbi_field_bytes(system_); }
 
+    // Fetches a field of standard input, which begins at byte `at` of a file: of that lines 16 to 18 alone. What is no
+    // file, as a pipe, can only be read whole. Returns how many bytes of the field there are.
+    std::size_t fetch(off_t at, std::vector<std::uint8_t> &field) const {
+        struct stat about;
+        if (fstat(STDIN_FILENO, &about) != 0) fail(errno);
+        if (!S_ISREG(about.st_mode)) {
+            const std::size_t length = std::fread(field.data(), 1, field.size(), stdin);
+            if (std::ferror(stdin)) fail(errno);
+            return length;
+        }
+        const off_t left = std::max<off_t>(about.st_size - at, 0);
+        if (left < static_cast<off_t>(field.size())) return static_cast<std::size_t>(left);
+        const std::size_t line = ldvbi_line_bytes(system_), begin = 15 * line;
+        const ssize_t length = pread(STDIN_FILENO, &field[begin], 3 * line, at + static_cast<off_t>(begin));
+        if (length != static_cast<ssize_t>(3 * line)) fail(length < 0 ? errno : EIO); // it was made shorter meanwhile
+        return field.size();
+    }
+
     LdvbiFieldReadings read(const std::vector<std::uint8_t> &field) const {
         LdvbiFieldReadings readings;
         check(ldvbi_recover_fields(system_, black_, white_, field.data(), field.size(), &readings, 1));
@@ -56,6 +77,10 @@ public:
     }
 
 private:
+    [[noreturn]] static void fail(int error) {
+        throw std::runtime_error(std::string("standard input: ") + std::strerror(error));
+    }
+
     std::uint32_t system_, black_, white_;
 };
 
@@ -122,10 +147,10 @@ int main(int count, char **words) try {
     const Reader reader(system, parse_number("black", words[2]), parse_number("white", words[3]));
     std::vector<std::uint8_t> field(reader.field_bytes());
     std::vector<LdvbiFieldReadings> fields;
+    const off_t begin = lseek(STDIN_FILENO, 0, SEEK_CUR); // of a file
     std::size_t length;
-    while ((length = std::fread(field.data(), 1, field.size(), stdin)) == field.size())
+    while ((length = reader.fetch(begin + static_cast<off_t>(fields.size() * field.size()), field)) == field.size())
         fields.push_back(reader.read(field));
-    if (std::ferror(stdin)) throw std::runtime_error(std::string("standard input: ") + std::strerror(errno));
     if (length > 0)
         std::cerr << "stops: the last field is cut: field " << fields.size() + 1 << " has " << length << " of "
                   << field.size() << " bytes\n";

@@ -6,6 +6,7 @@
  *     cc -o whole whole.c -lldvbi && ./whole side.tbc NTSC 16384 51200
  *
  * It is C++ as well: c++ -x c++ -o whole whole.c -lldvbi */
+#define _DEFAULT_SOURCE
 #include <fcntl.h>
 #include <ldvbi.h>
 #include <stdio.h>
@@ -61,6 +62,7 @@ int main(int count, char **words) {
     LdvbiNumber *numbers = (LdvbiNumber *)calloc(fields, sizeof *numbers);
     uint32_t *ends = (uint32_t *)calloc(fields, sizeof *ends);
     require(side != MAP_FAILED && read && seen && numbers && ends, "no field of the file can be mapped");
+    madvise(side, fields * bytes, MADV_RANDOM); /* few pages of a field are read, and none shall be read ahead */
     check(ldvbi_recover_fields(system, black, white, side, fields * bytes, read, fields));
     check(ldvbi_judge_ends(read, fields, ends, fields));
     LdvbiGap gaps[ROOM];

@@ -1,9 +1,11 @@
+/* SPDX-License-Identifier: MIT OR Apache-2.0 */
 /* ldvbi: the code words of LaserDisc lines (IEC 60857 and IEC 60856), for C99 and C++98 and later. A player in short:
  *
  *     size_t bytes = ldvbi_field_bytes(LDVBI_NTSC);
  *     int file = open("side.tbc", O_RDONLY);
  *     size_t count = (size_t)lseek(file, 0, SEEK_END) / bytes;
  *     void *side = mmap(NULL, count * bytes, PROT_READ, MAP_SHARED, file, 0);
+ *     madvise(side, count * bytes, MADV_RANDOM);
  *     LdvbiFieldReadings *read = calloc(count, sizeof *read);
  *     LdvbiSightings *seen = calloc(count, sizeof *seen);
  *     LdvbiNumber *numbers = calloc(count, sizeof *numbers);
@@ -16,9 +18,10 @@
  *     while (field < count && stops[field] != LDVBI_BELIEVED) field++;
  *     printf("the player stops in field %zu\n", field + 1);
  *
- * Where nothing is found, `field` is `count`. The programs in examples/ test what the system answers, too. In docs/
- * LIBRARY.md says how to link, which line has which code, and how frames, lines of other sample rates and mapped files
- * are read; PROMISES.md what is proved. Both folders are installed in share/doc/ldvbi.
+ * Where nothing is found, `field` is `count`. Without the advice the system reads ahead: ten pages and more for each
+ * one that is wanted. The programs in examples/ test what the system answers, too. In docs/ LIBRARY.md says how to
+ * link, which line has which code, and how frames, lines of other sample rates and mapped files are read; PROMISES.md
+ * what is proved. Both folders are installed in share/doc/ldvbi.
  *
  * Samples have 16 bits, the low byte first, as in ld-decode's TBC files: line after line, field after field. Black and
  * white are samples too: black16bIre and white16bIre of the .tbc.json. A sample above the middle of the two is high.
@@ -132,7 +135,8 @@ LDVBI_RESULT LDVBI_POINTER(6) uint32_t ldvbi_read_field(uint32_t system, uint32_
     const void *samples, size_t length, LdvbiFieldReadings *readings);
 
 /* The same for `count` fields, one after the other, as in a TBC file that is mapped. `length` has to be count times
- * ldvbi_field_bytes(system). Only few pages of each field are read: examples/seek.c has the system fetch them ahead. */
+ * ldvbi_field_bytes(system). Only two or three pages of each field are read, if the system reads none ahead
+ * (MADV_RANDOM); examples/seek.c has it fetch these in time, which takes a quarter of the time. */
 LDVBI_RESULT uint32_t ldvbi_read_fields(uint32_t system, uint32_t black, uint32_t white, const void *samples,
     size_t length, LdvbiFieldReadings *readings, size_t count);
 

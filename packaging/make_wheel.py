@@ -56,8 +56,15 @@ def tag_of(library):
 
 def description(name, version):
     """The wheel's METADATA and entry points, from pyproject.toml."""
-    project = dict(re.findall(r'^([a-z-]+) = "(.*)"$', text_of("pyproject.toml"), re.MULTILINE))
+    text = text_of("pyproject.toml")
+    project = dict(re.findall(r'^([a-z-]+) = "(.*)"$', text, re.MULTILINE))
+    licence, author = (re.search(r'^%s = .*"(.*)" \}' % member, text, re.MULTILINE).group(1)
+                       for member in ("license", "authors"))
+    lists = {member: re.findall('"(.*?)"', listed) for member, listed in
+             re.findall(r"^(keywords|classifiers) = \[(.*?)\]$", text, re.MULTILINE | re.DOTALL)}
     head = ["Metadata-Version: 2.1", "Name: " + name, "Version: " + version, "Summary: " + project["description"],
+            "Author: " + author, "License: " + licence, "Keywords: " + ",".join(lists["keywords"]),
+            *["Classifier: " + one for one in lists["classifiers"]],
             "Requires-Python: " + project["requires-python"], "Description-Content-Type: text/markdown"]
     scripts = "[console_scripts]\nldvbi-side = %s\n" % project["ldvbi-side"]
     return "\n".join(head) + "\n\n" + text_of(project["readme"]), scripts

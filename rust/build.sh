@@ -1,7 +1,7 @@
 #!/bin/sh
 # Writes the crate rust/crate from crates/ and from what is written by hand, and builds program and library by cargo:
 # rust/ldvbi, rust/libldvbi.a, rust/libldvbi.so.1 and rust/libldvbi.so; for another machine, as
-# x86_64-pc-windows-gnu or aarch64-unknown-linux-gnu, they go to rust/TARGET. Needs python3 and cargo, from 1.63 on. The
+# x86_64-pc-windows-gnu or aarch64-unknown-linux-gnu, they go to rust/TARGET. Needs python3 and cargo, from 1.64 on. The
 # crates that it depends on come from Debian's packages where these are installed (tests/tools.sh names them), and else
 # from the registry that cargo asks. CARGO and RUSTC name other commands, DEBIAN_BIN the folder of Debian's.
 # usage: sh rust/build.sh [TARGET]
@@ -24,6 +24,12 @@ dependencies() {
 }
 cargo=${CARGO:-cargo}
 rustc=${RUSTC:-rustc}
+for needed in python3 "$cargo"; do
+    command -v "$needed" > /dev/null || {
+        echo "make rust: $needed is missing (Debian's package ${needed##*/})" >&2
+        exit 1
+    }
+done
 debian=${DEBIAN_BIN:-/usr/bin}
 # Debian's compiler has the library of other machines as packages, another compiler on the PATH may not.
 if [ "$target" ] && ! has_library "$rustc" && has_library "$debian/rustc"; then
@@ -42,7 +48,7 @@ if dependencies | while read -r name; do ls -d "$registry/$name"-[0-9]* || exit;
 fi
 # Laid out by rustfmt, where there is one
 if rustfmt --version > /dev/null 2>&1; then
-    (cd "$here/crate.new" && rustfmt --edition 2021 src/lib.rs src/main.rs build.rs)
+    (cd "$here/crate.new" && rustfmt --edition 2021 src/lib.rs src/main.rs)
 fi
 # A crate that hasn't changed keeps its place and its times, so that cargo has nothing to do.
 [ ! -d "$here/crate" ] || rm -f "$here/crate/Cargo.lock"
@@ -53,13 +59,28 @@ else
     mv "$here/crate.new" "$here/crate"
 fi
 
-(cd "$here/crate" && "$cargo" build --release --quiet --features cli ${target:+--target "$target"})
+# The name by which Linux' loader knows the shared library, as that of the proved one
+soname=
+case ${target:-$(uname -s)} in
+    *inux*) soname='-C link-arg=-Wl,-soname,libldvbi.so.1' ;;
+esac
+# The program; then the libraries for C, each on its own, so that it holds no more than it needs. Who depends on the crate
+# builds neither of these.
+(
+    cd "$here/crate"
+    "$cargo" build --release --quiet --features cli ${target:+--target "$target"}
+    "$cargo" rustc --release --quiet --lib --crate-type staticlib ${target:+--target "$target"}
+    # shellcheck disable=SC2086
+    "$cargo" rustc --release --quiet --lib --crate-type cdylib ${target:+--target "$target"} -- $soname
+)
 built=$CARGO_TARGET_DIR/${target:+$target/}release
 to=$here${target:+/$target}
 mkdir -p "$to"
 for file in ldvbi ldvbi.exe ldvbi.dll libldvbi.dll.a libldvbi.a libldvbi.dylib; do
     [ ! -e "$built/$file" ] || cp -f "$built/$file" "$to/$file"
 done
+# Rust strips what it links, and an archive isn't linked.
+[ "$target" ] || strip -g "$to/libldvbi.a" 2> /dev/null || :
 if [ -e "$built/libldvbi.so" ]; then
     cp -f "$built/libldvbi.so" "$to/libldvbi.so.1"
     ln -sf libldvbi.so.1 "$to/libldvbi.so"

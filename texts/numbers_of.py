@@ -121,7 +121,7 @@ def package() -> Dict[str, Any]:
     return {
         **numbers, "minute.pal": pal, "minute.least": least, "minute.most": most, "version": analysis.VERSION,
         "summary.lines": summary.MOST_LINES, "summary.listed": summary.MOST_LISTED, "page.plots": page.MOST_PLOTS,
-        "still": chain.STILL, "pairs": chain.PAIRS, "carried": judged.CARRIED,
+        "still": chain.STILL, "pairs": chain.PAIRS, "long": chain.LONG, "dense": chain.DENSE, "carried": judged.CARRIED,
         "chapter.all": paces.ChapterPace.ALL, "chapter.many": paces.ChapterPace.MANY,
         "chapter.share": parts.LEAST_SHARE, "missing.far": missing.FAR, "unseen": gaps.UNSEEN,
         "clock.places": clock.LEAST_PLACES, "clock.spacing": clock.SPACINGS[0], "clock.dropping": clock.SPACINGS[1],

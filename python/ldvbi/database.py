@@ -6,7 +6,8 @@ it on."""
 import contextlib
 import pathlib
 import sqlite3
-from typing import Any, Dict, Iterable, Iterator, List, Optional
+import time
+from typing import Any, Callable, Dict, Iterable, Iterator, List, Optional
 
 from .codes import LINES
 from .dropouts import Dropout, told_dropouts
@@ -15,6 +16,9 @@ from .dropouts import Dropout, told_dropouts
 _COLUMNS = {"system": "system", "black_16b_ire": "black16bIre", "white_16b_ire": "white16bIre"}
 # Those of a dropout, behind that of its field, likewise
 _OF_DROPOUT = {"field_line": "fieldLine", "startx": "startx", "endx": "endx"}
+STEPS = 100000  # of SQLite's own machine, after each of which signals are heeded
+MOST_STEPS = 10000 * STEPS  # of one database: a hundred times what one of a million fields takes
+WAIT = 5  # seconds for a database that another process writes to
 _OPTIONAL = {"field_width": "fieldWidth", "field_height": "fieldHeight",
              "number_of_sequential_fields": "numberOfSequentialFields"}
 
@@ -53,15 +57,39 @@ def dropouts_of_database(path: str) -> List[Dropout]:
 
 @contextlib.contextmanager
 def opened(path: str) -> Iterator[sqlite3.Connection]:
-    """The database in this file, to read it. What is wrong with it is a ValueError that names the file."""
+    """The database in this file, to read it as it is now. What is wrong with it is a ValueError that names the file."""
     address = pathlib.Path(path).absolute().as_uri() + "?mode=ro"
     try:
-        with contextlib.closing(sqlite3.connect(address, uri=True)) as database:
+        with contextlib.closing(sqlite3.connect(address, uri=True, timeout=0, isolation_level=None)) as database:
+            limit_steps(database)
+            database.execute("BEGIN")
+            _patiently(lambda: database.execute("SELECT count(*) FROM sqlite_master"))
             yield database
     except sqlite3.Error as error:
         raise ValueError("%s: SQLite can't read it: %s" % (path, error)) from None
     except ValueError as error:
         raise ValueError("%s: %s" % (path, error)) from None
+
+
+def limit_steps(database: sqlite3.Connection) -> None:
+    """Has SQLite heed signals while it runs, and give up what has no end, as a view of the file may."""
+    left = iter(range(MOST_STEPS // STEPS))
+    sqlite3.enable_callback_tracebacks(True)  # so that a signal that comes in the next function isn't lost
+    database.set_progress_handler(lambda: next(left, None) is None, STEPS)
+
+
+def _patiently(read: Callable[[], Any]) -> None:
+    """Reads from a database, for which another process may have to end what it writes. SQLite itself would wait without
+    heeding signals."""
+    end = time.monotonic() + WAIT
+    while True:
+        try:
+            read()
+            return
+        except sqlite3.OperationalError as error:
+            if "locked" not in str(error) or time.monotonic() > end:
+                raise
+        time.sleep(0.05)
 
 
 def tables_of(database: sqlite3.Connection) -> List[str]:
@@ -71,7 +99,7 @@ def tables_of(database: sqlite3.Connection) -> List[str]:
 
 def columns_of(database: sqlite3.Connection, table: str) -> List[str]:
     """The names of a table's columns; none where there is no such table."""
-    return [row[1] for row in database.execute("PRAGMA table_info(%s)" % _quoted(table))]
+    return [row[1] for row in database.execute("PRAGMA table_info(%s)" % quoted(table))]
 
 
 def column_of_fields(database: sqlite3.Connection, column: str) -> Optional[List[Any]]:
@@ -81,11 +109,12 @@ def column_of_fields(database: sqlite3.Connection, column: str) -> Optional[List
               if {"field_id", "is_first_field"} <= set(columns_of(database, table))]
     if len(tables) != 1:
         return None
-    rows = database.execute("SELECT %s FROM %s ORDER BY field_id" % (column, _quoted(tables[0])))
+    rows = database.execute("SELECT %s FROM %s ORDER BY field_id" % (column, quoted(tables[0])))
     return [value for value, in rows]
 
 
-def _quoted(name):
+def quoted(name: str) -> str:
+    """A table's name as it stands in a statement."""
     return '"%s"' % name.replace('"', '""')
 
 

@@ -187,17 +187,23 @@ class PackedFields(Sequence[FieldReadings]):
 
     def causes(self) -> List[Tuple[str, str, str]]:
         """The causes of the three lines of each field, as `cause_text` has them."""
-        halves, text_of = array.array("I", self.data), _CauseTexts().__getitem__
-        return list(zip(map(text_of, halves[::6]), map(text_of, halves[2::6]), map(text_of, halves[4::6])))
+        halves = array.array("I", self.data)
+        return list(map(_CauseTexts().__getitem__, zip(halves[::6], halves[2::6], halves[4::6])))
 
 
-class _CauseTexts(Dict[int, str]):
-    """Of the first four bytes of a line, as a number, the text of its cause: many lines have the same."""
+class _CauseTexts(Dict[Tuple[int, int, int], Tuple[str, str, str]]):
+    """Of the first four bytes of each line of a field, as numbers, the texts of their causes: many fields have the
+    same."""
 
-    def __missing__(self, half: int) -> str:
-        cause, pass_, column, word = PACKED_LINE.unpack(struct.pack("=II", half, 0))
-        self[half] = text = cause_text(Reading(_CAUSES[cause], pass_, column, word))
-        return text
+    def __missing__(self, halves: Tuple[int, int, int]) -> Tuple[str, str, str]:
+        one, two, three = map(_cause_text_of, halves)
+        self[halves] = texts = one, two, three
+        return texts
+
+
+def _cause_text_of(half: int) -> str:
+    cause, pass_, column, word = PACKED_LINE.unpack(struct.pack("=II", half, 0))
+    return cause_text(Reading(_CAUSES[cause], pass_, column, word))
 
 
 def draw_line(word: int, system: AnySystem, black: int, white: int) -> bytes:

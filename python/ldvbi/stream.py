@@ -1,20 +1,18 @@
 """Streams of fields: TBC files and buffers, each of whose fields is read when it is asked for."""
 
 import ctypes
-import mmap
 import operator
 import os
-import stat
 import struct
 from typing import Any, Iterable, Iterator, List, Optional, Tuple, Union, overload
 
 from .dropouts import Dropouts, refuse_dropouts
 from .library import System, later_call, library, setup_of
 from .readings import PACKED_FIELD, AnySystem, Cut, FieldReadings, field_bytes, line_bytes, unpacked
+from .rows import File, Window
 from .samples import Samples
 
-BLOCK = 64  # fields to a call of the library; of a mapped file the pages of so many are fetched ahead
-_GIVE_BACK = getattr(mmap, "MADV_DONTNEED", None)  # not every system has it
+BLOCK = 64  # fields to a call of the library; of a file the lines of so many are fetched ahead
 
 _PACKED_RECORD = struct.Struct("=I448s")  # LdvbiRecord of ldvbi.h
 # Of each dropout of a stream the field, the line, the first column and the last; all but the line are counted from 0
@@ -31,10 +29,10 @@ class Stream:
     nearest word: of each its field, counted as the stream's index, its line, its first column and its last, counted
     from 0.
 
-    A file is mapped. Only the pages with lines 16, 17 and 18 are read from it, and a loop has the system fetch those of
-    the next fields ahead. Pages that were read are given back at once, so that a long file takes no more memory. If the
-    file is made shorter meanwhile, this process ends by SIGBUS. `close`, or the end of a `with` block, releases the
-    file or buffer. Whoever asks for a field after that gets a ValueError."""
+    Only lines 16, 17 and 18 are read from a file, and a loop has the system fetch those of the next fields ahead. If
+    the file is made shorter meanwhile, whoever asks for a field that has gone gets a ValueError that says so; but `seek`
+    maps the file, and a mapped file that is made shorter ends the process by SIGBUS. `close`, or the end of a `with`
+    block, releases the file or buffer. Whoever asks for a field after that gets a ValueError."""
 
     def __init__(self, source: Any, system: AnySystem, black: int, white: int, recover: bool = False,
                  dropouts: StreamDropouts = None) -> None:
@@ -44,27 +42,32 @@ class Stream:
         self._setup.check(self._read(*self._setup, None, 0, None, 0))
         self.system, self.black, self.white = System(self._setup.system), self._setup.black, self._setup.white
         self.recover = recover
-        self._size = field_bytes(self.system)
-        self._file = None
+        self._line, self._size = line_bytes(self.system), field_bytes(self.system)
+        self._file: Optional[File] = None
+        self._samples: Optional[Samples] = None
         if isinstance(source, (str, os.PathLike)):
-            self._file = _mapped(source)
-            source = b"" if self._file is None else self._file
-        elif isinstance(source, bytes) and 0 < len(source) < line_bytes(self.system):
+            self._file = File(source)
+            self._bytes = self._file.size
+        elif isinstance(source, bytes) and 0 < len(source) < self._line:
             raise ValueError("%d bytes are less than a line; a path is a str or a path object, as os.fsdecode makes of "
                              "bytes" % len(source))
-        self._samples: Optional[Samples] = Samples(source)
-        self._count, self.cut_bytes = divmod(self._samples.length, self._size)
+        else:
+            self._samples = Samples(source)
+            self._bytes = self._samples.length
+        self._is_open = True
+        self._count, self.cut_bytes = divmod(self._bytes, self._size)
         self.dropouts = Dropouts(dropouts, self._count)
         if self.dropouts:
             self._read = later_call("ldvbi_recover_fields_without")
 
     def close(self) -> None:
+        self._is_open = False
         if self._samples is not None:
             self._samples.release()
             self._samples = None
-            if self._file is not None:
-                self._file.close()
-                self._file = None
+        if self._file is not None:
+            self._file.close()
+            self._file = None
 
     def __enter__(self) -> "Stream":
         return self
@@ -101,7 +104,8 @@ class Stream:
     @property
     def size(self) -> int:
         """The bytes of the stream, a cut last field with them."""
-        return self._open_samples().length
+        self._refuse_closed()
+        return self._bytes
 
     def rows(self, index: int) -> bytes:
         """The samples of lines 16, 17 and 18 of a field, counted from 0, as `read_rows` takes them."""
@@ -110,31 +114,57 @@ class Stream:
     def rows_as(self, system: System, field: int) -> bytes:
         """The same of a whole field, if the stream were one of this system."""
         line, size = line_bytes(system), field_bytes(system)
-        samples = self._open_samples()
-        if not 0 <= field < samples.length // size:
-            raise IndexError("field %d of a stream of %d fields" % (field, samples.length // size))
-        rows = ctypes.string_at(samples.address + field * size + 15 * line, 3 * line)
-        self._give_back(field * size, (field + 1) * size)
-        return rows
+        self._refuse_closed()
+        if not 0 <= field < self._bytes // size:
+            raise IndexError("field %d of a stream of %d fields" % (field, self._bytes // size))
+        begin = field * size + 15 * line
+        if self._file is not None:
+            return self._file.read(begin, 3 * line)
+        return ctypes.string_at(self._memory().address + begin, 3 * line)
 
     def arguments(self) -> Tuple[int, int, int, int, int]:
-        """What the library's calls get of the stream: its system, black and white, its address, and its length."""
-        samples = self._open_samples()
+        """What the library's calls get of the stream: its system, black and white, its address, and its length. A file
+        is mapped then."""
+        samples = self._memory()
         return self._setup.system, self._setup.black, self._setup.white, samples.address, samples.length
 
-    def _open_samples(self) -> Samples:
+    def _memory(self) -> Samples:
+        self._refuse_closed()
         if self._samples is None:
-            raise ValueError("the stream is closed")
+            assert self._file is not None
+            self._samples = Samples(self._file.mapped() if self._bytes else b"")
         return self._samples
+
+    def _refuse_closed(self) -> None:
+        if not self._is_open:
+            raise ValueError("the stream is closed")
 
     def packed(self, begin: int, end: int) -> Iterator[Any]:
         """Yields the readings of the fields from `begin` to `end` in blocks, as the library writes them: of each field
         three readings of 8 bytes, `struct`'s "=BBHI": cause, pass, column and word."""
+        self._refuse_closed()
+        if self._file is None:
+            for first, last in self._ahead(begin, end):
+                yield self._packed_block(self._memory().address + first * self._size, first, last)
+        elif begin < end:
+            window = Window(self._file, min(BLOCK, end - begin), self._line, self._size)
+            for first, last in self._ahead(begin, end):
+                window.read(first, last)
+                yield self._packed_block(window.address, first, last)
+
+    def _ahead(self, begin: int, end: int) -> Iterator[Tuple[int, int]]:
+        """Yields the first field of each block of these, and the one behind it. Of a file the system fetches the lines
+        of the next block meanwhile."""
         self._fetch(begin, min(begin + BLOCK, end))
         for first in range(begin, end, BLOCK):
             last = min(first + BLOCK, end)
             self._fetch(last, min(last + BLOCK, end))
-            yield self._packed_block(first, last - first)
+            yield first, last
+
+    def _fetch(self, first: int, last: int) -> None:
+        if self._file is not None:
+            for field in range(first, last):
+                self._file.fetch(field * self._size + 15 * self._line, 3 * self._line)
 
     def records(self) -> Iterator[List[str]]:
         """The records of all fields in the document with recovered words, version 3, as the library writes them, in
@@ -142,59 +172,23 @@ class Stream:
         return self._records(later_call("ldvbi_recovered_record"))
 
     def _records(self, write: Any) -> Iterator[List[str]]:
-        self._fetch(0, min(BLOCK, self._count))
-        for first in range(0, self._count, BLOCK):
-            last = min(first + BLOCK, self._count)
-            self._fetch(last, min(last + BLOCK, self._count))
-            records = [self._record(write, field) for field in range(first, last)]
-            self._give_back(first * self._size, last * self._size)
-            yield records
+        for first, last in self._ahead(0, self._count):
+            yield [self._record(write, field) for field in range(first, last)]
 
     def _record(self, write: Any, field: int) -> str:
-        line, out = line_bytes(self.system), ctypes.create_string_buffer(_PACKED_RECORD.size)
-        address = self._open_samples().address + field * self._size + 15 * line
+        out = ctypes.create_string_buffer(_PACKED_RECORD.size)
         erased = self.dropouts.packed(field, field + 1)
-        self._setup.check(write(*self._setup, field + 1, address, 3 * line, *erased, out))
+        self._setup.check(write(*self._setup, field + 1, self.rows(field), 3 * self._line, *erased, out))
         length, text = _PACKED_RECORD.unpack(out)
         return str(text[:length], "ascii")
 
-    def _packed_block(self, first: int, count: int) -> Any:
+    def _packed_block(self, address: int, first: int, last: int) -> Any:
+        """What the library reads of the fields from the first one on to before the last one, which stand there."""
+        count = last - first
         out = ctypes.create_string_buffer(PACKED_FIELD.size * count)
-        address = self._open_samples().address + first * self._size
-        erased = self.dropouts.packed(first, first + count) if self.dropouts else ()
+        erased = self.dropouts.packed(first, last) if self.dropouts else ()
         self._setup.check(self._read(*self._setup, address, count * self._size, *erased, out, count))
-        self._give_back(first * self._size, (first + count) * self._size)
         return out
-
-    def _give_back(self, begin: int, end: int) -> None:
-        """Has the system take back the pages of these bytes, which were read."""
-        if self._file is not None and _GIVE_BACK is not None:
-            first = begin // mmap.PAGESIZE * mmap.PAGESIZE
-            self._file.madvise(_GIVE_BACK, first, end - first)
-
-    def _fetch(self, begin: int, end: int) -> None:
-        """Has the system fetch the pages of lines 16, 17 and 18 of these fields, of all of them at once."""
-        if self._file is None:
-            return
-        line, page, size = line_bytes(self.system), mmap.PAGESIZE, self._size
-        advise, length, fetch = self._file.madvise, 3 * line, mmap.MADV_WILLNEED
-        for wanted in range(begin * size + 15 * line, end * size, size):
-            over = wanted % page
-            advise(fetch, wanted - over, over + length)
-
-
-def _mapped(path: Union[str, os.PathLike]) -> Optional[mmap.mmap]:
-    """A file's bytes, mapped, or None where there are none."""
-    with open(path, "rb") as file:
-        status = os.fstat(file.fileno())
-        if not stat.S_ISREG(status.st_mode):
-            raise ValueError("%s is no file that can be mapped" % path)
-        if status.st_size == 0:
-            return None
-        mapped = mmap.mmap(file.fileno(), 0, access=mmap.ACCESS_READ)
-        # Few pages of a field are wanted, so the system shall not read ahead on its own.
-        mapped.madvise(mmap.MADV_RANDOM)
-        return mapped
 
 
 def fields(source: Any, system: AnySystem, black: int, white: int, recover: bool = False,

@@ -1,9 +1,10 @@
 """The command `ldvbi-side`, also as `python3 -m ldvbi_side`."""
 
+import gc
 import sys
 from typing import List, Optional
 
-from .outside import INTERRUPTED, drop_standard_output, end_at_once, end_in_order, open_streams
+from .outside import INTERRUPTED, drop_standard_output, end_at_once, end_in_order, heeded, open_streams
 
 
 def main(words: Optional[List[str]] = None) -> int:
@@ -16,8 +17,11 @@ def main(words: Optional[List[str]] = None) -> int:
         from .command.main import main as command
         if words is None:
             end_in_order()
-        return command(words)
+        status = command(words)
+        gc.freeze()  # as the process ends all is given back, and nobody has to look through it
+        return status
     except KeyboardInterrupt as stop:
+        heeded()
         drop_standard_output()
         return getattr(stop, "status", INTERRUPTED)
 

@@ -6,8 +6,9 @@ import io
 import os
 import signal
 import sys
+import time
 from types import FrameType
-from typing import IO, Optional
+from typing import IO, Any, List, Optional
 
 NAME = "ldvbi-side"
 INTERRUPTED = 130  # the status after Ctrl-C, as a shell has it
@@ -33,10 +34,37 @@ def end_at_once() -> None:
     _heed(lambda number, _: os._exit(128 + number))
 
 
+_PATIENCE = 1  # seconds in which what a signal has ended may clear up
+_AGAIN = 0.25  # seconds after which one that was lost is sent again, unless what it broke off has come to its end by then
+_stopped: List[Stopped] = []  # the signal that asked for the end, if one did
+_lost: List[Stopped] = []  # the same, while nobody has heeded it
+
+
 def end_in_order() -> None:
-    """Has the first signal that asks for the end raise `Stopped`, which leaves nothing unfinished behind; those that
-    come after it are ignored, since they could hinder just that."""
+    """Has the first signal that asks for the end raise `Stopped`, which leaves nothing unfinished behind. Those that
+    come after it within a second are ignored, since they could hinder just that; a later one ends the process at once.
+
+    Python may be in a function whose exceptions it drops, as a callback of SQLite or of its own import. Then the
+    signal is sent once more, until it is heeded."""
+    _stopped.clear()
+    _lost.clear()
+    sys.unraisablehook = _dropped
     _heed(_stop)
+
+
+def raise_lost() -> None:
+    """Raises `Stopped` if a signal asked for the end, and the exception was dropped: a fault may be no more than what
+    came of that."""
+    if _lost:
+        heeded()
+        raise _stopped[0]
+
+
+def heeded() -> None:
+    """Has a signal not be sent again."""
+    if _lost:
+        signal.setitimer(signal.ITIMER_REAL, 0)
+        _lost.clear()
 
 
 def _heed(handler):
@@ -46,9 +74,29 @@ def _heed(handler):
 
 
 def _stop(number: int, _: Optional[FrameType]) -> None:
-    for one in _STOPPING:
-        signal.signal(one, signal.SIG_IGN)
-    raise Stopped(number)
+    begun = time.monotonic()
+
+    def later(number: int, _: Optional[FrameType]) -> None:
+        if _lost or time.monotonic() > begun + _PATIENCE:
+            os._exit(128 + number)
+
+    _heed(later)
+    _stopped.append(Stopped(number))
+    raise _stopped[0]
+
+
+def _dropped(unraisable: Any) -> None:
+    """Takes in an exception that was dropped."""
+    if not isinstance(unraisable.exc_value, Stopped):
+        sys.__unraisablehook__(unraisable)
+        return
+    _lost[:] = _stopped
+    signal.signal(signal.SIGALRM, _stop_again)
+    signal.setitimer(signal.ITIMER_REAL, _AGAIN)
+
+
+def _stop_again(*_: object) -> None:
+    raise _stopped[0]
 
 
 # ---- Standard streams

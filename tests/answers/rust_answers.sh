@@ -61,5 +61,13 @@ plays_rust() {
     [ "$status" != 0 ] || grep -x "[a-z]*: field [0-9]*\($picture\)\?" out | grep -o 'field [0-9]*' > answer
 }
 
+# by_seek SIDE ON QUESTION: what `Side::seek` finds, which the example prints, too; the player has it of the judged side
+by_seek() {
+    does ./answers "$1.tbc" $2 "$3"
+    ! grep -qx "$3: none" out || status=1
+    sed -n "s/^$3: \([0-9]*\)\$/\1/p" out | awk '{ print "field " $1 + 1 }' > answer
+}
+
 asks rust in_rust
+asks rust by_seek '[0-9c].*'
 finish

@@ -1,6 +1,6 @@
-/* Loaded before a program's libraries (LD_PRELOAD), it says to the file that ADVISED names which bytes of its mapped
- * file the program asks for ahead (their first byte and the byte behind the last), and how many fields it then reads
- * from which byte on. It passes both calls on. */
+/* Loaded before a program's libraries (LD_PRELOAD), it says to the file that ADVISED names of how many bytes of a
+ * mapped file, from its first on, the system shall read none ahead, which bytes the program asks for ahead (their first
+ * byte and the byte behind the last), and how many fields it then reads from which byte on. It passes all calls on. */
 #define _GNU_SOURCE
 #include <dlfcn.h>
 #include <ldvbi.h>
@@ -22,7 +22,7 @@ static void say(const char *what, const void *from, size_t number) {
 
 /* A program speaks of the whole mapping before it asks for parts of it. */
 int madvise(void *address, size_t length, int advice) {
-    if (advice == MADV_RANDOM) mapped = address;
+    if (advice == MADV_RANDOM) say("random", mapped = address, length);
     if (advice == MADV_WILLNEED) say("asks", address, (size_t)((const char *)address - mapped) + length);
     return ((Advise *)dlsym(RTLD_NEXT, "madvise"))(address, length, advice);
 }

@@ -222,6 +222,7 @@ done
 check 'what looks on is built' does $cc -std=c99 -Wall -Wextra -Werror -shared -fPIC -I"$top/include" -o advised.so \
     "$here/advised.c" -ldl
 awk -v fields=129 'BEGIN {
+    print "random", 0, 478660 * fields
     for (begin = 0; begin < fields; begin += 64) {
         for (; asked < fields && asked < begin + 128; asked++) {
             rows = 478660 * asked + 15 * 1820
@@ -233,6 +234,29 @@ awk -v fields=129 'BEGIN {
 check 'seek finds the last field so' prints 0 'field 129' \
     env ADVISED=advice LD_PRELOAD="$work/advised.so" ./seek long.tbc $on_cav 65
 check 'seek asks for a block ahead' cmp advice wanted_advice
+# The others that map a side have nothing read ahead. Of a file on standard input few bytes are read, and of a pipe all;
+# it may begin behind the file's first field.
+for asked in 'player search 65' 'player_cpp search 65' whole whole_cpp; do
+    name=${asked%% *}
+    rm -f advice
+    does env ADVISED=advice LD_PRELOAD="$work/advised.so" ./$name long.tbc $on_cav ${asked#"$name"}
+    check "$name has nothing read ahead" [ "$(head -n 1 advice)" = "random 0 $((478660 * 129))" ]
+done
+# reads_few COMMAND..: whether a command reads less than a twentieth of the file on its standard input
+reads_few() {
+    bounded sh -c '"$@" > out && sed -n "s/^rchar: //p" /proc/$$/io' sh "$@" < long.tbc > count
+    [ "$(tail -n 1 out)" = '0 stops' ] && [ "$(cat count)" -lt $((478660 * 129 / 20)) ]
+}
+for name in $stops; do
+    check "$name reads few bytes of a file" reads_few ./$name $on_cav
+    picture=
+    [ $name = stops ] || picture=' picture 3'
+    command="sh -c 'cat stops_5_1.tbc | ./$name $on_cav'"
+    example=$name
+    check "$name of a pipe" answers_so 0 "field 5$picture;1 stops" "$cut 6 has 1 of 478660 bytes"
+    check "$name of a file from its second field on" prints 0 "field 4$picture
+1 stops" sh -c "{ dd bs=478660 count=1 of=skipped 2> said; ./$name $on_cav; } < stops_5_1.tbc"
+done
 rm long.tbc part.tbc
 
 # A file that can't be mapped; and want of memory for what is judged of 220,000 fields, of which the file has no block

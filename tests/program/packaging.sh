@@ -117,7 +117,21 @@ echo '//! A crate' > tree/rust/crate/src/lib.rs
 touch tree/rust/crate/target/built tree/rust/crate/.cargo/config.toml
 mv tree/ldvbi kept.ldvbi
 installs 'what make rust leaves' files rusty/usr PREFIX="$work/rusty/usr" FROM=rust
+installs 'the same, which nobody asked for' files unasked/usr PREFIX="$work/unasked/usr"
+made install PREFIX="$work/unasked/usr"
+check 'it is said' grep -q '^make: takes what make rust built, which is tested and not proved$' out
 mv kept.ldvbi tree/ldvbi
+
+# Without the toolchain two lines say what to do
+printf 'make: %s\n' 'the proved build needs the toolchain of Rattle, whose command rt is not on the PATH' \
+    'without it: make rust && make install FROM=rust' > wanted
+for target in '' test lib; do
+    touch tree/crates.txt
+    made $target
+    grep -v '^make.*\*\*\*' err > found
+    check "make $target without the toolchain" cmp found wanted
+done
+touch tree/ldvbi
 
 # Archives of source and program, of that program and its crate, which have nothing of this machine. They are the same
 # ones each time, whoever packs them: of somebody who isn't root, too, and whose new files are for all.
@@ -192,7 +206,7 @@ cp "$program" tree/ldvbi
 touch -d @1300000000 tree/ldvbi
 made install PREFIX="$work/usr"
 check 'no such program is installed' [ $status != 0 ]
-check 'the toolchain is asked for' grep -q '^make: the command rt of the Rattle toolchain is not on the PATH' err
+check 'the toolchain is asked for' grep -q '^make: the proved build needs the toolchain of Rattle' err
 
 # One version
 version=$(output_of --version)

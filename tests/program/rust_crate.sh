@@ -155,6 +155,10 @@ search: field 21 picture 7\nplay: field 33 picture 17\nchapter: field 10\n|
 2|side.tbc $on stop||no such command: stop
 2|cut.tbc $on play||a field has 478660 bytes, and these are 100
 END
+check 'what looks on is built' \
+    does ${CC:-cc} -shared -fPIC -I"$top/include" -o advised.so "$tests/library/advised.c" -ldl
+does env ADVISED=advice LD_PRELOAD="$work/advised.so" "$player" side.tbc $on search 30
+check 'the player: nothing is read ahead' [ "$(head -n 1 advice)" = "random 0 $(wc -c < side.tbc)" ]
 # The pipe is closed before the player writes.
 { sleep 1; "$player" side.tbc $on search 30 play 2> err; echo $? > piped; } | :
 check 'the player: a closed pipe' [ "$(cat piped; cat err)" = 141 ]

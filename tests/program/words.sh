@@ -127,18 +127,19 @@ the version|--version|0|version|
 the version in short|-V|0|version|
 END
 
-# Help that goes nowhere isn't a fault; a word that is refused is one, wherever that is said. The status of each, and
-# which stream has no room, or is closed.
+# Help that can't be written is a fault; a word that is refused is one, wherever that is said. The status of each with what
+# the other stream has, and which stream has no room, or is closed.
 while IFS='|' read -r ended full words; do
     for place in /dev/full '&-'; do
         status=0
         eval "output_of $words $full>$place $((3 - full))> said" || status=$?
         : > out
         : > err
-        check "$words, where stream $full goes to $place" [ "$status$(cat said)" = $ended ]
+        check "$words, where stream $full goes to $place" [ "$status$(cat said)" = "$ended" ]
     done
 done << 'END'
-0|1|--help
+1ldvbi: cannot write output|1|--help
+1ldvbi: cannot write output|1|--version
 2|2|lines
 2|2|line "$(printf '\377')"
 1|2|line --meta absent.json line.raw

@@ -61,6 +61,20 @@ def believed(ones, sure=()):
     return [(one.field, one.number) for one in chosen(ones, Pace("video"), dict(sure))]
 
 
+class Noise(unittest.TestCase):
+    """Many numbers, one in four fields or more, are noise if few go on with one of the four before."""
+
+    def test_noise(self):
+        video = PACES["video"]
+        noise = [Reading(4 * place, place ** 3 % 10007, 4, (17, 18)) for place in range(1, 1002)]
+        self.assertEqual(chosen(noise, video, {}), [])
+        for others in (noise[:1000], noise[:-1] + [noise[-1]._replace(field=4009)],  # few, and too far apart
+                       noise[:749] + readings(*range(252), first=3001)):  # a quarter goes on
+            self.assertTrue(chosen(others, video, {}), len(others))
+        sure = {one.field: one.number for one in noise[::500]}  # between two of the library's there are fewer
+        self.assertGreater(len(chosen(noise, video, sure)), len(sure))
+
+
 class Chains(unittest.TestCase):
     def test_which_are_believed(self):
         """Of two of a field the one that fits, of two that fit equally well none; pass 1 counts for more than 2."""

@@ -9,7 +9,7 @@ import struct
 import unittest
 
 from cases import reason
-from ldvbi.classes import Format, Kind, classify, format_of
+from ldvbi.classes import Format, Kind, classify, format_of, usual_pictures
 from ldvbi.codes import STANDARD_LINES, code, code_of, codes_by_kind, name_of, value_of
 from streams import TOP
 
@@ -87,6 +87,9 @@ class Classes(unittest.TestCase):
             wrong = ("%06X: %s" % (word, known) for word, known, one in zip(words, map(classify, words), wanted)
                      if known != one)
             self.assertIsNone(next(wrong, None))
+            self.assertEqual(usual_pictures(words), {
+                word: number for word, (kind, number, _) in zip(words, wanted)
+                if kind == Kind.picture and word < 0xF80000})
             for kind, *numbers in set(wanted):
                 greatest[kind] = list(map(max, greatest.get(kind, numbers), numbers))
         ranges = ranges_of_header()

@@ -10,6 +10,7 @@ import random
 import re
 import sqlite3
 import unittest
+from unittest import mock
 
 from cases import InFolder, in_database, reason
 from ldvbi.metadata import read_metadata
@@ -216,11 +217,34 @@ class Copies(Databases):
         with self.assertRaises(KeyboardInterrupt):
             Rows(self.path).copy(self.copy, interrupted())
         self.assertEqual(*self.both("SELECT * FROM vbi"))
-        self.make("CREATE TRIGGER no BEFORE INSERT ON vbi WHEN new.field_id = 7 "
-                  "BEGIN SELECT raise(ABORT, 'no words here'); END")
+        self.make(form=FORM.replace("vbi2 INTEGER NOT NULL,", "vbi2 INTEGER NOT NULL CHECK (vbi2 <> %d)," % 0xF00007))
         os.unlink(self.copy)
-        self.refused("SQLite can't copy it: no words here")
+        self.refused("SQLite can't copy it: CHECK constraint failed: vbi2 <> %d" % 0xF00007)
         self.assertEqual(*self.both("SELECT * FROM vbi"))
+
+    def test_triggers(self):
+        """By which words would be left out, changed, or written without end, or another table be emptied."""
+        for table, body in (("vbi", "SELECT raise(ignore)"), ("vbi", "UPDATE vbi SET vbi1 = 0"),
+                            ("vbi", "DELETE FROM drop_outs"), ("drop_outs", "DELETE FROM capture")):
+            self.make("CREATE TRIGGER one BEFORE INSERT ON %s BEGIN %s; END" % (table, body), count=0)
+            self.refused("its trigger one of the table %s may write something else" % table)
+            self.assertEqual(self.names(), ["side.tbc.db"])
+
+    def test_the_copy_is_read_back(self):
+        """By what else the database may do, words could be others, or rows of another table gone or new."""
+        fill = Rows._fill
+        for statement, text in (
+                ("UPDATE vbi SET vbi1 = 7 WHERE field_id = 3", "words in the row of field_id 3"),
+                ("DELETE FROM vbi WHERE field_id = 11", "words in the row of field_id 11"),
+                ("DELETE FROM drop_outs WHERE field_id = 3", "rows in the table drop_outs"),
+                ("INSERT INTO capture (system) VALUES ('PAL')", "rows in the table capture"),
+                ("DROP TABLE field_record", "rows in the table field_record")):
+            self.make()
+            with mock.patch.object(Rows, "_fill", lambda self, new, *more, one=statement: (
+                    fill(self, new, *more), new.execute(one), new.commit())):
+                found = reason(lambda: Rows(self.path).copy(self.copy, words(12)))
+            self.assertEqual(found, "%s: its copy has other %s" % (self.path, text))
+            os.unlink(self.copy)
 
     def test_other_forms(self):
         gaps = "the fields' numbers, field_id, leave some out, or have one twice"

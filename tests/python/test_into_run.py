@@ -1,5 +1,6 @@
 """The option --into of the command as a process: which words it copies, where it writes, and what it leaves alone."""
 
+import io
 import itertools
 import json
 import os
@@ -9,6 +10,7 @@ from unittest import mock
 from cases import in_database
 from command_runs import COMMAND, IN_PLACE, NO_METADATA, SIZE, Calls
 from ldvbi_side.command import into
+from ldvbi_side.into.text import Places
 from streams import NTSC, pictures, worn_line, write_stream
 from test_into import FORM
 
@@ -163,7 +165,24 @@ class Interrupted(Copies):
             with mock.patch.object(into, "_words_of_stream", failing):
                 self.assertEqual(self.run_command("side.tbc --into copy --meta " + meta)[:2], (2, b""))
             self.assertEqual(self.names(), before)
-        self.assertEqual(parts, ["copy.%d.part" % os.getpid()] * 2)
+        self.assertEqual(len(parts), 2)
+        for part in parts:
+            self.assertRegex(part, r"^\.ldvbi-copy\.[0-9a-f]{8}-%d\.part$" % os.getpid())
+
+
+    def test_the_copy_is_read_back(self):
+        """Nothing is left of one that isn't as it was to be written. What is no file isn't read back."""
+        before, copy = self.names(), Places.copy
+        for old, new, text in (("15728640, 15728640", "15728640, 15728641", "words in field 1"),
+                               ('"fields": [', '"fields": [{"vbi": {"vbiData": [1, 2, 3]}}, ', "13 fields")):
+            def altered(self, file, written, words, old=old, new=new):
+                text = io.StringIO()
+                copy(self, file, text, words)
+                written.write(text.getvalue().replace(old, new, 1))
+            with mock.patch.object(Places, "copy", altered):
+                self.refused("side.tbc.json: its copy has other " + text, "side.tbc --into copy.json")
+                self.assertEqual(self.run_command("side.tbc --into /dev/null")[0], 0)
+            self.assertEqual(self.names(), before)
 
 
 class Long(Copies):

@@ -5,9 +5,10 @@ import json
 import os
 import sqlite3
 import threading
+from unittest import mock
 
 from cases import InFolder, in_database, reason
-from ldvbi import metadata
+from ldvbi import database, metadata
 from ldvbi.metadata import beside, read_metadata
 
 CAPTURE = "CREATE TABLE capture (capture_id INTEGER PRIMARY KEY, system TEXT, field_width INTEGER, " \
@@ -181,3 +182,18 @@ class Database(Metadata):
         self.write("side.tbc.db", self.read("side.tbc.db")[:16] + b"\xff" * 3000 + self.read("side.tbc.db")[3016:])
         self.assertRegex(reason(settings_of, path),
                          "^%s: SQLite can't read it: (file is not a database|.*malformed)" % path)
+
+    def test_what_has_no_end(self):
+        """A view of the file may be such; and so may be what another process does that writes to it."""
+        endless = "WITH RECURSIVE n(i) AS (SELECT 1 UNION ALL SELECT i + 1 FROM n) SELECT i AS field_id, 16 AS " \
+                  "field_line, 1 AS startx, 2 AS endx FROM n WHERE i < 0"
+        path = self.make(CAPTURE, (INSERT, ("PAL", 1, 2)), "CREATE VIEW drop_outs AS " + endless)
+        with mock.patch.object(database, "MOST_STEPS", 5 * database.STEPS):
+            self.assertEqual(reason(read_metadata, path), path + ": SQLite can't read it: interrupted")
+        path = self.make(CAPTURE, (INSERT, ("PAL", 1, 2)))
+        with contextlib.closing(sqlite3.connect(path)) as other:
+            other.execute("BEGIN EXCLUSIVE")
+            with mock.patch.object(database, "WAIT", 0.2):
+                self.assertEqual(reason(read_metadata, path), path + ": SQLite can't read it: database is locked")
+            with mock.patch.object(database.time, "sleep", lambda _: other.rollback()):
+                self.assertEqual(read_metadata(path).parameters["system"], "PAL")

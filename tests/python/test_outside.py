@@ -13,6 +13,7 @@ from cases import InFolder, reason
 import discs
 from command_runs import IN_PLACE
 from ldvbi_side import outside
+from ldvbi_side.command import outputs
 from ldvbi_side.command.outputs import drop_part, refuse_inputs, whole_file, whole_path
 from ldvbi_side.draw.index import PART, head_of, index_of
 from ldvbi_side.draw.page import MARK, page_of, said_of
@@ -74,6 +75,22 @@ class LongNames(InFolder):
             self.assertEqual(len(self.names()), 1)
             drop_part(self.named(name), os.getpid())
             self.assertEqual(self.names(), [])
+
+    def test_what_processes_left_that_are_gone(self):
+        """Those of this machine alone, and nothing that only looks so."""
+        gone, part = 4194305, os.path.basename(outputs._part_by("page.html", os.getpid()))  # no process has such a number
+        self.assertRegex(part, r"^\.ldvbi-page\.html\.[0-9a-f]{8}-%d\.part$" % os.getpid())
+        mine, own = part.split("-")[1], "-%d.part" % os.getpid()
+        kept = [part, part.replace(own, "-1.part"), ".ldvbi-page.html.00000000-%d.part" % gone, "page.html.%d.part" % gone,
+                ".ldvbi-%s" % gone]
+        left = part.replace(own, "-%d.part" % gone)
+        os.mkdir(self.named(left.replace("page", "base")))
+        self.write(left.replace("page", "base") + "/part", "")
+        for name in (*kept, left):
+            self.write(name, "")
+        outputs.drop_parts(self.folder)
+        self.assertEqual(self.names(), sorted(kept))
+        self.assertIn(mine, part)
 
 
 # What a page of others says, by member
@@ -206,7 +223,7 @@ class WholeFiles(InFolder):
 
     def test_no_place_for_it(self):
         """The part of another run is there, for one."""
-        part = self.write("side.vbi.json.%d.part" % os.getpid(), "old")
+        part = self.write(os.path.basename(outputs._part_by(self.path, os.getpid())), "old")
         for path, error in ((self.path, FileExistsError), (self.named("absent/side.vbi.json"), FileNotFoundError),
                             (self.folder, IsADirectoryError)):
             with self.assertRaises(error), whole_file(path):

@@ -125,7 +125,9 @@ class Files(Calls):
     def test_a_map(self):
         self.assertEqual(self.printed("side.vbi.json --map side.map"), b"")
         rows = self.read("side.map").split(b"\n")
-        self.assertEqual([rows[0], rows[5], rows[-1]], [b"kind,number,field,frame,how", b"picture,4,5,3,read", b""])
+        self.assertEqual(rows[:5], [b"kind,number,field,frame,how", b"system,NTSC,1,1,side", b"black,16384,1,1,side",
+                                    b"white,51200,1,1,side", b"fields,12,1,1,side"])
+        self.assertEqual([rows[9], rows[-1]], [b"picture,4,5,3,read", b""])
         self.assertEqual(self.printed("side.tbc LEVELS --map two --seek 4"), b"field 5, frame 3\n")
         self.assertEqual(self.printed("side.tbc LEVELS --map three --document --svg svg"), self.document)
         self.assertEqual([self.read("two"), self.read("three")], [self.read("side.map")] * 2)

@@ -16,6 +16,23 @@ from cases import in_database
 from command_runs import BUFFERED, DEADLINE, SIZE, Calls, Runs
 from streams import NTSC, TOP, pictures, worn_line, write_stream
 
+# Sends a signal, or two, in a callback of a weak reference, as Python's own import has some, once a page is to be written
+DROPPING = b"""import os, signal, sys, weakref
+class Thing: pass
+class Finder:
+    def find_spec(self, name, path=None, target=None):
+        if name == "ldvbi_side.draw.page":
+            sys.meta_path.remove(self)
+            thing = Thing()
+            reference = weakref.ref(thing, lambda _: (os.kill(os.getpid(), signal.SIGINT), sum(range(10))))
+            del thing
+            if "SECOND" in os.environ:
+                os.kill(os.getpid(), signal.SIGINT)
+sys.meta_path.insert(0, Finder())
+"""
+ENDLESS = ("CREATE TABLE capture (system, black_16b_ire, white_16b_ire)", "INSERT INTO capture VALUES ('NTSC', 16384, 51200)",
+           "CREATE VIEW drop_outs AS WITH RECURSIVE n(i) AS (SELECT 1 UNION ALL SELECT i + 1 FROM n) "
+           "SELECT i AS field_id, 16 AS field_line, 1 AS startx, 2 AS endx FROM n WHERE i < 0")
 SIGNALS = ((signal.SIGTERM, 143), (signal.SIGHUP, 129), (signal.SIGINT, 130))
 WORN = worn_line(0xF00001, NTSC, 20, 9)
 WAITING = "with open('pipe') as file:\n    file.read()\n"
@@ -72,8 +89,9 @@ class Closed(Runs):
         said = "ldvbi-side: standard output: No space left on device\n"
         for words, stream, *wanted in (("side.vbi.json", "stdout", None, said), ("--help", "stdout", None, said),
                                        ("absent", "stderr", b"", ""), ("--black", "stderr", b"", "")):
-            with self.subTest(words), open("/dev/full", "wb") as full:
-                self.assertEqual(self.run_command(words, env=BUFFERED, **{stream: full}), (2, *wanted))
+            for environment in (BUFFERED, {**BUFFERED, "PYTHONUNBUFFERED": "1"}):
+                with self.subTest((words, environment)), open("/dev/full", "wb") as full:
+                    self.assertEqual(self.run_command(words, env=environment, **{stream: full}), (2, *wanted))
 
 
 class Signals(Runs):
@@ -117,6 +135,25 @@ class Signals(Runs):
             time.sleep(0.2)
             file.write(self.read("meta.json"))
         self.ended(process, 0, b"field 4, frame 2\n")
+
+
+    def test_in_a_function_whose_exceptions_are_dropped(self):
+        """As those that Python's import calls, of which one gets a signal here, and those that SQLite calls, while it
+        reads a view that has no end. Nothing is said of that."""
+        self.write("sitecustomize.py", DROPPING)
+        for more in ({}, {"SECOND": "yes"}):
+            environment = {**os.environ, **more, "PYTHONPATH": self.folder + ":" + os.environ.get("PYTHONPATH", "")}
+            self.assertEqual(self.run_command("side.vbi.json", "--html", "side.html", env=environment), (130, b"", ""))
+            self.assertNotIn("side.html", self.names())
+        in_database(self.named("side.tbc.db"), *ENDLESS)
+        process = self.started("side.tbc", "--meta", "side.tbc.db", "--into", "copy.db")
+        time.sleep(1)
+        self.assertIsNone(process.poll())
+        begun = time.monotonic()
+        process.send_signal(signal.SIGTERM)
+        self.ended(process, 143, b"")
+        self.assertLess(time.monotonic() - begun, 1)
+        self.assertNotIn("copy.db", self.names())
 
 
 class Terminals(Calls):

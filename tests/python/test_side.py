@@ -9,8 +9,8 @@ from unittest import mock
 from cases import InFolder, reason
 from compact import made
 from discs import plain, side, typed
-from ldvbi.readings import Cut
-from ldvbi_side.command.map import map_rows
+from ldvbi.readings import Cut, Levels
+from ldvbi_side.command.map import head_rows, map_rows
 from ldvbi_side.command.summary import MOST_LINES, summary
 from ldvbi_side.command.tables import bad_line_rows, field_rows
 from ldvbi_side.draw.plot import plot_command, tbc_name
@@ -64,6 +64,12 @@ MAPS = (
     ("m9..10x3000", "minute 0:09 1 1 read, minute 0:10 3001 1501 read"),
     ("PAL/1 S/-/- B", "stop - 1 0 read"), ("", ""),
     ("PAL/1 5..6", "picture 5 1 0 read, picture 6 3 1 read, chapter 0 2 1 read"))
+# Of a side and its levels the head of the map. A side that begins with a second field has that before its first frame.
+HEADS = (
+    ("NTSC 1..6", Levels(16384, 51200), "system NTSC 1 1 side, black 16384 1 1 side, white 51200 1 1 side, "
+                                        "fields 12 1 1 side"),
+    ("PAL/1 5..6", Levels(0, 65535), "system PAL 1 0 side, black 0 1 0 side, white 65535 1 0 side, fields 4 1 0 side"),
+    ("", None, "system PAL 1 1 side, black - 1 1 side, white - 1 1 side, fields 0 1 1 side"))
 
 
 class Maps(unittest.TestCase):
@@ -72,6 +78,10 @@ class Maps(unittest.TestCase):
             self.assertEqual(", ".join(" ".join(map(str, row)) for row in map_rows(made(text, typed))), wanted, text)
         # a stop at picture 0
         self.assertEqual(list(map_rows(made("0..9 1=S/#0/#0", typed)))[-1], ("stop", 0, 1, 1, "read"))
+
+    def test_head(self):
+        for text, levels, wanted in HEADS:
+            self.assertEqual(", ".join(" ".join(map(str, row)) for row in head_rows(made(text, typed), levels)), wanted, text)
 
     def test_a_time_is_sought_where_it_was_read(self):
         """Not in the field before, in which it is only due; of a second the first field that has any of it counts."""

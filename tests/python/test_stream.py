@@ -2,7 +2,6 @@
 
 import gc
 import itertools
-import mmap
 import os
 import pathlib
 from unittest import mock
@@ -122,23 +121,42 @@ class Closing(Streams):
 
         before = held()
         side = self.drawn(3)
+        self.assertEqual(held(), (0, before[1] + 1))
+        self.assertEqual(ldvbi.seek(side, 2), None)  # which maps the file
         self.assertEqual(held()[0], 1)
         side.close()
         self.assertEqual(held(), before)
         begun = ldvbi.fields(self.path, *NTSC)
         next(begun)
-        self.assertEqual(held()[0], 1)
+        self.assertEqual(held(), (0, before[1] + 1))
         del begun
+        self.assertEqual(held(), before)
+        for path in (self.folder, "/dev/null"):
+            self.assertIsNotNone(reason(ldvbi.Stream, path, *NTSC, kind=(IsADirectoryError, ValueError)))
         self.assertEqual(held(), before)
 
 
-class Advised(mmap.mmap):
-    """A mapped file that notes what the system is advised of, and when bytes of it were read."""
-    notes = []
+class Files(Streams):
+    def test_a_file_that_becomes_shorter(self):
+        """Each way to read it says so; up to its new end all is as before."""
+        for kept in (COUNT * 478660 - 478660 + 18 * 1820 - 1, 70 * 478660 + 15 * 1820):
+            side = self.drawn(COUNT)
+            os.truncate(self.path, kept)
+            text = self.path + " became shorter while it was read"
+            left = kept // 478660
+            for call in (lambda: list(side), lambda: side[left], lambda: side.rows(-1), lambda: list(side.records())):
+                self.assertEqual(reason(call), text)
+            self.assertEqual(list(map(number_of, side[:left])), list(range(left)))
 
-    def madvise(self, advice, *area):
-        self.notes.append((advice, *area))
-        super().madvise(advice, *area)
+    def test_reads_that_bring_less(self):
+        read = os.pread
+        side = self.drawn(3)
+        with mock.patch.object(os, "pread", lambda file, length, begin: read(file, min(length, 1000), begin)):
+            self.assertEqual(list(map(number_of, side)), [0, 1, 2])
+
+    def test_a_pipe_in_the_place_of_a_file(self):
+        os.mkfifo(self.path)
+        self.assertEqual(reason(ldvbi.Stream, self.path, *NTSC), self.path + " is no file that can be mapped")
 
 
 class Ahead(Streams):
@@ -146,45 +164,33 @@ class Ahead(Streams):
 
     def setUp(self):
         super().setUp()
-        Advised.notes = []
-        patch = mock.patch.object(ldvbi.stream.mmap, "mmap", Advised)
+        self.notes = []
+        patch = mock.patch.object(ldvbi.rows, "_ADVISE", lambda file, *note: self.notes.append(note))
         patch.start()
         self.addCleanup(patch.stop)
 
     def advised(self, advice):
-        """The bytes of which the system was advised so, as pairs of begin and end, in their order."""
-        return [(note[1], note[1] + note[2]) for note in Advised.notes if note[0] == advice]
+        """The first byte of each area of which the system was advised so, and how many it has."""
+        return [(begin, length) for begin, length, other in self.notes if other == advice]
 
-    def pages(self, *areas):
-        """These bytes, each from the page with the first one on."""
-        return [(begin - begin % mmap.PAGESIZE, end) for begin, end in areas]
-
-    def test_pages_of_a_loop(self):
-        """They are fetched of the block that is read now, and of the one behind it. Each block that was read is given
-        back up to its last byte."""
+    def test_lines_of_a_loop(self):
+        """They are fetched of the block that is read now, and of the one behind it."""
         for setup, line, size in ((NTSC, 1820, 478660), (PAL, 2270, 710510)):
-            with self.subTest(setup):
-                Advised.notes = []
-                side = self.drawn(COUNT, setup)
-                readings = iter(side)
-                self.assertEqual(Advised.notes, [(mmap.MADV_RANDOM,)])
+            side = self.drawn(COUNT, setup)
+            for loop in (iter(side), (one for block in side.records() for one in block)):
+                self.notes.clear()
                 for more, count in ((1, 2 * 64), (64, COUNT), (COUNT - 65, COUNT)):
-                    self.assertEqual(len(list(itertools.islice(readings, more))), more)
-                    self.assertEqual(len(self.advised(mmap.MADV_WILLNEED)), count)
-                firsts = [field * size + 15 * line for field in range(COUNT)]
-                self.assertEqual(self.advised(mmap.MADV_WILLNEED),
-                                 self.pages(*((first, first + 3 * line) for first in firsts)))
-                blocks = self.pages(*((first * size, min(first + 64, COUNT) * size) for first in range(0, COUNT, 64)))
-                self.assertEqual(self.advised(mmap.MADV_DONTNEED), blocks)
-                side.rows(100)
-                self.assertEqual(self.advised(mmap.MADV_DONTNEED), blocks + self.pages((100 * size, 101 * size)))
+                    self.assertEqual(len(list(itertools.islice(loop, more))), more)
+                    self.assertEqual(len(self.advised(os.POSIX_FADV_WILLNEED)), count)
+                self.assertEqual(self.advised(os.POSIX_FADV_WILLNEED),
+                                 [(field * size + 15 * line, 3 * line) for field in range(COUNT)])
 
-    def test_pages_of_one_field(self):
-        """Also where the system takes no such advice as to give pages back."""
+    def test_lines_of_one_field(self):
+        """Also where the system takes no advice. Of no more it reads ahead by itself."""
         side = self.drawn(COUNT)
+        self.assertEqual(self.notes, [(0, 0, os.POSIX_FADV_RANDOM)])
         side[100]
-        first = 100 * 478660 + 15 * 1820
-        self.assertEqual(self.advised(mmap.MADV_WILLNEED), self.pages((first, first + 3 * 1820)))
-        with mock.patch.object(ldvbi.stream, "_GIVE_BACK", None):
-            side[10:12]
-        self.assertEqual([len(self.advised(advice)) for advice in (mmap.MADV_WILLNEED, mmap.MADV_DONTNEED)], [3, 1])
+        self.assertEqual(self.advised(os.POSIX_FADV_WILLNEED), [(100 * 478660 + 15 * 1820, 3 * 1820)])
+        with mock.patch.object(ldvbi.rows, "_ADVISE", None):
+            self.assertEqual(list(map(number_of, ldvbi.Stream(self.path, *NTSC)[10:12])), [10, 11])
+        self.assertEqual(len(self.notes), 2)

@@ -20,6 +20,9 @@ pub(crate) enum MainFault {
     /// The input can't be opened.
     #[error("cannot open input")]
     CannotOpenInput,
+    /// Help or the version can't be written.
+    #[error("cannot write output")]
+    CannotWriteOutput,
     /// What was written couldn't be flushed.
     #[error("flush failed")]
     FlushFailed,

@@ -49,14 +49,23 @@ fn arguments(rt: &(impl Env + AllocGlobal)) -> Result<Vec<String>, MainFault> {
 }
 
 /// Prints why there is no job, and answers the status.
-fn refuse(rt: &(impl Print + Eprint), fault: &WordsFault) -> u8 {
-    // Where printing fails, nothing is left to say so with.
+fn refuse(rt: &HostRuntime, fault: &WordsFault) -> u8 {
+    // Where a refusal can't be printed, nothing is left to say so with.
     let _ = match fault {
-        WordsFault::Help(text) => print!(rt; "{text}"),
+        WordsFault::Help(text) => return help(rt, text.as_str()),
         WordsFault::Refused(text) => eprint!(rt; "{text}"),
         WordsFault::OutOfMemory => eprintln!(rt; "ldvbi: {fault}"),
     };
     fault.status()
+}
+
+/// Prints help or the version, which was asked for, and answers the status.
+fn help(rt: &HostRuntime, text: &str) -> u8 {
+    let mut output = rt.stdout();
+    if output.write_all(text.as_bytes()).is_err() || output.flush().is_err() {
+        return complain(rt, MainFault::CannotWriteOutput);
+    }
+    0
 }
 
 /// Prints the line of a fault, and answers the status.

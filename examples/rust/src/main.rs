@@ -3,13 +3,16 @@
 use ldvbi::{Counted, Levels, Place, Side, System};
 use std::{error::Error, fs::File, io, io::Write, os::unix::io::AsRawFd, process::ExitCode, ptr, slice};
 
-/// Maps a file until the program ends. Nobody may make it shorter meanwhile.
+/// Maps a file until the program ends. Nobody may make it shorter meanwhile. Of its pages few are read, and none ahead.
 fn map(path: &str) -> io::Result<&'static [u8]> {
     let file = File::open(path)?;
     let size = file.metadata()?.len() as usize;
     match unsafe { libc::mmap(ptr::null_mut(), size.max(1), libc::PROT_READ, libc::MAP_SHARED, file.as_raw_fd(), 0) } {
         libc::MAP_FAILED => Err(io::Error::last_os_error()),
-        start => Ok(unsafe { slice::from_raw_parts(start.cast(), size) }),
+        start => Ok(unsafe {
+            libc::madvise(start, size, libc::MADV_RANDOM);
+            slice::from_raw_parts(start.cast(), size)
+        }),
     }
 }
 
@@ -26,11 +29,11 @@ fn run() -> Result<ExitCode, Box<dyn Error>> {
     let mut word = || words.next().ok_or("usage: player FILE SYSTEM BLACK WHITE search PLACE, chapter N, play ..");
     let (bytes, system) = (map(&word()?)?, System::named(&word()?).ok_or("system is neither NTSC nor PAL")?);
     let side = Side::new(bytes, system, Levels::new(word()?.parse()?, word()?.parse()?)?)?;
-    let (pictures, mut at) = (side.numbers(Counted::Pictures), 0);
+    let (judged, pictures, mut at) = (side.judged(), side.numbers(Counted::Pictures), 0);
     while let Ok(command) = word() {
         let found = match command.as_str() {
-            "search" => side.seek(place(&word()?)?),
-            "chapter" => side.seek(Place::Chapter(word()?.parse()?)),
+            "search" => judged.seek(place(&word()?)?),
+            "chapter" => judged.seek(Place::Chapter(word()?.parse()?)),
             "play" => {
                 let mut next = at; // All fields of a picture may have its stop. Those that follow are passed.
                 side.stops(at).find(|stop| {

@@ -49,6 +49,10 @@ class Into:
             _compare_counts(name, count, path, len(self.places))
             with open(path, encoding="utf-8", newline="") as old, whole_file(self._path) as new:
                 self.places.copy(old, new, words)
+                new.flush()
+                other = self.places.other_in(new.name) if os.path.isfile(new.name) else None
+                if other:
+                    raise ValueError("%s: its copy has other %s" % (path, other))
         else:
             from ..into.rows import BESIDE, Rows  # the smallest Pythons have no sqlite3
             refuse_inputs([self._path], [path + end for end in BESIDE])

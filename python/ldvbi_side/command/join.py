@@ -12,6 +12,7 @@ from ..join.joined import Joined, join
 from ..outside import printable
 from ..side import Side
 from .outputs import refuse_inputs, whole_file
+from .parser import Parser
 from .statuses import statuses_text
 from .summary import listed, named
 
@@ -49,7 +50,7 @@ def run_join(program: str, words: List[str], load: Callable[[str], Side]) -> int
 
 def parser_of_join(program: str) -> argparse.ArgumentParser:
     """What reads the words behind `join`."""
-    parser = argparse.ArgumentParser(prog=program + " join", description=DESCRIPTION)
+    parser = Parser(prog=program + " join", description=DESCRIPTION)
     parser.add_argument("sides", nargs="+", metavar="SIDE", action=_TwoOrMore,
                         help="a document, or a TBC file with its metadata beside it; two or more of them")
     output = parser.add_mutually_exclusive_group()

@@ -13,7 +13,8 @@ from ldvbi.metadata import beside, read_metadata, settings_of
 from ldvbi.packed import refuse_packed
 from ldvbi.stream import cut_of
 from ..draw.plot import plot_command
-from ..outside import NAME, bytes_of_document, drop_standard_output, flush, flush_or_drop, printable, say
+from ..outside import (NAME, bytes_of_document, drop_standard_output, flush, flush_or_drop, printable, raise_lost,
+                       say)
 from ..seek import seek, text_of
 from ..answer.entries import Answer
 from ..side import Side, side_of_document, side_of_stream, stream_of_tbc
@@ -21,7 +22,7 @@ from .compare import compare, comparison_text
 from .faults import SETTINGS, STANDARD_INPUT, fault_text, naming, no_metadata, refuse_folder
 from .into import Into
 from .join import run_join
-from .map import COLUMNS as MAP_COLUMNS, map_rows
+from .map import COLUMNS as MAP_COLUMNS, head_rows, map_rows
 from .outputs import refuse_inputs, whole_file
 from .parsers import parser_of_compare, parser_of_index, parser_of_side
 from .progress import Progress
@@ -162,7 +163,8 @@ def _write_files(side, options, is_tbc):
             file.write(drawing_of(side, os.path.basename(options.side)))
     if options.map:
         with whole_file(options.map) as file:
-            _print_table(MAP_COLUMNS, map_rows(side.analysis.answer), file)
+            answer = side.analysis.answer
+            _print_table(MAP_COLUMNS, [*head_rows(answer, side.levels), *map_rows(answer)], file)
     if options.html:
         from ..draw.page import page_of
         from ..draw.plotting import plotter
@@ -328,10 +330,12 @@ def main(words: Optional[List[str]] = None) -> int:
             flush()  # of --help, or of a refused command line
             raise
         flush()
+        raise_lost()
         return status
     except BrokenPipeError:
         drop_standard_output()
     except (OSError, ValueError) as error:
+        raise_lost()
         say(fault_text(error))
         flush_or_drop()
     return FAULT

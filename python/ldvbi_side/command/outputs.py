@@ -4,12 +4,17 @@ import contextlib
 import errno
 import hashlib
 import os
+import re
 import shutil
 import stat
 from typing import IO, Iterable, Iterator, Sequence, Union
 
+from ..outside import raise_lost
+
 Place = Union[str, int, None]  # a file: its path, the number of an open one, or none
 _LONGEST_NAME = 255  # bytes of a file's name
+_PART = ".ldvbi-"  # with what the names of parts begin
+_NAME_OF_PART = re.compile(re.escape(_PART) + r".*\.([0-9a-f]{8})-([1-9][0-9]{0,8})\.part", re.DOTALL)
 
 
 @contextlib.contextmanager
@@ -28,6 +33,7 @@ def whole_file(path: str) -> Iterator[IO[str]]:
             file.flush()
             # Else the name could come through a loss of power, and the text not.
             os.fsync(file.fileno())
+        raise_lost()
         _rename(part, target)
     except BaseException:
         with contextlib.suppress(FileNotFoundError):
@@ -56,6 +62,7 @@ def whole_path(path: str, ends: Sequence[str]) -> Iterator[str]:
         yield part
         with open(part, "rb") as file:
             os.fsync(file.fileno())
+        raise_lost()
         _rename(part, target)
     finally:
         shutil.rmtree(folder, ignore_errors=True)
@@ -93,12 +100,40 @@ def _part_of(target):
 def _part_by(target, process):
     """What this process calls the part. Of a long name it has the beginning, and digits that are made of all of it."""
     folder, name = os.path.split(target)
-    end = ".%d.part" % process
+    end = ".%s-%d.part" % (_machine(), process)
     data = os.fsencode(name)
-    if len(data) + len(end) > _LONGEST_NAME:
+    if len(_PART) + len(data) + len(end) > _LONGEST_NAME:
         end = ".%s%s" % (hashlib.sha256(data).hexdigest()[:8], end)
-        name = os.fsdecode(data[:_LONGEST_NAME - len(end)])
-    return os.path.join(folder, name + end)
+        name = os.fsdecode(data[:_LONGEST_NAME - len(_PART) - len(end)])
+    return os.path.join(folder, _PART + name + end)
+
+
+def _machine():
+    """Digits of this machine, whose processes have their numbers for themselves."""
+    return hashlib.sha256(os.fsencode(os.uname().nodename)).hexdigest()[:8]
+
+
+def drop_parts(folder: str) -> None:
+    """Removes from a folder the parts of processes of this machine that have gone without removing them."""
+    for name in os.listdir(folder):
+        match = _NAME_OF_PART.fullmatch(name)
+        if match and match[1] == _machine() and not _is_there(int(match[2])):
+            part = os.path.join(folder, name)
+            with contextlib.suppress(OSError):
+                if os.path.isdir(part):
+                    shutil.rmtree(part)
+                else:
+                    os.unlink(part)
+
+
+def _is_there(process):
+    try:
+        os.kill(process, 0)
+    except ProcessLookupError:
+        return False
+    except OSError:
+        pass  # it is somebody else's
+    return True
 
 
 def _rename(part, target):

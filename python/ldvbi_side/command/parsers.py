@@ -6,6 +6,7 @@ from typing import Dict
 from ldvbi import System, __version__
 from ..seek import wanted_of
 from .join import parser_of_join
+from .parser import Parser
 from .statuses import OPEN_END, statuses_text
 from .summary import MOST_LINES
 
@@ -28,9 +29,10 @@ def _wanted(text):
         raise argparse.ArgumentTypeError(str(error)) from None
 
 
+
 def parser_of_side(program: str) -> argparse.ArgumentParser:
     """What reads the words where there is no command."""
-    parser = argparse.ArgumentParser(prog=program, description=DESCRIPTION)
+    parser = Parser(prog=program, description=DESCRIPTION)
     parser.add_argument("side", help="the TBC file, or the document; - is standard input, for a document")
     parser.add_argument("--version", action="version", version="%s %s" % (program, __version__))
     parser.add_argument("--meta", metavar="FILE", help="take system and levels of a TBC file from this .tbc.json or "
@@ -66,8 +68,9 @@ def parser_of_side(program: str) -> argparse.ArgumentParser:
                         "asks for")
     parser.add_argument("--html", metavar="FILE", help="write a page with all that is known of the side into this "
                         "file, with drawings of the bad lines of a TBC file; print only what another option asks for")
-    parser.add_argument("--map", metavar="FILE", help="write into this file where each number, chapter and picture "
-                        "stop is, for a player to seek by; print only what another option asks for")
+    parser.add_argument("--map", metavar="FILE", help="write into this file system, levels and count of fields, and "
+                        "where each number, chapter and picture stop is, for a player to seek by; print only what "
+                        "another option asks for")
     parser.add_argument("--into", metavar="FILE", help="write a copy of ld-decode's metadata into this file, of --meta "
                         "or beside the TBC file, in which each field has its words as vbi.vbiData (in a .tbc.db a row "
                         "of the table vbi); print only what another option asks for")
@@ -83,7 +86,7 @@ def _add_settings(parser):
 
 def parser_of_compare(program: str) -> argparse.ArgumentParser:
     """What reads the words behind `compare`."""
-    parser = argparse.ArgumentParser(prog=program + " compare", description=COMPARISON)
+    parser = Parser(prog=program + " compare", description=COMPARISON)
     parser.add_argument("sides", nargs=2, metavar="SIDE", help="a document, or a TBC file with its metadata beside "
                         "it or with the options below")
     parser.add_argument("--json", action="store_true", help="print all stretches, as JSON")
@@ -93,7 +96,7 @@ def parser_of_compare(program: str) -> argparse.ArgumentParser:
 
 def parser_of_index(program: str) -> argparse.ArgumentParser:
     """What reads the words behind `index`."""
-    parser = argparse.ArgumentParser(prog=program + " index", description=INDEX)
+    parser = Parser(prog=program + " index", description=INDEX)
     parser.add_argument("index", metavar="FILE", help="the page to write")
     parser.add_argument("pages", nargs="+", metavar="PAGE", help="a page that --html wrote")
     return parser

@@ -20,7 +20,8 @@ from ..answer.entries import Answer
 from ..outside import say
 from .faults import fault_text, no_metadata
 from .folders import files_of, page_name, sides_in
-from .outputs import drop_part, refuse_inputs, whole_file
+from .outputs import drop_part, drop_parts, refuse_inputs, whole_file
+from .parser import Parser
 from .processes import Ended, SideBySide
 from .progress import SidesProgress, heard_by
 from .rows import Csv, Json, Text, fault_row, row_of
@@ -44,7 +45,7 @@ def _jobs(text):
 
 def parser_of_scan() -> argparse.ArgumentParser:
     """What reads the words behind `scan`."""
-    parser = argparse.ArgumentParser(prog="ldvbi-side scan", description=DESCRIPTION)
+    parser = Parser(prog="ldvbi-side scan", description=DESCRIPTION)
     parser.add_argument("paths", nargs="+", metavar="PATH", help="a TBC file, a document, or a folder")
     parser.add_argument("-j", "--jobs", metavar="N", type=_jobs, default=min(os.cpu_count() or 1, MOST_JOBS),
                         help="read so many sides at a time (as many as there are processors, at most %d; 1 is best "
@@ -104,6 +105,7 @@ def _pages(sides, folder):
     if not folder:
         return [None] * len(sides)
     os.makedirs(folder, exist_ok=True)
+    drop_parts(folder)
     return [os.path.join(folder, page_name(side.path)) for side in sides]
 
 

@@ -1,11 +1,12 @@
 """A database of ld-decode's metadata, copied with the words of its fields: the table `vbi` has a row for each of
 them."""
 
+import array
 import contextlib
 import sqlite3
-from typing import Iterable
+from typing import Dict, Iterable, Iterator
 
-from ldvbi.database import column_of_fields, columns_with, opened
+from ldvbi.database import column_of_fields, columns_with, limit_steps, opened, quoted, tables_of
 from .field import Words
 
 # What SQLite writes beside a database, each with the database's name before it
@@ -20,11 +21,13 @@ _INSERT = """INSERT INTO main.vbi (%sfield_id, vbi0, vbi1, vbi2) SELECT %sfield_
 
 class Rows:
     """The fields of a database: those of the table that says which of them begin a frame, or else of the table `vbi`. A
-    database of another form is a ValueError."""
+    database of another form is a ValueError, and so is one with a trigger, which may write something else."""
 
     def __init__(self, path: str) -> None:
         self._path = path
         with opened(path) as database:
+            for name, table in database.execute("SELECT name, tbl_name FROM sqlite_master WHERE type = 'trigger'"):
+                raise ValueError("its trigger %s of the table %s may write something else" % (name, table))
             self._columns = columns_with(database, "vbi", ("field_id", "vbi0", "vbi1", "vbi2"))
             fields = column_of_fields(database, "field_id")
             if fields is None:
@@ -43,12 +46,20 @@ class Rows:
         of_capture = ("", "")
         if "capture_id" in self._columns:
             of_capture = ("capture_id, ", "(SELECT capture_id FROM main.capture), ")
+        written = array.array("I")
         with opened(self._path) as old, contextlib.closing(sqlite3.connect(path)) as new:
             try:
-                old.backup(new)
-                self._fill(new, words, _INSERT % of_capture)
+                # signals are heeded between some pages and the next ones
+                old.backup(new, pages=1000, progress=lambda *_: None)
+                limit_steps(new)
+                wanted = _counts_of(new)
+                self._fill(new, _noted(words, written), _INSERT % of_capture)
             except sqlite3.Error as error:
                 raise ValueError("SQLite can't copy it: %s" % error) from None
+        with opened(path) as database:
+            other = self._other(database, written, wanted)
+        if other:
+            raise ValueError("%s: its copy has other %s" % (self._path, other))
 
     def _fill(self, new, words, insert):
         new.execute("PRAGMA temp_store = MEMORY")
@@ -58,3 +69,28 @@ class Rows:
                 (field, *three) for field, three in zip(self._fields, words)))
             new.execute(_UPDATE)
             new.execute(insert)
+
+    def _other(self, database, written, wanted):
+        """What the copy has otherwise: whatever the database has that isn't known here, all words are to be in it, and
+        its other tables are to be as long. None where nothing is."""
+        rows = database.execute("SELECT field_id, vbi0, vbi1, vbi2 FROM vbi ORDER BY field_id")
+        known = {field: tuple(three) for field, *three in rows}
+        for place, field in enumerate(self._fields):
+            if known.get(field) != tuple(written[3 * place:3 * place + 3]):
+                return "words in the row of field_id %d" % field
+        found = _counts_of(database)
+        return next(("rows in the table " + table for table, count in wanted.items()
+                     if table != "vbi" and found.get(table) != count), None)
+
+
+def _noted(words: Iterable[Words], written: "array.array[int]") -> Iterator[Words]:
+    """The words, as they are written."""
+    for three in words:
+        written.extend(three)
+        yield three
+
+
+def _counts_of(database: sqlite3.Connection) -> Dict[str, int]:
+    """How many rows each table has."""
+    return {table: database.execute("SELECT count(*) FROM " + quoted(table)).fetchone()[0]
+            for table in tables_of(database) if not table.startswith("sqlite_")}

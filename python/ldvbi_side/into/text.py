@@ -2,8 +2,9 @@
 
 import shutil
 from array import array
-from typing import IO, Any, Dict, Iterable
+from typing import IO, Any, Dict, Iterable, Optional
 
+from ldvbi.metadata import read_metadata
 from .field import Words, place_of_words
 
 
@@ -14,6 +15,7 @@ class Places:
     def __init__(self) -> None:
         self._begins, self._ends, self._forms = array("Q"), array("Q"), array("Q")
         self._numbers: Dict[str, int] = {}  # of each form; a document has few
+        self._written = array("I")  # the words that a copy has got
 
     def __len__(self) -> int:
         return len(self._begins)
@@ -36,6 +38,19 @@ class Places:
         for begin, end, form, three in zip(self._begins, self._ends, self._forms, words):
             new.write(old.read(begin - at))
             new.write(forms[form] % three)
+            self._written.extend(three)
             old.read(end - begin)
             at = end
         shutil.copyfileobj(old, new)
+
+    def other_in(self, path: str) -> Optional[str]:
+        """What a copy has otherwise than it was to be written; None where it has all words."""
+        shown = array("I")
+
+        def take(_begin: int, _text: str, field: Any) -> None:
+            shown.extend(field["vbi"]["vbiData"])
+        read_metadata(path, take)
+        if len(shown) != len(self._written):
+            return "%d fields" % (len(shown) // 3)
+        return next(("words in field %d" % (place // 3 + 1) for place, (one, other) in
+                     enumerate(zip(shown, self._written)) if one != other), None)

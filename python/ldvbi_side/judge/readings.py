@@ -84,7 +84,7 @@ class Codes(NamedTuple):
     def weight(self, field: int, lines: Iterable[int]) -> int:
         """What the words of these lines of a field weigh together: a word of the line itself more than one of its
         smoothed levels or a recovered one, more of which are wrong."""
-        return _weight(self.fields.passes[field - 1], tuple(lines))
+        return _WEIGHTS[self.fields.passes[field - 1], tuple(lines)]
 
     def sure_picture(self, field: int) -> Optional[int]:
         """The picture number that a field shows in pass 1 on both lines, or None."""
@@ -93,18 +93,18 @@ class Codes(NamedTuple):
 
     def sure_fields(self, kind: Kind) -> Set[int]:
         """The fields that have a code of this kind on a line of pass 1, or on two lines."""
-        passes, weight, found = self.fields.passes, _weight, set()
+        passes, found = self.fields.passes, set()
         for field, values in self.kinds[kind].items():
             lines = sum(values.values(), ()) if len(values) > 1 else next(iter(values.values()))
-            if weight(passes[field - 1], lines) >= WEIGHTS[1]:
+            if _WEIGHTS[passes[field - 1], lines] >= WEIGHTS[1]:
                 found.add(field)
         return found
 
     def readings(self, found: ByField) -> List[Reading]:
         """The values of these fields as readings."""
-        passes = self.fields.passes
+        passes, weights = self.fields.passes, _WEIGHTS
         make = cast(Callable[..., Reading], functools.partial(tuple.__new__, Reading))  # there are many
-        return [make((field, value, _weight(passes[field - 1], lines), lines, 0))
+        return [make((field, value, weights[passes[field - 1], lines], lines, 0))
                 for field, values in found.items() for value, lines in values.items()]
 
     def words_of(self, kinds: Iterable[Kind]) -> List[Tuple[int, int, int, int]]:
@@ -135,10 +135,16 @@ class Codes(NamedTuple):
         return found
 
 
-@functools.lru_cache(maxsize=None)
-def _weight(passes, lines):
-    """What the words of these lines of a field with these passes weigh together: few of either differ."""
-    return sum(WEIGHTS[passes[line - LINES[0]]] for line in lines)
+class _Weights(Dict[Tuple[Lines, Lines], int]):
+    """What the words of lines of a field with these passes weigh together: few of either differ."""
+
+    def __missing__(self, key: Tuple[Lines, Lines]) -> int:
+        passes, lines = key
+        self[key] = weight = sum(WEIGHTS[passes[line - LINES[0]]] for line in lines)
+        return weight
+
+
+_WEIGHTS = _Weights()
 
 
 def codes_of(fields: Fields) -> Codes:

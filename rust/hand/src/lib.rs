@@ -1,8 +1,9 @@
 //! The biphase code words of LaserDiscs (IEC 60857 and IEC 60856), from fields in ld-decode's TBC format.
 //!
 //! A [`Side`] is the samples of a capture in memory: its fields, the number of its disc that each one shows, where a
-//! picture, a time or a chapter is found, where a player stops, and whether the capture is whole. A [`Feeder`] takes a
-//! stream in pieces. [`classify`] says what a word is, [`draw_line`] draws one.
+//! picture, a time or a chapter is found, where a player stops, and whether the capture is whole. It keeps what is
+//! [`Judged`] of all its fields. A [`Feeder`] takes a stream in pieces. [`classify`] says what a word is, [`draw_line`]
+//! draws one.
 //!
 //! ```
 //! use ldvbi::{classify, draw_line, Code, Counted, Levels, Number, Place, Side, SideOptions, System, Verdict, Word24};
@@ -82,6 +83,7 @@ mod cli;
 mod exports;
 #[allow(dead_code, unused_imports)]
 mod field;
+mod judged;
 #[allow(dead_code, unused_imports)]
 mod line;
 mod lines;
@@ -97,6 +99,7 @@ mod whole;
 #[allow(dead_code, unused_imports)]
 mod words;
 
+pub use crate::judged::Judged;
 pub use crate::lines::{Error, Feeder};
 pub use crate::near::Near;
 pub use crate::side::{Counted, Tally};

@@ -26,6 +26,11 @@ pub(crate) fn done(status: u32) {
     assert_eq!(status, 0, "the library refused what it takes");
 }
 
+/// The system as the library's calls take it.
+pub(crate) fn number_of(system: System) -> u32 {
+    system as u32 + 1
+}
+
 /// Where lines 16, 17 and 18 lie in a field.
 pub(crate) fn rows_of(system: System) -> std::ops::Range<usize> {
     15 * system.line_bytes()..18 * system.line_bytes()
@@ -35,7 +40,7 @@ pub(crate) fn rows_of(system: System) -> std::ops::Range<usize> {
 pub(crate) fn recover(system: System, levels: Levels, rows: &[u8]) -> LdvbiFieldReadings {
     let (black, white) = (levels.black().into(), levels.white().into());
     let mut field = LdvbiFieldReadings { lines: [LdvbiReading { cause: 1, pass: 0, column: 0, word: 0 }; 3] };
-    done(c::ldvbi_recover_rows(system as u32 + 1, black, white, rows, &mut field));
+    done(c::ldvbi_recover_rows(number_of(system), black, white, rows, &mut field));
     field
 }
 

@@ -29,16 +29,24 @@ fn run() -> u8 {
     let job = match read_words(&words) {
         Ok(job) => job,
         Err(fault) => {
-            let _ = match &fault {
-                WordsFault::Help(text) => Stream::output().write_all(text.as_bytes()),
-                _ => Stream::error().write_all(fault.to_string().as_bytes()),
-            };
+            if let WordsFault::Help(text) = &fault {
+                return help(text);
+            }
+            let _ = Stream::error().write_all(fault.to_string().as_bytes());
             return fault.status();
         }
     };
     match run_with_files(&job) {
         Ok(status) => status,
         Err(fault) => complain(fault, 1),
+    }
+}
+
+/// Prints help or the version, which was asked for, and answers the status.
+fn help(text: &str) -> u8 {
+    match Stream::output().write_all(text.as_bytes()) {
+        Ok(()) => 0,
+        Err(_) => complain("cannot write output", 1),
     }
 }
 

@@ -1,10 +1,12 @@
 //! Sides: what their fields show, which number each one has, where a place is found, and where a player stops.
 
-use crate::c::{self, LdvbiFieldReadings};
-use crate::lines::{check_lines, done, reading, recover, rows_of, Error};
+use crate::c::{self, LdvbiFieldReadings, LdvbiSought};
+use crate::judged::{Judged, FIND_PACE, NO_NUMBER};
+use crate::lines::{check_lines, done, number_of, reading, recover, rows_of, Error};
 use crate::near::{nearest_of_lines, Near};
-use crate::side::{self, Counted, Sighting, Sightings, BELIEVED};
+use crate::side::{self, Counted, BELIEVED, PART};
 use crate::words::{Levels, Reading, System};
+use std::sync::{Arc, Mutex, PoisonError};
 
 /// The number of a field, judged by the fields around it: that of a picture, of a chapter, or of a time, as pictures
 /// from the disc's beginning, 30 (NTSC) or 25 (PAL) a second.
@@ -21,7 +23,7 @@ pub enum Number {
 }
 
 impl Number {
-    fn of(judged: &side::Number) -> Number {
+    pub(crate) fn of(judged: &side::Number) -> Number {
         let n = judged.number;
         [Number::Nothing, Number::Believed(n), Number::Doubtful(n), Number::Due(n)][judged.state as usize]
     }
@@ -46,6 +48,21 @@ pub enum Place {
     Chapter(u32),
 }
 
+impl Place {
+    /// What counts it, or nothing of a chapter, and its number; `None` of a time that no disc of this system has.
+    pub(crate) fn counted(self, system: System) -> Option<(Option<Counted>, u32)> {
+        let rate = if system == System::Ntsc { 30 } else { 25 };
+        match self {
+            Place::Picture(number) => Some((Some(Counted::Pictures), number)),
+            Place::Chapter(number) => Some((None, number)),
+            Place::Time(hours @ 0..=9, minutes @ 0..=59, seconds @ 0..=59, picture) if picture < rate => {
+                Some((Some(Counted::Times), ((hours * 60 + minutes) * 60 + seconds) * rate + picture))
+            }
+            Place::Time(..) => None,
+        }
+    }
+}
+
 /// A field of a side.
 #[derive(Clone, Copy, Debug, PartialEq, Eq)]
 pub struct Field {
@@ -55,19 +72,33 @@ pub struct Field {
     pub readings: [Reading; 3],
 }
 
-/// The samples of a side, field after field, as in a TBC file that is read or mapped. Each call reads what it needs
-/// anew: lines 16, 17 and 18 of fields, and no others. Words of worn lines are recovered, as pass 3.
-#[derive(Clone, Copy)]
+/// The samples of a side, field after field, as in a TBC file that is read or mapped. Words of worn lines are
+/// recovered, as pass 3. Of a field lines 16, 17 and 18 are read, and no others:
+///
+/// | Call | Reads |
+/// |---|---|
+/// | `new`, `cut_bytes`, `line`, `nearest` | nothing of the side |
+/// | `fields`, `stops` | each field that their iterator comes to, every time |
+/// | `seek` of a picture or a time | at most 400 fields, of worn lines some more; the whole side if it isn't found so |
+/// | `seek` of a chapter, `numbers`, `chapters`, `whole`, `gaps`, `judged` | the whole side, once |
+///
+/// What is judged of the whole side is kept, 48 bytes of a field, and clones and threads share it. Map a file with
+/// `MADV_RANDOM`: else the system reads far more of it. docs/RUST.md says what the calls cost.
+#[derive(Clone)]
 pub struct Side<'a> {
     bytes: &'a [u8],
     system: System,
     levels: Levels,
+    // Not a OnceLock, which Rust has from 1.70 on
+    kept: Arc<Mutex<Option<Arc<Judged>>>>,
 }
 
 // Without the samples, which may be many gigabytes
 impl std::fmt::Debug for Side<'_> {
     fn fmt(&self, f: &mut std::fmt::Formatter<'_>) -> std::fmt::Result {
-        f.debug_struct("Side").field("fields", &self.fields().len()).finish_non_exhaustive()
+        let is_judged = matches!(self.kept.try_lock(), Ok(kept) if kept.is_some());
+        let fields = self.fields().len();
+        f.debug_struct("Side").field("fields", &fields).field("is_judged", &is_judged).finish_non_exhaustive()
     }
 }
 
@@ -77,7 +108,7 @@ impl<'a> Side<'a> {
     pub fn new(bytes: &'a [u8], system: System, levels: Levels) -> Result<Side<'a>, Error> {
         match (bytes.len(), system.field_bytes()) {
             (bytes, field) if 0 < bytes && bytes < field => Err(Error::NoField { bytes, field }),
-            _ => Ok(Side { bytes, system, levels }),
+            _ => Ok(Side { bytes, system, levels, kept: Arc::default() }),
         }
     }
 
@@ -104,14 +135,21 @@ impl<'a> Side<'a> {
         Ok(nearest_of_lines(self.system, self.levels, lines, lines.len() / self.system.line_bytes()))
     }
 
+    /// What is judged of the whole side. The first call reads and judges it. Calls of other threads wait for that, and
+    /// all later ones have what it kept.
+    pub fn judged(&self) -> Arc<Judged> {
+        let mut kept = self.kept.lock().unwrap_or_else(PoisonError::into_inner);
+        kept.get_or_insert_with(|| Arc::new(Judged::of(self.system, self.read(0).collect()))).clone()
+    }
+
     /// The number of each field, at the pace that is found: that of video or of film.
     pub fn numbers(&self, counted: Counted) -> Vec<Number> {
-        self.judge(Some(counted)).iter().map(Number::of).collect()
+        self.judged().numbers(counted).collect()
     }
 
     /// The chapter of each field that has the code of one. Most fields have none, and are of the chapter before.
     pub fn chapters(&self) -> Vec<Number> {
-        self.judge(None).iter().map(Number::of).collect()
+        self.judged().chapters().collect()
     }
 
     /// The fields from this one on at which a player stops: line 16 or 17 shows a stop in pass 1, or both do.
@@ -123,19 +161,42 @@ impl<'a> Side<'a> {
         })
     }
 
-    /// The first field whose number or chapter this is, believed or due. The whole side is read and judged.
+    /// The first field whose number or chapter this is, believed or due.
+    ///
+    /// A picture or a time is sought by halving, as by `ldvbi_seek` of the library for C, at the pace of the fields
+    /// that are read; where that finds none, and for a chapter, the whole side is judged. So if a capture goes back, and
+    /// has a number more than once, it may be another field with it than the first: that is [`Judged::seek`]'s.
     pub fn seek(&self, place: Place) -> Option<Field> {
-        let rate = if self.system == System::Ntsc { 30 } else { 25 };
-        let (counted, number) = match place {
-            Place::Picture(number) => (Some(Counted::Pictures), number),
-            Place::Chapter(number) => (None, number),
-            Place::Time(hours @ 0..=9, minutes @ 0..=59, seconds @ 0..=59, picture) if picture < rate => {
-                (Some(Counted::Times), ((hours * 60 + minutes) * 60 + seconds) * rate + picture)
-            }
-            Place::Time(..) => return None,
-        };
-        let index = c::ldvbi_first_of(&self.judge(counted), number);
-        self.read(index).next().map(|field| Field { index, readings: field.lines.map(reading) })
+        let (counted, number) = place.counted(self.system)?;
+        match counted.and_then(|counted| self.halved(counted, number)) {
+            Some(index) => self.read(index).next().map(|field| Field { index, readings: field.lines.map(reading) }),
+            None => self.judged().seek(place),
+        }
+    }
+
+    /// The first field in a row with this number, if halving finds one.
+    fn halved(&self, counted: Counted, number: u32) -> Option<usize> {
+        let (system, black, white) = (number_of(self.system), self.levels.black().into(), self.levels.white().into());
+        let mut sought = LdvbiSought { field: 0, number: NO_NUMBER, pace: 0, looked: 0 };
+        done(c::ldvbi_seek(system, black, white, counted as u32 + 1, FIND_PACE, self.bytes, number, &mut sought));
+        // Recovered words don't count there, by which the fields before may have the number, too.
+        let is_worn = |field| self.read(field).take(1).any(|field| field.lines.iter().any(|line| line.pass == 3));
+        let has_number = |field| self.number_in_part(field, counted, sought.pace) == Some(number);
+        let before = |field: &usize| field.checked_sub(1).filter(|before| is_worn(*before) && has_number(*before));
+        match sought.number.state {
+            side::NOTHING => None,
+            _ => std::iter::successors(Some(sought.field), before).last(),
+        }
+    }
+
+    /// The number of a field at this pace, believed or due, by the fields around that have a say.
+    fn number_in_part(&self, field: usize, counted: Counted, pace: u32) -> Option<u32> {
+        let begin = field.saturating_sub(PART / 2);
+        let part: Vec<_> = self.read(begin).take(field + 1 + PART / 2 - begin).collect();
+        let mut judged = NO_NUMBER;
+        let (system, counted) = (number_of(self.system), counted as u32 + 1);
+        done(c::ldvbi_judge_field(system, counted, pace, &part, field - begin, &mut judged));
+        Number::of(&judged).known()
     }
 
     /// The readings of the fields from this one on, as the library's other calls take them.
@@ -143,32 +204,13 @@ impl<'a> Side<'a> {
         &self,
         from: usize,
     ) -> impl ExactSizeIterator<Item = LdvbiFieldReadings> + DoubleEndedIterator + 'a {
-        let (Side { bytes, system, levels }, size) = (*self, self.system.field_bytes());
+        let (bytes, system, levels, size) = (self.bytes, self.system, self.levels, self.system.field_bytes());
         let fields = bytes[from.saturating_mul(size).min(bytes.len())..].chunks_exact(size);
         fields.map(move |field| recover(system, levels, &field[rows_of(system)]))
     }
 
-    /// The system as the library's calls take it.
-    pub(crate) fn system_number(&self) -> u32 {
-        self.system as u32 + 1
+    /// The system.
+    pub(crate) fn system(&self) -> System {
+        self.system
     }
-
-    /// Judges the numbers of all fields, or, where none are named, their chapters.
-    fn judge(&self, counted: Option<Counted>) -> Vec<side::Number> {
-        let readings: Vec<_> = self.read(0).collect();
-        let ((mut seen, mut judged), found_pace) = (rooms(readings.len()), 3);
-        let system = self.system_number();
-        done(match counted.map(|counted| counted as u32 + 1) {
-            Some(counted) => c::ldvbi_judge(system, counted, found_pace, &readings, &mut seen, &mut judged),
-            None => c::ldvbi_judge_chapters(&readings, &mut seen, &mut judged),
-        });
-        judged
-    }
-}
-
-/// Room for what so many fields show, and for their numbers.
-pub(crate) fn rooms(fields: usize) -> (Vec<Sightings>, Vec<side::Number>) {
-    let none = Sighting { number: 0, weight: 0 };
-    let seen = Sightings { line_17: none, line_18: none, instead: 0 };
-    (vec![seen; fields], vec![side::Number { number: 0, state: 0 }; fields])
 }

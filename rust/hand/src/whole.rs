@@ -1,9 +1,10 @@
 //! Whole sides: where the numbers and the fields of a capture don't go on together, and whether it is whole.
 
 use crate::c;
-use crate::lines::done;
+use crate::judged::rooms;
+use crate::lines::{done, number_of};
 use crate::side::{self, Counted, Finding, Tally};
-use crate::sides::{rooms, Side};
+use crate::sides::Side;
 
 /// What a whole side is judged by.
 #[derive(Clone, Copy, Debug, PartialEq, Eq)]
@@ -181,19 +182,18 @@ impl Side<'_> {
 
     /// Reads and judges the side: what is said of it, and all its gaps.
     fn judge_side(&self, options: SideOptions) -> (Finding, Vec<side::Gap>) {
-        let readings: Vec<_> = self.read(0).collect();
-        let (system, counted) = (self.system_number(), options.counted as u32 + 1);
+        let judged = self.judged();
+        let readings = judged.readings();
+        let (system, counted) = (number_of(self.system()), options.counted as u32 + 1);
         let (mut pace, mut ends) = (0, vec![0; readings.len()]);
         let (mut seen, mut numbers) = rooms(readings.len());
-        done(c::ldvbi_find_pace(system, counted, &readings, &mut seen, &mut pace));
-        done(c::ldvbi_judge(system, counted, pace, &readings, &mut seen, &mut numbers));
-        done(c::ldvbi_judge_ends(&readings, &mut ends));
+        done(c::ldvbi_find_pace(system, counted, readings, &mut seen, &mut pace));
+        done(c::ldvbi_judge(system, counted, pace, readings, &mut seen, &mut numbers));
+        done(c::ldvbi_judge_ends(readings, &mut ends));
         // Each gap ends at a field of its own, so there is room for all.
         let (mut gaps, mut found) = (vec![NO_GAP; readings.len()], NOT_FOUND);
         let (both, may_end) = (options.on_both.map_or(FIND_BOTH, u32::from), u32::from(options.may_end));
-        done(c::ldvbi_judge_side(
-            system, counted, pace, both, may_end, &seen, &numbers, &ends, &mut gaps, &mut found,
-        ));
+        done(c::ldvbi_judge_side(system, counted, pace, both, may_end, &seen, &numbers, &ends, &mut gaps, &mut found));
         gaps.truncate(found.tally.gaps);
         (found, gaps)
     }

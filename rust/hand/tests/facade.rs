@@ -5,6 +5,7 @@ mod drawn;
 use drawn::{digits, draw, levels, picture, time};
 use ldvbi::{classify, format_of, Code, Counted, Error, Feeder, Field, Format, Levels, LevelsFault, Near};
 use ldvbi::{Number, Outcome, Place, Reading, Side, System, Word24, WordFault};
+use std::sync::Arc;
 
 const STOP: u32 = 0x82CFFF;
 const CLV_MARK: u32 = 0x87FFFF;
@@ -64,7 +65,7 @@ fn reads_what_was_drawn() {
         let codes = drawn.map(|field| field[1].outcome.word().map(classify));
         assert_eq!(codes, [Some(Code::Picture(12345)), Some(Code::Chapter(42)), None]);
         assert_eq!(format_of(&drawn[0].map(|line| line.outcome.word())), Format::Cav);
-        assert_eq!(format!("{side:?}"), "Side { fields: 3, .. }");
+        assert_eq!(format!("{side:?}"), "Side { fields: 3, is_judged: false, .. }");
     }
 }
 
@@ -213,6 +214,97 @@ fn stops_from_a_field_on() {
         assert_eq!((from(10), from(11), from(67)), (vec![10, 66, 67], vec![66, 67], vec![67]));
         assert_eq!((from(68), from(80), from(usize::MAX)), (vec![], vec![], vec![]));
         assert_eq!(side.stops(0).next().map(|stop| stop.readings), Some([STOP, picture(5), picture(5)].map(shown)));
+    }
+}
+
+/// Whether a side was judged, as it says for who looks for a fault.
+fn is_judged(side: &Side) -> bool {
+    format!("{side:?}").contains("is_judged: true")
+}
+
+#[test]
+fn judges_a_side_once() {
+    for (system, ..) in SYSTEMS {
+        let bytes = draw(system, &cav());
+        let side = Side::new(&bytes, system, levels()).unwrap();
+        let clone = side.clone();
+        let found: Vec<_> = std::thread::scope(|scope| {
+            let threads: Vec<_> = (0..4).map(|_| scope.spawn(|| side.judged())).collect();
+            threads.into_iter().map(|thread| thread.join().unwrap()).collect()
+        });
+        assert!(found.iter().all(|judged| Arc::ptr_eq(judged, &clone.judged())));
+        let judged = clone.judged();
+        assert!(judged.fields().eq(side.fields()));
+        assert!(judged.chapters().eq(side.chapters()));
+        for counted in [Counted::Pictures, Counted::Times] {
+            assert!(judged.numbers(counted).eq(side.numbers(counted)));
+        }
+        assert_eq!(format!("{judged:?}"), "Judged { fields: 80, .. }");
+    }
+}
+
+#[test]
+fn seeks_by_halving_and_on_the_whole_side() {
+    for (system, .., rate) in SYSTEMS {
+        let (cav, clv) = (draw(system, &cav()), draw(system, &clv(rate)));
+        let [pictures, times] = [&cav, &clv].map(|bytes| Side::new(bytes, system, levels()).unwrap());
+        assert_eq!(pictures.seek(Place::Picture(30)).map(|field| field.index), Some(60));
+        assert_eq!(times.seek(Place::Time(1, 0, 0, 3)).map(|field| field.index), Some(2 * rate as usize + 6));
+        assert_eq!(pictures.seek(Place::Time(0, 0, 60, 0)), None);
+        assert!(!is_judged(&pictures) && !is_judged(&times));
+        for (bytes, place, found) in [
+            (&cav, Place::Picture(40), None),
+            (&cav, Place::Chapter(1), Some(41)),
+            (&clv, Place::Time(1, 0, 1, 0), None),
+        ] {
+            let side = Side::new(bytes, system, levels()).unwrap();
+            assert_eq!((side.seek(place).map(|field| field.index), is_judged(&side)), (found, true));
+        }
+    }
+}
+
+#[test]
+fn seeks_the_first_field_where_that_is_worn() {
+    // Numbers on both fields of a picture, and a jump. Worn are the first fields of the side and of what follows it:
+    // there no number is due by those before and behind.
+    let rows: Vec<_> = (0..20).chain(100..120).flat_map(|number| [[0, picture(number), picture(number)]; 2]).collect();
+    for (system, line, field, start, _) in SYSTEMS {
+        let mut bytes = draw(system, &rows);
+        for begin in [0, 40].map(|worn| worn * field + 16 * line) {
+            for at in [begin, begin + line] {
+                drop_out(&mut bytes[at..at + line], start as usize + system.half_max(), 6);
+            }
+        }
+        let side = Side::new(&bytes, system, levels()).unwrap();
+        for worn in [0, 40] {
+            assert_eq!(side.fields().nth(worn).map(|lines| lines.map(|line| line.pass)), Some([0, 3, 3]));
+        }
+        for (place, number) in (0..20).chain(100..120).enumerate() {
+            let found = side.seek(Place::Picture(number)).map(|field| field.index);
+            assert_eq!(found, Some(2 * place), "{number}");
+        }
+        assert!(!is_judged(&side));
+    }
+}
+
+#[test]
+fn seeks_where_a_capture_goes_back() {
+    // Pictures 0 to 59, then 20 to 79
+    let rows = (0..60).chain(20..80).flat_map(|number| [[0, picture(number), picture(number)], [0; 3]]);
+    let rows: Vec<_> = rows.collect();
+    for (system, ..) in SYSTEMS {
+        let bytes = draw(system, &rows);
+        let side = Side::new(&bytes, system, levels()).unwrap();
+        for number in (0..15).chain(65..80) {
+            let place = if number < 15 { 2 * number as usize } else { 2 * (60 + number as usize - 20) };
+            assert_eq!(side.seek(Place::Picture(number)).map(|field| field.index), Some(place), "{number}");
+        }
+        for number in 25..55 {
+            let first = 2 * number as usize;
+            assert_eq!(side.judged().seek(Place::Picture(number)).map(|field| field.index), Some(first));
+            let found = side.seek(Place::Picture(number)).map(|field| field.index);
+            assert!([Some(first), Some(first + 80)].contains(&found), "{number}: {found:?}");
+        }
     }
 }
 

@@ -1,0 +1,87 @@
+//! What is judged of a whole side: the numbers and the chapters of all its fields, and where each is found.
+
+use crate::c::{self, LdvbiFieldReadings};
+use crate::lines::{done, number_of, reading};
+use crate::side::{self, Counted, Sighting, Sightings};
+use crate::sides::{Field, Number, Place};
+use crate::words::{Reading, System};
+
+/// What is judged of a side by the readings of all its fields: 48 bytes of each, 5 MB of half an hour.
+/// [`Side::judged`](crate::Side::judged) makes it, and no call of it reads the side again.
+pub struct Judged {
+    system: System,
+    readings: Vec<LdvbiFieldReadings>,
+    pictures: Vec<side::Number>,
+    times: Vec<side::Number>,
+    chapters: Vec<side::Number>,
+}
+
+// Without the fields, of which there may be many
+impl std::fmt::Debug for Judged {
+    fn fmt(&self, f: &mut std::fmt::Formatter<'_>) -> std::fmt::Result {
+        f.debug_struct("Judged").field("fields", &self.readings.len()).finish_non_exhaustive()
+    }
+}
+
+impl Judged {
+    /// Judges the pictures, the times and the chapters of these fields.
+    pub(crate) fn of(system: System, readings: Vec<LdvbiFieldReadings>) -> Judged {
+        let (mut seen, blank) = rooms(readings.len());
+        let [mut pictures, mut times, mut chapters] = [blank.clone(), blank.clone(), blank];
+        for (counted, numbers) in [(Counted::Pictures, &mut pictures), (Counted::Times, &mut times)] {
+            let counted = counted as u32 + 1;
+            done(c::ldvbi_judge(number_of(system), counted, FIND_PACE, &readings, &mut seen, numbers));
+        }
+        done(c::ldvbi_judge_chapters(&readings, &mut seen, &mut chapters));
+        Judged { system, readings, pictures, times, chapters }
+    }
+
+    /// What lines 16, 17 and 18 of each field show.
+    pub fn fields(&self) -> impl ExactSizeIterator<Item = [Reading; 3]> + DoubleEndedIterator + '_ {
+        self.readings.iter().map(|field| field.lines.map(reading))
+    }
+
+    /// The number of each field, at the pace that is found: that of video or of film.
+    pub fn numbers(&self, counted: Counted) -> impl ExactSizeIterator<Item = Number> + DoubleEndedIterator + '_ {
+        self.judged(Some(counted)).iter().map(Number::of)
+    }
+
+    /// The chapter of each field that has the code of one. Most fields have none, and are of the chapter before.
+    pub fn chapters(&self) -> impl ExactSizeIterator<Item = Number> + DoubleEndedIterator + '_ {
+        self.judged(None).iter().map(Number::of)
+    }
+
+    /// The first field of the whole side whose number or chapter this is, believed or due.
+    pub fn seek(&self, place: Place) -> Option<Field> {
+        let (counted, number) = place.counted(self.system)?;
+        let index = c::ldvbi_first_of(self.judged(counted), number);
+        self.readings.get(index).map(|field| Field { index, readings: field.lines.map(reading) })
+    }
+
+    /// The readings of all fields, as the library's other calls take them.
+    pub(crate) fn readings(&self) -> &[LdvbiFieldReadings] {
+        &self.readings
+    }
+
+    /// What is judged of what is counted so, or, where nothing is named, of the chapters.
+    fn judged(&self, counted: Option<Counted>) -> &[side::Number] {
+        match counted {
+            Some(Counted::Pictures) => &self.pictures,
+            Some(Counted::Times) => &self.times,
+            None => &self.chapters,
+        }
+    }
+}
+
+/// The pace as the calls that judge take it, where it is to be found.
+pub(crate) const FIND_PACE: u32 = 3;
+
+/// What is in the room for a number before a call writes there.
+pub(crate) const NO_NUMBER: side::Number = side::Number { number: 0, state: 0 };
+
+/// Room for what so many fields show, and for their numbers.
+pub(crate) fn rooms(fields: usize) -> (Vec<Sightings>, Vec<side::Number>) {
+    let none = Sighting { number: 0, weight: 0 };
+    let seen = Sightings { line_17: none, line_18: none, instead: 0 };
+    (vec![seen; fields], vec![NO_NUMBER; fields])
+}
