@@ -13,6 +13,7 @@ from discs import answer, joined, pictures, plain, side
 from ldvbi.readings import Cut
 from ldvbi_side.answer.analysis import analyse
 from ldvbi_side.answer.entries import Best, Tried
+from ldvbi_side.join.plain import as_json
 from measure import fields_of
 from simulate import KINDS, simulated
 
@@ -42,7 +43,7 @@ def together():
     for name, *texts in (("detour", "1..50 151..170 71..100", "1..98"), ("lost", "1..3 6..8", "6..9", "1..3"),
                          ("some", "NTSC t0..4499!7%1000", "NTSC t0..4499!7%1000 -1:200"),
                          ("minutes", "m58..59x3000", "m58..59x3000")):
-        yield name, joined(*(made(text, side) for text in texts))
+        yield name, as_json(joined(*(made(text, side) for text in texts)))
 
 
 def main():

@@ -10,10 +10,11 @@ from cases import reason
 from command_runs import IN_PLACE, NO_METADATA, Calls
 from compact import cells_of, made, span
 from discs import joined, side
-from ldvbi_side.command.compare import compare, comparison_text
+from ldvbi_side.command.compare import as_json as compared, compare, comparison_text
 from ldvbi_side.command.join import joined_text, range_rows
 from ldvbi_side.draw.bars import COLOURS, bars_of
 from ldvbi_side.draw.together import page_of_joined
+from ldvbi_side.join.plain import as_json
 from ldvbi_side.join.captures import capture_of
 from ldvbi_side.join.joined import join
 from ldvbi_side.judge.places import Showing
@@ -35,7 +36,7 @@ def together(*texts, system="PAL"):
 
 def taken(found, number):
     """The source, field, frame and how of a number."""
-    return next(row[1:] for row in found["taken"] if row[0] == number)
+    return next(list(row[1:]) for row in found.taken if row.number == number)
 
 
 class Taken(unittest.TestCase):
@@ -68,7 +69,7 @@ class Taken(unittest.TestCase):
                 ("1..20", "1..30 11..40 31=-/#16*/-", 16, ["a", 31, 16, "read"]),
                 ("1..30 11..40 31=-/#16*/-", "1..10", 17, ["a", 33, 17, "read"])):
             self.assertEqual(taken(together(one, other), number), wanted, (one, other))
-        self.assertEqual({one[1] for one in together("1..40", "1..40", "1..40")["taken"]}, {"a"})
+        self.assertEqual({one.source for one in together("1..40", "1..40", "1..40").taken}, {"a"})
         # frames of a capture that begins with a second field
         found = joined(made("PAL/1 1..40 -1", side), made("1..10", side))
         self.assertEqual([taken(found, 1), taken(found, 2)], [["b", 1, 1, "read"], ["a", 2, 1, "read"]])
@@ -80,7 +81,7 @@ class Taken(unittest.TestCase):
                 ("1..80 101=?/#51/#51", "1..80 101=?/#51/#51 102=!/C/C", ()),
                 ("1..30 60=?/C/C", "1..30", range(18, 31))):
             found = together(one.replace("/C", "/800DDD"), other.replace("/C", "/800DDD"))
-            self.assertEqual([row[0] for row in found["taken"] if row[1] == "b"], list(numbers), (one, other))
+            self.assertEqual([row.number for row in found.taken if row.source == "b"], list(numbers), (one, other))
 
     def test_a_confirmed_number_is_between_those_that_are_read_and_due(self):
         due, near = made("1..40 7=B", side), made("1..40 7=B", side)
@@ -109,9 +110,10 @@ class Stretches(unittest.TestCase):
         """A capture that is too short to decide what the clock leaves out goes by the other one."""
         for one, other in ((SOME, SOME), (SOME + " -401:8990", SOME), (SOME, SOME + " -401:8990")):
             found = together(one, other, system="NTSC")
-            self.assertEqual((found["missing"], len(found["leftOut"]), found["disagreements"]), ([], 5, []))
+            self.assertEqual((found.together.missing, len(found.together.left_out), found.disagreements), ([], 5, []))
             self.assertIn("skipped by the disc itself: 5", joined_text(found))
-        self.assertEqual(together(SOME + " -1:38", SOME, system="NTSC")["lacks"], [  # from 0:00:00.20 on
+        found = as_json(together(SOME + " -1:38", SOME, system="NTSC"))
+        self.assertEqual(found["lacks"], [  # from 0:00:00.20 on
             {"capture": "a", "first": "0:00:00.00", "last": "0:00:00.19", "count": 19, "in": ["b"]}])
 
     def test_missing(self):
@@ -125,7 +127,7 @@ class Stretches(unittest.TestCase):
                 ("1..40 29=B", "1..40 -29:30", "", "none lost")):
             found = together(one, other)
             self.assertEqual(", ".join("%s %d %s" % (span(each), each["count"], each["why"])
-                                       for each in found["missing"]), wanted)
+                                       for each in as_json(found)["missing"]), wanted)
             self.assertEqual(next(joined_text(found)), "together: pictures 1 to 40, " + head)
 
     def test_texts(self):
@@ -169,7 +171,7 @@ ROWS = (
 class Disagreements(unittest.TestCase):
     def texts(self, found):
         return ["%s: %s" % (each["why"], ", ".join("%s %s@%s" % (part["capture"], span(part), span(
-            part, "field", "lastField")) for part in each["between"])) for each in found["disagreements"]]
+            part, "field", "lastField")) for part in each["between"])) for each in as_json(found)["disagreements"]]
 
     def test_rows(self):
         """Numbers of a detour are taken elsewhere."""
@@ -182,7 +184,7 @@ class Disagreements(unittest.TestCase):
                 if not wanted:
                     self.assertEqual(self.texts(together(other, one, system=system)), [])
         found = together(DETOUR, "1..100", "121..180")
-        self.assertEqual([one["source"] for one in found["ranges"]], ["a", "b", "a", "c"])
+        self.assertEqual([one.source for one in found.ranges], ["a", "b", "a", "c"])
         self.assertEqual(taken(found, 151), ["c", 61, 31, "read"])
 
 
@@ -283,6 +285,7 @@ class Comparing(unittest.TestCase):
         for name, one, other, *wanted in cells_of(COMPARED):
             one, other = made(one, side), made(other, side)
             for found, names in ((compare(one, other), {}), (compare(other, one), turned)):
+                found = compared(found)
                 for text in wanted:
                     verdict, _, stretches = text.partition(" ")
                     with self.subTest((name, verdict, names)):
@@ -291,7 +294,7 @@ class Comparing(unittest.TestCase):
 
     def test_text(self):
         found = compare(made(ONE, side), made(OTHER, side))
-        self.assertEqual([found[name] for name in ("version", "unit", "counts")], [1, "picture", [37, 39]])
+        self.assertEqual((found.version, found.unit, found.counts), (1, "picture", [37, 39]))
         self.assertEqual(list(comparison_text(found, ("x.tbc", "y.tbc"))), [
             "pictures: 37 in x.tbc, 39 in y.tbc, 36 in both",
             "in x.tbc alone: 1 (picture 31)", "in y.tbc alone: 3 (pictures 21 to 23)",
@@ -299,7 +302,7 @@ class Comparing(unittest.TestCase):
             "alike in both: 31 (picture 1, pictures 7 to 20, pictures 24 to 30, pictures 32 to 40)",
             "together: pictures 1 to 40, none lost"])
         found = compare(made("1..40 -21:30", side), made("1..40 -29:34", side))
-        self.assertEqual(found["missing"][0]["why"], "lost")
+        self.assertEqual(compared(found)["missing"][0]["why"], "lost")
         self.assertEqual(list(comparison_text(found, ("x", "y")))[-1], "together: pictures 1 to 40, 1 lost")
         self.assertEqual(reason(compare, made("B", side), made("1..9", side), "xy"), "x has no numbers to compare")
 

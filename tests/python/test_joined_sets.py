@@ -5,6 +5,7 @@ import json
 import unittest
 from collections import Counter
 
+from ldvbi_side.join.plain import as_json
 from ldvbi_side.join.captures import capture_of
 from ldvbi_side.join.joined import join
 from ldvbi_side.side import side_of_document
@@ -18,8 +19,8 @@ class Set:
     def __init__(self, seed):
         self.ones = captures(seed, 2 + seed % 3)
         self.text = "seed %d, %s" % (seed, self.ones[0].kind)
-        self.joined = join([capture_of(side_of_document(json.dumps(one.document).encode()), str(place))
-                            for place, one in enumerate(self.ones)])
+        self.joined = as_json(join([capture_of(side_of_document(json.dumps(one.document).encode()), str(place))
+                                    for place, one in enumerate(self.ones)]))
         self.truths = [Truth(one) for one in self.ones]
         self.taken = {self.number(row[0]) for row in self.joined["taken"]}
         # of each capture the numbers that its fields have, read or not

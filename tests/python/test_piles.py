@@ -59,7 +59,7 @@ class Captures(InFolder):
     @staticmethod
     def how(*captures):
         """How the numbers are known that these captures have together, where they aren't simply read."""
-        return {number: how for number, _, _, _, how in join(list(captures))["taken"] if how != "read"}
+        return {number: how for number, _, _, _, how in join(list(captures)).taken if how != "read"}
 
 
 class Worn(Captures):

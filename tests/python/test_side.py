@@ -81,7 +81,8 @@ class Maps(unittest.TestCase):
 
     def test_head(self):
         for text, levels, wanted in HEADS:
-            self.assertEqual(", ".join(" ".join(map(str, row)) for row in head_rows(made(text, typed), levels)), wanted, text)
+            found = head_rows(made(text, typed), levels)
+            self.assertEqual(", ".join(" ".join(map(str, row)) for row in found), wanted, text)
 
     def test_a_time_is_sought_where_it_was_read(self):
         """Not in the field before, in which it is only due; of a second the first field that has any of it counts."""

@@ -1,11 +1,14 @@
 """Two captures of one disc's side, compared by their numbers: which are in one alone, and which capture has a number
 that is in both on better lines."""
 
-from typing import Any, Dict, Iterator, List, Sequence
+from typing import Any, Dict, Iterator, List, NamedTuple, Optional, Sequence
 
 from ldvbi.codes import LINES, code_of
+from ..join.plain import of_together
 from ..join.captures import NUMBERS, capture_of
+from ..join.entries import Together
 from ..join.joined import together_of
+from ..answer.as_json import entries
 from ..answer.ends import ordinal_of
 from ..judge.paces import RATES
 from ..judge.readings import WEIGHTS
@@ -16,14 +19,28 @@ from .summary import listed, named
 
 VERSION = 1  # of the form of what is compared
 VERDICTS = ("a", "b", "betterA", "betterB", "same")
-Compared = Dict[str, Any]  # what is found
+
+
+class Numbers(NamedTuple):
+    """Numbers of which one follows the other, `count_` of them."""
+    first: Any
+    last: Any
+    count_: int
+
+
+class Compared(NamedTuple):
+    """What two sides have: how many numbers each, for each verdict its stretches, and what the two have together. Of
+    the verdicts `a` and `b` are in that side alone; of those in both `betterA` and `betterB` are shown by more lines
+    there, or by lines read without smoothing for others, and `same` are alike."""
+    version: int
+    unit: Optional[str]
+    counts: List[int]
+    stretches: Dict[str, List[Numbers]]
+    together: Together
 
 
 def compare(a: Side, b: Side, names: Sequence[str] = ("a", "b")) -> Compared:
-    """What two sides have, as plain data: `counts` of their numbers, and for each verdict its stretches of numbers,
-    `{first, last, count}`: `a` and `b` are in that side alone; of those in both `betterA` and `betterB` are shown by
-    more lines there, or by lines read without smoothing for others, and `same` are alike. What the two have together is
-    in `numbers`, `missing` and `leftOut`. A ValueError, by these names, where they can't be of one disc."""
+    """What two sides have. A ValueError, by these names, where they can't be of one disc."""
     kinds = [(answer.unit, answer.system) for answer in (a.analysis.answer, b.analysis.answer)]
     for name, (unit, _) in zip(names, kinds):
         if unit is None:
@@ -33,13 +50,17 @@ def compare(a: Side, b: Side, names: Sequence[str] = ("a", "b")) -> Compared:
             text for name, (unit, system) in zip(names, kinds) for text in (name, UNITS[unit], system)))
     known = [_weights(side) for side in (a, b)]
     unit, system = kinds[0]
-    found: Dict[str, List[List[Any]]] = {verdict: [] for verdict in VERDICTS}
+    found: Dict[str, List[Numbers]] = {verdict: [] for verdict in VERDICTS}
     for number in sorted(known[0].keys() | known[1].keys()):
         _add(found[_verdict(*(one.get(number) for one in known))], number, RATES[system])
-    return {"version": VERSION, "unit": unit, "counts": [len(one) for one in known],
-            **{verdict: [{"first": first, "last": last, "count": count} for first, last, count, _ in stretches]
-               for verdict, stretches in found.items()},
-            **together_of([capture_of(side, name) for side, name in ((a, "a"), (b, "b"))])}
+    return Compared(VERSION, unit, [len(one) for one in known], found,
+                    together_of([capture_of(side, name) for side, name in ((a, "a"), (b, "b"))]))
+
+
+def as_json(found: Compared) -> Dict[str, Any]:
+    """What was found as plain data, in the form that docs/ANSWER.md has."""
+    return {"version": found.version, "unit": found.unit, "counts": found.counts,
+            **{verdict: entries(ones) for verdict, ones in found.stretches.items()}, **of_together(found.together)}
 
 
 def _weights(side):
@@ -64,22 +85,22 @@ def _verdict(one, other):
 
 def _add(stretches, number, rate):
     """Adds a number to the last stretch, if it follows it, else as a new one."""
-    ordinal = ordinal_of(number, rate)
-    if stretches and stretches[-1][3] == ordinal - 1:
-        stretches[-1][1:] = [number, stretches[-1][2] + 1, ordinal]
+    last = stretches[-1] if stretches else None
+    if last and ordinal_of(last.last, rate) == ordinal_of(number, rate) - 1:
+        stretches[-1] = Numbers(last.first, number, last.count_ + 1)
     else:
-        stretches.append([number, number, 1, ordinal])
+        stretches.append(Numbers(number, number, 1))
 
 
 def comparison_text(found: Compared, names: Sequence[str]) -> Iterator[str]:
     """What was found, as lines: stretches by their numbers, four of each verdict at most."""
-    unit, (one, other) = found["unit"], found["counts"]
-    both = sum(stretch["count"] for verdict in VERDICTS[2:] for stretch in found[verdict])
+    unit, (one, other) = found.unit, found.counts
+    both = sum(stretch.count_ for verdict in VERDICTS[2:] for stretch in found.stretches[verdict])
     yield "%s: %d in %s, %d in %s, %d in both" % (UNITS[unit], one, names[0], other, names[1], both)
     texts = ("in %s alone" % names[0], "in %s alone" % names[1], "better in %s" % names[0], "better in %s" % names[1],
              "alike in both")
     for verdict, text in zip(VERDICTS, texts):
-        stretches = found[verdict]
-        yield "%s: %s" % (text, listed(sum(stretch["count"] for stretch in stretches), stretches, lambda stretch: named(
-            unit, stretch["first"], stretch["last"])))
-    yield together_text(found)
+        stretches = found.stretches[verdict]
+        yield "%s: %s" % (text, listed(sum(stretch.count_ for stretch in stretches), stretches,
+                                       lambda stretch: named(unit, stretch.first, stretch.last)))
+    yield together_text(unit, found.together)

@@ -4,11 +4,13 @@ import argparse
 import csv
 import json
 import sys
-from typing import Any, Callable, Dict, Iterator, List, Tuple
+from typing import Any, Callable, Dict, Iterator, List, Optional, Tuple
 
 from ..draw.marks import SKIPPED, fields_text
+from ..join.plain import as_json
 from ..join.captures import TOGETHER, capture_of
-from ..join.joined import Joined, join
+from ..join.entries import Dispute, Joined, Lacking, Told, Together
+from ..join.joined import join
 from ..outside import printable
 from ..side import Side
 from .outputs import refuse_inputs, whole_file
@@ -38,11 +40,11 @@ def run_join(program: str, words: List[str], load: Callable[[str], Side]) -> int
         with whole_file(options.html) as file:
             file.write(page_of_joined(joined, joined_text(joined)))
     if options.csv:
-        _print_rows(TAKEN_COLUMNS, joined["taken"])
+        _print_rows(TAKEN_COLUMNS, joined.taken)
     elif options.ranges:
         _print_rows(RANGE_COLUMNS, range_rows(joined))
     elif options.json:
-        print(json.dumps(joined))
+        print(json.dumps(as_json(joined)))
     elif not options.html:
         print(*map(printable, joined_text(joined)), sep="\n")
     return 0
@@ -81,48 +83,48 @@ def _print_rows(columns, rows):
 
 def range_rows(joined: Joined) -> Iterator[Tuple[Any, ...]]:
     """A row for each stretch that can be taken at once."""
-    for one in joined["ranges"]:
-        yield one["first"], one["last"], one["source"], one["field"], one["lastField"]
+    for one in joined.ranges:
+        yield one.first, one.last, one.source, one.field, one.last_field
 
 
 # ---- As text
 
 def joined_text(joined: Joined) -> Iterator[str]:
     """What was joined, as lines: lists in the disc's order, four places of each at most."""
-    unit, missing = joined["unit"], joined["missing"]
-    yield together_text(joined)
-    for one in joined["captures"]:
-        lacks = [lack for lack in joined["lacks"] if lack["capture"] == one["name"]]
-        yield "%s: has %d, lacks %s" % (one["name"], one["numbers"]["count"], listed(
-            _count(lacks), lacks, lambda lack: "%s in %s" % (_numbers_of(lack, unit), " and ".join(lack["in"]))))
+    unit, (_, missing, left_out) = joined.unit, joined.together
+    yield together_text(unit, joined.together)
+    for one in joined.captures:
+        lacks = [lack for lack in joined.lacks if lack.capture == one.name]
+        yield "%s: has %d, lacks %s" % (one.name, one.numbers.count_, listed(
+            _count(lacks), lacks, lambda lack: "%s in %s" % (_numbers_of(lack, unit), " and ".join(lack.in_))))
     yield "lacking in all: " + listed(_count(missing), missing, lambda one: "%s %s" % (
-        _numbers_of(one, unit), one["why"]))
-    if joined["leftOut"]:
-        yield "%s: %d" % (SKIPPED, _count(joined["leftOut"]))
-    piled = [one[0] for one in joined["taken"] if one[4] == TOGETHER]
+        _numbers_of(one, unit), one.why))
+    if left_out:
+        yield "%s: %d" % (SKIPPED, _count(left_out))
+    piled = [one.number for one in joined.taken if one.how == TOGETHER]
     if piled:
         yield "read together: " + listed(len(piled), piled, lambda number: named(unit, number, number))
-    found = joined["disagreements"]
+    found = joined.disagreements
     yield "disagreements: " + listed(len(found), found, lambda one: _disagreement_text(one, unit))
 
 
-def together_text(joined: Joined) -> str:
+def together_text(unit: Optional[str], together: Together) -> str:
     """The numbers that captures have together, from the least to the greatest, and how many between these none has."""
-    numbers, counts = joined["numbers"], _counts(joined["missing"])
-    texts = ["%d %s" % (count, why) for why, count in counts.items()] or ["none lost"]
-    return "together: %s, %s" % (named(joined["unit"], numbers["least"], numbers["greatest"]), ", ".join(texts))
+    _, least, greatest = together.numbers
+    texts = ["%d %s" % (count, why) for why, count in _counts(together.missing).items()] or ["none lost"]
+    return "together: %s, %s" % (named(unit, least, greatest), ", ".join(texts))
 
 
-def _counts(missing: List[Joined]) -> Dict[str, int]:
+def _counts(missing: List[Lacking]) -> Dict[str, int]:
     """How many numbers are missing for each reason, of which lost ones stand in front."""
     counts = {"lost": 0}
     for one in missing:
-        counts[one["why"]] = counts.get(one["why"], 0) + one["count"]
+        counts[one.why] = counts.get(one.why, 0) + one.count_
     return {why: count for why, count in counts.items() if count}
 
 
 def _count(stretches):
-    return sum(one["count"] for one in stretches)
+    return sum(one.count_ for one in stretches)
 
 
 # What two captures say of some numbers, by why they disagree
@@ -134,16 +136,16 @@ _DISAGREE = {
 }
 
 
-def _disagreement_text(found, unit):
-    one, other = found["between"]
-    return _DISAGREE[found["why"]] % {
-        "name": one["capture"], "numbers": _numbers_of(one, unit), "fields": _fields_of(one),
-        "other": other["capture"], "otherNumbers": _numbers_of(other, unit), "otherFields": _fields_of(other)}
+def _disagreement_text(found: Dispute, unit: Optional[str]) -> str:
+    one, other = found.between
+    return _DISAGREE[found.why] % {
+        "name": one.capture, "numbers": _numbers_of(one, unit), "fields": _fields_of(one),
+        "other": other.capture, "otherNumbers": _numbers_of(other, unit), "otherFields": _fields_of(other)}
 
 
 def _numbers_of(part, unit):
-    return named(unit, part["first"], part["last"])
+    return named(unit, part.first, part.last)
 
 
-def _fields_of(part):
-    return fields_text(part["field"], part["lastField"])
+def _fields_of(part: Told) -> str:
+    return fields_text(part.field, part.last_field)

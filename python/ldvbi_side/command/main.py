@@ -18,7 +18,7 @@ from ..outside import (NAME, bytes_of_document, drop_standard_output, flush, flu
 from ..seek import seek, text_of
 from ..answer.entries import Answer
 from ..side import Side, side_of_document, side_of_stream, stream_of_tbc
-from .compare import compare, comparison_text
+from .compare import as_json, compare, comparison_text
 from .faults import SETTINGS, STANDARD_INPUT, fault_text, naming, no_metadata, refuse_folder
 from .into import Into
 from .join import run_join
@@ -243,7 +243,10 @@ def _compare(words):
     _refuse_settings(options, options.sides, [source for source, _ in sources])
     sides = [_loaded(*source, one) for source, one in zip(sources, of_each)]
     found = compare(*sides, options.sides)
-    print(*[json.dumps(found)] if options.json else map(printable, comparison_text(found, options.sides)), sep="\n")
+    if options.json:
+        print(json.dumps(as_json(found)))
+    else:
+        print(*map(printable, comparison_text(found, options.sides)), sep="\n")
     return of_many(_cut_status(side.cut, side.system, path) for side, path in zip(sides, options.sides))
 
 

@@ -74,7 +74,7 @@ def listed(count: int, ones: Collection[Item], text_of: Callable[[Item], str], p
     return "%d (%s)" % (count, shown + (" and %d more" % more if more > 0 else "")) if count else "none"
 
 
-def named(unit: str, first: Any, last: Any) -> str:
+def named(unit: Optional[str], first: Any, last: Any) -> str:
     """A number with what it counts, or the first and the last one of several."""
     return "%s %s" % (unit, first) if first == last else "%s %s to %s" % (UNITS[unit], first, last)
 

@@ -1,11 +1,10 @@
 """Several captures of one side as bars, one above the other, over the numbers that they have together. A bar says which
 numbers its capture has, and which of these are to be taken from it; below all of them is what none has."""
 
-from typing import Any, Dict, Iterable, Iterator, List, Tuple
+from typing import Any, Iterable, Iterator, List, Tuple
 
-from ..answer.entries import Extent
 from ..answer.whole import counted
-from ..join.joined import Joined
+from ..join.entries import Joined
 from .axis import LEFT, WIDTH, Axis
 from .curve import AXES, Scale
 from .marks import fields_text, span
@@ -30,32 +29,34 @@ class _Numbers:
     """The numbers along the bars."""
 
     def __init__(self, joined: Joined) -> None:
-        self.scale = Scale(joined["unit"], joined["system"], Extent(*joined["numbers"].values()), 0, 0)
+        self.scale = Scale(str(joined.unit), joined.system, joined.together.numbers, 0, 0)
         self.axis = Axis(self.scale.greatest - self.scale.least + 1)
 
     def place(self, number: Any) -> int:
         """The place of a number, from 1."""
         return self.scale.count_of(number) - self.scale.least + 1
 
-    def stretch(self, one: Dict[str, Any], text: str) -> Stretch:
-        return self.place(one["first"]), self.place(one["last"]), "%s: %s" % (span(one["first"], one["last"]), text)
+    def stretch(self, one: Any, text: str) -> Stretch:
+        """Those of an entry that has a first and a last one."""
+        return self.place(one.first), self.place(one.last), "%s: %s" % (span(one.first, one.last), text)
 
 
 def bars_of(joined: Joined) -> str:
     """The text of the SVG of what captures have together."""
-    names = [one["name"] for one in joined["captures"]]
+    names = [one.name for one in joined.captures]
     lanes = len(names) + 2
     axis_top = BARS_TOP + STEP * lanes + 4
     svg, numbers = Svg(LEFT + WIDTH + RIGHT, axis_top + 56), _Numbers(joined)
     svg.text(LEFT, TITLE_Y, "%s together" % counted(len(names), "capture"), class_="title", font_size=17,
              font_weight="bold")
     _draw_legend(svg)
-    lacking = [numbers.stretch(one, "in no capture, " + one["why"]) for one in joined["missing"]]
+    lacking = [numbers.stretch(one, "in no capture, " + one.why) for one in joined.together.missing]
     for row, name in enumerate(names):
         _draw_capture(svg, numbers, joined, BARS_TOP + STEP * row, name, lacking)
     top = BARS_TOP + STEP * len(names)
-    _draw_lane(svg, numbers, top, "in none: %d" % sum(one["count"] for one in joined["missing"]), NOWHERE, lacking)
-    _draw_lane(svg, numbers, top + STEP, "disagreements: %d" % len(joined["disagreements"]), DISAGREEMENT,
+    count = sum(one.count_ for one in joined.together.missing)
+    _draw_lane(svg, numbers, top, "in none: %d" % count, NOWHERE, lacking)
+    _draw_lane(svg, numbers, top + STEP, "disagreements: %d" % len(joined.disagreements), DISAGREEMENT,
                list(_disagreeing(numbers, joined)))
     _draw_axis(svg, numbers, axis_top)
     return svg.render()
@@ -73,10 +74,10 @@ def _draw_capture(svg, numbers, joined, y, name, lacking):
     """The bar of a capture: all numbers, on these what is taken from it, and on top what it hasn't."""
     svg.text(LEFT - 10, y + HEIGHT / 2 + 5, shortened(name, LEFT - 20, 13), name, text_anchor="end", class_="capture")
     svg.box(LEFT, y, WIDTH, HEIGHT, COLOURS[HERE])
-    taken = [numbers.stretch(one, "taken from %s of %s" % (fields_text(one["field"], one["lastField"]), name))
-             for one in joined["ranges"] if one["source"] == name]
-    elsewhere = [numbers.stretch(one, "not in %s, but in %s" % (name, " and ".join(one["in"])))
-                 for one in joined["lacks"] if one["capture"] == name]
+    taken = [numbers.stretch(one, "taken from %s of %s" % (fields_text(one.field, one.last_field), name))
+             for one in joined.ranges if one.source == name]
+    elsewhere = [numbers.stretch(one, "not in %s, but in %s" % (name, " and ".join(one.in_)))
+                 for one in joined.lacks if one.capture == name]
     for state, stretches in ((TAKEN, taken), (ELSEWHERE, elsewhere), (NOWHERE, lacking)):
         _draw_stretches(svg, numbers, y, state, stretches)
 
@@ -110,10 +111,10 @@ def _joined(axis: Axis, stretches: Iterable[Stretch]) -> Iterator[Tuple[int, int
 
 def _disagreeing(numbers: _Numbers, joined: Joined) -> Iterator[Stretch]:
     """What both of two captures say where they disagree."""
-    for found in joined["disagreements"]:
-        for one, other in (found["between"], found["between"][::-1]):
+    for found in joined.disagreements:
+        for one, other in (found.between, found.between[::-1]):
             yield numbers.stretch(one, "in %s of %s, and %s otherwise" % (
-                fields_text(one["field"], one["lastField"]), one["capture"], other["capture"]))
+                fields_text(one.field, one.last_field), one.capture, other.capture))
 
 
 def _draw_axis(svg, numbers, top):

@@ -3,7 +3,9 @@ in full lists."""
 
 from typing import Any, Dict, Iterable, List
 
-from ..join.joined import Joined
+from ..answer.as_json import entries
+from ..join.plain import as_json
+from ..join.entries import Joined
 from .bars import bars_of
 from .page import STYLE, escaped
 
@@ -16,16 +18,17 @@ LISTS = {
 
 def page_of_joined(joined: Joined, lines: Iterable[str]) -> str:
     """The text of the page. `lines` say in words what was joined."""
-    title = ", ".join(one["name"] for one in joined["captures"])
+    title = ", ".join(one.name for one in joined.captures)
     parts = ['<!DOCTYPE html>\n<html lang="en"><head><meta charset="utf-8"><title>%s</title>\n'
              '<meta name="viewport" content="width=device-width, initial-scale=1">\n<style>%s</style></head><body>'
              % (escaped(title), STYLE), "<h1>%s</h1>" % escaped(title)]
     parts += ["<p>%s</p>" % escaped(line) for line in lines]
     parts.append('<div class="wide">%s</div>' % bars_of(joined))
+    plain = as_json(joined)
     for name, text in LISTS.items():
-        parts.append(_fold(name, text, joined[name]))
+        parts.append(_fold(name, text, plain[name]))
     parts.append(_fold("disagreements", "disagreements of two captures", [
-        {"why": found["why"], **part} for found in joined["disagreements"] for part in found["between"]]))
+        {"why": found.why, **part} for found in joined.disagreements for part in entries(found.between)]))
     return "\n".join(parts + ["</body></html>", ""])
 
 

@@ -1,17 +1,16 @@
-"""What several captures of one disc's side have together, as plain data; docs/ANSWER.md has its members."""
+"""What several captures of one disc's side have together."""
 
 from typing import Any, Callable, Dict, Iterable, List, Set, Tuple
 
-from ..answer.as_json import entry
-from ..answer.entries import frame_of
+from ..answer.entries import Extent, frame_of
 from ..judge.paces import Unit
 from .captures import DUE, TOGETHER, Capture
-from .disagreements import Disagreement, Part, disagreements_of, disputed_in
+from .disagreements import Part, disagreements_of, disputed_in
+from .entries import Dispute, Held, Joined, Lack, Lacking, Range, Source, Together, Told
 from .others import refuse_other_discs
 from .piles import read_together
 from .taken import Taken, follows, stretches_of, taken_of
 
-Joined = Dict[str, Any]  # what captures have together, or a part of it
 VERSION = 1  # of the answer's form
 CLOCK, LOST, UNDECIDED = "clock", "lost", "undecided"
 # Why a number is missing that no capture has, the surest first: one that a capture has a field for isn't lost
@@ -25,29 +24,26 @@ def join(captures: List[Capture]) -> Joined:
     disputed = disputed_in(found)
     taken, piled = taken_of(captures, disputed), read_together(captures, disputed)
     together = together_of(captures)
-    left_out = captures[0].numbers_of((one["first"], one["last"]) for one in together["leftOut"])
-    return {
-        "version": VERSION, "system": captures[0].answer.system, "format": captures[0].answer.format,
-        "unit": unit.name, "captures": [_of_capture(one) for one in captures], **together,
-        "lacks": [one for capture in captures for one in _lacks(capture, captures, taken, left_out)],
-        "disagreements": [_disagreement(one, unit) for one in found],
-        "taken": [[unit.text_of(one.number), one.capture.name, one.place.field, _frame(one),
-                   TOGETHER if one.number in piled else one.place.how] for one in taken],
-        "ranges": [_range(one, unit) for one in stretches_of(taken, left_out)]}
+    left_out = captures[0].numbers_of((one.first, one.last) for one in together.left_out)
+    return Joined(
+        VERSION, captures[0].answer.system, captures[0].answer.format, unit.name,
+        [_of_capture(one) for one in captures], together,
+        [one for capture in captures for one in _lacks(capture, captures, taken, left_out)],
+        [Dispute(one.why, [_told(one.one, unit), _told(one.other, unit)]) for one in found],
+        [Source(unit.text_of(one.number), one.capture.name, one.place.field, _frame(one),
+                TOGETHER if one.number in piled else one.place.how) for one in taken],
+        [_range(one, unit) for one in stretches_of(taken, left_out)])
 
 
-def together_of(captures: List[Capture]) -> Joined:
+def together_of(captures: List[Capture]) -> Together:
     """The numbers that any of these captures has, and those between them that none has."""
     unit = captures[0].unit()
     numbers = sorted(set().union(*(capture.first for capture in captures)))
     whys = _whys_of(captures)
     lacking = [number for one, other in zip(numbers, numbers[1:]) for number in range(one + 1, other)]
-    missing = [dict(one, why=why)
-               for one, why in _stretches(lacking, lambda number: whys.get(number, LOST), unit, set())]
-    return {
-        "numbers": {"count": len(numbers), "least": unit.text_of(numbers[0]), "greatest": unit.text_of(numbers[-1])},
-        "missing": [one for one in missing if one["why"] != CLOCK],
-        "leftOut": [one for one in missing if one["why"] == CLOCK]}
+    missing = [Lacking(*one) for one in _stretches(lacking, lambda number: whys.get(number, LOST), unit, set())]
+    return Together(Extent(len(numbers), unit.text_of(numbers[0]), unit.text_of(numbers[-1])),
+                    [one for one in missing if one.why != CLOCK], [one for one in missing if one.why == CLOCK])
 
 
 def _whys_of(captures: List[Capture]) -> Dict[int, str]:
@@ -62,8 +58,8 @@ def _whys_of(captures: List[Capture]) -> Dict[int, str]:
 
 
 def _stretches(numbers: Iterable[int], said_of: Callable[[int], Any], unit: Unit,
-               left_out: Set[int]) -> List[Tuple[Joined, Any]]:
-    """Ascending numbers in stretches of which the same is said, each with that."""
+               left_out: Set[int]) -> List[Tuple[Any, Any, int, Any]]:
+    """Ascending numbers in stretches of which the same is said: the first and the last one, their count, and that."""
     stretches: List[List[Any]] = []
     for number in numbers:
         said = said_of(number)
@@ -71,13 +67,11 @@ def _stretches(numbers: Iterable[int], said_of: Callable[[int], Any], unit: Unit
             stretches[-1][1:3] = number, stretches[-1][2] + 1
         else:
             stretches.append([number, number, 1, said])
-    return [({"first": unit.text_of(first), "last": unit.text_of(last), "count": count}, said)
-            for first, last, count, said in stretches]
+    return [(unit.text_of(first), unit.text_of(last), count, said) for first, last, count, said in stretches]
 
 
 def _of_capture(capture):
-    return {"name": capture.name, "fields": capture.answer.fields,
-            "numbers": entry(capture.answer.numbers._replace(count_=len(capture.first)))}
+    return Held(capture.name, capture.answer.fields, capture.answer.numbers._replace(count_=len(capture.first)))
 
 
 def _lacks(capture, captures, taken, left_out):
@@ -86,23 +80,17 @@ def _lacks(capture, captures, taken, left_out):
 
     def having(number):
         return [other.name for other in captures if number in other.first]
-    return [{"capture": capture.name, **one, "in": names}
-            for one, names in _stretches(lacking, having, capture.unit(), left_out)]
+    return [Lack(capture.name, *one) for one in _stretches(lacking, having, capture.unit(), left_out)]
 
 
-def _disagreement(one: Disagreement, unit: Unit) -> Joined:
-    return {"why": one.why, "between": [_part(one.one, unit), _part(one.other, unit)]}
-
-
-def _part(part: Part, unit: Unit) -> Joined:
-    return {"capture": part.name, "first": unit.text_of(part.first), "last": unit.text_of(part.last),
-            "field": part.field, "lastField": part.last_field}
+def _told(part: Part, unit: Unit) -> Told:
+    return Told(part.name, unit.text_of(part.first), unit.text_of(part.last), part.field, part.last_field)
 
 
 def _frame(one: Taken) -> int:
     return frame_of(one.place.field, one.capture.answer.frame_begin)
 
 
-def _range(ones: List[Taken], unit: Unit) -> Joined:
-    return {"first": unit.text_of(ones[0].number), "last": unit.text_of(ones[-1].number), "count": len(ones),
-            "source": ones[0].capture.name, "field": ones[0].place.field, "lastField": ones[-1].place.last}
+def _range(ones: List[Taken], unit: Unit) -> Range:
+    return Range(unit.text_of(ones[0].number), unit.text_of(ones[-1].number), len(ones), ones[0].capture.name,
+                 ones[0].place.field, ones[-1].place.last)

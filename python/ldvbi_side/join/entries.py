@@ -1,0 +1,85 @@
+"""What several captures have together, and the entries of its lists, under the names by which this package reads them;
+plain.py gives them those of docs/FORMATS.md. Numbers are as the answer of a side has them."""
+
+from typing import Any, List, NamedTuple, Optional
+
+from ..answer.entries import Extent
+
+
+class Held(NamedTuple):
+    """A capture by its name, how many fields it has, and its numbers."""
+    name: str
+    fields: int
+    numbers: Extent
+
+
+class Lacking(NamedTuple):
+    """Numbers that no capture has, `count_` of them, and why."""
+    first: Any
+    last: Any
+    count_: int
+    why: str
+
+
+class Lack(NamedTuple):
+    """Numbers that a capture lacks, `count_` of them, and the names of those that have them."""
+    capture: str
+    first: Any
+    last: Any
+    count_: int
+    in_: List[str]
+
+
+class Told(NamedTuple):
+    """What one of two captures that disagree says: numbers, and their fields there."""
+    capture: str
+    first: Any
+    last: Any
+    field: int
+    last_field: int
+
+
+class Dispute(NamedTuple):
+    """Why two captures disagree, and what both say."""
+    why: str
+    between: List[Told]
+
+
+class Source(NamedTuple):
+    """A number, the name of the capture to take it from, its field and frame there, and how it is known."""
+    number: Any
+    source: str
+    field: int
+    frame: int
+    how: str
+
+
+class Range(NamedTuple):
+    """Numbers that can be taken at once, `count_` of them, the name of their capture, and their fields there."""
+    first: Any
+    last: Any
+    count_: int
+    source: str
+    field: int
+    last_field: int
+
+
+class Together(NamedTuple):
+    """The numbers that any capture has, those between them that none has, and those that the disc leaves out."""
+    numbers: Extent
+    missing: List[Lacking]
+    left_out: List[Lacking]
+
+
+class Joined(NamedTuple):
+    """All that captures have together."""
+    version: int
+    system: str
+    format: str
+    unit: Optional[str]
+    captures: List[Held]
+    together: Together
+    lacks: List[Lack]
+    disagreements: List[Dispute]
+    taken: List[Source]
+    ranges: List[Range]
