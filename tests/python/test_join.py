@@ -14,9 +14,9 @@ from ldvbi_side.command.compare import as_json as compared, compare, comparison_
 from ldvbi_side.command.join import joined_text, range_rows
 from ldvbi_side.draw.bars import COLOURS, bars_of
 from ldvbi_side.draw.together import page_of_joined
-from ldvbi_side.join.plain import as_json
 from ldvbi_side.join.captures import capture_of
 from ldvbi_side.join.joined import join
+from ldvbi_side.join.plain import as_json
 from ldvbi_side.judge.places import Showing
 from streams import NTSC, pictures, write_stream
 

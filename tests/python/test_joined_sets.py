@@ -5,9 +5,9 @@ import json
 import unittest
 from collections import Counter
 
-from ldvbi_side.join.plain import as_json
 from ldvbi_side.join.captures import capture_of
 from ldvbi_side.join.joined import join
+from ldvbi_side.join.plain import as_json
 from ldvbi_side.side import side_of_document
 from simulate import captures
 from truth import Truth, number_of

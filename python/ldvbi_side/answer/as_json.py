@@ -1,5 +1,6 @@
 """The answer as plain data, in the form that docs/ANSWER.md has: the members of each entry under their names there, in
-their order, with words and their kinds as texts. Nothing else knows the names of its lists' entries."""
+their order, with words and their kinds as texts. Nothing else knows these names but what reads the plain data: a page's
+lists."""
 
 import functools
 import re
@@ -14,6 +15,7 @@ from ..judge.readings import Stray, Unknown
 from .entries import Answer, Doubt, FewWords, Rates, Stop
 
 Members = Dict[str, Any]
+_KINDS = {kind: name_of(kind) for kind in Kind}
 
 
 @paused()
@@ -40,11 +42,6 @@ def _names_of(kind: Any) -> Tuple[str, ...]:
     return tuple(re.sub("_([a-z])", lambda found: found[1].upper(), name.rstrip("_")) for name in kind._fields)
 
 
-@functools.lru_cache(maxsize=None)
-def _names_of_kinds() -> Dict[Kind, str]:
-    return {kind: name_of(kind) for kind in Kind}
-
-
 # ---- Members of other forms
 
 def _cut(cut: Optional[Cut]) -> Optional[Members]:
@@ -58,14 +55,13 @@ def _showings(showings: List[Showing]) -> List[List[Any]]:
 def _doubtful(doubtful: List[Doubt]) -> List[Members]:
     """Doubtful words, of which there may be many: between two numbers all of them have the same ones beside them."""
     beside = {one: one and entry(one) for one in {one for doubt in doubtful for one in (doubt.before, doubt.after)}}
-    names = _names_of_kinds()
-    return [{"field": field, "line": line, "word": "%06X" % word, "kind": names[kind], "pass": of_pass, "why": why,
+    return [{"field": field, "line": line, "word": "%06X" % word, "kind": _KINDS[kind], "pass": of_pass, "why": why,
              "number": number, "before": beside[before], "after": beside[after]}
             for field, line, word, kind, of_pass, why, number, before, after in doubtful]
 
 
 def _stray(stray: List[Stray]) -> List[Members]:
-    return [entry(one, word="%06X" % one.word, kind=name_of(one.kind)) for one in stray]
+    return [entry(one, word="%06X" % one.word, kind=_KINDS[one.kind]) for one in stray]
 
 
 def _unknown(unknown: List[Unknown]) -> List[Members]:

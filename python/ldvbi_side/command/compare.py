@@ -4,12 +4,12 @@ that is in both on better lines."""
 from typing import Any, Dict, Iterator, List, NamedTuple, Optional, Sequence
 
 from ldvbi.codes import LINES, code_of
-from ..join.plain import of_together
+from ..answer.as_json import entries
+from ..answer.ends import ordinal_of
 from ..join.captures import NUMBERS, capture_of
 from ..join.entries import Together
 from ..join.joined import together_of
-from ..answer.as_json import entries
-from ..answer.ends import ordinal_of
+from ..join.plain import of_together
 from ..judge.paces import RATES
 from ..judge.readings import WEIGHTS
 from ..answer.whole import UNITS

@@ -7,10 +7,10 @@ import sys
 from typing import Any, Callable, Dict, Iterator, List, Optional, Tuple
 
 from ..draw.marks import SKIPPED, fields_text
-from ..join.plain import as_json
 from ..join.captures import TOGETHER, capture_of
 from ..join.entries import Dispute, Joined, Lacking, Told, Together
 from ..join.joined import join
+from ..join.plain import as_json
 from ..outside import printable
 from ..side import Side
 from .outputs import refuse_inputs, whole_file

@@ -4,8 +4,8 @@ in full lists."""
 from typing import Any, Dict, Iterable, List
 
 from ..answer.as_json import entries
-from ..join.plain import as_json
 from ..join.entries import Joined
+from ..join.plain import as_json
 from .bars import bars_of
 from .page import STYLE, escaped
 
