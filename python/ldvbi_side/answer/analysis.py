@@ -63,12 +63,13 @@ def _of_numbers(places: Places, gaps: Gaps, doubts: Doubts) -> Dict[str, Any]:
     """The numbers, and where they stand: these members of the answer."""
     text_of, showings = places.numbers.unit.text_of, places.showings
     read = read_in(doubts.doubtful, {field for _, field in places.due})
-    numbers = {one.number for one in showings}
+    shown = [one.number for one in showings]
+    numbers = set(shown)
     least, greatest = (text_of(end(numbers)) if numbers else None for end in (min, max))
     return {
         "numbers": Extent(len(numbers), least, greatest),
-        "showings": showings_of([text_of(one.number) for one in showings], [one.first for one in showings],
-                                [one.last for one in showings]),
+        "showings": showings if places.numbers.unit.name == "picture" else showings_of(
+            map(text_of, shown), [one.first for one in showings], [one.last for one in showings]),
         "completed": sorted(places.numbers.completed), "confirmed": list(places.confirmed),
         "unread": [Unread(text_of(number), field, read.get(field)) for number, field in places.due],
         "breaks": _breaks(places, gaps.breaks),

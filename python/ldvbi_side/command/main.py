@@ -18,10 +18,8 @@ from ..outside import (NAME, bytes_of_document, drop_standard_output, flush, flu
 from ..seek import seek, text_of
 from ..answer.entries import Answer
 from ..side import Side, side_of_document, side_of_stream, stream_of_tbc
-from .compare import as_json, compare, comparison_text
 from .faults import SETTINGS, STANDARD_INPUT, fault_text, naming, no_metadata, refuse_folder
 from .into import Into
-from .join import run_join
 from .map import COLUMNS as MAP_COLUMNS, head_rows, map_rows
 from .outputs import refuse_inputs, whole_file
 from .parsers import parser_of_compare, parser_of_index, parser_of_side
@@ -223,6 +221,7 @@ def _side_at(path):
 
 def _join(words):
     """Prints what captures have together."""
+    from .join import run_join  # which loads much that a single side doesn't need, as compare does
     cuts = []
 
     def load(path):
@@ -235,6 +234,7 @@ def _join(words):
 
 def _compare(words):
     """Prints what two sides have of each other's numbers."""
+    from .compare import as_json, compare, comparison_text
     options = parser_of_compare(NAME).parse_args(words)
     refuse_inputs([1], options.sides)
     given = ["--%s=%s" % pair for pair in zip(("system", "black", "white"), _settings(options)) if pair[1] is not None]

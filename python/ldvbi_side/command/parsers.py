@@ -5,7 +5,6 @@ from typing import Dict
 
 from ldvbi import System, __version__
 from ..seek import wanted_of
-from .join import parser_of_join
 from .parser import Parser
 from .statuses import OPEN_END, statuses_text
 from .summary import MOST_LINES
@@ -104,6 +103,7 @@ def parser_of_index(program: str) -> argparse.ArgumentParser:
 
 def parsers(program: str) -> Dict[str, argparse.ArgumentParser]:
     """What reads the words behind each command, and behind none; the manual page and the completions are made of it."""
-    from .scan import parser_of_scan  # which loads much that no other command needs
+    from .join import parser_of_join  # each of these two loads much that no other command needs
+    from .scan import parser_of_scan
     return {"": parser_of_side(program), "compare": parser_of_compare(program), "join": parser_of_join(program),
             "index": parser_of_index(program), "scan": parser_of_scan()}
