@@ -229,6 +229,15 @@ class WholeFiles(InFolder):
             with self.assertRaises(error), whole_file(path):
                 self.fail("there is a file")
         self.assertEqual(self.read(part), b"old")
+        os.symlink("two", self.named("one"))
+        os.symlink("one", self.named("two"))
+        before = self.names()
+        for call in (whole_file, lambda path: whole_path(path, [])):
+            for name, kind in (("one", OSError), (part + "/side.html", NotADirectoryError)):
+                with self.assertRaises(kind) as raised, call(self.named(name)):
+                    self.fail("there is a file")
+                self.assertEqual(raised.exception.filename, self.named(name))
+        self.assertEqual(self.names(), before)
 
 
 class Inputs(InFolder):
