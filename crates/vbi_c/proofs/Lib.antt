@@ -6,5 +6,6 @@ pub mod MarkedLines
 pub mod Sought
 pub mod PartOfReadings
 mod Shown
+pub mod Leading
 pub mod CompletedTimes
 pub mod Placed

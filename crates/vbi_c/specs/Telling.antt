@@ -1,15 +1,15 @@
 -- Which number some fields tell together, by which a search knows where in a side it is. The rule is this project's
 -- own.
-use Rattle.std.specs.Prelude.{◌≡◌, ◌≤◌, ◌<◌, ◌+◌, ◌⊎◌, ℕ, List, map, slice_get, Some}
+use Rattle.std.specs.Prelude.{◌≡◌, ◌≤◌, ◌<◌, ◌+◌, ◌*◌, ◌/◌, ◌⊎◌, ℕ, min, List, map, slice_get, Some}
 use Rattle.std.specs.List.{range_with_len}
 use Rattle.vbi_side.specs.declared.pace.Pace.TheVariants.{Video, Film}
 use Rattle.vbi_side.specs.declared.sighting.Sighting.{Sighting}
 use Rattle.vbi_side.specs.declared.sighting.Sightings.{Sightings}
 use Rattle.vbi_side.specs.Beliefs.{support_of}
 use Rattle.vbi_side.specs.Sightings.{IsSeen, Shows}
-use Rattle.vbi_c.specs.declared.probing.Between.{Between}
+use Rattle.vbi_c.specs.declared.halving.Between.{Between}
 use Rattle.vbi_c.specs.declared.probing.Seek.{Seek}
-use Rattle.vbi_c.specs.Seeking.{shown_at}
+use Rattle.vbi_c.specs.Seeking.{shown_at, probe_most, probe_longest}
 
 -- the weight from which on a number is told; one field alone weighs 4 at most
 abbrev pub together : ℕ
@@ -31,9 +31,27 @@ TellsIn seen n = (i : ℕ) × Shows (slice_get seen i) n × IsTold seen i n
 abbrev pub TellsFrom : Seek → List ℕ → ℕ → ℕ → ℕ → Type 0
 TellsFrom seek bytes field k n = TellsIn (map (shown_at seek bytes) (range_with_len field k)) n
 
--- number n is sought between other fields than before, since so many fields from this one on tell another number or n
--- itself: from this field on if that number is less than n, else up to this field
-abbrev pub IsNarrowed : ℕ → ℕ → ℕ → ℕ → Between → Between → Type 0
-IsNarrowed n field read told old new =
-    ((told < n) × (new ≡ record old { low = field; lower = Some told; looked = old.looked + read }))
-    ⊎ ((n ≤ told) × (new ≡ record old { high = field; higher = Some told; looked = old.looked + read }))
+-- the fields from this one on tell no number: no 12 of them do, or fewer
+abbrev pub IsSilent : Seek → List ℕ → ℕ → ℕ → Type 0
+IsSilent seek bytes count field =
+    (k n : ℕ) → k ≤ probe_most → field + k ≤ count → TellsFrom seek bytes field k n → ⊥
+
+-- number n is sought between other fields than before, since another number or n itself is told from this field on:
+-- from this field on if that number is less than n, else up to this field
+abbrev pub IsNarrowed : ℕ → ℕ → ℕ → Between → Between → Type 0
+IsNarrowed n field told old new =
+    ((told < n) × (new ≡ record old { low = field; lower = Some told }))
+    ⊎ ((n ≤ told) × (new ≡ record old { high = field; higher = Some told }))
+
+-- so it is by what some fields from this one on tell
+pub record IsNarrowedAt (seek : Seek) (bytes : List ℕ) (count n field : ℕ) (old new : Between) : Type 0 where
+  pub read : ℕ
+  pub number : ℕ
+  pub few : read ≤ probe_longest
+  pub inside : field + read ≤ count
+  pub told : TellsFrom seek bytes field read number
+  pub narrowed : IsNarrowed n field number old new
+
+-- the middle of one of so many equal parts of a side
+abbrev pub middle_of : ℕ → ℕ → ℕ → ℕ
+middle_of count parts part = min (count * (2 * part + 1) / (2 * parts)) count

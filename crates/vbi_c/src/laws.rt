@@ -24,7 +24,7 @@ ghost use Rattle.vbi_c.specs.Nearest.{near_for_c};
 ghost use Rattle.vbi_c.specs.Readings.{outcome_for_c};
 ghost use Rattle.vbi_c.specs.Record.{HasText};
 ghost use Rattle.vbi_c.specs.Recovering.{code_bytes};
-ghost use Rattle.vbi_c.specs.Seeking.{probe_most, probed_most, around_most, IsSought, IsSoughtIn};
+ghost use Rattle.vbi_c.specs.Seeking.{probe_most, probe_longest, probed_most, around_most, IsSought, IsSoughtIn};
 ghost use Rattle.vbi_c.specs.Setups.{system_of, of_system};
 ghost use Rattle.vbi_c.specs.Stops.{IsStopOf};
 ghost use Rattle.vbi_c.specs.Telling.{IsTold, TellsIn};
@@ -73,7 +73,7 @@ pub fn worked_answers()
     ensures record_bytes { (written : LdvbiRecord) → HasText (123 ∷ 125 ∷ []) written
         → (written.length ≡ 2) × (written.text ≡ 123 ∷ 125 ∷ replicate 446 0) }
     ensures looked { (seek : Seek) (bytes : List ℕ) (number : ℕ) (sought : LdvbiSought)
-        → IsSought seek bytes number sought → sought.looked ≤ 400 }
+        → IsSought seek bytes number sought → sought.looked ≤ 1000 }
     ensures unfound { (seek : Seek) (bytes : List ℕ) (count number : ℕ) (sought : LdvbiSought)
         → IsSoughtIn seek bytes count number sought → sought.field ≡ count
         → (sought.number ≡ record { number = 0; state = 0 }) × (sought.pace ≡ 0) }
@@ -144,7 +144,7 @@ pub fn worked_sides()
 /// How many fields a search reads, and which numbers fields tell together: what supports one has to weigh 6, at either
 /// pace. So one field alone tells none, and fields tell no number that none of them shows.
 pub fn worked_telling()
-    ensures numbers { (probe_most ≡ 12) × (probed_most ≡ 256) × (around_most ≡ 144) }
+    ensures numbers { (probe_most ≡ 12) × (probe_longest ≡ 48) × (probed_most ≡ 736) × (around_most ≡ 264) }
     ensures video { IsTold (video_ending 2) 0 5 × (IsTold (video_ending 1) 0 5 → ⊥) }
     ensures film { IsTold (film_ending 2) 0 5 × (IsTold (film_ending 1) 0 5 → ⊥) }
     ensures alone { IsTold (field_of 5 2 5 2 ∷ []) 0 5 → ⊥ }

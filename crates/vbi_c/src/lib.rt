@@ -17,6 +17,7 @@ mod ends;
 mod erased;
 mod fields;
 mod format;
+mod halving;
 mod judging;
 pub mod laws;
 mod line;

@@ -1,0 +1,308 @@
+-- What the fields of a side tell leads to the field with a number.
+use Rattle.std.proofs.Common.{◌≡◌, ℕ, zero, suc, ◌+◌, ◌-◌, ◌*◌, ◌/◌, ◌<◌, ◌≤◌, List, ap, sym, subst, refl, inl, inr, arith}
+use Rattle.std.proofs.Common.{◌∙◌, Bool, true, false, lit<, lit≤, add-one}
+use Rattle.std.specs.Prelude.{◌⊎◌, Option, Some, None}
+use Rattle.std.proofs.lemmas.Bool.Decides.{leb_tells}
+use Rattle.vbi_c.specs.declared.halving.Between.{Between}
+use Rattle.vbi_c.specs.declared.probing.Seek.{Seek}
+use Rattle.vbi_c.specs.Leads.{Tells, Leads, IsWithin, IsToldAt, IsBeside, IsNarrower, IsPlaced}
+use Rattle.vbi_c.specs.Seeking.{left_most}
+use Rattle.vbi_c.specs.Telling.{IsSilent, IsNarrowedAt, middle_of}
+
+-- ---- what is told
+
+-- the fields between which a number is sought stay right where they are narrowed by what is told
+pub narrowed_within : (seek : Seek) (bytes : List ℕ) (count number t a b field : ℕ) (old new : Between)
+    → Leads seek bytes count number t a b → IsWithin t a b old
+    → IsNarrowedAt seek bytes count number field old new → IsWithin t a b new
+narrowed_within seek bytes count number t a b field old new leads within at = elim at.narrowed [
+  | inl (less, is) ↦ subst (IsWithin t a b) (sym is) (record {
+    from = leads.lower field at.read at.number tells less;
+    to = within.to;
+    lower = λ n told. leads.untold field at.read at.number tells;
+    higher = within.higher;
+  })
+  | inr (more, is) ↦ subst (IsWithin t a b) (sym is) (record {
+    from = within.from;
+    to = let reaches = leads.higher field at.read at.number tells more in omega (arith, reaches, at.few);
+    lower = within.lower;
+    higher = λ n told. (leads.untold field at.read at.number tells).0;
+  })
+]
+  where
+    tells : Tells seek bytes count field at.read at.number
+    tells = record { few = at.few; inside = at.inside; tells = at.told }
+
+-- a number is told at one of the ends then
+pub narrowed_told : (seek : Seek) (bytes : List ℕ) (count number field : ℕ) (old new : Between)
+    → IsNarrowedAt seek bytes count number field old new → IsToldAt new
+narrowed_told seek bytes count number field old new at = elim at.narrowed [
+  | inl (less, is) ↦ subst IsToldAt (sym is) (inl (at.number, refl))
+  | inr (more, is) ↦ subst IsToldAt (sym is) (inr (at.number, refl))
+]
+
+-- ---- silence
+
+-- a field that tells nothing isn't one of those from a to b
+pub silent_outside : (seek : Seek) (bytes : List ℕ) (count number t a b field : ℕ)
+    → Leads seek bytes count number t a b → IsSilent seek bytes count field → a ≤ field → field ≤ b → ⊥
+silent_outside seek bytes count number t a b field leads silent from to =
+    let (k, n, few, tells) = leads.told field from to in silent k n few tells.inside tells.tells
+
+-- the middles of sixteen parts aren't all silent
+part_first : (count a b p : ℕ) → count + 16 * a ≤ 16 * (b + 1) → b < count → 32 * p ≤ count → (p ≤ b → a ≤ p → ⊥)
+    → p < a
+part_first count a b p part inside low outside = elim (leb_tells (b + 1) p) [
+  | inl (t, behind) ↦ absurd (omega (arith, part, inside, low, behind))
+  | inr (t, before) ↦ elim (leb_tells a p) [
+    | inl (s, from) ↦ absurd (outside (omega (arith, before)) from)
+    | inr (s, less) ↦ less
+  ]
+]
+
+part_next : (count a b x p q : ℕ) → count + 16 * a ≤ 16 * (b + 1) → b < count → p < a → x < 32 * (p + 1)
+    → 32 * q ≤ x + 2 * count → (q ≤ b → a ≤ q → ⊥) → q < a
+part_next count a b x p q part inside below high low outside = elim (leb_tells (b + 1) q) [
+  | inl (t, behind) ↦ absurd (omega (arith, part, inside, low, high, below, behind))
+  | inr (t, before) ↦ elim (leb_tells a q) [
+    | inl (s, from) ↦ absurd (outside (omega (arith, before)) from)
+    | inr (s, less) ↦ less
+  ]
+]
+
+sixteen : (seek : Seek) (bytes : List ℕ) (count number t a b : ℕ) → Leads seek bytes count number t a b
+    → ((part : ℕ) → part < 16 → IsSilent seek bytes count (middle_of count 16 part))
+    → (k : ℕ) → k < 16 → middle_of count 16 k < a
+sixteen seek bytes count number t a b leads silent zero few =
+    part_first count a b (middle_of count 16 0) leads.part leads.inside (omega arith)
+    (λ to from. silent_outside seek bytes count number t a b (middle_of count 16 0) leads (silent 0 few) from to)
+sixteen seek bytes count number t a b leads silent (suc k) few =
+    let below : middle_of count 16 k < a = sixteen seek bytes count number t a b leads silent k (omega (arith, few)) in
+    part_next count a b (count * (2 * k + 1)) (middle_of count 16 k) (middle_of count 16 (suc k)) leads.part leads.inside
+    below (omega (arith, below, leads.part, leads.inside)) (omega arith)
+    (λ to from. silent_outside seek bytes count number t a b (middle_of count 16 (suc k)) leads (silent (suc k) few) from
+    to)
+
+pub not_all_silent : (seek : Seek) (bytes : List ℕ) (count number t a b : ℕ) → Leads seek bytes count number t a b
+    → ((part : ℕ) → part < 16 → IsSilent seek bytes count (middle_of count 16 part)) → ⊥
+not_all_silent seek bytes count number t a b leads silent =
+    let last = sixteen seek bytes count number t a b leads silent 15 (lit< tt) in
+    absurd (omega (arith, last, leads.part, leads.inside))
+
+-- ---- a step of halving
+
+open_one : (x y : Option ℕ) → ((n m : ℕ) → x ≡ Some n → y ≡ Some m → ⊥) → (x ≡ None) ⊎ (y ≡ None)
+open_one None y both = inl refl
+open_one (Some n) None both = inr refl
+open_one (Some n) (Some m) both = absurd (both n m refl refl)
+
+none_some : (x : Option ℕ) (n : ℕ) → x ≡ None → x ≡ Some n → ⊥
+none_some x n none some = cc
+
+true_false : (b : Bool) → b ≡ true → b ≡ false → ⊥
+true_false b is isnt = cc
+
+-- where the middle is silent, only one end has told a number
+open_end : (seek : Seek) (bytes : List ℕ) (count number t a b : ℕ) (between : Between)
+    → Leads seek bytes count number t a b → IsWithin t a b between → between.low + left_most < between.high
+    → IsSilent seek bytes count (between.low + (between.high - between.low) / 2)
+    → (between.lower ≡ None) ⊎ (between.higher ≡ None)
+open_end seek bytes count number t a b between leads within wide silent =
+    open_one between.lower between.higher (λ n m lower higher.
+    let low = within.lower n lower in
+    let high = within.higher m higher in
+    silent_outside seek bytes count number t a b (between.low + (between.high - between.low) / 2) leads silent
+    (omega (arith, low.1, wide)) (omega (arith, high, wide)))
+
+-- told in the middle, or beside it
+pub told_near : (seek : Seek) (bytes : List ℕ) (count number t a b field : ℕ) (old new : Between)
+    → Leads seek bytes count number t a b → IsWithin t a b old → old.low + left_most < old.high
+    → old.low + (old.high - old.low) / 2 ≤ field
+    → field ≤ old.low + (old.high - old.low) / 2 + (old.high - old.low) / 8
+    → IsNarrowedAt seek bytes count number field old new → IsNarrower t a b old new
+told_near seek bytes count number t a b field old new leads within wide from to at = record {
+  within = narrowed_within seek bytes count number t a b field old new leads within at;
+  told = narrowed_told seek bytes count number field old new at;
+  narrower = elim at.narrowed [
+    | inl (less, is) ↦ subst (λ (n : Between). 8 * (n.high - n.low) ≤ 5 * (old.high - old.low)) (sym is)
+        (omega (arith, wide, from, to))
+    | inr (more, is) ↦ subst (λ (n : Between). 8 * (n.high - n.low) ≤ 5 * (old.high - old.low)) (sym is)
+        (omega (arith, wide, from, to))
+  ];
+}
+
+pub told_middle : (seek : Seek) (bytes : List ℕ) (count number t a b : ℕ) (old new : Between)
+    → Leads seek bytes count number t a b → IsWithin t a b old → old.low + left_most < old.high
+    → IsNarrowedAt seek bytes count number (old.low + (old.high - old.low) / 2) old new → IsNarrower t a b old new
+told_middle seek bytes count number t a b old new leads within wide at =
+    told_near seek bytes count number t a b (old.low + (old.high - old.low) / 2) old new leads within wide
+    (omega arith) (omega arith) at
+
+pub told_beside : (seek : Seek) (bytes : List ℕ) (count number t a b field : ℕ) (old rest new : Between)
+    → Leads seek bytes count number t a b → IsWithin t a b old → old.low + left_most < old.high
+    → IsSilent seek bytes count (old.low + (old.high - old.low) / 2) → rest ≡ old → IsBeside rest field
+    → IsNarrowedAt seek bytes count number field rest new → IsNarrower t a b old new
+told_beside seek bytes count number t a b field old rest new leads within wide silent same beside at =
+    let here = subst (λ (b : Between). IsBeside b field) same beside in
+    let near = here.near (open_end seek bytes count number t a b old leads within wide silent) in
+    told_near seek bytes count number t a b field old new leads within wide near.0 near.1
+    (subst (λ (b : Between). IsNarrowedAt seek bytes count number field b new) same at)
+
+-- silence in the middle
+pub silent_before : (seek : Seek) (bytes : List ℕ) (count number t a b : ℕ) (old rest : Between) (behind : Bool)
+    → Leads seek bytes count number t a b → IsWithin t a b old → IsToldAt old → old.low + left_most < old.high
+    → IsSilent seek bytes count (old.low + (old.high - old.low) / 2) → rest ≡ old
+    → (rest.higher ≡ None → behind ≡ false) → behind ≡ true
+    → IsNarrower t a b old (record rest { low = old.low + (old.high - old.low) / 2 })
+silent_before seek bytes count number t a b old rest behind leads within told wide silent same opens is =
+    subst (λ (r : Between). IsNarrower t a b old (record r { low = old.low + (old.high - old.low) / 2 })) (sym same)
+    (elim (open_end seek bytes count number t a b old leads within wide silent) [
+      | inr none ↦ absurd (true_false behind is (opens (ap (λ (r : Between). r.higher) same ∙ none)))
+      | inl none ↦ elim told [
+        | inl (n, some) ↦ absurd (none_some old.lower n none some)
+        | inr (n, some) ↦
+            let high = within.higher n some in
+            let before : old.low + (old.high - old.low) / 2 < a = elim (leb_tells a (old.low + (old.high - old.low) / 2)) [
+              | inl (s, from) ↦ absurd (silent_outside seek bytes count number t a b
+                  (old.low + (old.high - old.low) / 2) leads silent from (omega (arith, high, wide)))
+              | inr (s, less) ↦ less
+            ] in
+            record {
+              within = record {
+                from = omega (arith, before, leads.between.0);
+                to = within.to;
+                lower = λ m lower. absurd (none_some old.lower m none lower);
+                higher = within.higher;
+              };
+              told = inr (n, some);
+              narrower = omega (arith, wide);
+            }
+      ]
+    ])
+
+pub silent_behind : (seek : Seek) (bytes : List ℕ) (count number t a b : ℕ) (old rest : Between) (behind : Bool)
+    → Leads seek bytes count number t a b → IsWithin t a b old → IsToldAt old → old.low + left_most < old.high
+    → IsSilent seek bytes count (old.low + (old.high - old.low) / 2) → rest ≡ old
+    → (rest.lower ≡ None → (n : ℕ) → rest.higher ≡ Some n → behind ≡ true) → behind ≡ false
+    → IsNarrower t a b old (record rest { high = old.low + (old.high - old.low) / 2 })
+silent_behind seek bytes count number t a b old rest behind leads within told wide silent same opens is =
+    subst (λ (r : Between). IsNarrower t a b old (record r { high = old.low + (old.high - old.low) / 2 })) (sym same)
+    (elim (open_end seek bytes count number t a b old leads within wide silent) [
+      | inl none ↦ elim told [
+        | inl (n, some) ↦ absurd (none_some old.lower n none some)
+        | inr (n, some) ↦ absurd (true_false behind (opens (ap (λ (r : Between). r.lower) same ∙ none) n
+            (ap (λ (r : Between). r.higher) same ∙ some)) is)
+      ]
+      | inr none ↦ elim told [
+        | inr (n, some) ↦ absurd (none_some old.higher n none some)
+        | inl (n, some) ↦
+            let low = within.lower n some in
+            let after : b < old.low + (old.high - old.low) / 2 = elim (leb_tells (old.low + (old.high - old.low) / 2) b) [
+              | inl (s, to) ↦ absurd (silent_outside seek bytes count number t a b
+                  (old.low + (old.high - old.low) / 2) leads silent (omega (arith, low.1, wide)) to)
+              | inr (s, more) ↦ more
+            ] in
+            record {
+              within = record {
+                from = within.from;
+                to = omega (arith, after, leads.between.1);
+                lower = within.lower;
+                higher = λ m higher. absurd (none_some old.higher m none higher);
+              };
+              told = inl (n, some);
+              narrower = omega (arith, wide);
+            }
+      ]
+    ])
+
+-- ---- the whole way
+
+-- before any number is told
+at_first : (seek : Seek) (bytes : List ℕ) (count number t a b : ℕ) → Leads seek bytes count number t a b
+    → IsWithin t a b (record { low = 0; high = count; lower = None; higher = None })
+at_first seek bytes count number t a b leads = record {
+  from = omega arith;
+  to = omega (arith, leads.between.1, leads.inside);
+  lower = λ n told. absurd (none_some None n refl told);
+  higher = λ n told. absurd (none_some None n refl told);
+}
+
+-- once one is
+pub record HasBegun (t a b : ℕ) (between : Between) : Type 0 where
+  pub within : IsWithin t a b between
+  pub told : IsToldAt between
+
+pub begun : (seek : Seek) (bytes : List ℕ) (count number t a b : ℕ) (told : Bool) (new : Between)
+    → (told ≡ false → (part : ℕ) → part < 16 → IsSilent seek bytes count (middle_of count 16 part))
+    → (told ≡ true → (field : ℕ) × (field ≤ count) × IsNarrowedAt seek bytes count number field
+    (record { low = 0; high = count; lower = None; higher = None }) new)
+    → Leads seek bytes count number t a b → HasBegun t a b new
+begun seek bytes count number t a b false new silent narrowed leads =
+    absurd (not_all_silent seek bytes count number t a b leads (silent refl))
+begun seek bytes count number t a b true new silent narrowed leads =
+    let (field, inside, at) = narrowed refl in
+    record {
+      within = narrowed_within seek bytes count number t a b field
+          (record { low = 0; high = count; lower = None; higher = None }) new leads
+          (at_first seek bytes count number t a b leads) at;
+      told = narrowed_told seek bytes count number field
+          (record { low = 0; high = count; lower = None; higher = None }) new at;
+    }
+
+pub begun_order : (seek : Seek) (bytes : List ℕ) (count number : ℕ) (told : Bool) (new : Between)
+    → (told ≡ false → new ≡ record { low = 0; high = count; lower = None; higher = None })
+    → (told ≡ true → (field : ℕ) × (field ≤ count) × IsNarrowedAt seek bytes count number field
+    (record { low = 0; high = count; lower = None; higher = None }) new)
+    → (new.low ≤ new.high) × (new.high ≤ count)
+begun_order seek bytes count number false new kept narrowed =
+    subst (λ (n : Between). (n.low ≤ n.high) × (n.high ≤ count)) (sym (kept refl)) (omega arith, omega arith)
+begun_order seek bytes count number true new kept narrowed =
+    let (field, inside, at) = narrowed refl in
+    elim at.narrowed [
+      | inl (less, is) ↦ subst (λ (n : Between). (n.low ≤ n.high) × (n.high ≤ count)) (sym is) (inside, omega arith)
+      | inr (more, is) ↦ subst (λ (n : Between). (n.low ≤ n.high) × (n.high ≤ count)) (sym is) (omega arith, inside)
+    ]
+
+-- so few fields are left of a million after so many steps
+pub bound : ℕ → ℕ
+bound zero = 1000000
+bound (suc k) = 5 * bound k / 8
+
+pub record IsAsNear (t a b : ℕ) (between : Between) (steps : ℕ) : Type 0 where
+  pub begun : HasBegun t a b between
+  pub near : (between.high ≤ between.low + left_most) ⊎ (between.high ≤ between.low + bound steps)
+
+pub near_first : (t a b count : ℕ) (between : Between) → HasBegun t a b between → between.high ≤ count → count ≤ 1000000
+    → IsAsNear t a b between 0
+unfolding bound
+near_first t a b count between begun inside few =
+    record { begun = begun; near = inr (omega (arith, inside, few)) }
+
+bound_more : (steps : ℕ) → bound (steps + 1) ≡ 5 * bound steps / 8
+unfolding bound
+bound_more steps = rw add-one refl
+
+pub near_more : (t a b steps : ℕ) (old new : Between) → IsAsNear t a b old steps → old.low + left_most < old.high
+    → IsNarrower t a b old new → IsAsNear t a b new (steps + 1)
+near_more t a b steps old new near wide narrower = record {
+  begun = record { within = narrower.within; told = narrower.told };
+  near = elim near.near [
+    | inl less ↦ absurd (omega (arith, less, wide))
+    | inr few ↦ inr (omega (arith, bound_more steps, few, narrower.narrower))
+  ];
+}
+
+pub near_still : (t a b steps : ℕ) (between : Between) → IsAsNear t a b between steps
+    → between.high ≤ between.low + left_most → IsAsNear t a b between (steps + 1)
+near_still t a b steps between near few = record { begun = near.begun; near = inl few }
+
+last_bound : bound 21 ≤ left_most
+unfolding bound
+last_bound = lit≤ tt
+
+pub placed : (t a b : ℕ) (between : Between) → IsAsNear t a b between 21 → IsPlaced t between
+placed t a b between near = record {
+  from = near.begun.within.from;
+  to = near.begun.within.to;
+  near = elim near.near [ inl few ↦ few | inr few ↦ omega (arith, few, last_bound) ];
+}
