@@ -5,17 +5,17 @@ use Rattle.std.specs.Prelude.{◌⊎◌, Option, Some, None}
 use Rattle.std.proofs.lemmas.Bool.Decides.{leb_tells}
 use Rattle.vbi_c.specs.declared.halving.Between.{Between}
 use Rattle.vbi_c.specs.declared.probing.Seek.{Seek}
-use Rattle.vbi_c.specs.Leads.{Tells, Leads, IsWithin, IsToldAt, IsBeside, IsNarrower, IsPlaced}
+use Rattle.vbi_c.specs.Leads.{Tells, Leads, IsWithin, IsToldAt, IsNarrower, IsPlaced, left_after}
 use Rattle.vbi_c.specs.Seeking.{left_most}
 use Rattle.vbi_c.specs.Telling.{IsSilent, IsNarrowedAt, middle_of}
 
 -- ---- what is told
 
 -- the fields between which a number is sought stay right where they are narrowed by what is told
-pub narrowed_within : (seek : Seek) (bytes : List ℕ) (count number t a b field : ℕ) (old new : Between)
+pub narrowed_within : (seek : Seek) (bytes : List ℕ) (count number t a b field more : ℕ) (old new : Between)
     → Leads seek bytes count number t a b → IsWithin t a b old
-    → IsNarrowedAt seek bytes count number field old new → IsWithin t a b new
-narrowed_within seek bytes count number t a b field old new leads within at = elim at.narrowed [
+    → IsNarrowedAt seek bytes count number field more old new → IsWithin t a b new
+narrowed_within seek bytes count number t a b field more old new leads within at = elim at.narrowed [
   | inl (less, is) ↦ subst (IsWithin t a b) (sym is) (record {
     from = leads.lower field at.read at.number tells less;
     to = within.to;
@@ -24,19 +24,19 @@ narrowed_within seek bytes count number t a b field old new leads within at = el
   })
   | inr (more, is) ↦ subst (IsWithin t a b) (sym is) (record {
     from = within.from;
-    to = let reaches = leads.higher field at.read at.number tells more in omega (arith, reaches, at.few);
+    to = let reaches = leads.higher field at.read at.number tells more in omega (arith, reaches);
     lower = within.lower;
-    higher = λ n told. (leads.untold field at.read at.number tells).0;
+    higher = λ n told. (leads.untold field at.read at.number tells).1;
   })
 ]
   where
     tells : Tells seek bytes count field at.read at.number
-    tells = record { few = at.few; inside = at.inside; tells = at.told }
+    tells = record { few = at.few.0; inside = at.inside; tells = at.told }
 
 -- a number is told at one of the ends then
-pub narrowed_told : (seek : Seek) (bytes : List ℕ) (count number field : ℕ) (old new : Between)
-    → IsNarrowedAt seek bytes count number field old new → IsToldAt new
-narrowed_told seek bytes count number field old new at = elim at.narrowed [
+pub narrowed_told : (seek : Seek) (bytes : List ℕ) (count number field more : ℕ) (old new : Between)
+    → IsNarrowedAt seek bytes count number field more old new → IsToldAt new
+narrowed_told seek bytes count number field more old new at = elim at.narrowed [
   | inl (less, is) ↦ subst IsToldAt (sym is) (inl (at.number, refl))
   | inr (more, is) ↦ subst IsToldAt (sym is) (inr (at.number, refl))
 ]
@@ -91,128 +91,93 @@ not_all_silent seek bytes count number t a b leads silent =
 
 -- ---- a step of halving
 
-open_one : (x y : Option ℕ) → ((n m : ℕ) → x ≡ Some n → y ≡ Some m → ⊥) → (x ≡ None) ⊎ (y ≡ None)
-open_one None y both = inl refl
-open_one (Some n) None both = inr refl
-open_one (Some n) (Some m) both = absurd (both n m refl refl)
-
 none_some : (x : Option ℕ) (n : ℕ) → x ≡ None → x ≡ Some n → ⊥
 none_some x n none some = cc
 
-true_false : (b : Bool) → b ≡ true → b ≡ false → ⊥
-true_false b is isnt = cc
-
 -- where the middle is silent, only one end has told a number
-open_end : (seek : Seek) (bytes : List ℕ) (count number t a b : ℕ) (between : Between)
-    → Leads seek bytes count number t a b → IsWithin t a b between → between.low + left_most < between.high
+pub not_both : (seek : Seek) (bytes : List ℕ) (count number t a b n m : ℕ) (between : Between)
+    → Leads seek bytes count number t a b → IsWithin t a b between → between.low ≤ between.high
     → IsSilent seek bytes count (between.low + (between.high - between.low) / 2)
-    → (between.lower ≡ None) ⊎ (between.higher ≡ None)
-open_end seek bytes count number t a b between leads within wide silent =
-    open_one between.lower between.higher (λ n m lower higher.
+    → between.lower ≡ Some n → between.higher ≡ Some m → ⊥
+not_both seek bytes count number t a b n m between leads within order silent lower higher =
     let low = within.lower n lower in
     let high = within.higher m higher in
     silent_outside seek bytes count number t a b (between.low + (between.high - between.low) / 2) leads silent
-    (omega (arith, low.1, wide)) (omega (arith, high, wide)))
+    (omega (arith, low.0)) (omega (arith, high, order))
 
--- told in the middle, or beside it
-pub told_near : (seek : Seek) (bytes : List ℕ) (count number t a b field : ℕ) (old new : Between)
-    → Leads seek bytes count number t a b → IsWithin t a b old → old.low + left_most < old.high
-    → old.low + (old.high - old.low) / 2 ≤ field
-    → field ≤ old.low + (old.high - old.low) / 2 + (old.high - old.low) / 8
-    → IsNarrowedAt seek bytes count number field old new → IsNarrower t a b old new
-told_near seek bytes count number t a b field old new leads within wide from to at = record {
-  within = narrowed_within seek bytes count number t a b field old new leads within at;
-  told = narrowed_told seek bytes count number field old new at;
-  narrower = elim at.narrowed [
-    | inl (less, is) ↦ subst (λ (n : Between). 8 * (n.high - n.low) ≤ 5 * (old.high - old.low)) (sym is)
-        (omega (arith, wide, from, to))
-    | inr (more, is) ↦ subst (λ (n : Between). 8 * (n.high - n.low) ≤ 5 * (old.high - old.low)) (sym is)
-        (omega (arith, wide, from, to))
-  ];
-}
-
+-- told in the middle
 pub told_middle : (seek : Seek) (bytes : List ℕ) (count number t a b : ℕ) (old new : Between)
     → Leads seek bytes count number t a b → IsWithin t a b old → old.low + left_most < old.high
-    → IsNarrowedAt seek bytes count number (old.low + (old.high - old.low) / 2) old new → IsNarrower t a b old new
+    → IsNarrowedAt seek bytes count number (old.low + (old.high - old.low) / 2) ((old.high - old.low) / 8) old new
+    → IsNarrower t a b old new
 told_middle seek bytes count number t a b old new leads within wide at =
-    told_near seek bytes count number t a b (old.low + (old.high - old.low) / 2) old new leads within wide
-    (omega arith) (omega arith) at
+    let middle = old.low + (old.high - old.low) / 2 in
+    let more = (old.high - old.low) / 8 in
+    record {
+      within = narrowed_within seek bytes count number t a b middle more old new leads within at;
+      told = narrowed_told seek bytes count number middle more old new at;
+      narrower = elim at.narrowed [
+        | inl (less, is) ↦ subst (λ (n : Between). 8 * (n.high - n.low) ≤ 5 * (old.high - old.low)) (sym is)
+            (omega (arith, wide, at.few.1))
+        | inr (more, is) ↦ subst (λ (n : Between). 8 * (n.high - n.low) ≤ 5 * (old.high - old.low)) (sym is)
+            (omega (arith, wide, at.few.1))
+      ];
+    }
 
-pub told_beside : (seek : Seek) (bytes : List ℕ) (count number t a b field : ℕ) (old rest new : Between)
+-- silence in the middle, where only the last end has told a number
+pub silent_before : (seek : Seek) (bytes : List ℕ) (count number t a b n : ℕ) (old rest : Between)
     → Leads seek bytes count number t a b → IsWithin t a b old → old.low + left_most < old.high
-    → IsSilent seek bytes count (old.low + (old.high - old.low) / 2) → rest ≡ old → IsBeside rest field
-    → IsNarrowedAt seek bytes count number field rest new → IsNarrower t a b old new
-told_beside seek bytes count number t a b field old rest new leads within wide silent same beside at =
-    let here = subst (λ (b : Between). IsBeside b field) same beside in
-    let near = here.near (open_end seek bytes count number t a b old leads within wide silent) in
-    told_near seek bytes count number t a b field old new leads within wide near.0 near.1
-    (subst (λ (b : Between). IsNarrowedAt seek bytes count number field b new) same at)
-
--- silence in the middle
-pub silent_before : (seek : Seek) (bytes : List ℕ) (count number t a b : ℕ) (old rest : Between) (behind : Bool)
-    → Leads seek bytes count number t a b → IsWithin t a b old → IsToldAt old → old.low + left_most < old.high
     → IsSilent seek bytes count (old.low + (old.high - old.low) / 2) → rest ≡ old
-    → (rest.higher ≡ None → behind ≡ false) → behind ≡ true
+    → rest.lower ≡ None → rest.higher ≡ Some n
     → IsNarrower t a b old (record rest { low = old.low + (old.high - old.low) / 2 })
-silent_before seek bytes count number t a b old rest behind leads within told wide silent same opens is =
+silent_before seek bytes count number t a b n old rest leads within wide silent same none some =
+    let lower : old.lower ≡ None = sym (ap (λ (r : Between). r.lower) same) ∙ none in
+    let higher : old.higher ≡ Some n = sym (ap (λ (r : Between). r.higher) same) ∙ some in
+    let high = within.higher n higher in
+    let before : old.low + (old.high - old.low) / 2 < a = elim (leb_tells a (old.low + (old.high - old.low) / 2)) [
+      | inl (s, from) ↦ absurd (silent_outside seek bytes count number t a b (old.low + (old.high - old.low) / 2) leads
+          silent from (omega (arith, high, wide)))
+      | inr (s, less) ↦ less
+    ] in
     subst (λ (r : Between). IsNarrower t a b old (record r { low = old.low + (old.high - old.low) / 2 })) (sym same)
-    (elim (open_end seek bytes count number t a b old leads within wide silent) [
-      | inr none ↦ absurd (true_false behind is (opens (ap (λ (r : Between). r.higher) same ∙ none)))
-      | inl none ↦ elim told [
-        | inl (n, some) ↦ absurd (none_some old.lower n none some)
-        | inr (n, some) ↦
-            let high = within.higher n some in
-            let before : old.low + (old.high - old.low) / 2 < a = elim (leb_tells a (old.low + (old.high - old.low) / 2)) [
-              | inl (s, from) ↦ absurd (silent_outside seek bytes count number t a b
-                  (old.low + (old.high - old.low) / 2) leads silent from (omega (arith, high, wide)))
-              | inr (s, less) ↦ less
-            ] in
-            record {
-              within = record {
-                from = omega (arith, before, leads.between.0);
-                to = within.to;
-                lower = λ m lower. absurd (none_some old.lower m none lower);
-                higher = within.higher;
-              };
-              told = inr (n, some);
-              narrower = omega (arith, wide);
-            }
-      ]
-    ])
+    (record {
+      within = record {
+        from = omega (arith, before, leads.between.0);
+        to = within.to;
+        lower = λ m told. absurd (none_some old.lower m lower told);
+        higher = within.higher;
+      };
+      told = inr (n, higher);
+      narrower = omega (arith, wide);
+    })
 
-pub silent_behind : (seek : Seek) (bytes : List ℕ) (count number t a b : ℕ) (old rest : Between) (behind : Bool)
+-- where only the first end has
+pub silent_behind : (seek : Seek) (bytes : List ℕ) (count number t a b : ℕ) (old rest : Between)
     → Leads seek bytes count number t a b → IsWithin t a b old → IsToldAt old → old.low + left_most < old.high
-    → IsSilent seek bytes count (old.low + (old.high - old.low) / 2) → rest ≡ old
-    → (rest.lower ≡ None → (n : ℕ) → rest.higher ≡ Some n → behind ≡ true) → behind ≡ false
+    → IsSilent seek bytes count (old.low + (old.high - old.low) / 2) → rest ≡ old → rest.higher ≡ None
     → IsNarrower t a b old (record rest { high = old.low + (old.high - old.low) / 2 })
-silent_behind seek bytes count number t a b old rest behind leads within told wide silent same opens is =
+silent_behind seek bytes count number t a b old rest leads within told wide silent same none =
+    let higher : old.higher ≡ None = sym (ap (λ (r : Between). r.higher) same) ∙ none in
     subst (λ (r : Between). IsNarrower t a b old (record r { high = old.low + (old.high - old.low) / 2 })) (sym same)
-    (elim (open_end seek bytes count number t a b old leads within wide silent) [
-      | inl none ↦ elim told [
-        | inl (n, some) ↦ absurd (none_some old.lower n none some)
-        | inr (n, some) ↦ absurd (true_false behind (opens (ap (λ (r : Between). r.lower) same ∙ none) n
-            (ap (λ (r : Between). r.higher) same ∙ some)) is)
-      ]
-      | inr none ↦ elim told [
-        | inr (n, some) ↦ absurd (none_some old.higher n none some)
-        | inl (n, some) ↦
-            let low = within.lower n some in
-            let after : b < old.low + (old.high - old.low) / 2 = elim (leb_tells (old.low + (old.high - old.low) / 2) b) [
-              | inl (s, to) ↦ absurd (silent_outside seek bytes count number t a b
-                  (old.low + (old.high - old.low) / 2) leads silent (omega (arith, low.1, wide)) to)
-              | inr (s, more) ↦ more
-            ] in
-            record {
-              within = record {
-                from = within.from;
-                to = omega (arith, after, leads.between.1);
-                lower = within.lower;
-                higher = λ m higher. absurd (none_some old.higher m none higher);
-              };
-              told = inl (n, some);
-              narrower = omega (arith, wide);
-            }
-      ]
+    (elim told [
+      | inr (n, some) ↦ absurd (none_some old.higher n higher some)
+      | inl (n, some) ↦
+          let low = within.lower n some in
+          let after : b < old.low + (old.high - old.low) / 2 = elim (leb_tells (old.low + (old.high - old.low) / 2) b) [
+            | inl (s, to) ↦ absurd (silent_outside seek bytes count number t a b (old.low + (old.high - old.low) / 2)
+                leads silent (omega (arith, low.0, wide)) to)
+            | inr (s, more) ↦ more
+          ] in
+          record {
+            within = record {
+              from = within.from;
+              to = omega (arith, after, leads.between.1);
+              lower = within.lower;
+              higher = λ m some. absurd (none_some old.higher m higher some);
+            };
+            told = inl (n, some);
+            narrower = omega (arith, wide);
+          }
     ])
 
 -- ---- the whole way
@@ -234,75 +199,84 @@ pub record HasBegun (t a b : ℕ) (between : Between) : Type 0 where
 
 pub begun : (seek : Seek) (bytes : List ℕ) (count number t a b : ℕ) (told : Bool) (new : Between)
     → (told ≡ false → (part : ℕ) → part < 16 → IsSilent seek bytes count (middle_of count 16 part))
-    → (told ≡ true → (field : ℕ) × (field ≤ count) × IsNarrowedAt seek bytes count number field
+    → (told ≡ true → (field more : ℕ) × (field ≤ count) × IsNarrowedAt seek bytes count number field more
     (record { low = 0; high = count; lower = None; higher = None }) new)
     → Leads seek bytes count number t a b → HasBegun t a b new
 begun seek bytes count number t a b false new silent narrowed leads =
     absurd (not_all_silent seek bytes count number t a b leads (silent refl))
 begun seek bytes count number t a b true new silent narrowed leads =
-    let (field, inside, at) = narrowed refl in
+    let (field, more, inside, at) = narrowed refl in
     record {
-      within = narrowed_within seek bytes count number t a b field
+      within = narrowed_within seek bytes count number t a b field more
           (record { low = 0; high = count; lower = None; higher = None }) new leads
           (at_first seek bytes count number t a b leads) at;
-      told = narrowed_told seek bytes count number field
+      told = narrowed_told seek bytes count number field more
           (record { low = 0; high = count; lower = None; higher = None }) new at;
     }
 
 pub begun_order : (seek : Seek) (bytes : List ℕ) (count number : ℕ) (told : Bool) (new : Between)
     → (told ≡ false → new ≡ record { low = 0; high = count; lower = None; higher = None })
-    → (told ≡ true → (field : ℕ) × (field ≤ count) × IsNarrowedAt seek bytes count number field
+    → (told ≡ true → (field more : ℕ) × (field ≤ count) × IsNarrowedAt seek bytes count number field more
     (record { low = 0; high = count; lower = None; higher = None }) new)
     → (new.low ≤ new.high) × (new.high ≤ count)
 begun_order seek bytes count number false new kept narrowed =
     subst (λ (n : Between). (n.low ≤ n.high) × (n.high ≤ count)) (sym (kept refl)) (omega arith, omega arith)
 begun_order seek bytes count number true new kept narrowed =
-    let (field, inside, at) = narrowed refl in
+    let (field, more, inside, at) = narrowed refl in
     elim at.narrowed [
-      | inl (less, is) ↦ subst (λ (n : Between). (n.low ≤ n.high) × (n.high ≤ count)) (sym is) (inside, omega arith)
-      | inr (more, is) ↦ subst (λ (n : Between). (n.low ≤ n.high) × (n.high ≤ count)) (sym is) (omega arith, inside)
+      | inl (less, is) ↦ subst (λ (n : Between). (n.low ≤ n.high) × (n.high ≤ count)) (sym is)
+          (omega (arith, at.inside, at.few.0), omega arith)
+      | inr (more, is) ↦ subst (λ (n : Between). (n.low ≤ n.high) × (n.high ≤ count)) (sym is)
+          (omega arith, omega (arith, at.inside, at.few.0, inside))
     ]
 
--- so few fields are left of a million after so many steps
-pub bound : ℕ → ℕ
-bound zero = 1000000
-bound (suc k) = 5 * bound k / 8
-
-pub record IsAsNear (t a b : ℕ) (between : Between) (steps : ℕ) : Type 0 where
+-- so few fields are left of those of the side after so many steps
+pub record IsAsNear (t a b count : ℕ) (between : Between) (steps : ℕ) : Type 0 where
   pub begun : HasBegun t a b between
-  pub near : (between.high ≤ between.low + left_most) ⊎ (between.high ≤ between.low + bound steps)
+  pub near : (between.high ≤ between.low + left_most) ⊎ (between.high ≤ between.low + left_after count steps)
 
-pub near_first : (t a b count : ℕ) (between : Between) → HasBegun t a b between → between.high ≤ count → count ≤ 1000000
-    → IsAsNear t a b between 0
-unfolding bound
-near_first t a b count between begun inside few =
-    record { begun = begun; near = inr (omega (arith, inside, few)) }
+pub near_first : (t a b count : ℕ) (between : Between) → HasBegun t a b between → between.high ≤ count
+    → IsAsNear t a b count between 0
+unfolding left_after
+near_first t a b count between begun inside = record { begun = begun; near = inr (omega (arith, inside)) }
 
-bound_more : (steps : ℕ) → bound (steps + 1) ≡ 5 * bound steps / 8
-unfolding bound
-bound_more steps = rw add-one refl
+pub left_first : (count : ℕ) → left_after count 0 ≡ count
+unfolding left_after
+left_first count = refl
 
-pub near_more : (t a b steps : ℕ) (old new : Between) → IsAsNear t a b old steps → old.low + left_most < old.high
-    → IsNarrower t a b old new → IsAsNear t a b new (steps + 1)
-near_more t a b steps old new near wide narrower = record {
+pub left_more : (count steps : ℕ) → left_after count (steps + 1) ≡ 5 * left_after count steps / 8
+unfolding left_after
+left_more count steps = rw add-one refl
+
+pub near_more : (t a b count steps : ℕ) (old new : Between) → IsAsNear t a b count old steps
+    → old.low + left_most < old.high → IsNarrower t a b old new → IsAsNear t a b count new (steps + 1)
+near_more t a b count steps old new near wide narrower = record {
   begun = record { within = narrower.within; told = narrower.told };
   near = elim near.near [
     | inl less ↦ absurd (omega (arith, less, wide))
-    | inr few ↦ inr (omega (arith, bound_more steps, few, narrower.narrower))
+    | inr few ↦ inr (omega (arith, left_more count steps, few, narrower.narrower))
   ];
 }
 
-pub near_still : (t a b steps : ℕ) (between : Between) → IsAsNear t a b between steps
-    → between.high ≤ between.low + left_most → IsAsNear t a b between (steps + 1)
-near_still t a b steps between near few = record { begun = near.begun; near = inl few }
+pub near_still : (t a b count steps : ℕ) (between : Between) → IsAsNear t a b count between steps
+    → between.high ≤ between.low + left_most → IsAsNear t a b count between (steps + 1)
+near_still t a b count steps between near few = record { begun = near.begun; near = inl few }
 
-last_bound : bound 21 ≤ left_most
-unfolding bound
-last_bound = lit≤ tt
-
-pub placed : (t a b : ℕ) (between : Between) → IsAsNear t a b between 21 → IsPlaced t between
-placed t a b between near = record {
+pub placed : (t a b count steps : ℕ) (between : Between) → IsAsNear t a b count between steps
+    → left_after count steps ≤ left_most → IsPlaced t between
+placed t a b count steps between near last = record {
   from = near.begun.within.from;
   to = near.begun.within.to;
-  near = elim near.near [ inl few ↦ few | inr few ↦ omega (arith, few, last_bound) ];
+  near = elim near.near [ inl few ↦ few | inr few ↦ omega (arith, few, last) ];
 }
+
+-- of fewer fields no more are left
+left_fewer : (few many steps : ℕ) → few ≤ many → left_after few steps ≤ left_after many steps
+unfolding left_after
+left_fewer few many zero less = less
+left_fewer few many (suc steps) less = omega (arith, left_fewer few many steps less)
+
+pub left_of_a_million : (count : ℕ) → count ≤ 1000000 → left_after count 22 ≤ left_most
+unfolding left_after
+left_of_a_million count few =
+    let last : left_after 1000000 22 ≤ left_most = lit≤ tt in omega (arith, left_fewer count 1000000 22 few, last)

@@ -251,7 +251,7 @@ pub record IsWindow (count from to first many : ℕ) : Type 0 where
   pub to_is : first + (to - first) ≡ to
 
 pub window : (low high count from wide near first more : ℕ) → low ≤ high → high ≤ count → from ≡ low - 24
-    → wide ≡ min (high - low) 72 → near ≡ min (count - low) (wide + 48 + 24) → first ≡ from - 48
+    → wide ≡ min (high - low) 32 → near ≡ min (count - low) (wide + 12 + 24) → first ≡ from - 48
     → more ≡ min (count - (low + near)) 48 → IsWindow count from (low + near) first (low + near + more - first)
 window low high count from wide near first more order inside from_is wide_is near_is first_is more_is = record {
   inside = omega (arith, order, inside, from_is, near_is, first_is, more_is);
@@ -275,8 +275,8 @@ window low high count from wide near first more order inside from_is wide_is nea
 }
 
 -- a field to which the fields lead is among those in which the number is looked for
-pub reached : (t low high count from wide near : ℕ) → low ≤ t → t < high + 48 → high ≤ low + 72 → t < count
-    → from ≡ low - 24 → wide ≡ min (high - low) 72 → near ≡ min (count - low) (wide + 48 + 24)
+pub reached : (t low high count from wide near : ℕ) → low ≤ t → t < high + 12 → high ≤ low + 32 → t < count
+    → from ≡ low - 24 → wide ≡ min (high - low) 32 → near ≡ min (count - low) (wide + 12 + 24)
     → (from ≤ t) × (t < low + near)
 reached t low high count from wide near after before few inside from_is wide_is near_is = (
   omega (arith, after, from_is),

@@ -1,5 +1,5 @@
 -- When a number that is sought has to be found: what the fields of a side tell leads to its first field.
-use Rattle.std.specs.Prelude.{◌≡◌, ◌<◌, ◌≤◌, ◌+◌, ◌-◌, ◌*◌, ◌/◌, ◌⊎◌, ℕ, List, Some, None, length}
+use Rattle.std.specs.Prelude.{◌≡◌, ◌<◌, ◌≤◌, ◌+◌, ◌-◌, ◌*◌, ◌/◌, ◌⊎◌, ℕ, zero, suc, List, Some, length}
 use Rattle.vbi_words.specs.Geometry.{field_bytes}
 use Rattle.vbi_side.specs.declared.number.Number.{Number}
 use Rattle.vbi_side.specs.declared.pace.Pace as paces
@@ -8,7 +8,7 @@ use Rattle.vbi_c.specs.declared.halving.Between.{Between}
 use Rattle.vbi_c.specs.declared.probing.Seek.{Seek}
 use Rattle.vbi_c.specs.declared.seeking.LdvbiSought.{LdvbiSought}
 use Rattle.vbi_c.specs.Seeking.{shown_of, probe_most, probe_longest, around_most, left_most, HasOther, IsJudgedIn}
-use Rattle.vbi_c.specs.Telling.{TellsFrom}
+use Rattle.vbi_c.specs.Telling.{TellsFrom, told_at}
 
 -- so many fields of a side from this one on tell a number together; they are no more than are read at one place
 pub record Tells (seek : Seek) (bytes : List ℕ) (count field k n : ℕ) : Type 0 where
@@ -17,37 +17,33 @@ pub record Tells (seek : Seek) (bytes : List ℕ) (count field k n : ℕ) : Type
   pub tells : TellsFrom seek bytes field k n
 
 -- what the fields of a side tell leads to field t with this number. The fields from a to b are a sixteenth of the side
--- at least, and from each of them on 12 fields or fewer tell a number. No field behind b does that, and none before a:
--- where more of them tell one, the last 12 are fields from a on. Those that tell a lower number begin at t or before
--- it, and those that tell the number itself or a higher one reach beyond t
+-- at least, and from each of them on 12 fields or fewer tell a number. At no other field a number is told. One that is
+-- lower is told at t or before it, and one that isn't, by fields that reach beyond t
 pub record Leads (seek : Seek) (bytes : List ℕ) (count number t a b : ℕ) : Type 0 where
   pub inside : b < count
   pub part : count + 16 * a ≤ 16 * (b + 1)
   pub between : (a ≤ t) × (t < b + probe_most)
   pub told : (f : ℕ) → a ≤ f → f ≤ b → (k n : ℕ) × (k ≤ probe_most) × Tells seek bytes count f k n
-  pub untold : (f k n : ℕ) → Tells seek bytes count f k n → (f ≤ b) × (a + probe_most ≤ f + probe_longest)
-  pub lower : (f k n : ℕ) → Tells seek bytes count f k n → n < number → f ≤ t
+  pub untold : (f k n : ℕ) → Tells seek bytes count f k n → (a ≤ told_at f k) × (told_at f k ≤ b)
+  pub lower : (f k n : ℕ) → Tells seek bytes count f k n → n < number → told_at f k ≤ t
   pub higher : (f k n : ℕ) → Tells seek bytes count f k n → number ≤ n → t < f + k
 
 -- the fields between which the number is sought have field t among them, or a little behind them; an end at which a
--- number was told is among those from a to b, or a little before them
+-- number was told is among those from a to b
 pub record IsWithin (t a b : ℕ) (between : Between) : Type 0 where
   pub from : between.low ≤ t
-  pub to : t < between.high + probe_longest
-  pub lower : (n : ℕ) → between.lower ≡ Some n → (between.low ≤ b) × (a + probe_most ≤ between.low + probe_longest)
+  pub to : t < between.high + probe_most
+  pub lower : (n : ℕ) → between.lower ≡ Some n → (a ≤ between.low) × (between.low ≤ b)
   pub higher : (n : ℕ) → between.higher ≡ Some n → between.high ≤ b
 
 -- a number was told at one of the ends
 abbrev pub IsToldAt : Between → Type 0
 IsToldAt between = ((n : ℕ) × (between.lower ≡ Some n)) ⊎ ((n : ℕ) × (between.higher ≡ Some n))
 
--- a field among them; where a number was told at one end alone, one in the middle, or at most an eighth behind it
-pub record IsBeside (between : Between) (field : ℕ) : Type 0 where
-  pub from : between.low ≤ field
-  pub to : field ≤ between.high
-  pub near : (between.lower ≡ None) ⊎ (between.higher ≡ None)
-      → (between.low + (between.high - between.low) / 2 ≤ field)
-      × (field ≤ between.low + (between.high - between.low) / 2 + (between.high - between.low) / 8)
+-- so few fields are left of these after so many steps, each of which leaves five eighths at most
+unfoldable pub left_after : ℕ → ℕ → ℕ
+left_after count zero = count
+left_after count (suc k) = 5 * left_after count k / 8
 
 -- the fields have field t among them as before, and are fewer: five eighths at most
 pub record IsNarrower (t a b : ℕ) (old new : Between) : Type 0 where
@@ -58,7 +54,7 @@ pub record IsNarrower (t a b : ℕ) (old new : Between) : Type 0 where
 -- they lead to a place: field t is from its first field on, and no further behind its last one than is looked at
 pub record IsPlaced (t : ℕ) (place : Between) : Type 0 where
   pub from : place.low ≤ t
-  pub to : t < place.high + probe_longest
+  pub to : t < place.high + probe_most
   pub near : place.high ≤ place.low + left_most
 
 -- the first field of the side of which this number is known is t, at this pace, which is the one that is asked for

@@ -22,13 +22,13 @@ abbrev pub probe_most : ℕ
 probe_most = 12
 
 abbrev pub probe_longest : ℕ
-probe_longest = 48
+probe_longest = 144
 
 abbrev pub probed_most : ℕ
-probed_most = 736
+probed_most = 812
 
 abbrev pub around_most : ℕ
-around_most = 264
+around_most = 188
 
 -- the fields that are read in all, at most
 abbrev pub looked_most : ℕ
@@ -36,7 +36,7 @@ looked_most = 1000
 
 -- the fields between which a number is sought no further
 abbrev pub left_most : ℕ
-left_most = 72
+left_most = 32
 
 -- what the numbers of a call ask for
 abbrev pub seek_of : ℕ → ℕ → ℕ → ℕ → ℕ → Result Seek Refusal

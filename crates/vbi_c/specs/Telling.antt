@@ -1,6 +1,6 @@
 -- Which number some fields tell together, by which a search knows where in a side it is. The rule is this project's
 -- own.
-use Rattle.std.specs.Prelude.{◌≡◌, ◌≤◌, ◌<◌, ◌+◌, ◌*◌, ◌/◌, ◌⊎◌, ℕ, min, List, map, slice_get, Some}
+use Rattle.std.specs.Prelude.{◌≡◌, ◌≤◌, ◌<◌, ◌+◌, ◌-◌, ◌*◌, ◌/◌, ◌⊎◌, ℕ, min, List, map, slice_get, Some}
 use Rattle.std.specs.List.{range_with_len}
 use Rattle.vbi_side.specs.declared.pace.Pace.TheVariants.{Video, Film}
 use Rattle.vbi_side.specs.declared.sighting.Sighting.{Sighting}
@@ -36,21 +36,30 @@ abbrev pub IsSilent : Seek → List ℕ → ℕ → ℕ → Type 0
 IsSilent seek bytes count field =
     (k n : ℕ) → k ≤ probe_most → field + k ≤ count → TellsFrom seek bytes field k n → ⊥
 
--- number n is sought between other fields than before, since another number or n itself is told from this field on:
--- from this field on if that number is less than n, else up to this field
+-- where some fields from this one on tell a number, the place at which it is told: the first of them, or the first of
+-- the last 12
+abbrev pub told_at : ℕ → ℕ → ℕ
+told_at field read = field + (read - probe_most)
+
+-- number n is sought between other fields than before, since another number or n itself is told at this field: from
+-- it on if that number is less than n, else up to it
 abbrev pub IsNarrowed : ℕ → ℕ → ℕ → Between → Between → Type 0
 IsNarrowed n field told old new =
     ((told < n) × (new ≡ record old { low = field; lower = Some told }))
     ⊎ ((n ≤ told) × (new ≡ record old { high = field; higher = Some told }))
 
--- so it is by what some fields from this one on tell
-pub record IsNarrowedAt (seek : Seek) (bytes : List ℕ) (count n field : ℕ) (old new : Between) : Type 0 where
+-- so it is by what some fields from this one on tell, so many more than 12 at most
+pub record IsNarrowedAt (seek : Seek) (bytes : List ℕ) (count n field more : ℕ) (old new : Between) : Type 0 where
   pub read : ℕ
   pub number : ℕ
-  pub few : read ≤ probe_longest
+  pub few : (read ≤ probe_longest) × (read ≤ probe_most + more)
   pub inside : field + read ≤ count
   pub told : TellsFrom seek bytes field read number
-  pub narrowed : IsNarrowed n field number old new
+  pub narrowed : IsNarrowed n (told_at field read) number old new
+
+-- field i of these shows number n, which is between two others
+abbrev pub IsShownBetween : List Sightings → ℕ → ℕ → ℕ → ℕ → Type 0
+IsShownBetween seen lower higher i n = Shows (slice_get seen i) n × (lower < n) × (n < higher)
 
 -- the middle of one of so many equal parts of a side
 abbrev pub middle_of : ℕ → ℕ → ℕ → ℕ

@@ -7,25 +7,26 @@
 //! player went back or stood still can lead astray, so what is found here is no more than a place to look at: seeking.rt
 //! judges the fields around it.
 
-ghost use Rattle.std.specs.Prelude.{◌≡◌, ℕ, ◌+◌, ◌-◌, ◌*◌, ◌/◌, ◌^◌, ◌<◌, ◌≤◌, length, false, true, Some, None};
+ghost use Rattle.std.specs.Prelude.{◌≡◌, ◌↔◌, ℕ, ◌+◌, ◌-◌, ◌*◌, ◌/◌, ◌^◌, ◌<◌, ◌≤◌, length, false, true, Some, None, IfSome};
 ghost use Rattle.vbi_words.specs.Geometry.{field_bytes};
-ghost use Rattle.vbi_c.specs.Leads.{Leads, IsWithin, IsToldAt, IsBeside, IsNarrower, IsPlaced};
-ghost use Rattle.vbi_c.specs.Seeking.{probe_most, probed_most, looked_most, left_most};
-ghost use Rattle.vbi_c.specs.Telling.{IsSilent, IsNarrowedAt, middle_of};
+ghost use Rattle.vbi_c.specs.Leads.{Leads, IsWithin, IsToldAt, IsNarrower, IsPlaced, left_after};
+ghost use Rattle.vbi_c.specs.Seeking.{probe_most, probe_longest, probed_most, looked_most, left_most};
+ghost use Rattle.vbi_c.specs.Telling.{IsSilent, IsNarrowedAt, IsShownBetween, middle_of};
 
-use crate::probing::{LONGEST, Looked, PROBE, Seek, probe};
+use crate::probing::{LONGEST, Looked, NOTHING_SEEN, PROBE, Seek, probe};
+use vbi_side::Sightings;
 
 /// Halving ends where no more fields than these are left.
-pub(crate) const LEFT: usize = 2 * (LONGEST - PROBE);
+pub(crate) const LEFT: usize = 32;
 
 /// So many fields at most are read while the place is sought.
-const PROBED: u32 = 736;
+const PROBED: u32 = 812;
 
-/// Of these, so many more than `PROBE` at each place until the first number is told.
-const SPARE: u32 = 112;
+/// So many places at most are asked until the first number is told.
+const PLACES: u32 = 31;
 
 /// A million fields are halved so often at most.
-const STEPS: u32 = 21;
+const STEPS: u32 = 22;
 
 /// The fields between which a number is sought.
 #[derive(Clone, Copy)]
@@ -37,63 +38,44 @@ pub(crate) struct Between {
     higher: Option<u32>,
 }
 
-/// Narrows the fields between which the number is sought, by the number that the fields from this one on tell, if they
-/// tell one. Answers whether they do.
+/// Narrows the fields between which the number is sought, by the number that the fields from this one on tell, if so many
+/// more than `PROBE` at most tell one. Answers whether they do. What they show stands in `seen`.
 fn narrow(
     seek: &Seek,
     bytes: &[u8],
     count: usize,
     number: u32,
     field: usize,
+    more: usize,
     between: &mut Between,
+    seen: &mut [Sightings],
     looked: &mut Looked,
 ) -> bool
     requires whole { count * field_bytes seek.now.setup.system ≤ length bytes.now }
     requires inside { field ≤ count }
+    requires places { length seen.old ≡ probe_longest }
     requires room { looked.old.fields + looked.old.spare + probe_most ≤ looked_most }
     ensures few { looked.new.fields + looked.new.spare ≤ looked.old.fields + looked.old.spare + probe_most }
     ensures kept { result ≡ false → between.new ≡ between.old }
     ensures silent { result ≡ false → IsSilent seek.now bytes.now count field }
-    ensures narrowed { result ≡ true → IsNarrowedAt seek.now bytes.now count number field between.old between.new }
+    ensures narrowed { result ≡ true → IsNarrowedAt seek.now bytes.now count number field more
+        between.old between.new }
 {
-    let more = looked.spare.min((LONGEST - PROBE) as u32);
-    let (shown, read) = probe(seek, bytes, count, field, PROBE + more as usize, looked);
-    looked.spare -= read.saturating_sub(PROBE as u32);
-    let Some(shown) = shown else {
+    let longest = PROBE + more.min(LONGEST - PROBE).min(looked.spare as usize);
+    let (told, read) = probe(seek, bytes, count, field, longest, seen, looked);
+    let behind = read.saturating_sub(PROBE as u32);
+    looked.spare -= behind;
+    let Some(shown) = told else {
         return false;
     };
     if shown < number {
-        between.low = field;
+        between.low = field + behind as usize;
         between.lower = Some(shown);
     } else {
-        between.high = field;
+        between.high = field + behind as usize;
         between.higher = Some(shown);
     }
     true
-}
-
-/// The same, where so many fields may be read besides.
-fn narrow_by_spare(
-    seek: &Seek,
-    bytes: &[u8],
-    count: usize,
-    number: u32,
-    field: usize,
-    between: &mut Between,
-    looked: &mut Looked,
-) -> bool
-    requires whole { count * field_bytes seek.now.setup.system ≤ length bytes.now }
-    requires inside { field ≤ count }
-    requires room { looked.old.fields + looked.old.spare ≤ looked_most }
-    ensures few { looked.new.fields + looked.new.spare ≤ looked.old.fields + looked.old.spare }
-    ensures kept { result ≡ false → between.new ≡ between.old }
-    ensures narrowed { result ≡ true → IsNarrowedAt seek.now bytes.now count number field between.old between.new }
-{
-    if looked.spare < PROBE as u32 {
-        return false;
-    }
-    looked.spare -= PROBE as u32;
-    narrow(seek, bytes, count, number, field, between, looked)
 }
 
 /// The field in the middle of one of so many equal parts of a side.
@@ -108,7 +90,7 @@ fn middle_of(count: usize, parts: usize, part: usize) -> usize
 }
 
 /// Narrows the fields between which the number is sought, by the first of the middles of so many equal parts of the side
-/// that tells a number. Answers whether one does.
+/// at which a number is told. Answers whether one is.
 fn sweep(
     seek: &Seek,
     bytes: &[u8],
@@ -126,12 +108,16 @@ fn sweep(
     ensures kept { result ≡ false → between.new ≡ between.old }
     ensures silent { result ≡ false → (part : ℕ) → part < parts
         → IsSilent seek.now bytes.now count (middle_of count parts part) }
-    ensures narrowed { result ≡ true → (field : ℕ) × (field ≤ count)
-        × IsNarrowedAt seek.now bytes.now count number field between.old between.new }
+    ensures narrowed { result ≡ true → (field more : ℕ) × (field ≤ count)
+        × IsNarrowedAt seek.now bytes.now count number field more between.old between.new }
 {
+    let mut all_seen = [NOTHING_SEEN; LONGEST];
+    let seen = &mut all_seen[..];
     for part in 0..parts {
         let field = middle_of(count, parts, part);
-        if narrow(seek, bytes, count, number, field, between, looked) {
+        if narrow(
+            seek, bytes, count, number, field, LONGEST, between, seen, looked,
+        ) {
             return true;
         }
     }
@@ -155,8 +141,8 @@ fn begin(
     ensures kept { result ≡ false → between.new ≡ between.old }
     ensures silent { result ≡ false → (part : ℕ) → part < 16
         → IsSilent seek.now bytes.now count (middle_of count 16 part) }
-    ensures narrowed { result ≡ true → (field : ℕ) × (field ≤ count)
-        × IsNarrowedAt seek.now bytes.now count number field between.old between.new }
+    ensures narrowed { result ≡ true → (field more : ℕ) × (field ≤ count)
+        × IsNarrowedAt seek.now bytes.now count number field more between.old between.new }
 {
     sweep(seek, bytes, count, number, 1, between, looked)
         || sweep(seek, bytes, count, number, 2, between, looked)
@@ -165,69 +151,179 @@ fn begin(
         || sweep(seek, bytes, count, number, 16, between, looked)
 }
 
-/// Whether the number is rather behind this field than before it, where nothing is told from this field on: by where it
-/// stands between the numbers at both ends, and where only one has told a number, towards that one.
-fn is_behind(number: u32, field: usize, between: &Between) -> bool
+/// The first field that shows a number between two others on one of its lines, and this number.
+fn one_between(seen: &[Sightings], lower: u32, higher: u32) -> Option<(usize, u32)>
+    ensures some { IfSome result (λ found. IsShownBetween seen.now lower higher found.0 found.1) }
+    ensures none { result ≡ None → (i n : ℕ) → IsShownBetween seen.now lower higher i n → ⊥ }
+{
+    for field in 0..seen.len() {
+        let Sightings {
+            line_17,
+            line_18,
+            ..
+        } = seen[field];
+        if line_17.weight > 0 && lower < line_17.number && line_17.number < higher {
+            return Some((field, line_17.number));
+        }
+        if line_18.weight > 0 && lower < line_18.number && line_18.number < higher {
+            return Some((field, line_18.number));
+        }
+    }
+    None
+}
+
+/// Whether the number is rather behind this field than before it, where nothing is told there: by where it stands
+/// between the numbers that were told at both ends.
+fn is_behind(number: u32, field: usize, between: &Between, lower: u32, higher: u32) -> bool
     requires before { between.now.low ≤ field }
     requires behind { field ≤ between.now.high }
-    ensures open_before { between.now.lower ≡ None → (n : ℕ) → between.now.higher ≡ Some n → result ≡ true }
-    ensures open_behind { between.now.higher ≡ None → result ≡ false }
+    ensures { (result ≡ true) ↔ ((field - between.now.low) * (higher - lower)
+        < (between.now.high - between.now.low) * (number - lower)) }
 {
-    match (between.lower, between.higher) {
-        (Some(lower), Some(higher)) => {
-            let (part, whole) = (field - between.low, between.high - between.low);
-            let (number_part, number_whole) = (
-                number.saturating_sub(lower),
-                higher.saturating_sub(lower),
-            );
-            part as u128 * u128::from(number_whole) < whole as u128 * u128::from(number_part)
-        }
-        (None, Some(_)) => true,
-        _ => false,
-    }
+    let (part, whole) = (field - between.low, between.high - between.low);
+    let (number_part, number_whole) = (number.saturating_sub(lower), higher.saturating_sub(lower));
+    part as u128 * u128::from(number_whole) < whole as u128 * u128::from(number_part)
 }
 
-/// Two places that are asked where the middle is silent: at three quarters and at one quarter of the fields where both
-/// ends have told a number, else a little behind the middle.
-fn places_beside(between: &Between, middle: usize) -> (usize, usize)
-    requires middle { middle ≡ between.now.low + (between.now.high - between.now.low) / 2 }
-    requires order { between.now.low ≤ between.now.high }
-    ensures { IsBeside between.now result.0 × IsBeside between.now result.1 }
-{
-    let width = between.high - between.low;
-    match (between.lower, between.higher) {
-        (Some(_), Some(_)) => (middle + width / 4, between.low + width / 4),
-        _ => (middle + width / 16, middle + width / 8),
-    }
-}
-
-/// Narrows the fields between which the number is sought by what is told beside the middle, where the middle is silent.
-fn narrow_beside(
+/// As `narrow`, where so many fields may be read besides.
+fn narrow_by_spare(
     seek: &Seek,
     bytes: &[u8],
     count: usize,
     number: u32,
-    middle: usize,
+    field: usize,
+    more: usize,
+    between: &mut Between,
+    seen: &mut [Sightings],
+    looked: &mut Looked,
+) -> bool
+    requires whole { count * field_bytes seek.now.setup.system ≤ length bytes.now }
+    requires inside { field ≤ count }
+    requires places { length seen.old ≡ probe_longest }
+    requires room { looked.old.fields + looked.old.spare ≤ looked_most }
+    ensures few { looked.new.fields + looked.new.spare ≤ looked.old.fields + looked.old.spare }
+    ensures kept { result ≡ false → between.new ≡ between.old }
+    ensures narrowed { result ≡ true → IsNarrowedAt seek.now bytes.now count number field more
+        between.old between.new }
+{
+    if looked.spare < PROBE as u32 {
+        return false;
+    }
+    looked.spare -= PROBE as u32;
+    narrow(
+        seek, bytes, count, number, field, more, between, seen, looked,
+    )
+}
+
+/// Narrows the fields between which the number is sought by a single line of those from this field on that shows a number
+/// between those of both ends. Answers whether one does.
+fn narrow_by_one(
+    number: u32,
+    field: usize,
+    lower: u32,
+    higher: u32,
+    seen: &[Sightings],
+    between: &mut Between,
+) -> bool
+    requires few { field + length seen.now < 2 ^ 64 }
+    requires before { between.old.low ≤ field }
+    requires behind { field ≤ between.old.high }
+    ensures kept { result ≡ false → between.new ≡ between.old }
+    ensures order { between.new.low ≤ between.new.high }
+    ensures inside { between.new.high ≤ between.old.high }
+{
+    let Some((at, shown)) = one_between(seen, lower, higher) else {
+        return false;
+    };
+    let place = (field + at).min(between.high);
+    if shown < number {
+        between.low = place;
+        between.lower = Some(shown);
+    } else {
+        between.high = place;
+        between.higher = Some(shown);
+    }
+    true
+}
+
+/// Narrows the fields between which the number is sought, by what is told from this field on, where so many fields may
+/// be read besides, or by a single line.
+fn narrow_near(
+    seek: &Seek,
+    bytes: &[u8],
+    count: usize,
+    number: u32,
+    field: usize,
+    lower: u32,
+    higher: u32,
     between: &mut Between,
     looked: &mut Looked,
 ) -> bool
     requires whole { count * field_bytes seek.now.setup.system ≤ length bytes.now }
-    requires middle { middle ≡ between.old.low + (between.old.high - between.old.low) / 2 }
-    requires order { between.old.low ≤ between.old.high }
+    requires before { between.old.low ≤ field }
+    requires behind { field + (between.old.high - between.old.low) / 16 ≤ between.old.high }
     requires inside { between.old.high ≤ count }
+    requires fits { 32 * count < 2 ^ 64 }
     requires room { looked.old.fields + looked.old.spare ≤ looked_most }
     ensures few { looked.new.fields + looked.new.spare ≤ looked.old.fields + looked.old.spare }
     ensures kept { result ≡ false → between.new ≡ between.old }
-    ensures narrowed { result ≡ true → (field : ℕ) × IsBeside between.old field
-        × IsNarrowedAt seek.now bytes.now count number field between.old between.new }
+    ensures order { between.new.low ≤ between.new.high }
+    ensures inside { between.new.high ≤ count }
 {
-    let (first, second) = places_beside(between, middle);
-    narrow_by_spare(seek, bytes, count, number, first, between, looked)
-        || narrow_by_spare(seek, bytes, count, number, second, between, looked)
+    let more = (between.high - between.low) / 16;
+    let mut all_seen = [NOTHING_SEEN; LONGEST];
+    let seen = &mut all_seen[..];
+    narrow_by_spare(
+        seek, bytes, count, number, field, more, between, seen, looked,
+    ) || narrow_by_one(number, field, lower, higher, seen, between)
 }
 
-/// Narrows the fields between which the number is sought, by what is told in the middle or beside it, and else by
-/// silence.
+/// Narrows the fields between which the number is sought where both ends have told a number, and the middle none: by a
+/// single line there that shows a number between those two, by what is shown at three quarters or at one quarter of the
+/// fields, or else by where the number stands between those two.
+fn narrow_between(
+    seek: &Seek,
+    bytes: &[u8],
+    count: usize,
+    number: u32,
+    lower: u32,
+    higher: u32,
+    seen: &[Sightings],
+    between: &mut Between,
+    looked: &mut Looked,
+)
+    requires whole { count * field_bytes seek.now.setup.system ≤ length bytes.now }
+    requires order { between.old.low ≤ between.old.high }
+    requires inside { between.old.high ≤ count }
+    requires fits { 32 * count < 2 ^ 64 }
+    requires places { length seen.now ≡ probe_longest }
+    requires room { looked.old.fields + looked.old.spare ≤ looked_most }
+    ensures order { between.new.low ≤ between.new.high }
+    ensures inside { between.new.high ≤ count }
+    ensures few { looked.new.fields + looked.new.spare ≤ looked.old.fields + looked.old.spare }
+{
+    let width = between.high - between.low;
+    let middle = between.low + width / 2;
+    let (later, earlier) = (middle + width / 4, between.low + width / 4);
+    if narrow_by_one(number, middle, lower, higher, seen, between)
+        || narrow_near(
+            seek, bytes, count, number, later, lower, higher, between, looked,
+        )
+        || narrow_near(
+            seek, bytes, count, number, earlier, lower, higher, between, looked,
+        )
+    {
+        return;
+    }
+    if is_behind(number, middle, between, lower, higher) {
+        between.low = middle;
+    } else {
+        between.high = middle;
+    }
+}
+
+/// Narrows the fields between which the number is sought, by what is told in the middle. Silence there says that the
+/// number is on the side of the end that has told one, where only one has.
 fn halve(
     seek: &Seek,
     bytes: &[u8],
@@ -239,6 +335,7 @@ fn halve(
     requires whole { count * field_bytes seek.now.setup.system ≤ length bytes.now }
     requires wide { between.old.low + left_most < between.old.high }
     requires inside { between.old.high ≤ count }
+    requires fits { 32 * count < 2 ^ 64 }
     requires room { looked.old.fields + looked.old.spare + probe_most ≤ looked_most }
     ensures order { between.new.low ≤ between.new.high }
     ensures inside { between.new.high ≤ count }
@@ -246,17 +343,50 @@ fn halve(
     ensures leads { (t a b : ℕ) → Leads seek.now bytes.now count number t a b → IsWithin t a b between.old
         → IsToldAt between.old → IsNarrower t a b between.old between.new }
 {
-    let middle = between.low + (between.high - between.low) / 2;
-    if narrow(seek, bytes, count, number, middle, between, looked)
-        || narrow_beside(seek, bytes, count, number, middle, between, looked)
-    {
+    let width = between.high - between.low;
+    let middle = between.low + width / 2;
+    let mut all_seen = [NOTHING_SEEN; LONGEST];
+    let seen = &mut all_seen[..];
+    if narrow(
+        seek,
+        bytes,
+        count,
+        number,
+        middle,
+        width / 8,
+        between,
+        seen,
+        looked,
+    ) {
         return;
     }
-    if is_behind(number, middle, between) {
-        between.low = middle;
-    } else {
-        between.high = middle;
+    match between.higher {
+        None => between.high = middle,
+        Some(higher) => match between.lower {
+            None => between.low = middle,
+            Some(lower) => {
+                narrow_between(
+                    seek, bytes, count, number, lower, higher, seen, between, looked,
+                );
+            }
+        },
     }
+}
+
+/// How often so many fields are halved, or a million, if they are more.
+fn steps_of(count: usize) -> u32
+    requires fits { 32 * count < 2 ^ 64 }
+    ensures few { result ≤ 22 }
+    ensures enough { count ≤ 1000000 → left_after count result ≤ left_most }
+{
+    let mut left = count;
+    for steps in 0..STEPS {
+        if left <= LEFT {
+            return steps;
+        }
+        left = 5 * left / 8;
+    }
+    STEPS
 }
 
 /// A place that is near the first field with this number, where the numbers rise along the side.
@@ -281,10 +411,12 @@ pub(crate) fn place_of(
         lower: None,
         higher: None,
     };
-    looked.spare = SPARE;
+    let steps = steps_of(count);
+    let probed = PROBED - PROBE as u32 * steps;
+    looked.spare = probed - PROBE as u32 * PLACES;
     begin(seek, bytes, count, number, &mut between, looked);
-    looked.spare = PROBED - PROBE as u32 * STEPS - looked.fields;
-    for step in 0..STEPS {
+    looked.spare = probed - looked.fields;
+    for step in 0..steps {
         if between.high - between.low > LEFT {
             halve(seek, bytes, count, number, &mut between, looked);
         }

@@ -1,6 +1,6 @@
 //! Which number some fields of a side tell together. Each field that is read is counted.
 
-ghost use Rattle.std.specs.Prelude.{◌≡◌, ◌↔◌, ℕ, ◌+◌, ◌-◌, ◌*◌, ◌<◌, ◌≤◌, min, length, map, true, IfSome, None};
+ghost use Rattle.std.specs.Prelude.{◌≡◌, ◌↔◌, ℕ, ◌+◌, ◌-◌, ◌*◌, ◌<◌, ◌≤◌, min, length, map, take, true, IfSome, None};
 ghost use Rattle.std.specs.List.{range_with_len};
 ghost use Rattle.vbi_words.specs.Geometry.{field_bytes};
 ghost use Rattle.vbi_c.specs.Seeking.{shown_at, probe_longest, looked_most};
@@ -29,7 +29,7 @@ pub(crate) struct Looked {
 pub(crate) const PROBE: usize = 12;
 
 /// So many at most are read there.
-pub(crate) const LONGEST: usize = 48;
+pub(crate) const LONGEST: usize = 144;
 
 /// What is shown together weighs so much. No field alone does, even where both its lines were misread alike.
 const TOGETHER: u32 = 6;
@@ -111,28 +111,30 @@ fn number_together(seen: &[Sightings]) -> Option<u32>
 }
 
 /// The number that the fields from this one on tell together, if so many at most tell one, and how many of them were
-/// read for it.
+/// read for it. What these show stands in `seen`.
 pub(crate) fn probe(
     seek: &Seek,
     bytes: &[u8],
     count: usize,
     field: usize,
     longest: usize,
+    seen: &mut [Sightings],
     looked: &mut Looked,
 ) -> (Option<u32>, u32)
     requires whole { count * field_bytes seek.now.setup.system ≤ length bytes.now }
     requires inside { field ≤ count }
     requires longest { longest ≤ probe_longest }
+    requires places { length seen.old ≡ probe_longest }
     requires room { looked.old.fields + longest ≤ looked_most }
     ensures few { result.1 ≤ longest }
     ensures inside { field + result.1 ≤ count }
     ensures counted { looked.new ≡ record looked.old { fields = looked.old.fields + result.1 } }
+    ensures seen { take result.1 seen.new ≡ map (shown_at seek.now bytes.now) (range_with_len field result.1) }
     ensures told { IfSome result.0 (λ number. TellsFrom seek.now bytes.now field result.1 number) }
     ensures all { result.0 ≡ None → result.1 ≡ min longest (count - field) }
     ensures silent { result.0 ≡ None → (k number : ℕ) → k ≤ result.1
         → TellsFrom seek.now bytes.now field k number → ⊥ }
 {
-    let mut seen = [NOTHING_SEEN; LONGEST];
     let most = longest.min(count - field);
     for i in 0..most {
         seen[i] = shown_at(seek, bytes, count, field + i, looked);

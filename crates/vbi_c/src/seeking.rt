@@ -16,7 +16,7 @@ ghost use Rattle.vbi_c.specs.Statuses.{status_of};
 use crate::halving::{Between, LEFT, place_of};
 use crate::judging::{Judging, asked_of, counted_of, pace_for};
 use crate::pace::pace_for_c;
-use crate::probing::{LONGEST, Looked, NOTHING_SEEN, Seek, see_from};
+use crate::probing::{Looked, NOTHING_SEEN, PROBE, Seek, see_from};
 use crate::setup::setup_of;
 use crate::status::{DONE, Refusal};
 use std::mem::size_of;
@@ -43,7 +43,7 @@ const _: () = prove!(size_of::<LdvbiSought>() == 24);
 const BESIDE: usize = 24;
 
 /// The fields that are judged: those in which the number is looked for, and all on which their answers depend.
-const AROUND: usize = 2 * BESIDE + LEFT + LONGEST + PART - 1;
+const AROUND: usize = 2 * BESIDE + LEFT + PROBE + PART - 1;
 
 /// What is answered of a field without a number.
 const NO_NUMBER: Number = Number {
@@ -140,7 +140,7 @@ fn look_around(
         → IsPlaced t place → result.field ≡ t }
 {
     let from = place.low.saturating_sub(BESIDE);
-    let wide = (place.high - place.low).min(LEFT) + LONGEST + BESIDE;
+    let wide = (place.high - place.low).min(LEFT) + PROBE + BESIDE;
     let to = place.low + (count - place.low).min(wide);
     let first = from.saturating_sub(2 * REACH);
     let end = to + (count - to).min(2 * REACH);

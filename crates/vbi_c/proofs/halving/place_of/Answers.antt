@@ -16,7 +16,7 @@ loop-step-init c =
       few = omega arith;
       leads = λ t a b few leads. near_first t a b c.args.count c.begin.new.between
           (begun c.args.seek.now c.args.bytes.now c.args.count c.args.number t a b c.begin.result c.begin.new.between
-          c.begin.ensures.silent c.begin.ensures.narrowed leads) order.1 few;
+          c.begin.ensures.silent c.begin.ensures.narrowed leads) order.1;
     }
 
 pub loop-step-preserved : goal.loop-step-preserved
@@ -28,8 +28,8 @@ loop-step-preserved c = elim c.if-between-gt-LEFT.branch [
     leads = λ t a b few leads.
         let before = c.loop-step.invariant.leads t a b few leads in
         let wide : c.loop-step.between.low + left_most < c.loop-step.between.high = omega arith in
-        subst (λ (n : Between). IsAsNear t a b n (c.loop-step.step + 1)) (sym w.between-is)
-        (near_more t a b c.loop-step.step c.loop-step.between w.halve.new.between before wide
+        subst (λ (n : Between). IsAsNear t a b c.args.count n (c.loop-step.step + 1)) (sym w.between-is)
+        (near_more t a b c.args.count c.loop-step.step c.loop-step.between w.halve.new.between before wide
         (w.halve.ensures.leads t a b leads before.begun.within before.begun.told));
   }
   | else-between-gt-LEFT w ↦ record {
@@ -38,12 +38,13 @@ loop-step-preserved c = elim c.if-between-gt-LEFT.branch [
     few = omega (arith, ap (λ (l : Looked). l.fields) w.looked-is, ap (λ (l : Looked). l.spare) w.looked-is);
     leads = λ t a b few leads.
         let before = c.loop-step.invariant.leads t a b few leads in
-        subst (λ (n : Between). IsAsNear t a b n (c.loop-step.step + 1)) (sym w.between-is)
-        (near_still t a b c.loop-step.step c.loop-step.between before (omega arith));
+        subst (λ (n : Between). IsAsNear t a b c.args.count n (c.loop-step.step + 1)) (sym w.between-is)
+        (near_still t a b c.args.count c.loop-step.step c.loop-step.between before (omega arith));
   }
 ]
 
 pub returns-clause-leads : goal.returns-clause-leads
 returns-clause-leads c = λ t a b few leads.
-    placed t a b c.loop-step.between (subst (IsAsNear t a b c.loop-step.between) (omega arith)
-    (c.loop-step.invariant.leads t a b few leads))
+    placed t a b c.args.count c.steps_of-steps.result c.loop-step.between
+    (subst (IsAsNear t a b c.args.count c.loop-step.between) (omega arith)
+    (c.loop-step.invariant.leads t a b few leads)) (c.steps_of-steps.ensures.enough few)

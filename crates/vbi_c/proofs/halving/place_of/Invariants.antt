@@ -8,7 +8,7 @@ abbrev pub invariant-loop-step : goal.invariant-loop-step
 invariant-loop-step l = record {
   order : l.between.low ≤ l.between.high;
   inside : l.between.high ≤ l.count;
-  few : l.looked.fields + l.looked.spare + probe_most * (21 - l.step) ≤ probed_most;
+  few : l.looked.fields + l.looked.spare + probe_most * (l.steps - l.step) ≤ probed_most;
   leads : (t a b : ℕ) → l.count ≤ 1000000 → Leads l.seek l.bytes l.count l.number t a b
-      → IsAsNear t a b l.between l.step;
+      → IsAsNear t a b l.count l.between l.step;
 }
