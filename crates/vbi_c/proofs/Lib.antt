@@ -7,5 +7,6 @@ pub mod Sought
 pub mod PartOfReadings
 mod Shown
 pub mod Leading
+pub mod Running
 pub mod CompletedTimes
 pub mod Placed

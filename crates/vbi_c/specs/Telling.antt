@@ -1,11 +1,12 @@
 -- Which number some fields tell together, by which a search knows where in a side it is. The rule is this project's
 -- own.
-use Rattle.std.specs.Prelude.{◌≡◌, ◌≤◌, ◌<◌, ◌+◌, ◌-◌, ◌*◌, ◌/◌, ◌⊎◌, ℕ, min, List, map, slice_get, Some}
+use Rattle.std.specs.Prelude.{◌≡◌, ◌≤◌, ◌<◌, ◌+◌, ◌-◌, ◌*◌, ◌/◌, ◌⊎◌, ℕ, zero, suc, min, List, length, map, slice_get, Some}
 use Rattle.std.specs.List.{range_with_len}
 use Rattle.vbi_side.specs.declared.pace.Pace.TheVariants.{Video, Film}
 use Rattle.vbi_side.specs.declared.sighting.Sighting.{Sighting}
 use Rattle.vbi_side.specs.declared.sighting.Sightings.{Sightings}
-use Rattle.vbi_side.specs.Beliefs.{support_of}
+use Rattle.vbi_side.specs.Beliefs.{field_weight, support_of}
+use Rattle.vbi_side.specs.Paces.{fits}
 use Rattle.vbi_side.specs.Sightings.{IsSeen, Shows}
 use Rattle.vbi_c.specs.declared.halving.Between.{Between}
 use Rattle.vbi_c.specs.declared.probing.Seek.{Seek}
@@ -15,9 +16,19 @@ use Rattle.vbi_c.specs.Seeking.{shown_at, probe_most, probe_longest}
 abbrev pub together : ℕ
 together = 6
 
--- what supports number n in field i weighs so much, at either pace
+-- the weight of what the first k of these fields show that fits number n in field i at the pace of video
+unfoldable pub run_below : List Sightings → ℕ → ℕ → ℕ → ℕ
+run_below seen i n zero = 0
+run_below seen i n (suc k) = run_below seen i n k + field_weight (fits Video i n k) (slice_get seen k)
+
+-- the weight of what all of them show
+abbrev pub run_weight : List Sightings → ℕ → ℕ → ℕ
+run_weight seen i n = run_below seen i n (length seen)
+
+-- what supports number n in field i weighs so much, at either pace, or what all these fields show at that of video
 abbrev pub IsTold : List Sightings → ℕ → ℕ → Type 0
 IsTold seen i n = (together ≤ support_of Video seen i n) ⊎ (together ≤ support_of Film seen i n)
+    ⊎ (together ≤ run_weight seen i n)
 
 -- the line shows a number, which is told in field i
 abbrev pub IsTogether : List Sightings → ℕ → Sighting → Type 0

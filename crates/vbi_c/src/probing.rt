@@ -1,10 +1,13 @@
 //! Which number some fields of a side tell together. Each field that is read is counted.
 
-ghost use Rattle.std.specs.Prelude.{◌≡◌, ◌↔◌, ℕ, ◌+◌, ◌-◌, ◌*◌, ◌<◌, ◌≤◌, min, length, map, take, true, IfSome, None};
+ghost use Rattle.std.specs.Prelude.{◌≡◌, ◌↔◌, ℕ, ◌+◌, ◌-◌, ◌*◌, ◌<◌, ◌≤◌, min, length, map, take, slice_get, true, IfSome, None};
 ghost use Rattle.std.specs.List.{range_with_len};
 ghost use Rattle.vbi_words.specs.Geometry.{field_bytes};
 ghost use Rattle.vbi_c.specs.Seeking.{shown_at, probe_longest, looked_most};
-ghost use Rattle.vbi_c.specs.Telling.{IsTogether, TellsIn, TellsFrom};
+ghost use Rattle.vbi_c.specs.Telling.{IsTogether, TellsIn, TellsFrom, run_weight};
+ghost use Rattle.vbi_side.specs.Beliefs.{field_weight, sighting_weight};
+ghost use Rattle.vbi_side.specs.Paces.{fits};
+ghost use Rattle.vbi_side.specs.declared.pace.Pace.TheVariants.{Video};
 
 use crate::fields::read_whole;
 use crate::judging::{Judging, seen_in};
@@ -81,20 +84,65 @@ pub(crate) fn see_from(
     }
 }
 
+/// The weight of a sighting of field `other`, where its number lies two fields a picture from this one in this field.
+fn weight_of_run(field: usize, number: u32, other: usize, sighting: &Sighting) -> u32
+    requires few { (field < probe_longest) × (other < probe_longest) }
+    ensures value { result ≡ sighting_weight (fits Video field number other) sighting.now }
+    ensures range { result ≤ 2 }
+{
+    let (here, there) = (u64::from(number), u64::from(sighting.number));
+    if other as u64 + 2 * here == field as u64 + 2 * there {
+        sighting.weight.min(2)
+    } else {
+        0
+    }
+}
+
+/// The weight of the sightings of field `other`, where their numbers do.
+fn weight_of_other(seen: &[Sightings], field: usize, number: u32, other: usize) -> u32
+    requires few { (field < probe_longest) × (other < probe_longest) }
+    ensures value { result ≡ field_weight (fits Video field number other) (slice_get seen.now other) }
+    ensures range { result ≤ 4 }
+{
+    match seen.get(other) {
+        Some(shown) => {
+            weight_of_run(field, number, other, &shown.line_17)
+                + weight_of_run(field, number, other, &shown.line_18)
+        }
+        None => 0,
+    }
+}
+
+/// The weight of the sightings of all these fields whose numbers lie two fields a picture from this one in this field.
+fn run_weight(seen: &[Sightings], field: usize, number: u32) -> u32
+    requires inside { field < length seen.now }
+    requires few { length seen.now ≤ probe_longest }
+    ensures { result ≡ run_weight seen.now field number }
+{
+    let mut weight = 0;
+    for other in 0..seen.len() {
+        weight += weight_of_other(seen, field, number, other);
+    }
+    weight
+}
+
 /// Whether this sighting of a field has a number, and enough of what is shown around the field supports it there, at
-/// either pace.
+/// either pace, or of what all these fields show at the pace of video.
 fn is_together(seen: &[Sightings], field: usize, sighting: &Sighting) -> bool
-    requires { field < length seen.now }
+    requires inside { field < length seen.now }
+    requires few { length seen.now ≤ probe_longest }
     ensures { (result ≡ true) ↔ IsTogether seen.now field sighting.now }
 {
     let number = sighting.number;
     sighting.weight > 0
         && (support(seen, Pace::Video, field, number) >= TOGETHER
-            || support(seen, Pace::Film, field, number) >= TOGETHER)
+            || support(seen, Pace::Film, field, number) >= TOGETHER
+            || run_weight(seen, field, number) >= TOGETHER)
 }
 
 /// The first number that these fields tell together, if they tell one.
 fn number_together(seen: &[Sightings]) -> Option<u32>
+    requires { length seen.now ≤ probe_longest }
     ensures some { IfSome result (λ number. TellsIn seen.now number) }
     ensures none { result ≡ None → (number : ℕ) → TellsIn seen.now number → ⊥ }
 {
