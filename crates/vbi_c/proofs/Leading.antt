@@ -1,6 +1,6 @@
 -- What the fields of a side tell leads to the field with a number.
-use Rattle.std.proofs.Common.{◌≡◌, ℕ, zero, suc, ◌+◌, ◌-◌, ◌*◌, ◌/◌, ◌<◌, ◌≤◌, List, ap, sym, subst, refl, inl, inr, arith}
-use Rattle.std.proofs.Common.{◌∙◌, Bool, true, false, lit<, lit≤, add-one}
+use Rattle.std.proofs.Common.{◌≡◌, ℕ, zero, suc, ◌+◌, ◌-◌, ◌*◌, ◌/◌, ◌<◌, ◌≤◌, List, sym, subst, refl, inl, inr, arith}
+use Rattle.std.proofs.Common.{Bool, true, false, lit<, lit≤, add-one}
 use Rattle.std.specs.Prelude.{◌⊎◌, Option, Some, None}
 use Rattle.std.proofs.lemmas.Bool.Decides.{leb_tells}
 use Rattle.vbi_c.specs.declared.halving.Between.{Between}
@@ -105,59 +105,65 @@ not_both seek bytes count number t a b n m between leads within order silent low
     silent_outside seek bytes count number t a b (between.low + (between.high - between.low) / 2) leads silent
     (omega (arith, low.0)) (omega (arith, high, order))
 
--- told in the middle
+-- told at a place that leaves three quarters at most
+pub told_there : (seek : Seek) (bytes : List ℕ) (count number t a b field more : ℕ) (old new : Between)
+    → Leads seek bytes count number t a b → IsWithin t a b old → 4 * (old.high - field) ≤ 3 * (old.high - old.low)
+    → 4 * (field + more - old.low) ≤ 3 * (old.high - old.low)
+    → IsNarrowedAt seek bytes count number field more old new → IsNarrower t a b old new
+told_there seek bytes count number t a b field more old new leads within behind before at = record {
+  within = narrowed_within seek bytes count number t a b field more old new leads within at;
+  told = narrowed_told seek bytes count number field more old new at;
+  narrower = elim at.narrowed [
+    | inl (less, is) ↦ subst (λ (n : Between). 4 * (n.high - n.low) ≤ 3 * (old.high - old.low)) (sym is)
+        (omega (arith, behind, at.few.1))
+    | inr (more, is) ↦ subst (λ (n : Between). 4 * (n.high - n.low) ≤ 3 * (old.high - old.low)) (sym is)
+        (omega (arith, before, at.few.1))
+  ];
+}
+
+-- in the middle
 pub told_middle : (seek : Seek) (bytes : List ℕ) (count number t a b : ℕ) (old new : Between)
     → Leads seek bytes count number t a b → IsWithin t a b old → old.low + left_most < old.high
     → IsNarrowedAt seek bytes count number (old.low + (old.high - old.low) / 2) ((old.high - old.low) / 8) old new
     → IsNarrower t a b old new
 told_middle seek bytes count number t a b old new leads within wide at =
-    let middle = old.low + (old.high - old.low) / 2 in
-    let more = (old.high - old.low) / 8 in
-    record {
-      within = narrowed_within seek bytes count number t a b middle more old new leads within at;
-      told = narrowed_told seek bytes count number middle more old new at;
-      narrower = elim at.narrowed [
-        | inl (less, is) ↦ subst (λ (n : Between). 8 * (n.high - n.low) ≤ 5 * (old.high - old.low)) (sym is)
-            (omega (arith, wide, at.few.1))
-        | inr (more, is) ↦ subst (λ (n : Between). 8 * (n.high - n.low) ≤ 5 * (old.high - old.low)) (sym is)
-            (omega (arith, wide, at.few.1))
-      ];
-    }
+    told_there seek bytes count number t a b (old.low + (old.high - old.low) / 2) ((old.high - old.low) / 8) old new
+    leads within (omega (arith, wide)) (omega (arith, wide)) at
 
 -- silence in the middle, where only the last end has told a number
-pub silent_before : (seek : Seek) (bytes : List ℕ) (count number t a b n : ℕ) (old rest : Between)
-    → Leads seek bytes count number t a b → IsWithin t a b old → old.low + left_most < old.high
-    → IsSilent seek bytes count (old.low + (old.high - old.low) / 2) → rest ≡ old
-    → rest.lower ≡ None → rest.higher ≡ Some n
+pub silent_before : (seek : Seek) (bytes : List ℕ) (count number t a b : ℕ) (old rest : Between)
+    → Leads seek bytes count number t a b → IsWithin t a b old → IsToldAt old → old.low + left_most < old.high
+    → IsSilent seek bytes count (old.low + (old.high - old.low) / 2) → rest ≡ old → old.lower ≡ None
     → IsNarrower t a b old (record rest { low = old.low + (old.high - old.low) / 2 })
-silent_before seek bytes count number t a b n old rest leads within wide silent same none some =
-    let lower : old.lower ≡ None = sym (ap (λ (r : Between). r.lower) same) ∙ none in
-    let higher : old.higher ≡ Some n = sym (ap (λ (r : Between). r.higher) same) ∙ some in
-    let high = within.higher n higher in
-    let before : old.low + (old.high - old.low) / 2 < a = elim (leb_tells a (old.low + (old.high - old.low) / 2)) [
-      | inl (s, from) ↦ absurd (silent_outside seek bytes count number t a b (old.low + (old.high - old.low) / 2) leads
-          silent from (omega (arith, high, wide)))
-      | inr (s, less) ↦ less
-    ] in
+silent_before seek bytes count number t a b old rest leads within told wide silent same none =
     subst (λ (r : Between). IsNarrower t a b old (record r { low = old.low + (old.high - old.low) / 2 })) (sym same)
-    (record {
-      within = record {
-        from = omega (arith, before, leads.between.0);
-        to = within.to;
-        lower = λ m told. absurd (none_some old.lower m lower told);
-        higher = within.higher;
-      };
-      told = inr (n, higher);
-      narrower = omega (arith, wide);
-    })
+    (elim told [
+      | inl (n, some) ↦ absurd (none_some old.lower n none some)
+      | inr (n, some) ↦
+          let high = within.higher n some in
+          let before : old.low + (old.high - old.low) / 2 < a = elim (leb_tells a (old.low + (old.high - old.low) / 2)) [
+            | inl (s, from) ↦ absurd (silent_outside seek bytes count number t a b
+                (old.low + (old.high - old.low) / 2) leads silent from (omega (arith, high, wide)))
+            | inr (s, less) ↦ less
+          ] in
+          record {
+            within = record {
+              from = omega (arith, before, leads.between.0);
+              to = within.to;
+              lower = λ m some. absurd (none_some old.lower m none some);
+              higher = within.higher;
+            };
+            told = inr (n, some);
+            narrower = omega (arith, wide);
+          }
+    ])
 
 -- where only the first end has
 pub silent_behind : (seek : Seek) (bytes : List ℕ) (count number t a b : ℕ) (old rest : Between)
     → Leads seek bytes count number t a b → IsWithin t a b old → IsToldAt old → old.low + left_most < old.high
-    → IsSilent seek bytes count (old.low + (old.high - old.low) / 2) → rest ≡ old → rest.higher ≡ None
+    → IsSilent seek bytes count (old.low + (old.high - old.low) / 2) → rest ≡ old → old.higher ≡ None
     → IsNarrower t a b old (record rest { high = old.low + (old.high - old.low) / 2 })
-silent_behind seek bytes count number t a b old rest leads within told wide silent same none =
-    let higher : old.higher ≡ None = sym (ap (λ (r : Between). r.higher) same) ∙ none in
+silent_behind seek bytes count number t a b old rest leads within told wide silent same higher =
     subst (λ (r : Between). IsNarrower t a b old (record r { high = old.low + (old.high - old.low) / 2 })) (sym same)
     (elim told [
       | inr (n, some) ↦ absurd (none_some old.higher n higher some)
@@ -244,7 +250,7 @@ pub left_first : (count : ℕ) → left_after count 0 ≡ count
 unfolding left_after
 left_first count = refl
 
-pub left_more : (count steps : ℕ) → left_after count (steps + 1) ≡ 5 * left_after count steps / 8
+pub left_more : (count steps : ℕ) → left_after count (steps + 1) ≡ 3 * left_after count steps / 4
 unfolding left_after
 left_more count steps = rw add-one refl
 
@@ -276,7 +282,7 @@ unfolding left_after
 left_fewer few many zero less = less
 left_fewer few many (suc steps) less = omega (arith, left_fewer few many steps less)
 
-pub left_of_a_million : (count : ℕ) → count ≤ 1000000 → left_after count 22 ≤ left_most
+pub left_of_a_million : (count : ℕ) → count ≤ 1000000 → left_after count 36 ≤ left_most
 unfolding left_after
 left_of_a_million count few =
-    let last : left_after 1000000 22 ≤ left_most = lit≤ tt in omega (arith, left_fewer count 1000000 22 few, last)
+    let last : left_after 1000000 36 ≤ left_most = lit≤ tt in omega (arith, left_fewer count 1000000 36 few, last)

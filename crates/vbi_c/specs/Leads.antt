@@ -40,16 +40,16 @@ pub record IsWithin (t a b : ℕ) (between : Between) : Type 0 where
 abbrev pub IsToldAt : Between → Type 0
 IsToldAt between = ((n : ℕ) × (between.lower ≡ Some n)) ⊎ ((n : ℕ) × (between.higher ≡ Some n))
 
--- so few fields are left of these after so many steps, each of which leaves five eighths at most
+-- so few fields are left of these after so many steps, each of which leaves three quarters at most
 unfoldable pub left_after : ℕ → ℕ → ℕ
 left_after count zero = count
-left_after count (suc k) = 5 * left_after count k / 8
+left_after count (suc k) = 3 * left_after count k / 4
 
--- the fields have field t among them as before, and are fewer: five eighths at most
+-- the fields have field t among them as before, and are fewer: three quarters at most
 pub record IsNarrower (t a b : ℕ) (old new : Between) : Type 0 where
   pub within : IsWithin t a b new
   pub told : IsToldAt new
-  pub narrower : 8 * (new.high - new.low) ≤ 5 * (old.high - old.low)
+  pub narrower : 4 * (new.high - new.low) ≤ 3 * (old.high - old.low)
 
 -- they lead to a place: field t is from its first field on, and no further behind its last one than is looked at
 pub record IsPlaced (t : ℕ) (place : Between) : Type 0 where

@@ -7,7 +7,7 @@
 //! player went back or stood still can lead astray, so what is found here is no more than a place to look at: seeking.rt
 //! judges the fields around it.
 
-ghost use Rattle.std.specs.Prelude.{◌≡◌, ◌↔◌, ℕ, ◌+◌, ◌-◌, ◌*◌, ◌/◌, ◌^◌, ◌<◌, ◌≤◌, length, false, true, Some, None, IfSome};
+ghost use Rattle.std.specs.Prelude.{◌≡◌, ◌↔◌, ◌⊎◌, ℕ, ◌+◌, ◌-◌, ◌*◌, ◌/◌, ◌^◌, ◌<◌, ◌≤◌, length, false, true, Some, None, IfSome};
 ghost use Rattle.vbi_words.specs.Geometry.{field_bytes};
 ghost use Rattle.vbi_c.specs.Leads.{Leads, IsWithin, IsToldAt, IsNarrower, IsPlaced, left_after};
 ghost use Rattle.vbi_c.specs.Seeking.{probe_most, probe_longest, probed_most, looked_most, left_most};
@@ -26,7 +26,7 @@ const PROBED: u32 = 812;
 const PLACES: u32 = 31;
 
 /// A million fields are halved so often at most.
-const STEPS: u32 = 22;
+const STEPS: u32 = 36;
 
 /// The fields between which a number is sought.
 #[derive(Clone, Copy)]
@@ -322,6 +322,109 @@ fn narrow_between(
     }
 }
 
+/// Narrows the fields between which the number is sought, by what is told from one of two fields on. Answers whether
+/// from one of them on a number is.
+fn narrow_either(
+    seek: &Seek,
+    bytes: &[u8],
+    count: usize,
+    number: u32,
+    first: usize,
+    second: usize,
+    more: usize,
+    between: &mut Between,
+    looked: &mut Looked,
+) -> bool
+    requires whole { count * field_bytes seek.now.setup.system ≤ length bytes.now }
+    requires inside { (first ≤ count) × (second ≤ count) }
+    requires room { looked.old.fields + looked.old.spare ≤ looked_most }
+    ensures few { looked.new.fields + looked.new.spare ≤ looked.old.fields + looked.old.spare }
+    ensures kept { result ≡ false → between.new ≡ between.old }
+    ensures narrowed { result ≡ true →
+        IsNarrowedAt seek.now bytes.now count number first more between.old between.new
+        ⊎ IsNarrowedAt seek.now bytes.now count number second more between.old between.new }
+{
+    let mut all_seen = [NOTHING_SEEN; LONGEST];
+    let seen = &mut all_seen[..];
+    narrow_by_spare(
+        seek, bytes, count, number, first, more, between, seen, looked,
+    ) || narrow_by_spare(
+        seek, bytes, count, number, second, more, between, seen, looked,
+    )
+}
+
+/// Narrows the fields between which the number is sought where the middle is silent, and only the last end has told a
+/// number: by what is told a little before the middle, or else to the fields behind it.
+fn narrow_before(
+    seek: &Seek,
+    bytes: &[u8],
+    count: usize,
+    number: u32,
+    between: &mut Between,
+    looked: &mut Looked,
+)
+    requires whole { count * field_bytes seek.now.setup.system ≤ length bytes.now }
+    requires wide { between.old.low + left_most < between.old.high }
+    requires inside { between.old.high ≤ count }
+    requires fits { 32 * count < 2 ^ 64 }
+    requires room { looked.old.fields + looked.old.spare ≤ looked_most }
+    requires silent { IsSilent seek.now bytes.now count
+        (between.old.low + (between.old.high - between.old.low) / 2) }
+    requires before { between.old.lower ≡ None }
+    ensures order { between.new.low ≤ between.new.high }
+    ensures inside { between.new.high ≤ count }
+    ensures few { looked.new.fields + looked.new.spare ≤ looked.old.fields + looked.old.spare }
+    ensures leads { (t a b : ℕ) → Leads seek.now bytes.now count number t a b → IsWithin t a b between.old
+        → IsToldAt between.old → IsNarrower t a b between.old between.new }
+{
+    let width = between.high - between.low;
+    let middle = between.low + width / 2;
+    let (first, second) = (between.low + 3 * width / 8, between.low + 5 * width / 16);
+    let more = width / 16;
+    if narrow_either(
+        seek, bytes, count, number, first, second, more, between, looked,
+    ) {
+        return;
+    }
+    between.low = middle;
+}
+
+/// The same, where only the first end has told a number, or none has: by what is told a little behind the middle, or
+/// else to the fields before it.
+fn narrow_behind(
+    seek: &Seek,
+    bytes: &[u8],
+    count: usize,
+    number: u32,
+    between: &mut Between,
+    looked: &mut Looked,
+)
+    requires whole { count * field_bytes seek.now.setup.system ≤ length bytes.now }
+    requires wide { between.old.low + left_most < between.old.high }
+    requires inside { between.old.high ≤ count }
+    requires fits { 32 * count < 2 ^ 64 }
+    requires room { looked.old.fields + looked.old.spare ≤ looked_most }
+    requires silent { IsSilent seek.now bytes.now count
+        (between.old.low + (between.old.high - between.old.low) / 2) }
+    requires behind { between.old.higher ≡ None }
+    ensures order { between.new.low ≤ between.new.high }
+    ensures inside { between.new.high ≤ count }
+    ensures few { looked.new.fields + looked.new.spare ≤ looked.old.fields + looked.old.spare }
+    ensures leads { (t a b : ℕ) → Leads seek.now bytes.now count number t a b → IsWithin t a b between.old
+        → IsToldAt between.old → IsNarrower t a b between.old between.new }
+{
+    let width = between.high - between.low;
+    let middle = between.low + width / 2;
+    let (first, second) = (between.low + 5 * width / 8, between.low + 11 * width / 16);
+    let more = width / 16;
+    if narrow_either(
+        seek, bytes, count, number, first, second, more, between, looked,
+    ) {
+        return;
+    }
+    between.high = middle;
+}
+
 /// Narrows the fields between which the number is sought, by what is told in the middle. Silence there says that the
 /// number is on the side of the end that has told one, where only one has.
 fn halve(
@@ -361,9 +464,9 @@ fn halve(
         return;
     }
     match between.higher {
-        None => between.high = middle,
+        None => narrow_behind(seek, bytes, count, number, between, looked),
         Some(higher) => match between.lower {
-            None => between.low = middle,
+            None => narrow_before(seek, bytes, count, number, between, looked),
             Some(lower) => {
                 narrow_between(
                     seek, bytes, count, number, lower, higher, seen, between, looked,
@@ -376,7 +479,7 @@ fn halve(
 /// How often so many fields are halved, or a million, if they are more.
 fn steps_of(count: usize) -> u32
     requires fits { 32 * count < 2 ^ 64 }
-    ensures few { result ≤ 22 }
+    ensures few { result ≤ 36 }
     ensures enough { count ≤ 1000000 → left_after count result ≤ left_most }
 {
     let mut left = count;
@@ -384,7 +487,7 @@ fn steps_of(count: usize) -> u32
         if left <= LEFT {
             return steps;
         }
-        left = 5 * left / 8;
+        left = 3 * left / 4;
     }
     STEPS
 }

@@ -7,7 +7,7 @@ loop-steps-init c = record { is = sym (left_first c.args.count); fewer = omega a
 
 pub loop-steps-preserved : goal.loop-steps-preserved
 loop-steps-preserved c = record {
-  is = ap (λ (n : ℕ). 5 * n / 8) c.loop-steps.invariant.is ∙ sym (left_more c.args.count c.loop-steps.steps);
+  is = ap (λ (n : ℕ). 3 * n / 4) c.loop-steps.invariant.is ∙ sym (left_more c.args.count c.loop-steps.steps);
   fewer = omega arith;
 }
 
