@@ -65,15 +65,15 @@ fn narrow(
     let (told, read) = probe(seek, bytes, count, field, longest, seen, looked);
     let behind = read.saturating_sub(PROBE as u32);
     looked.spare -= behind;
-    let Some(shown) = told else {
+    let Some(told) = told else {
         return false;
     };
-    if shown < number {
+    if told < number {
         between.low = field + behind as usize;
-        between.lower = Some(shown);
+        between.lower = Some(told);
     } else {
         between.high = field + behind as usize;
-        between.higher = Some(shown);
+        between.higher = Some(told);
     }
     true
 }
@@ -378,7 +378,7 @@ fn narrow_before(
         → IsToldAt between.old → IsNarrower t a b between.old between.new }
 {
     let width = between.high - between.low;
-    let middle = between.low + width / 2;
+    let from = between.low + width / 2;
     let (first, second) = (between.low + 3 * width / 8, between.low + 5 * width / 16);
     let more = width / 16;
     if narrow_either(
@@ -386,7 +386,7 @@ fn narrow_before(
     ) {
         return;
     }
-    between.low = middle;
+    between.low = from;
 }
 
 /// The same, where only the first end has told a number, or none has: by what is told a little behind the middle, or
@@ -414,7 +414,7 @@ fn narrow_behind(
         → IsToldAt between.old → IsNarrower t a b between.old between.new }
 {
     let width = between.high - between.low;
-    let middle = between.low + width / 2;
+    let to = between.low + width / 2;
     let (first, second) = (between.low + 5 * width / 8, between.low + 11 * width / 16);
     let more = width / 16;
     if narrow_either(
@@ -422,7 +422,7 @@ fn narrow_behind(
     ) {
         return;
     }
-    between.high = middle;
+    between.high = to;
 }
 
 /// Narrows the fields between which the number is sought, by what is told in the middle. Silence there says that the
