@@ -3,7 +3,7 @@ use Rattle.std.proofs.Common.{◌≡◌, ℕ, zero, suc, ◌+◌, ◌-◌, ◌*�
 use Rattle.std.proofs.Common.{Bool, true, false, lit<, lit≤, add-one}
 use Rattle.std.specs.Prelude.{◌⊎◌, Option, Some, None}
 use Rattle.std.proofs.lemmas.Bool.Decides.{leb_tells}
-use Rattle.vbi_c.specs.declared.halving.Between.{Between}
+use Rattle.vbi_c.specs.declared.narrowing.Between.{Between}
 use Rattle.vbi_c.specs.declared.probing.Seek.{Seek}
 use Rattle.vbi_c.specs.Leads.{Tells, Leads, IsWithin, IsToldAt, IsNarrower, IsPlaced, left_after}
 use Rattle.vbi_c.specs.Seeking.{left_most}

@@ -4,7 +4,7 @@ use Rattle.vbi_words.specs.Geometry.{field_bytes}
 use Rattle.vbi_side.specs.declared.number.Number.{Number}
 use Rattle.vbi_side.specs.declared.pace.Pace as paces
 use Rattle.vbi_side.specs.Numbers.{IsAnswer, IsKnown}
-use Rattle.vbi_c.specs.declared.halving.Between.{Between}
+use Rattle.vbi_c.specs.declared.narrowing.Between.{Between}
 use Rattle.vbi_c.specs.declared.probing.Seek.{Seek}
 use Rattle.vbi_c.specs.declared.seeking.LdvbiSought.{LdvbiSought}
 use Rattle.vbi_c.specs.Seeking.{shown_of, probe_most, probe_longest, around_most, left_most, HasOther, IsJudgedIn}

@@ -8,7 +8,7 @@ use Rattle.vbi_side.specs.declared.sighting.Sightings.{Sightings}
 use Rattle.vbi_side.specs.Beliefs.{field_weight, support_of}
 use Rattle.vbi_side.specs.Paces.{fits}
 use Rattle.vbi_side.specs.Sightings.{IsSeen, Shows}
-use Rattle.vbi_c.specs.declared.halving.Between.{Between}
+use Rattle.vbi_c.specs.declared.narrowing.Between.{Between}
 use Rattle.vbi_c.specs.declared.probing.Seek.{Seek}
 use Rattle.vbi_c.specs.Seeking.{shown_at, probe_most, probe_longest}
 

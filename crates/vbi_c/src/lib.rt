@@ -21,6 +21,7 @@ mod halving;
 mod judging;
 pub mod laws;
 mod line;
+mod narrowing;
 mod nearest;
 mod one_field;
 mod pace;

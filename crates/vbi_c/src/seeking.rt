@@ -13,8 +13,9 @@ ghost use Rattle.vbi_c.specs.Leads.{IsFirstKnown, IsPlaced, IsComplete};
 ghost use Rattle.vbi_c.specs.Seeking.{seek_of, shown_at, probed_most, around_most, IsSought, IsSoughtIn};
 ghost use Rattle.vbi_c.specs.Statuses.{status_of};
 
-use crate::halving::{Between, LEFT, place_of};
+use crate::halving::{LEFT, place_of};
 use crate::judging::{Judging, asked_of, counted_of, pace_for};
+use crate::narrowing::Between;
 use crate::pace::pace_for_c;
 use crate::probing::{Looked, NOTHING_SEEN, PROBE, Seek, see_from};
 use crate::setup::setup_of;

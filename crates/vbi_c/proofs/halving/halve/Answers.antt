@@ -1,6 +1,6 @@
 use Rattle.vbi_c.specs.Telling.{IsSilent}
 use Rattle.std.proofs.Common.{◌+◌, ◌-◌, ◌/◌, ◌≤◌, ◌∙◌, ap, sym, subst, arith}
-use Rattle.vbi_c.specs.declared.halving.Between.{Between}
+use Rattle.vbi_c.specs.declared.narrowing.Between.{Between}
 use Rattle.vbi_c.specs.Leads.{IsWithin, IsToldAt, IsNarrower}
 use Rattle.vbi_c.proofs.Leading.{told_middle, not_both}
 use Rattle.vbi_c.proofs.halving.halve.Goals as goal

@@ -1,5 +1,5 @@
 use Rattle.std.proofs.Common.{◌+◌, ◌<◌, arith, ap, sym, subst}
-use Rattle.vbi_c.specs.declared.halving.Between.{Between}
+use Rattle.vbi_c.specs.declared.narrowing.Between.{Between}
 use Rattle.vbi_c.specs.declared.probing.Looked.{Looked}
 use Rattle.vbi_c.specs.Seeking.{left_most}
 use Rattle.vbi_c.proofs.Leading.{IsAsNear, begun, begun_order, near_first, near_more, near_still, placed}

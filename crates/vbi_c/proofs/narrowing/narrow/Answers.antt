@@ -1,5 +1,5 @@
 use Rattle.std.proofs.Common.{◌≡◌, None, arith}
-use Rattle.vbi_c.proofs.halving.narrow.Goals as goal
+use Rattle.vbi_c.proofs.narrowing.narrow.Goals as goal
 
 pub returns-in_default-clause-silent : goal.returns-in_default-clause-silent
 returns-in_default-clause-silent c = λ same k n few inside tells.
