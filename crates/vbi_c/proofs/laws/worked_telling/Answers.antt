@@ -4,7 +4,7 @@ use Rattle.vbi_side.specs.declared.sighting.Sightings.{Sightings}
 use Rattle.vbi_side.specs.Beliefs.{weight_below, support_of}
 use Rattle.vbi_side.specs.Worked.{field_of}
 use Rattle.vbi_c.specs.Telling.{IsTold, together, run_below, run_weight}
-use Rattle.vbi_c.specs.Worked.{video_ending, film_ending}
+use Rattle.vbi_c.specs.Worked.{video_ending, film_ending, far_ending}
 use Rattle.vbi_c.proofs.laws.worked_telling.Goals as goal
 
 -- what weighs too little at both paces isn't told
@@ -26,6 +26,11 @@ returns-clause-video c = (inl (lit≤ tt), too_little (video_ending 1) 0 5 5 2 5
 pub returns-clause-film : goal.returns-clause-film
 unfolding weight_below run_below
 returns-clause-film c = (inr (inl (lit≤ tt)), too_little (film_ending 1) 0 5 4 5 4 refl refl refl (lit< tt) (lit< tt) (lit< tt))
+
+pub returns-clause-far : goal.returns-clause-far
+unfolding weight_below run_below
+returns-clause-far c =
+    (inr (inr (lit≤ tt)), too_little (far_ending 1) 0 5 2 2 5 refl refl refl (lit< tt) (lit< tt) (lit< tt))
 
 pub returns-clause-alone : goal.returns-clause-alone
 unfolding weight_below run_below
