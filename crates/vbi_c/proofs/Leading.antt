@@ -31,7 +31,7 @@ narrowed_within seek bytes count number t a b field more old new leads within at
 ]
   where
     tells : Tells seek bytes count field at.read at.number
-    tells = record { few = at.few.0; inside = at.inside; tells = at.told }
+    tells = record { few = at.few.0; inside = at.inside; tells = at.told; first = at.first }
 
 -- a number is told at one of the ends then
 pub narrowed_told : (seek : Seek) (bytes : List ℕ) (count number field more : ℕ) (old new : Between)

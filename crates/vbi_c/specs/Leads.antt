@@ -10,11 +10,13 @@ use Rattle.vbi_c.specs.declared.seeking.LdvbiSought.{LdvbiSought}
 use Rattle.vbi_c.specs.Seeking.{shown_of, probe_most, probe_longest, around_most, left_most, HasOther, IsJudgedIn}
 use Rattle.vbi_c.specs.Telling.{TellsFrom, told_at}
 
--- so many fields of a side from this one on tell a number together; they are no more than are read at one place
+-- so many fields of a side from this one on tell a number together, and fewer tell none; they are no more than are read
+-- at one place
 pub record Tells (seek : Seek) (bytes : List ℕ) (count field k n : ℕ) : Type 0 where
   pub few : k ≤ probe_longest
   pub inside : field + k ≤ count
   pub tells : TellsFrom seek bytes field k n
+  pub first : (j m : ℕ) → j < k → TellsFrom seek bytes field j m → ⊥
 
 -- what the fields of a side tell leads to field t with this number. The fields from a to b are a sixteenth of the side
 -- at least, and from each of them on 12 fields or fewer tell a number. At no other field a number is told. One that is

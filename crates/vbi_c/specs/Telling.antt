@@ -59,13 +59,14 @@ IsNarrowed n field told old new =
     ((told < n) × (new ≡ record old { low = field; lower = Some told }))
     ⊎ ((n ≤ told) × (new ≡ record old { high = field; higher = Some told }))
 
--- so it is by what some fields from this one on tell, so many more than 12 at most
+-- so it is by what some fields from this one on tell, so many more than 12 at most, where fewer tell none
 pub record IsNarrowedAt (seek : Seek) (bytes : List ℕ) (count n field more : ℕ) (old new : Between) : Type 0 where
   pub read : ℕ
   pub number : ℕ
   pub few : (read ≤ probe_longest) × (read ≤ probe_most + more)
   pub inside : field + read ≤ count
   pub told : TellsFrom seek bytes field read number
+  pub first : (k m : ℕ) → k < read → TellsFrom seek bytes field k m → ⊥
   pub narrowed : IsNarrowed n (told_at field read) number old new
 
 -- field i of these shows number n, which is between two others

@@ -179,6 +179,8 @@ pub(crate) fn probe(
     ensures counted { looked.new ≡ record looked.old { fields = looked.old.fields + result.1 } }
     ensures seen { take result.1 seen.new ≡ map (shown_at seek.now bytes.now) (range_with_len field result.1) }
     ensures told { IfSome result.0 (λ number. TellsFrom seek.now bytes.now field result.1 number) }
+    ensures first { IfSome result.0 (λ told. (k number : ℕ) → k < result.1
+        → TellsFrom seek.now bytes.now field k number → ⊥) }
     ensures all { result.0 ≡ None → result.1 ≡ min longest (count - field) }
     ensures silent { result.0 ≡ None → (k number : ℕ) → k ≤ result.1
         → TellsFrom seek.now bytes.now field k number → ⊥ }

@@ -37,3 +37,6 @@ pub returns-in-Some-clause-seen : goal.returns-in-Some-clause-seen
 returns-in-Some-clause-seen c =
     shown_more (shown_at c.args.seek.now c.args.bytes.now) c.loop-i.seen c.args.field c.loop-i.i c.shown_at.result
     (omega arith) c.loop-i.invariant.made c.shown_at.ensures.shown
+
+pub returns-in-Some-clause-first : goal.returns-in-Some-clause-first
+returns-in-Some-clause-first c = λ k n less tells. c.loop-i.invariant.silent k n (omega (arith, less)) tells
