@@ -394,8 +394,8 @@ enum { LDVBI_LOOKED = 1000 };
  * ldvbi_read_fields reads of all fields, and the field before it hasn't. The first field with a number is found on a
  * side of at most a million fields where the numbers lead to it: along a sixteenth of the side or more 12 fields from
  * each one on tell a number together, elsewhere none do, and lower numbers are told before the field, higher ones behind
- * it. So it is where a player runs on, with any lead-in and lead-out, and most lines are read. Beyond that a number may
- * be missed: to be sure that one isn't there, judge the whole side. */
+ * it. That a side is so isn't proved: those were that were tried where a player runs on, with any lead-in and lead-out,
+ * and each line is read. A number may be missed elsewhere: to be sure that one isn't there, judge the whole side. */
 LDVBI_RESULT LDVBI_POINTER(9) uint32_t ldvbi_seek(uint32_t system, uint32_t black, uint32_t white, uint32_t counted,
     uint32_t pace, const void *bytes, size_t length, uint32_t number, LdvbiSought *sought);
 
