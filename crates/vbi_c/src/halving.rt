@@ -2,10 +2,10 @@
 //!
 //! Numbers rise along a side, so the place of one is found by halving: some fields in the middle are read, until enough
 //! of their lines show one number together, which tells the half. Before the first number of a side and behind its last
-//! one no field tells any, so the middles of ever smaller parts are asked until one tells a number. From then on silence
-//! tells the half, too, as long as only one end has told a number: the number is on the side of that end. A side whose
-//! player went back or stood still can lead astray, so what is found here is no more than a place to look at: seeking.rt
-//! judges the fields around it.
+//! one no field tells any, so the middles of ever smaller parts are asked until one tells a number. From then on
+//! silence tells the half, too, as long as only one end has told a number: the number is on the side of that end. A
+//! side whose player went back or stood still can lead astray, so what is found here is no more than a place to look
+//! at: seeking.rt judges the fields around it.
 
 ghost use Rattle.std.specs.Prelude.{◌≡◌, ℕ, ◌+◌, ◌-◌, ◌*◌, ◌/◌, ◌^◌, ◌<◌, ◌≤◌, length, false, true, None};
 ghost use Rattle.vbi_words.specs.Geometry.{field_bytes};
@@ -39,8 +39,8 @@ fn middle_of(count: usize, parts: usize, part: usize) -> usize
     (count * (2 * part + 1) / (2 * parts)).min(count)
 }
 
-/// Narrows the fields between which the number is sought, by the first of the middles of so many equal parts of the side
-/// at which a number is told. Answers whether one is.
+/// Narrows the fields between which the number is sought, by the first of the middles of so many equal parts of the
+/// side at which a number is told. Answers whether one is.
 fn sweep(
     seek: &Seek,
     bytes: &[u8],

@@ -142,8 +142,8 @@ pub fn worked_sides()
 {}
 
 /// How many fields a search reads, and which numbers fields tell together: what supports one has to weigh 6, at either
-/// pace, or what all fields show at that of video. So one field alone tells none, and fields tell no number that none of
-/// them shows.
+/// pace, or what all fields show at that of video. So one field alone tells none, and fields tell no number that none
+/// of them shows.
 pub fn worked_telling()
     ensures numbers { (probe_most ≡ 12) × (probe_longest ≡ 144) × (probed_most ≡ 812) × (around_most ≡ 188) }
     ensures video { IsTold (video_ending 2) 0 5 × (IsTold (video_ending 1) 0 5 → ⊥) }

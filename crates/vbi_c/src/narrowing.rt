@@ -18,8 +18,8 @@ pub(crate) struct Between {
     pub(crate) higher: Option<u32>,
 }
 
-/// Narrows the fields between which the number is sought, by the number that the fields from this one on tell, if so many
-/// more than `PROBE` at most tell one. Answers whether they do. What they show stands in `seen`.
+/// Narrows the fields between which the number is sought, by the number that the fields from this one on tell, if so
+/// many more than `PROBE` at most tell one. Answers whether they do. What they show stands in `seen`.
 pub(crate) fn narrow(
     seek: &Seek,
     bytes: &[u8],
@@ -122,8 +122,8 @@ fn narrow_by_spare(
     )
 }
 
-/// Narrows the fields between which the number is sought by a single line of those from this field on that shows a number
-/// between those of both ends. Answers whether one does.
+/// Narrows the fields between which the number is sought by a single line of those from this field on that shows a
+/// number between those of both ends. Answers whether one does.
 fn narrow_by_one(
     number: u32,
     field: usize,

@@ -1,7 +1,8 @@
 //! Seeking a number in the bytes of a side, of which few fields are read.
 //!
 //! halving.rt tells where it may be, and that what is answered is right rests on none of that: the fields around that
-//! place are read and judged, and the number is answered only of a field that has it by `ldvbi_judge` of the whole side.
+//! place are read and judged, and the number is answered only of a field that has it by `ldvbi_judge` of the whole
+//! side.
 
 ghost use Rattle.std.specs.Prelude.{◌≡◌, ◌≢◌, ℕ, ◌+◌, ◌-◌, ◌*◌, ◌<◌, ◌≤◌, ◌⊎◌, length, map, take, drop, false, Some, None, IfOk, IfSome, IsTrue};
 ghost use Rattle.std.specs.List.{range_with_len};
@@ -67,8 +68,8 @@ fn seek_of(system: u32, black: u32, white: u32, counted: u32, pace: u32) -> Resu
     Ok(Seek { setup, judging })
 }
 
-/// Puts the number of each field from `first` to before `end` into its place, by what these fields show, and answers the
-/// pace at which they are.
+/// Puts the number of each field from `first` to before `end` into its place, by what these fields show, and answers
+/// the pace at which they are.
 fn judge_from(
     seek: &Seek,
     bytes: &[u8],
@@ -98,8 +99,8 @@ fn judge_from(
     pace
 }
 
-/// The first of these numbers from one to before another that is this one, counted from there. None where it is the very
-/// first of these, unless the side begins there: of the field before it it isn't known that it has another number.
+/// The first of these numbers from one to before another that is this one, counted from there. None where it is the
+/// very first of these, unless the side begins there: of the field before it it isn't known that it has another number.
 fn first_between(
     numbers: &[Number],
     from: usize,
