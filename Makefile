@@ -11,12 +11,12 @@
 # the manual pages, completions, schema, contrib's files, the Python module, documents and examples to DIR/share, and
 # the library with its header to DIR/lib (or LIBDIR) and DIR/include where it is built, too; `make install-lib` installs
 # the library alone; DESTDIR goes before all of them; `make uninstall PREFIX=DIR` takes all of it away; `make wheel`
-# packs the Python module with the library for pip; `make venv` makes a virtual environment with
-# that in .venv; `make check PROGRAM=./ldvbi` runs the gate's scripts on the program;
-# `make dist` packs source and what is built, with checksums; `make peers` has other programs read what it reads, and
-# needs mame-tools and libzvbi-dev; `make channel` has the library read simulated lines of worn discs, and needs
-# python3-numpy and python3-scipy. With FROM=rust `install`, `install-lib` and `wheel` take what `make rust` built. The
-# system's loader finds a library that is installed to /usr/local once `ldconfig` was run as root.
+# packs the Python module with the library for pip, and `make venv` puts it into a virtual environment, .venv;
+# `make check PROGRAM=./ldvbi` runs the gate's scripts on the program; `make dist` packs source and what is built, with
+# checksums; `make peers` has other programs read what it reads, and needs mame-tools and libzvbi-dev; `make channel`
+# has the library read simulated lines of worn discs, and needs python3-numpy and python3-scipy. With FROM=rust
+# `install`, `install-lib`, `wheel` and `venv` take what `make rust` built. The system's loader finds a library that is
+# installed to /usr/local once `ldconfig` was run as root.
 
 PREFIX ?= /usr/local
 # Debian's is /usr/lib/x86_64-linux-gnu
@@ -263,5 +263,5 @@ toolchain:
 	    echo "make: the proved build needs the toolchain of Rattle, whose command rt is not on the PATH" >&2; \
 	    echo "make: without it: make rust && make install FROM=rust" >&2; exit 1; }
 
-.PHONY: lib test ran rust rust-compare setup places said-from install install-lib uninstall check wheel venv dist bench \
-	peers channel clean toolchain
+.PHONY: lib test ran rust rust-compare setup places said-from install install-lib uninstall check wheel venv dist
+.PHONY: bench peers channel clean toolchain

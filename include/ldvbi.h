@@ -388,15 +388,18 @@ typedef struct LdvbiSought {
     uint32_t pace;      /* that at which it is answered, LDVBI_VIDEO or LDVBI_FILM; else 0 */
     uint32_t looked;    /* how many fields were read, LDVBI_LOOKED at most */
 } LdvbiSought;
-enum { LDVBI_LOOKED = 400 };
+enum { LDVBI_LOOKED = 1000 };
 
 /* Seeks a number in the `length` bytes of a side, as a mapped file: by halving, so few fields are read. `pace` is as
  * for ldvbi_judge. With LDVBI_FIND_PACE the call takes a pace by the few fields that it judges, and names it in
  * `sought`: it needn't be the one that ldvbi_find_pace answers of the side. A cut last field is left out.
  *
  * This is proved: the field that is answered has the number as ldvbi_judge answers it, at this pace, by what
- * ldvbi_read_fields reads of all fields, and the field before it hasn't. Whether a number is found is not proved: they
- * have to rise along the side, as where a player runs on. To be sure that one isn't there, judge the whole side. */
+ * ldvbi_read_fields reads of all fields, and the field before it hasn't. The first field with a number is found on a
+ * side of at most a million fields where the numbers lead to it: along a sixteenth of the side or more 12 fields from
+ * each one on tell a number together, elsewhere none do, and lower numbers are told before the field, higher ones behind
+ * it. That a side is so isn't proved: those were that were tried where a player runs on, with any lead-in and lead-out,
+ * and each line is read. A number may be missed elsewhere: to be sure that one isn't there, judge the whole side. */
 LDVBI_RESULT LDVBI_POINTER(9) uint32_t ldvbi_seek(uint32_t system, uint32_t black, uint32_t white, uint32_t counted,
     uint32_t pace, const void *bytes, size_t length, uint32_t number, LdvbiSought *sought);
 

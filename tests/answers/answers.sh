@@ -65,7 +65,7 @@ with ldvbi.Stream(path, system, int(black), int(white)) as side:
     found = ldvbi.seek(side, number, "times" if behind else "pictures")
 if found is None:
     sys.exit(1)
-assert found.number.number == number and found.looked <= 400
+assert found.number.number == number and found.looked <= 1000
 print("field", found.field + 1)
 END_OF_PYTHON
 draws_sides

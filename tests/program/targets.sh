@@ -63,7 +63,7 @@ check 'each target that is no file is said to be none' [ "$targets" = "$(cat out
 rm bin/rt
 ran tree env PATH=/usr/bin:/bin make -s toolchain
 check 'without the toolchain make says so' \
-    [ "$status $(grep -c 'rt of the Rattle toolchain is not on the PATH' err)" = '2 1' ]
+    [ "$status $(grep -c 'toolchain of Rattle, whose command rt is not on the PATH' err)" = '2 1' ]
 
 # rust/build.sh for another machine: by the compiler on the PATH if that has its library, else by Debian's
 mkdir -p other/rust own/lib/rustlib/mips debian/lib/rustlib/mips
@@ -72,15 +72,16 @@ stub bin/python3 'mkdir "$4"'
 stub bin/rustfmt 'exit 1'
 for folder in bin debian; do
     stub $folder/rustc "echo $work/\${LIBRARY_OF_$folder:-none}"
-    stub $folder/cargo 'mkdir -p "$CARGO_TARGET_DIR/$7/release"
-cd "$CARGO_TARGET_DIR/$7/release" && touch ldvbi ldvbi.exe ldvbi.dll libldvbi.dll.a libldvbi.a libldvbi.so \
+    stub $folder/cargo 'for word; do [ "${last:-}" != --target ] || target=$word; last=$word; done
+mkdir -p "$CARGO_TARGET_DIR/$target/release"
+cd "$CARGO_TARGET_DIR/$target/release" && touch ldvbi ldvbi.exe ldvbi.dll libldvbi.dll.a libldvbi.a libldvbi.so \
     libldvbi.dylib
 echo "$0 ${RUSTC:-}"'
 done
 for pair in own:bin/cargo none:debian/cargo; do
     ran other/rust env -u CARGO -u RUSTC LIBRARY_OF_bin=${pair%:*} LIBRARY_OF_debian=debian DEBIAN_BIN="$work/debian" \
         sh build.sh mips
-    check "a compiler of ${pair%:*}: ${pair#*:}" [ "$status ${pair#*:}" = "0 $(sed "s,^$work/,,; s/ .*//" out)" ]
+    check "a compiler of ${pair%:*}: ${pair#*:}" [ "$status ${pair#*:}" = "0 $(sed "s,^$work/,,; s/ .*//" out | uniq)" ]
 done
 check 'with its own compiler' grep -qx "$work/debian/cargo $work/debian/rustc" out
 check 'what is built for another machine' [ "$(ls other/rust/mips | paste -s -d ' ')" = \

@@ -271,9 +271,19 @@ class Seeking(unittest.TestCase):
         for number in (0, 400, 79999, 2 ** 32 - 1):
             self.assertIsNone(ldvbi.seek(side, number))
 
+    def test_any_lead_in_and_lead_out(self):
+        for text, before, last in (("Lx600 1..3000 Ox8", 600, 3000), ("Lx8 1..300 Ox4000", 8, 300),
+                                   ("Lx4000 1..300 Ox8", 4000, 300), ("Lx3000 1..2000 Ox3000", 3000, 2000)):
+            side = side_of(text)
+            for number in (1, 2, 3, last // 2, last - 20, last - 1, last):
+                with self.subTest((text, number)):
+                    found = ldvbi.seek(side, number)
+                    self.assertEqual(found and found.field, before + 2 * number - 2)
+                    self.assertLessEqual(found.looked, 1000)
+
     def test_few_fields_are_read(self):
         side = side_of("1..4000")
-        self.assertLessEqual(max(ldvbi.seek(side, number).looked for number in range(1, 4001, 97)), 200)
+        self.assertLessEqual(max(ldvbi.seek(side, number).looked for number in range(1, 4001, 97)), 220)
 
     def test_a_cut_side_and_a_closed_one(self):
         side = side_of("5..7", rest=700000)

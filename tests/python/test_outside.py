@@ -2,11 +2,16 @@
 names that are as long as names may be, and pages that another program wrote. Files that appear when they are whole, and
 outputs that would be written in the place of an input."""
 
+import contextlib
 import io
 import json
 import os
+import signal
 import stat
+import sys
+import time
 import unittest
+import weakref
 from unittest import mock
 
 from cases import InFolder, reason
@@ -91,6 +96,72 @@ class LongNames(InFolder):
         outputs.drop_parts(self.folder)
         self.assertEqual(self.names(), sorted(kept))
         self.assertIn(mine, part)
+
+    def test_a_process_of_somebody_else(self):
+        part = os.path.basename(self.write(os.path.basename(outputs._part_by("page.html", 1)), ""))
+        with mock.patch("os.kill", side_effect=PermissionError):
+            outputs.drop_parts(self.folder)
+        self.assertEqual(self.names(), [part])
+        with mock.patch("os.kill", side_effect=ProcessLookupError):
+            outputs.drop_parts(self.folder)
+        self.assertEqual(self.names(), [])
+
+
+class Thing:
+    """What a weak reference can be to."""
+
+
+class Signals(unittest.TestCase):
+    """In a callback whose exceptions Python drops."""
+
+    def setUp(self):
+        for number in (signal.SIGINT, signal.SIGTERM, signal.SIGHUP, signal.SIGALRM):
+            self.addCleanup(signal.signal, number, signal.getsignal(number))
+        self.addCleanup(setattr, sys, "unraisablehook", sys.unraisablehook)
+        self.addCleanup(outside.heeded)
+        outside.end_in_order()
+
+    def dropped(self, call):
+        thing = Thing()
+        reference = weakref.ref(thing, lambda _: call())
+        del thing
+        return reference
+
+    def test_one_that_is_dropped_is_sent_again(self):
+        self.dropped(lambda: (os.kill(os.getpid(), signal.SIGHUP), sum(range(10))))
+        with self.assertRaises(outside.Stopped) as raised:
+            time.sleep(10)
+        self.assertEqual(raised.exception.status, 129)
+
+    def test_one_that_is_dropped_is_noticed(self):
+        outside.raise_lost()
+        self.dropped(lambda: (os.kill(os.getpid(), signal.SIGTERM), sum(range(10))))
+        with self.assertRaises(outside.Stopped) as raised:
+            outside.raise_lost()
+        self.assertEqual((raised.exception.status, signal.getitimer(signal.ITIMER_REAL)), (143, (0, 0)))
+        outside.raise_lost()
+
+    def test_a_second_one(self):
+        """It ends the process at once where the first was dropped, or came more than a second ago."""
+        ended = []
+        with mock.patch("os._exit", ended.append):
+            with self.assertRaises(outside.Stopped):
+                os.kill(os.getpid(), signal.SIGINT)
+            os.kill(os.getpid(), signal.SIGINT)
+            self.assertEqual(ended, [])
+            with mock.patch("time.monotonic", lambda now=time.monotonic() + 2: now):
+                os.kill(os.getpid(), signal.SIGTERM)
+            self.assertEqual(ended, [143])
+            outside.end_in_order()
+            self.dropped(lambda: (os.kill(os.getpid(), signal.SIGTERM), sum(range(10))))
+            os.kill(os.getpid(), signal.SIGHUP)
+            self.assertEqual(ended, [143, 129])
+
+    def test_other_exceptions_that_are_dropped(self):
+        with contextlib.redirect_stderr(io.StringIO()) as said:
+            self.dropped(lambda: 1 // 0)
+        self.assertIn("ZeroDivisionError", said.getvalue())
+        outside.raise_lost()
 
 
 # What a page of others says, by member
@@ -229,6 +300,15 @@ class WholeFiles(InFolder):
             with self.assertRaises(error), whole_file(path):
                 self.fail("there is a file")
         self.assertEqual(self.read(part), b"old")
+        os.symlink("two", self.named("one"))
+        os.symlink("one", self.named("two"))
+        before = self.names()
+        for call in (whole_file, lambda path: whole_path(path, [])):
+            for name, kind in (("one", OSError), (part + "/side.html", NotADirectoryError)):
+                with self.assertRaises(kind) as raised, call(self.named(name)):
+                    self.fail("there is a file")
+                self.assertEqual(raised.exception.filename, self.named(name))
+        self.assertEqual(self.names(), before)
 
 
 class Inputs(InFolder):

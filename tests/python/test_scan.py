@@ -90,6 +90,7 @@ class Statuses(Scans, Calls):
         self.refused("no .tbc and no .vbi.json in empty", "scan empty")
         self.add("pages/index.html")
         self.refused(IN_PLACE % "pages/index.html", "scan --html pages pages/index.html")
+        self.refused("side.tbc/pages/deep: Not a directory", "scan side.tbc --html side.tbc/pages/deep")
 
     def test_the_script(self):
         """The processes of a scan read in the file by which the command was started; what is noted has its side."""

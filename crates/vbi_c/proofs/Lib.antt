@@ -6,5 +6,7 @@ pub mod MarkedLines
 pub mod Sought
 pub mod PartOfReadings
 mod Shown
+pub mod Leading
+pub mod Running
 pub mod CompletedTimes
 pub mod Placed

@@ -17,5 +17,6 @@ pub mod Stops
 pub mod Ends
 pub mod WholeSides
 pub mod Telling
+pub mod Leads
 pub mod Completing
 pub mod Worked

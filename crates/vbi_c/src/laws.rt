@@ -24,14 +24,14 @@ ghost use Rattle.vbi_c.specs.Nearest.{near_for_c};
 ghost use Rattle.vbi_c.specs.Readings.{outcome_for_c};
 ghost use Rattle.vbi_c.specs.Record.{HasText};
 ghost use Rattle.vbi_c.specs.Recovering.{code_bytes};
-ghost use Rattle.vbi_c.specs.Seeking.{probe_most, probed_most, around_most, IsSought, IsSoughtIn};
+ghost use Rattle.vbi_c.specs.Seeking.{probe_most, probe_longest, probed_most, around_most, IsSought, IsSoughtIn};
 ghost use Rattle.vbi_c.specs.Setups.{system_of, of_system};
 ghost use Rattle.vbi_c.specs.Stops.{IsStopOf};
 ghost use Rattle.vbi_c.specs.Telling.{IsTold, TellsIn};
 ghost use Rattle.vbi_c.specs.Ends.{ends_status, IsEndOf};
 ghost use Rattle.vbi_c.specs.WholeSides.{pace_given, siding_of, both_by, both_for_c, slack_by, may_end_by};
 ghost use Rattle.vbi_c.specs.Worked.{ntsc, pal, judged_as, code_as, reading_as, near_of, near_as, lines_read_as};
-ghost use Rattle.vbi_c.specs.Worked.{field_read_as, video_ending, film_ending, second_on_18, sided_as, on_one, on_both};
+ghost use Rattle.vbi_c.specs.Worked.{field_read_as, video_ending, film_ending, far_ending, second_on_18, sided_as, on_one, on_both};
 ghost use Rattle.vbi_c.specs.declared.status.Refusal.TheVariants.{System, Length, Counted, Pace};
 
 /// What the numbers that C hands over stand for, and the sizes that it is answered.
@@ -73,7 +73,7 @@ pub fn worked_answers()
     ensures record_bytes { (written : LdvbiRecord) → HasText (123 ∷ 125 ∷ []) written
         → (written.length ≡ 2) × (written.text ≡ 123 ∷ 125 ∷ replicate 446 0) }
     ensures looked { (seek : Seek) (bytes : List ℕ) (number : ℕ) (sought : LdvbiSought)
-        → IsSought seek bytes number sought → sought.looked ≤ 400 }
+        → IsSought seek bytes number sought → sought.looked ≤ 1000 }
     ensures unfound { (seek : Seek) (bytes : List ℕ) (count number : ℕ) (sought : LdvbiSought)
         → IsSoughtIn seek bytes count number sought → sought.field ≡ count
         → (sought.number ≡ record { number = 0; state = 0 }) × (sought.pace ≡ 0) }
@@ -142,11 +142,13 @@ pub fn worked_sides()
 {}
 
 /// How many fields a search reads, and which numbers fields tell together: what supports one has to weigh 6, at either
-/// pace. So one field alone tells none, and fields tell no number that none of them shows.
+/// pace, or what all fields show at that of video. So one field alone tells none, and fields tell no number that none
+/// of them shows.
 pub fn worked_telling()
-    ensures numbers { (probe_most ≡ 12) × (probed_most ≡ 256) × (around_most ≡ 144) }
+    ensures numbers { (probe_most ≡ 12) × (probe_longest ≡ 144) × (probed_most ≡ 812) × (around_most ≡ 188) }
     ensures video { IsTold (video_ending 2) 0 5 × (IsTold (video_ending 1) 0 5 → ⊥) }
     ensures film { IsTold (film_ending 2) 0 5 × (IsTold (film_ending 1) 0 5 → ⊥) }
+    ensures far { IsTold (far_ending 2) 0 5 × (IsTold (far_ending 1) 0 5 → ⊥) }
     ensures alone { IsTold (field_of 5 2 5 2 ∷ []) 0 5 → ⊥ }
     ensures shown { TellsIn second_on_18 5 × TellsIn second_on_18 6 }
     ensures unshown { TellsIn second_on_18 7 → ⊥ }

@@ -1,14 +1,13 @@
-//! The place of a number in a side, by few of its fields.
-//!
-//! Numbers rise along a side, so the place of one is found by halving: some fields in the middle are read, until enough
-//! of their lines show one number together, which tells the half. A side whose player went back or stood still can lead
-//! astray, so what is found here is no more than a place to look at: seeking.rt judges the fields around it.
+//! Which number some fields of a side tell together. Each field that is read is counted.
 
-ghost use Rattle.std.specs.Prelude.{◌≡◌, ◌↔◌, ℕ, ◌+◌, ◌-◌, ◌*◌, ◌<◌, ◌≤◌, min, length, map, false, true, IfSome, None};
+ghost use Rattle.std.specs.Prelude.{◌≡◌, ◌↔◌, ℕ, ◌+◌, ◌-◌, ◌*◌, ◌<◌, ◌≤◌, min, length, map, take, slice_get, true, IfSome, None};
 ghost use Rattle.std.specs.List.{range_with_len};
 ghost use Rattle.vbi_words.specs.Geometry.{field_bytes};
-ghost use Rattle.vbi_c.specs.Seeking.{shown_at, probe_most, probed_most};
-ghost use Rattle.vbi_c.specs.Telling.{IsTogether, TellsIn, TellsFrom, IsNarrowed};
+ghost use Rattle.vbi_c.specs.Seeking.{shown_at, probe_longest, looked_most};
+ghost use Rattle.vbi_c.specs.Telling.{IsTogether, TellsIn, TellsFrom, run_weight};
+ghost use Rattle.vbi_side.specs.Beliefs.{field_weight, sighting_weight};
+ghost use Rattle.vbi_side.specs.Paces.{fits};
+ghost use Rattle.vbi_side.specs.declared.pace.Pace.TheVariants.{Video};
 
 use crate::fields::read_whole;
 use crate::judging::{Judging, seen_in};
@@ -22,17 +21,21 @@ pub(crate) struct Seek {
     pub(crate) judging: Judging,
 }
 
-/// So many fields at most are read at one place.
-const PROBE: usize = 12;
+/// How many fields were read, and how many more than `PROBE` may be where few lines show a number.
+#[derive(Clone, Copy)]
+pub(crate) struct Looked {
+    pub(crate) fields: u32,
+    pub(crate) spare: u32,
+}
 
-/// So many at most are read in all.
-pub(crate) const PROBED: u32 = 256;
+/// So many fields tell a number at one place.
+pub(crate) const PROBE: usize = 12;
+
+/// So many at most are read there.
+pub(crate) const LONGEST: usize = 144;
 
 /// What is shown together weighs so much. No field alone does, even where both its lines were misread alike.
 const TOGETHER: u32 = 6;
-
-/// Halving ends where no more fields than these are left.
-const LEFT: usize = 8;
 
 /// What a field without a number shows.
 pub(crate) const NOTHING_SEEN: Sightings = Sightings {
@@ -48,11 +51,14 @@ const NO_SIGHTING: Sighting = Sighting {
 };
 
 /// What a field shows of its number.
-fn shown_at(seek: &Seek, bytes: &[u8], count: usize, field: usize) -> Sightings
+fn shown_at(seek: &Seek, bytes: &[u8], count: usize, field: usize, looked: &mut Looked) -> Sightings
     requires whole { count * field_bytes seek.now.setup.system ≤ length bytes.now }
     requires inside { field < count }
-    ensures { result ≡ shown_at seek.now bytes.now field }
+    requires room { looked.old.fields < looked_most }
+    ensures shown { result ≡ shown_at seek.now bytes.now field }
+    ensures counted { looked.new ≡ record looked.old { fields = looked.old.fields + 1 } }
 {
+    looked.fields += 1;
     let size = seek.setup.system.field_bytes();
     let readings = read_whole(&seek.setup, &bytes[size * field..size * field + size]);
     seen_in(&seek.judging, &readings)
@@ -65,30 +71,78 @@ pub(crate) fn see_from(
     count: usize,
     first: usize,
     seen: &mut [Sightings],
+    looked: &mut Looked,
 )
     requires whole { count * field_bytes seek.now.setup.system ≤ length bytes.now }
     requires inside { first + length seen.old ≤ count }
-    ensures { seen.new ≡ map (shown_at seek.now bytes.now) (range_with_len first (length seen.old)) }
+    requires room { looked.old.fields + length seen.old ≤ looked_most }
+    ensures seen { seen.new ≡ map (shown_at seek.now bytes.now) (range_with_len first (length seen.old)) }
+    ensures counted { looked.new.fields ≡ looked.old.fields + length seen.old }
 {
     for i in 0..seen.len() {
-        seen[i] = shown_at(seek, bytes, count, first + i);
+        seen[i] = shown_at(seek, bytes, count, first + i, looked);
     }
 }
 
+/// The weight of a sighting of field `other`, where its number lies two fields a picture from this one in this field.
+fn weight_of_run(field: usize, number: u32, other: usize, sighting: &Sighting) -> u32
+    requires few { (field < probe_longest) × (other < probe_longest) }
+    ensures value { result ≡ sighting_weight (fits Video field number other) sighting.now }
+    ensures range { result ≤ 2 }
+{
+    let (here, there) = (u64::from(number), u64::from(sighting.number));
+    if other as u64 + 2 * here == field as u64 + 2 * there {
+        sighting.weight.min(2)
+    } else {
+        0
+    }
+}
+
+/// The weight of the sightings of field `other`, where their numbers do.
+fn weight_of_other(seen: &[Sightings], field: usize, number: u32, other: usize) -> u32
+    requires few { (field < probe_longest) × (other < probe_longest) }
+    ensures value { result ≡ field_weight (fits Video field number other) (slice_get seen.now other) }
+    ensures range { result ≤ 4 }
+{
+    match seen.get(other) {
+        Some(shown) => {
+            weight_of_run(field, number, other, &shown.line_17)
+                + weight_of_run(field, number, other, &shown.line_18)
+        }
+        None => 0,
+    }
+}
+
+/// The weight of the sightings of all these fields whose numbers lie two fields a picture from this one in this field.
+fn run_weight(seen: &[Sightings], field: usize, number: u32) -> u32
+    requires inside { field < length seen.now }
+    requires few { length seen.now ≤ probe_longest }
+    ensures { result ≡ run_weight seen.now field number }
+{
+    let mut weight = 0;
+    for other in 0..seen.len() {
+        weight += weight_of_other(seen, field, number, other);
+    }
+    weight
+}
+
 /// Whether this sighting of a field has a number, and enough of what is shown around the field supports it there, at
-/// either pace.
+/// either pace, or of what all these fields show at the pace of video.
 fn is_together(seen: &[Sightings], field: usize, sighting: &Sighting) -> bool
-    requires { field < length seen.now }
+    requires inside { field < length seen.now }
+    requires few { length seen.now ≤ probe_longest }
     ensures { (result ≡ true) ↔ IsTogether seen.now field sighting.now }
 {
     let number = sighting.number;
     sighting.weight > 0
         && (support(seen, Pace::Video, field, number) >= TOGETHER
-            || support(seen, Pace::Film, field, number) >= TOGETHER)
+            || support(seen, Pace::Film, field, number) >= TOGETHER
+            || run_weight(seen, field, number) >= TOGETHER)
 }
 
 /// The first number that these fields tell together, if they tell one.
 fn number_together(seen: &[Sightings]) -> Option<u32>
+    requires { length seen.now ≤ probe_longest }
     ensures some { IfSome result (λ number. TellsIn seen.now number) }
     ensures none { result ≡ None → (number : ℕ) → TellsIn seen.now number → ⊥ }
 {
@@ -104,149 +158,39 @@ fn number_together(seen: &[Sightings]) -> Option<u32>
     None
 }
 
-/// The number that the fields from this one on tell together, if they tell one, and how many of them were read for it.
-fn probe(seek: &Seek, bytes: &[u8], count: usize, field: usize) -> (Option<u32>, u32)
+/// The number that the fields from this one on tell together, if so many at most tell one, and how many of them were
+/// read for it. What these show stands in `seen`.
+pub(crate) fn probe(
+    seek: &Seek,
+    bytes: &[u8],
+    count: usize,
+    field: usize,
+    longest: usize,
+    seen: &mut [Sightings],
+    looked: &mut Looked,
+) -> (Option<u32>, u32)
     requires whole { count * field_bytes seek.now.setup.system ≤ length bytes.now }
     requires inside { field ≤ count }
-    ensures few { result.1 ≤ probe_most }
+    requires longest { longest ≤ probe_longest }
+    requires places { length seen.old ≡ probe_longest }
+    requires room { looked.old.fields + longest ≤ looked_most }
+    ensures few { result.1 ≤ longest }
     ensures inside { field + result.1 ≤ count }
+    ensures counted { looked.new ≡ record looked.old { fields = looked.old.fields + result.1 } }
+    ensures seen { take result.1 seen.new ≡ map (shown_at seek.now bytes.now) (range_with_len field result.1) }
     ensures told { IfSome result.0 (λ number. TellsFrom seek.now bytes.now field result.1 number) }
-    ensures all { result.0 ≡ None → result.1 ≡ min probe_most (count - field) }
+    ensures first { IfSome result.0 (λ told. (k number : ℕ) → k < result.1
+        → TellsFrom seek.now bytes.now field k number → ⊥) }
+    ensures all { result.0 ≡ None → result.1 ≡ min longest (count - field) }
     ensures silent { result.0 ≡ None → (k number : ℕ) → k ≤ result.1
         → TellsFrom seek.now bytes.now field k number → ⊥ }
 {
-    let mut seen = [NOTHING_SEEN; PROBE];
-    let most = PROBE.min(count - field);
+    let most = longest.min(count - field);
     for i in 0..most {
-        seen[i] = shown_at(seek, bytes, count, field + i);
+        seen[i] = shown_at(seek, bytes, count, field + i, looked);
         if let Some(number) = number_together(&seen[..i + 1]) {
             return (Some(number), i as u32 + 1);
         }
     }
     (None, most as u32)
-}
-
-/// The fields between which a number is sought.
-#[derive(Clone, Copy)]
-pub(crate) struct Between {
-    pub(crate) low: usize,
-    pub(crate) high: usize,
-    /// The lower number that was shown at `low`, and the higher one, or the number itself, that was at `high`.
-    lower: Option<u32>,
-    higher: Option<u32>,
-    /// How many fields were read.
-    pub(crate) looked: u32,
-}
-
-/// Narrows the fields between which the number is sought, by the number that the fields from this one on tell, if they
-/// tell one. Answers whether they do.
-fn narrow(
-    seek: &Seek,
-    bytes: &[u8],
-    count: usize,
-    number: u32,
-    field: usize,
-    between: &mut Between,
-) -> bool
-    requires whole { count * field_bytes seek.now.setup.system ≤ length bytes.now }
-    requires before { between.old.low ≤ field }
-    requires behind { field ≤ between.old.high }
-    requires inside { between.old.high ≤ count }
-    requires few { between.old.looked ≤ probed_most }
-    ensures order { between.new.low ≤ between.new.high }
-    ensures inside { between.new.high ≤ count }
-    ensures few { between.new.looked ≤ between.old.looked + probe_most }
-    ensures kept { result ≡ false → between.new ≡ record between.old {
-      looked = between.old.looked + min probe_most (count - field);
-    } }
-    ensures silent { result ≡ false → (read told : ℕ) → read ≤ probe_most → field + read ≤ count
-        → TellsFrom seek.now bytes.now field read told → ⊥ }
-    ensures narrowed { result ≡ true → (read told : ℕ) × TellsFrom seek.now bytes.now field read told
-        × (read ≤ probe_most) × IsNarrowed number field read told between.old between.new }
-{
-    let (shown, read) = probe(seek, bytes, count, field);
-    between.looked += read;
-    let Some(shown) = shown else {
-        return false;
-    };
-    if shown < number {
-        between.low = field;
-        between.lower = Some(shown);
-    } else {
-        between.high = field;
-        between.higher = Some(shown);
-    }
-    true
-}
-
-/// Whether the number is rather behind this field than before it, where nothing is shown around the field: by where it
-/// stands between the numbers at both ends. Before the first number of a side, and behind its last one, nothing is.
-fn is_behind(number: u32, field: usize, between: &Between) -> bool
-    requires before { between.now.low ≤ field }
-    requires behind { field ≤ between.now.high }
-{
-    match (between.lower, between.higher) {
-        (Some(lower), Some(higher)) => {
-            let (part, whole) = (field - between.low, between.high - between.low);
-            let (number_part, number_whole) = (
-                number.saturating_sub(lower),
-                higher.saturating_sub(lower),
-            );
-            part as u128 * u128::from(number_whole) < whole as u128 * u128::from(number_part)
-        }
-        (None, Some(_)) => true,
-        _ => false,
-    }
-}
-
-/// Narrows the fields between which the number is sought, by what is told in the middle, or else at a quarter. About a
-/// quarter of them at least is left out.
-fn halve(seek: &Seek, bytes: &[u8], count: usize, number: u32, between: &mut Between)
-    requires whole { count * field_bytes seek.now.setup.system ≤ length bytes.now }
-    requires order { between.old.low ≤ between.old.high }
-    requires inside { between.old.high ≤ count }
-    requires few { between.old.looked + 3 * probe_most ≤ probed_most }
-    ensures order { between.new.low ≤ between.new.high }
-    ensures inside { between.new.high ≤ count }
-    ensures few { between.new.looked ≤ probed_most }
-    ensures narrower { 4 * (between.new.high - between.new.low) ≤ 3 * (between.old.high - between.old.low) + 3 }
-{
-    let middle = between.low + (between.high - between.low) / 2;
-    let earlier = between.low + (middle - between.low) / 2;
-    let later = middle + (between.high - middle) / 2;
-    if narrow(seek, bytes, count, number, middle, between)
-        || narrow(seek, bytes, count, number, later, between)
-        || narrow(seek, bytes, count, number, earlier, between)
-    {
-        return;
-    }
-    if is_behind(number, middle, between) {
-        between.low = middle;
-    } else {
-        between.high = middle;
-    }
-}
-
-/// A place that is near the first field with this number, where the numbers rise along the side.
-pub(crate) fn place_of(seek: &Seek, bytes: &[u8], count: usize, number: u32) -> Between
-    requires whole { count * field_bytes seek.now.setup.system ≤ length bytes.now }
-    ensures order { result.low ≤ result.high }
-    ensures inside { result.high ≤ count }
-    ensures few { result.looked ≤ probed_most }
-{
-    let mut between = Between {
-        low: 0,
-        high: count,
-        lower: None,
-        higher: None,
-        looked: 0,
-    };
-    for _ in 0..usize::BITS {
-        let has_room = between.looked + 3 * PROBE as u32 <= PROBED;
-        if between.high - between.low <= LEFT || !has_room {
-            break;
-        }
-        halve(seek, bytes, count, number, &mut between);
-    }
-    between
 }

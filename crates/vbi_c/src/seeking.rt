@@ -1,19 +1,24 @@
 //! Seeking a number in the bytes of a side, of which few fields are read.
 //!
-//! probing.rt tells where it may be, and what is answered rests on none of that: the fields around that place are read
-//! and judged, and the number is answered only of a field that has it by `ldvbi_judge` of the whole side.
+//! halving.rt tells where it may be, and that what is answered is right rests on none of that: the fields around that
+//! place are read and judged, and the number is answered only of a field that has it by `ldvbi_judge` of the whole
+//! side.
 
-ghost use Rattle.std.specs.Prelude.{◌≡◌, ◌≢◌, ◌+◌, ◌-◌, ◌*◌, ◌≤◌, length, map, take, drop, IfOk};
+ghost use Rattle.std.specs.Prelude.{◌≡◌, ◌≢◌, ℕ, ◌+◌, ◌-◌, ◌*◌, ◌<◌, ◌≤◌, ◌⊎◌, length, map, take, drop, false, Some, None, IfOk, IfSome, IsTrue};
 ghost use Rattle.std.specs.List.{range_with_len};
 ghost use Rattle.vbi_words.specs.Geometry.{field_bytes};
+ghost use Rattle.vbi_side.specs.declared.pace.Pace as paces;
 ghost use Rattle.vbi_side.specs.Numbers.{AreAnswers, IsFirst};
-ghost use Rattle.vbi_c.specs.Judging.{IsGiven};
+ghost use Rattle.vbi_c.specs.Judging.{IsAskedPace};
+ghost use Rattle.vbi_c.specs.Leads.{IsFirstKnown, IsPlaced, IsComplete};
 ghost use Rattle.vbi_c.specs.Seeking.{seek_of, shown_at, probed_most, around_most, IsSought, IsSoughtIn};
 ghost use Rattle.vbi_c.specs.Statuses.{status_of};
 
+use crate::halving::{LEFT, place_of};
 use crate::judging::{Judging, asked_of, counted_of, pace_for};
+use crate::narrowing::Between;
 use crate::pace::pace_for_c;
-use crate::probing::{Between, NOTHING_SEEN, Seek, place_of, see_from};
+use crate::probing::{Looked, NOTHING_SEEN, PROBE, Seek, see_from};
 use crate::setup::setup_of;
 use crate::status::{DONE, Refusal};
 use std::mem::size_of;
@@ -36,11 +41,11 @@ pub struct LdvbiSought {
 // As include/ldvbi.h has it.
 const _: () = prove!(size_of::<LdvbiSought>() == 24);
 
-/// The number is looked for in so many fields before and behind its place.
+/// The number is looked for in so many fields more than it is sought between, before and behind them.
 const BESIDE: usize = 24;
 
 /// The fields that are judged: those in which the number is looked for, and all on which their answers depend.
-const AROUND: usize = 2 * BESIDE + PART - 1;
+const AROUND: usize = 2 * BESIDE + LEFT + PROBE + PART - 1;
 
 /// What is answered of a field without a number.
 const NO_NUMBER: Number = Number {
@@ -63,8 +68,8 @@ fn seek_of(system: u32, black: u32, white: u32, counted: u32, pace: u32) -> Resu
     Ok(Seek { setup, judging })
 }
 
-/// Puts the number of each field from `first` to before `end` into its place, by what these fields show, and answers the
-/// pace at which they are.
+/// Puts the number of each field from `first` to before `end` into its place, by what these fields show, and answers
+/// the pace at which they are.
 fn judge_from(
     seek: &Seek,
     bytes: &[u8],
@@ -72,68 +77,98 @@ fn judge_from(
     first: usize,
     end: usize,
     numbers: &mut [Number],
+    looked: &mut Looked,
 ) -> Pace
     requires whole { count * field_bytes seek.now.setup.system ≤ length bytes.now }
     requires order { first ≤ end }
     requires inside { end ≤ count }
     requires few { end - first ≤ around_most }
     requires places { length numbers.old ≡ end - first }
-    ensures given { IsGiven seek.now.judging.asked result }
+    requires room { looked.old.fields ≤ probed_most }
+    ensures counted { looked.new.fields ≡ looked.old.fields + (end - first) }
+    ensures asked { IsAskedPace seek.now.judging
+        (map (shown_at seek.now bytes.now) (range_with_len first (end - first))) result }
     ensures answers { AreAnswers result (map (shown_at seek.now bytes.now)
         (range_with_len first (end - first))) numbers.new }
 {
     let mut all_seen = [NOTHING_SEEN; AROUND];
     let seen = &mut all_seen[..end - first];
-    see_from(seek, bytes, count, first, seen);
+    see_from(seek, bytes, count, first, seen, looked);
     let pace = pace_for(&seek.judging, seen);
     judge(seen, pace, numbers);
     pace
 }
 
-/// The first of these numbers from one to before another that is this one, counted from there.
-fn first_between(numbers: &[Number], from: usize, to: usize, number: u32) -> Option<usize>
+/// The first of these numbers from one to before another that is this one, counted from there. None where it is the
+/// very first of these, unless the side begins there: of the field before it it isn't known that it has another number.
+fn first_between(
+    numbers: &[Number],
+    from: usize,
+    to: usize,
+    number: u32,
+    begins: bool,
+) -> Option<usize>
     requires order { from ≤ to }
     requires inside { to ≤ length numbers.now }
-    ensures { IsFirst (take (to - from) (drop from numbers.now)) number result }
+    ensures first { IfSome result (λ at. IsFirst (take (to - from) (drop from numbers.now)) number (Some at)) }
+    ensures known { IfSome result (λ at. (0 < at) ⊎ IsTrue begins) }
+    ensures none { result ≡ None → IsFirst (take (to - from) (drop from numbers.now)) number None
+        ⊎ IsFirst (take (to - from) (drop from numbers.now)) number (Some 0) × (begins ≡ false) }
 {
-    first_of(&numbers[from..to], number)
+    let Some(at) = first_of(&numbers[from..to], number) else {
+        return None;
+    };
+    if at == 0 && !begins {
+        return None;
+    }
+    Some(at)
 }
 
 /// Looks for the number in the fields around its place.
-fn look_around(seek: &Seek, bytes: &[u8], count: usize, number: u32, place: Between) -> LdvbiSought
+fn look_around(
+    seek: &Seek,
+    bytes: &[u8],
+    count: usize,
+    number: u32,
+    place: Between,
+    looked: &mut Looked,
+) -> LdvbiSought
     requires whole { count * field_bytes seek.now.setup.system ≤ length bytes.now }
-    requires inside { place.low ≤ count }
-    requires few { place.looked ≤ probed_most }
-    ensures { IsSoughtIn seek.now bytes.now count number result }
+    requires order { place.low ≤ place.high }
+    requires inside { place.high ≤ count }
+    requires few { looked.old.fields ≤ probed_most }
+    ensures sought { IsSoughtIn seek.now bytes.now count number result }
+    ensures complete { (t : ℕ) (pace : paces.Pace) → IsFirstKnown seek.now bytes.now count number t pace
+        → IsPlaced t place → result.field ≡ t }
 {
     let from = place.low.saturating_sub(BESIDE);
-    let to = place.low + (count - place.low).min(BESIDE);
+    let wide = (place.high - place.low).min(LEFT) + PROBE + BESIDE;
+    let to = place.low + (count - place.low).min(wide);
     let first = from.saturating_sub(2 * REACH);
     let end = to + (count - to).min(2 * REACH);
     let mut all_numbers = [NO_NUMBER; AROUND];
     let numbers = &mut all_numbers[..end - first];
-    let pace = judge_from(seek, bytes, count, first, end, numbers);
-    let looked = place.looked + (end - first) as u32;
-    match first_between(numbers, from - first, to - first, number) {
-        // Of the field before the first one that is looked at it isn't known that it has another number.
-        Some(at) if at > 0 || from == 0 => LdvbiSought {
+    let pace = judge_from(seek, bytes, count, first, end, numbers, looked);
+    let found = first_between(numbers, from - first, to - first, number, from == 0);
+    match found {
+        Some(at) => LdvbiSought {
             field: from + at,
             number: numbers[from - first + at],
             pace: pace_for_c(pace),
-            looked,
+            looked: looked.fields,
         },
-        _ => LdvbiSought {
+        None => LdvbiSought {
             field: count,
             number: NO_NUMBER,
             pace: 0,
-            looked,
+            looked: looked.fields,
         },
     }
 }
 
 /// Seeks a number in the bytes of a side: the first of the fields in a row that have it. It is the number that
 /// `ldvbi_judge` answers of this field, by the readings of the whole side at this pace. A last field that is cut is
-/// left out. At most 400 fields are read, so where the numbers don't rise along the side it may be missed.
+/// left out. At most 1,000 fields are read, so where the numbers don't rise along the side it may be missed.
 #[unsafe(no_mangle)]
 pub extern "C" fn ldvbi_seek(
     system: u32,
@@ -148,13 +183,19 @@ pub extern "C" fn ldvbi_seek(
     ensures status { result ≡ status_of (seek_of system black white counted pace) }
     ensures seeks { IfOk (seek_of system black white counted pace) (λ seek.
         IsSought seek bytes.now number sought.new) }
+    ensures complete { IfOk (seek_of system black white counted pace) (λ seek.
+        IsComplete seek bytes.now number sought.new) }
     ensures unwritten { result ≢ 0 → sought.new ≡ sought.old }
 {
     match seek_of(system, black, white, counted, pace) {
         Ok(seek) => {
             let count = bytes.len() / seek.setup.system.field_bytes();
-            let place = place_of(&seek, bytes, count, number);
-            *sought = look_around(&seek, bytes, count, number, place);
+            let mut looked = Looked {
+                fields: 0,
+                spare: 0,
+            };
+            let place = place_of(&seek, bytes, count, number, &mut looked);
+            *sought = look_around(&seek, bytes, count, number, place, &mut looked);
             DONE
         }
         Err(refusal) => refusal.status(),

@@ -21,7 +21,7 @@ _NAME_OF_PART = re.compile(re.escape(_PART) + r".*\.([0-9a-f]{8})-([1-9][0-9]{0,
 def whole_file(path: str) -> Iterator[IO[str]]:
     """A text file to write to. It gets its name, which may be that of an older file, when the block has ended without
     an exception; else nothing is left of it. What is no file, as a pipe or a terminal, is written to as it is."""
-    target = os.path.realpath(path)
+    target = _target_of(path)
     if os.path.exists(target) and not os.path.isfile(target):
         with _named_where_written(path), _opened(path, target, "w") as file:
             yield file
@@ -36,7 +36,7 @@ def whole_file(path: str) -> Iterator[IO[str]]:
         raise_lost()
         _rename(part, target)
     except BaseException:
-        with contextlib.suppress(FileNotFoundError):
+        with contextlib.suppress(FileNotFoundError, NotADirectoryError):
             os.unlink(part)
         raise
 
@@ -45,7 +45,7 @@ def whole_file(path: str) -> Iterator[IO[str]]:
 def whole_path(path: str, ends: Sequence[str]) -> Iterator[str]:
     """The path of a file to make by what wants a path, as `whole_file` has it. It stands in a folder of its own, with
     what is written beside it under its name with these ends; nothing of that may lie beside an older file."""
-    target = os.path.realpath(path)
+    target = _target_of(path)
     if os.path.exists(target) and not os.path.isfile(target):
         raise ValueError("%s is no file" % path)
     for end in ends:
@@ -66,6 +66,14 @@ def whole_path(path: str, ends: Sequence[str]) -> Iterator[str]:
         _rename(part, target)
     finally:
         shutil.rmtree(folder, ignore_errors=True)
+
+
+def _target_of(path):
+    """The file that a path leads to, by links or without."""
+    target = os.path.realpath(path)
+    if os.path.islink(target):
+        raise OSError(errno.ELOOP, os.strerror(errno.ELOOP), path)
+    return target
 
 
 def _opened(path, name, mode):

@@ -104,7 +104,11 @@ def _pages(sides, folder):
     """The path of the page of each side, None where none is written. The folder is made."""
     if not folder:
         return [None] * len(sides)
-    os.makedirs(folder, exist_ok=True)
+    try:
+        os.makedirs(folder, exist_ok=True)
+    except OSError as error:
+        error.filename = folder  # and not one of those that it is in
+        raise
     drop_parts(folder)
     return [os.path.join(folder, page_name(side.path)) for side in sides]
 

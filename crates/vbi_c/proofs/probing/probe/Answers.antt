@@ -1,15 +1,14 @@
-use Rattle.std.proofs.Common.{◌≡◌, ◌+◌, ◌∙◌, arith, inl, inr, refl, subst, sym}
+use Rattle.std.proofs.Common.{◌≡◌, ◌+◌, arith, inl, inr, refl, subst, sym}
 use Rattle.std.proofs.lemmas.Bool.Decides.{leb_tells}
-use Rattle.std.proofs.lemmas.List.{length-set}
 use Rattle.vbi_c.specs.Seeking.{shown_at}
 use Rattle.vbi_c.specs.Telling.{TellsIn, TellsFrom}
-use Rattle.vbi_c.proofs.Shown.{shown_more}
+use Rattle.vbi_c.proofs.Shown.{shown_more, counted_more}
 use Rattle.vbi_c.proofs.probing.probe.Goals as goal
 
 pub returns-in-Some-clause-told : goal.returns-in-Some-clause-told
 returns-in-Some-clause-told c =
     let made = shown_more (shown_at c.args.seek.now c.args.bytes.now) c.loop-i.seen c.args.field c.loop-i.i
-    c.shown_at.result (omega (arith, c.loop-i.invariant.long)) c.loop-i.invariant.made c.shown_at.ensures in
+    c.shown_at.result (omega arith) c.loop-i.invariant.made c.shown_at.ensures.shown in
     subst (λ seen. TellsIn seen c.in-Some.number) made c.in-Some.ensures.some
 
 -- k fields are no more than those before, or one more than these
@@ -17,10 +16,11 @@ pub loop-i-preserved : goal.loop-i-preserved
 loop-i-preserved c =
     let i = c.loop-i.i in
     let made = shown_more (shown_at c.args.seek.now c.args.bytes.now) c.loop-i.seen c.args.field i
-    c.shown_at.result (omega (arith, c.loop-i.invariant.long)) c.loop-i.invariant.made c.shown_at.ensures in
+    c.shown_at.result (omega arith) c.loop-i.invariant.made c.shown_at.ensures.shown in
     record {
       made = made;
-      long = length-set c.loop-i.seen i c.shown_at.result ∙ c.loop-i.invariant.long;
+      counted = counted_more c.args.looked.now c.loop-i.looked c.shown_at.new.looked i c.loop-i.invariant.counted
+          c.shown_at.ensures.counted;
       silent = λ k n few tells. elim (leb_tells k i) [
         | inl less ↦ c.loop-i.invariant.silent k n less.1 tells
         | inr more ↦
@@ -32,3 +32,11 @@ loop-i-preserved c =
 
 pub returns-clause-silent : goal.returns-clause-silent
 returns-clause-silent c = λ none k n few tells. c.loop-i.invariant.silent k n (omega (arith, few)) tells
+
+pub returns-in-Some-clause-seen : goal.returns-in-Some-clause-seen
+returns-in-Some-clause-seen c =
+    shown_more (shown_at c.args.seek.now c.args.bytes.now) c.loop-i.seen c.args.field c.loop-i.i c.shown_at.result
+    (omega arith) c.loop-i.invariant.made c.shown_at.ensures.shown
+
+pub returns-in-Some-clause-first : goal.returns-in-Some-clause-first
+returns-in-Some-clause-first c = λ k n less tells. c.loop-i.invariant.silent k n (omega (arith, less)) tells

@@ -1,43 +1,46 @@
-use Rattle.std.proofs.Common.{◌≡◌, ◌+◌, ◌-◌, arith, inl, inr}
-use Rattle.std.proofs.lemmas.Bool.Decides.{leb_tells}
-use Rattle.vbi_c.proofs.Sought.{found_at}
+use Rattle.std.proofs.Common.{◌+◌, ◌-◌, ◌∙◌, arith, inl, inr, sym, subst, refl}
+use Rattle.vbi_c.specs.Leads.{IsFirstKnown}
+use Rattle.vbi_c.proofs.Sought.{found_at, first_found, window, reached, judged_in, begins_there, begins_elsewhere, found_within}
 use Rattle.vbi_c.proofs.seeking.look_around.Goals as goal
 
-pub returns-in-Some : goal.returns-in-Some
-returns-in-Some c =
+pub returns-in-Some-clause-sought : goal.returns-in-Some-clause-sought
+returns-in-Some-clause-sought c =
     let from = c.saturating_sub-from.result in
     let first = c.saturating_sub-first.result in
+    let to = c.args.place.low + c.min-2.result in
+    let many = to + c.min-3.result - first in
     let place = c.in-Some.at in
-    let to = c.args.place.low + c.min.result in
     let pace = c.judge_from-pace.result in
-    let numbers = c.judge_from-pace.new.numbers in
-    let from_is : from ≡ c.args.place.low - 24 = c.saturating_sub-from.ensures in
-    let first_is : first ≡ from - 48 = c.saturating_sub-first.ensures in
-    let many = to + c.min-2.result - first in
-    let found = found_at c.args.seek.now c.args.bytes.now c.args.count first many (from - first)
-    (to - first) place (from + place) c.args.number pace numbers (record { number = 0; state = 0 })
-    (omega (arith, first_is))
-    (omega (arith, from_is, first_is, c.min-2.ensures, c.min.ensures, c.requires.inside))
-    (elim (leb_tells 48 from) [
-      | inl (t, far) ↦ inr (omega (arith, first_is, far))
-      | inr (t, near) ↦ inl (omega (arith, first_is, near))
-    ])
-    (elim (leb_tells 48 (c.args.count - to)) [
-      | inl (t, far) ↦ inl (omega (arith, c.min-2.ensures, far, first_is))
-      | inr (t, near) ↦ inr (omega (arith, c.min-2.ensures, c.min.ensures, near, first_is, from_is, c.requires.inside))
-    ])
-    (omega (arith, from_is, first_is))
-    (omega (arith, first_is))
-    c.judge_from-pace.ensures.answers
-    c.in-Some.ensures
-    (elim c.if-from-eq0.either [ inl later ↦ inl later | inr none ↦ inr (omega (arith, none, first_is)) ]) in
+    let around = window c.args.place.low c.args.place.high c.args.count from c.min.result c.min-2.result first
+    c.min-3.result c.requires.order c.requires.inside c.saturating_sub-from.ensures c.min.ensures c.min-2.ensures
+    c.saturating_sub-first.ensures c.min-3.ensures in
+    let found = found_at c.args.seek.now c.args.bytes.now c.args.count first many (from - first) (to - first) place
+    (from + place) c.args.number pace c.judge_from-pace.new.numbers (record { number = 0; state = 0 })
+    (omega (arith, around.from_is)) around.inside around.before around.behind around.order around.ahead
+    c.judge_from-pace.ensures.answers c.in-Some.ensures.first
+    (elim c.in-Some.ensures.known [
+      | inl later ↦ inl later
+      | inr begins ↦ inr (around.from_is ∙ begins_there from begins)
+    ]) in
+    let near = found_within c.judge_from-pace.new.numbers (from - first) (to - first) place c.args.number
+    c.in-Some.ensures.first in
     record {
-      few = omega (arith, from_is, first_is, c.min.ensures, c.min-2.ensures, c.requires.few);
+      few = omega (arith, c.judge_from-pace.ensures.counted, around.few, c.requires.few);
+      read = elim around.read [
+        | inl all ↦ inl (omega (arith, c.judge_from-pace.ensures.counted, all))
+        | inr some ↦ inr (omega (arith, c.judge_from-pace.ensures.counted, some))
+      ];
       inside = omega (arith, found.inside);
       found = λ inside. (
         pace,
         record {
-          given = c.judge_from-pace.ensures.given;
+          judged = (
+            first,
+            many,
+            omega (arith, c.judge_from-pace.ensures.counted),
+            judged_in c.args.seek.now c.args.bytes.now c.args.count from to first many (from + place) pace around
+                (omega arith) (omega (arith, near, around.from_is, around.to_is)) c.judge_from-pace.ensures.asked,
+          );
           pace_is = c.pace_for_c.ensures;
           known = found.known;
           answer = found.answer;
@@ -46,3 +49,52 @@ returns-in-Some c =
       );
       none = λ outside. absurd (omega (arith, found.inside, outside));
     }
+
+pub returns-in-Some-clause-complete : goal.returns-in-Some-clause-complete
+returns-in-Some-clause-complete c = λ t pace known placed.
+    let from = c.saturating_sub-from.result in
+    let first = c.saturating_sub-first.result in
+    let to = c.args.place.low + c.min-2.result in
+    let many = to + c.min-3.result - first in
+    let here = c.judge_from-pace.result in
+    let around = window c.args.place.low c.args.place.high c.args.count from c.min.result c.min-2.result first
+    c.min-3.result c.requires.order c.requires.inside c.saturating_sub-from.ensures c.min.ensures c.min-2.ensures
+    c.saturating_sub-first.ensures c.min-3.ensures in
+    let among = reached t c.args.place.low c.args.place.high c.args.count from c.min.result c.min-2.result placed.from
+    placed.to placed.near known.inside c.saturating_sub-from.ensures c.min.ensures c.min-2.ensures in
+    let same = known.asked first many here around.few (judged_in c.args.seek.now c.args.bytes.now c.args.count from to
+    first many t here around among.0 among.1 c.judge_from-pace.ensures.asked) in
+    let found = first_found c.args.seek.now c.args.bytes.now c.args.count first many (from - first) (to - first) t
+    c.args.number here c.judge_from-pace.new.numbers (record { number = 0; state = 0 }) around.inside around.before
+    around.behind around.order around.ahead c.judge_from-pace.ensures.answers
+    (subst (IsFirstKnown c.args.seek.now c.args.bytes.now c.args.count c.args.number t) (sym same) known)
+    (omega (arith, around.from_is, among.0)) (omega (arith, around.to_is, among.1)) in
+    omega (arith, found.at c.in-Some.at c.in-Some.ensures.first, around.from_is)
+
+pub returns-in-None-clause-complete : goal.returns-in-None-clause-complete
+returns-in-None-clause-complete c = λ t pace known placed.
+    let from = c.saturating_sub-from.result in
+    let first = c.saturating_sub-first.result in
+    let to = c.args.place.low + c.min-2.result in
+    let many = to + c.min-3.result - first in
+    let here = c.judge_from-pace.result in
+    let around = window c.args.place.low c.args.place.high c.args.count from c.min.result c.min-2.result first
+    c.min-3.result c.requires.order c.requires.inside c.saturating_sub-from.ensures c.min.ensures c.min-2.ensures
+    c.saturating_sub-first.ensures c.min-3.ensures in
+    let among = reached t c.args.place.low c.args.place.high c.args.count from c.min.result c.min-2.result placed.from
+    placed.to placed.near known.inside c.saturating_sub-from.ensures c.min.ensures c.min-2.ensures in
+    let same = known.asked first many here around.few (judged_in c.args.seek.now c.args.bytes.now c.args.count from to
+    first many t here around among.0 among.1 c.judge_from-pace.ensures.asked) in
+    let found = first_found c.args.seek.now c.args.bytes.now c.args.count first many (from - first) (to - first) t
+    c.args.number here c.judge_from-pace.new.numbers (record { number = 0; state = 0 }) around.inside around.before
+    around.behind around.order around.ahead c.judge_from-pace.ensures.answers
+    (subst (IsFirstKnown c.args.seek.now c.args.bytes.now c.args.count c.args.number t) (sym same) known)
+    (omega (arith, around.from_is, among.0)) (omega (arith, around.to_is, among.1)) in
+    absurd (elim (c.in-None.ensures.none refl) [
+      | inl none ↦ found.there none
+      | inr (begins, isnt) ↦ begins_elsewhere from c.args.place.low t isnt (omega (
+        arith,
+        found.at 0 begins,
+        around.from_is,
+      )) placed.from c.saturating_sub-from.ensures
+    ])
