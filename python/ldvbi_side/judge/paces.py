@@ -18,8 +18,17 @@ class Unit(NamedTuple):
         """A number as the answer has it: a picture as it is, a time as text."""
         if self.name == "time":
             seconds, picture = divmod(number, self.rate)
-            return "%d:%02d:%02d.%02d" % (seconds // 3600, seconds // 60 % 60, seconds % 60, picture)
+            return _second_text(seconds) + _PICTURES[picture]
         return minute_text(number) if self.name == "minute" else number
+
+
+_PICTURES = ["%02d" % picture for picture in range(max(RATES.values()))]
+
+
+@functools.lru_cache(maxsize=1 << 10)  # the pictures of a second come one behind the other
+def _second_text(seconds):
+    """Seconds from the disc's start as hours, minutes and seconds, and a point."""
+    return "%d:%02d:%02d." % (seconds // 3600, seconds // 60 % 60, seconds % 60)
 
 
 @functools.lru_cache(maxsize=1 << 10)
