@@ -100,7 +100,7 @@ def _number_lines(answer):
 
 def _lost_text(one, unit):
     """Lost fields with their place. Those of a minute may be lost anywhere in it, and be more."""
-    if unit == "minute":
+    if unit == "minute" and one.fields is not None:
         return "at least %d, between fields %d and %d" % (one.fields, one.after + 1, one.before - 1)
     return "%s after field %d" % (one.fields or "1 or more", one.after)
 
