@@ -35,6 +35,7 @@ HEAD = re.compile(r"(\s*)(?:pub(?:\([^)]*\))?\s+)?(?:const\s+)?(?:unsafe\s+)?(?:
 REFUSED = r"^fn {}: (not proved|no proof: (?!it calls|it passes|it rests|it uses|the borrow checker)).*"
 # An error in a written proof which says no more than that a name went with the right body
 LOST = re.compile(r"has no field|is not in scope|has no `|was not admitted")
+MOST_LOST = 3  # that say no more than that: such a refusal shows little
 CHECK = ["check", "--jobs", "1"]
 # Memory of one check, in kB
 CHECK_MEMORY = 2_500_000
@@ -347,7 +348,7 @@ def main():
     not_refused = faulty + counts["bad"] + counts[None]
     print(f"wrong bodies: {refused} refused ({counts['goal']} by a goal, {counts['proof']} by a written proof, "
           f"{counts['name']} by a name alone), {not_refused} not")
-    return 1 if not_refused else 0
+    return 1 if not_refused or counts["name"] > MOST_LOST else 0
 
 
 if __name__ == "__main__":
