@@ -30,9 +30,9 @@ class Stream:
     from 0.
 
     Only lines 16, 17 and 18 are read from a file, and a loop has the system fetch those of the next fields ahead. If
-    the file is made shorter meanwhile, whoever asks for a field that has gone gets a ValueError that says so; but `seek`
-    maps the file, and a mapped file that is made shorter ends the process by SIGBUS. `close`, or the end of a `with`
-    block, releases the file or buffer. Whoever asks for a field after that gets a ValueError."""
+    the file is made shorter meanwhile, whoever asks for a field that has gone gets a ValueError that says so; but
+    `seek` maps the file, and a mapped file that is made shorter ends the process by SIGBUS. `close`, or the end of a
+    `with` block, releases the file or buffer. Whoever asks for a field after that gets a ValueError."""
 
     def __init__(self, source: Any, system: AnySystem, black: int, white: int, recover: bool = False,
                  dropouts: StreamDropouts = None) -> None:

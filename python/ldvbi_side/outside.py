@@ -35,7 +35,7 @@ def end_at_once() -> None:
 
 
 _PATIENCE = 1  # seconds in which what a signal has ended may clear up
-_AGAIN = 0.25  # seconds after which one that was lost is sent again, unless what it broke off has come to its end by then
+_AGAIN = 0.25  # seconds after which one that was lost is sent again, unless what it broke off has ended by then
 _stopped: List[Stopped] = []  # the signal that asked for the end, if one did
 _lost: List[Stopped] = []  # the same, while nobody has heeded it
 
