@@ -13,6 +13,7 @@ from .dropouts import Dropout, told_dropouts
 from .library import System
 from .packed import refuse_packed
 from .readings import size_of
+from .regular import regular
 from .scanner import NotJson, Scanner
 
 # What is told of each field of a JSON text: its place in the text, in characters, its own text, and its value
@@ -48,11 +49,11 @@ def is_database(begin: bytes) -> bool:
 
 
 @paused()
-def read_metadata(path: str, on_field: Optional[OnField] = None) -> Metadata:
+def read_metadata(path: str, on_field: Optional[OnField] = None, waits: bool = True) -> Metadata:
     """The `Metadata` of a file, which is read once, since it may be a pipe. A database of another form is a ValueError,
     and so is a compressed file; a text that isn't metadata has none of all this. `on_field` is called with each field
-    of a text as it is read."""
-    with open(path, "rb") as file:
+    of a text as it is read. If it `waits`, the file may be a pipe."""
+    with open(path, "rb", opener=None if waits else regular) as file:
         begin = file.peek(16)
         refuse_packed(path, begin)
         # A pipe begins with less, perhaps, and is no database.

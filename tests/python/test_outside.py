@@ -206,7 +206,9 @@ class Pages(InFolder):
                 self.refused(self.write("page.html", text))
         for known in ("{}", "{&quot;version&quot;: 1}"):
             self.refused(self.write("page.html", META % known), "a page of another version: write it again")
-        self.refused("/dev/zero")
+        os.mkfifo(self.named("pipe.html"))
+        for page in ("/dev/zero", self.named("pipe.html")):
+            self.refused(page, "no file")
 
     def test_names(self):
         """A page is text in UTF-8 without control characters, whatever its side and its own file are called. Its link

@@ -1,8 +1,10 @@
 """`scan`: the table of a folder of sides, its statuses, and the pages with their index; which files of folders are
 sides, in which order, and what is compressed."""
 
+import contextlib
 import csv
 import gzip
+import io
 import json
 import os
 import re
@@ -15,12 +17,21 @@ from cases import InFolder
 from command_runs import IN_PLACE, Calls
 from ldvbi.packed import packed_as
 from ldvbi_side.command.folders import Found, files_of, page_name, sides_in
+from ldvbi_side.command.main import answer_of
+from ldvbi_side.command.scan import scan
 from scanned import ROWS, Scans
 from streams import TOP
 
 HEAD = ["side", "whole", "lost", "unread", "format", "from", "to", "last", "lead-in", "lead-out", "fields", "why"]
 YES, NO = "side.tbc,yes,0,0,cav,1,30,30,0,1,61,", "side.tbc,no,2,0,cav,1,8,8,0,1,13,4 fields lost; 2 pictures lost"
 MEMBERS = {"lead-in": "leadIn", "lead-out": "leadOut"}  # of the JSON, whose names are others
+
+
+def grows(path, *more):
+    """Reads a side, of which something is written meanwhile."""
+    answer = answer_of(path, *more)
+    os.utime(path + ".json")
+    return answer
 
 
 class Tables(Scans, Calls):
@@ -105,6 +116,33 @@ class Statuses(Scans, Calls):
         self.assertEqual(self.scan("d")[1].split("\n")[1][:25], "d/side ??.tbc  yes       ")
 
 
+class Pipes(Scans, Calls):
+    """Which nobody named, and for whose other end nobody waits."""
+
+    def test_in_a_folder(self):
+        self.add("sides/3.tbc")
+        os.unlink(self.named("sides/3.tbc.json"))
+        for name in ("1.tbc", "2.vbi.json", "3.tbc.json"):
+            os.mkfifo(self.named("sides/" + name))
+        status, text, said = self.run_words("scan --csv sides")
+        self.assertEqual((status, said, [row.split(",")[-1] for row in text.split("\n")[1:-1]]),
+                         (2, "", ["is no file", "is no file", "sides/3.tbc.json is no file"]))
+        self.refused("sides/3.tbc.json is no file", "sides/3.tbc")
+
+    def test_as_pages(self):
+        self.add("side.tbc")
+        page = "pages/" + os.path.basename(page_name(self.named("side.tbc")))
+        for name, row in ((page, page + " is no file"), ("pages/index.html", None)):
+            os.makedirs(self.named("pages"), exist_ok=True)
+            os.mkfifo(self.named(name))
+            if row:
+                self.assertEqual(self.row("--html pages side.tbc").split(",")[-1], row)
+                self.refused(row, "index i.html " + page)
+            else:
+                self.refused("pages/index.html is no file", "scan --html pages side.tbc")
+            shutil.rmtree(self.named("pages"))
+
+
 class Pages(Scans, Calls):
     def page(self, side="side.tbc"):
         """The page of a side."""
@@ -151,18 +189,12 @@ class Pages(Scans, Calls):
             self.assertEqual(self.row("--html pages side.tbc " + words), wanted)
 
     def test_a_file_that_grows_while_it_is_read(self):
-        """Its page has the time at which it began to be read, before its metadata came."""
+        """Its page has the time at which it began to be read, so that it is read again."""
         self.add("side.tbc")
-        self.metadata("meta.json")
-        os.unlink(self.named("side.tbc.json"))
-        os.mkfifo(self.named("side.tbc.json"))
-        process = self.started("scan --html pages --csv side.tbc")
-        with self.opened_by(process, "side.tbc.json") as file:
-            began = time.time_ns()
-            file.write(self.read("meta.json"))
-        self.ended(process, 0, ("%s\n%s\n" % (",".join(HEAD), YES)).encode())
+        with contextlib.redirect_stdout(io.StringIO()):
+            self.assertEqual(scan(["--csv", "--html", self.named("pages"), self.path], grows), 0)
         page = [name for name in os.listdir(self.named("pages")) if name.startswith("side.tbc-")][0]
-        self.assertTrue(self.time_of("side.tbc") <= self.time_of("pages/" + page) < began)
+        self.assertLess(self.time_of("pages/" + page), self.time_of("side.tbc.json"))
 
     def test_what_is_no_page(self):
         """A page that lacks what a row has is written anew."""
@@ -200,7 +232,9 @@ class Folders(InFolder):
             self.write(name, b"")
 
     def check(self, paths, wanted):
-        self.assertEqual(sides_in(paths.split()), [Found(path) for path in wanted.split()])
+        named = set(map(os.path.realpath, paths.split()))
+        self.assertEqual(sides_in(paths.split()), [
+            Found(path, is_named=os.path.realpath(path) in named) for path in wanted.split()])
 
     def test_rows(self):
         for files, paths, wanted in FOLDERS:

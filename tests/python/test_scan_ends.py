@@ -45,12 +45,12 @@ def until(found):
     raise AssertionError("it never came")
 
 
-def fails(path, page, may_end):
+def fails(*_):
     """Reads no side: what it raises isn't what a file is to blame for."""
     raise KeyError("a fault of the program")
 
 
-def leaves(path, page, may_end):
+def leaves(*_):
     """Ends its process."""
     os._exit(3)
 
@@ -70,16 +70,13 @@ class Failing(Scans):
 
 
 class Ends(Scans):
-    def add_waiting(self, *names):
-        """Sides that are never read, as their metadata is a pipe to which nobody writes."""
-        for name in names:
-            self.add(name)
-            os.unlink(self.named(name + ".json"))
-            os.mkfifo(self.named(name + ".json"))
-
-    def scanning(self, words, count, **more):
-        """A scan that has printed so many lines, which are the answer, too."""
-        process = self.started("scan", *words.split(), **more)
+    def scanning(self, words, count, waiting=(), **more):
+        """A scan that has printed so many lines, which are the answer, too. Of the folder some sides are named that are
+        never read, as they are pipes to which nobody writes."""
+        for name in waiting:
+            if not os.path.exists(self.named(name)):
+                os.mkfifo(self.named(name))
+        process = self.started("scan", *words.split(), *waiting, **more)
         return process, [process.stdout.readline().decode() for _ in range(count)]
 
     def ended(self, process, status, text=b""):
@@ -92,22 +89,21 @@ class Ends(Scans):
     def test_one_side_fails_and_the_others_are_read(self):
         for name in ("1.tbc", "3.tbc"):
             self.add(name)
-        self.add_waiting("2.tbc")
-        process, lines = self.scanning("--csv -j 1 --html pages .", 2)
+        process, lines = self.scanning("--csv -j 1 --html pages .", 2, ["2.vbi.json"])
         self.assertEqual(lines, ["side,whole,lost,unread,format,from,to,last,lead-in,lead-out,fields,why\n",
                                  "./1.tbc,yes,0,0,cav,1,30,30,0,1,61,\n"])
         os.kill(until(lambda: children(process.pid))[0], signal.SIGKILL)
-        self.ended(process, 2, b"./2.tbc,fault,,,,,,,,,,its process was ended by SIGKILL\n"
+        self.ended(process, 2, b"./2.vbi.json,fault,,,,,,,,,,its process was ended by SIGKILL\n"
                                b"./3.tbc,yes,0,0,cav,1,30,30,0,1,61,\n")
         self.assertEqual(len(os.listdir(self.named("pages"))), 3)
 
     def test_while_sides_are_read(self):
         """By Ctrl-C at a terminal, which all processes get, and by a signal to the first one alone."""
         self.add("1.tbc")
-        self.add_waiting("2.tbc", "3.tbc", "4.tbc")
+        waiting = ["%d.vbi.json" % number for number in (2, 3, 4)]
         for stop in (os.killpg, os.kill):
             with self.subTest(stop):
-                process, _ = self.scanning("--csv -j 2 --html pages .", 2, start_new_session=True)
+                process, _ = self.scanning("--csv -j 2 --html pages .", 2, waiting, start_new_session=True)
                 until(lambda: len(children(process.pid)) == 2)
                 stop(process.pid, signal.SIGINT)
                 self.ended(process, 130)
@@ -115,9 +111,8 @@ class Ends(Scans):
 
     def test_at_any_time(self):
         """Also while its processes begin."""
-        self.add_waiting("1.tbc")
         for pause in (0, 0.1, 0.2, 0.3):
-            process, _ = self.scanning(".", 1, start_new_session=True)
+            process, _ = self.scanning(".", 1, ["1.vbi.json"], start_new_session=True)
             time.sleep(pause)
             os.killpg(process.pid, signal.SIGINT)
             self.ended(process, 130)
@@ -143,8 +138,7 @@ class Ends(Scans):
 
     def test_no_reader(self):
         self.add("1.tbc")
-        self.add_waiting("2.tbc")
-        process, _ = self.scanning("--csv -j 2 .", 1)
+        process, _ = self.scanning("--csv -j 2 .", 1, ["2.vbi.json"])
         process.stdout.close()
         self.assertEqual((process.wait(DEADLINE), process.stderr.read()), (2, b""))
 

@@ -12,9 +12,10 @@ _PACKED = tuple(TBC + end for end in (".gz", ".zst", ".flac"))
 
 class Found(NamedTuple):
     """A side by the path of its TBC file or document; `fault` says why a folder wasn't gone through, else it is None.
-    """
+    One that is named, and not found in a folder, may be a pipe."""
     path: str
     fault: Optional[str] = None
+    is_named: bool = False
 
 
 def sides_in(paths: Iterable[str]) -> List[Found]:
@@ -22,10 +23,12 @@ def sides_in(paths: Iterable[str]) -> List[Found]:
     links to folders are not followed."""
     found: List[Found] = []
     for path in paths:
-        found += _sides_below(path) if os.path.isdir(path) else [Found(path)]
+        found += _sides_below(path) if os.path.isdir(path) else [Found(path, is_named=True)]
     known: Dict[str, Found] = {}
     for one in sorted(found, key=lambda one: one.path.split(os.sep)):
-        known.setdefault(os.path.realpath(one.path), one)
+        first = known.setdefault(os.path.realpath(one.path), one)
+        if one.is_named and not first.is_named:
+            known[os.path.realpath(one.path)] = first._replace(is_named=True)
     return list(known.values())
 
 

@@ -11,6 +11,7 @@ from ldvbi import Stream, field_bytes
 from ldvbi.document import is_document, write_document, write_recovered
 from ldvbi.metadata import beside, read_metadata, settings_of
 from ldvbi.packed import refuse_packed
+from ldvbi.regular import regular
 from ldvbi.stream import cut_of
 from ..draw.plot import plot_command
 from ..outside import (NAME, bytes_of_document, drop_standard_output, flush, flush_or_drop, printable, raise_lost,
@@ -54,7 +55,8 @@ def _source(options, on_field=None):
     if not is_standard_input:
         refuse_folder(options.side)
     with naming(_name_of(options)), \
-            open(0 if is_standard_input else options.side, "rb", closefd=not is_standard_input) as file:
+            open(0 if is_standard_input else options.side, "rb", closefd=not is_standard_input,
+                 opener=None if options.waits else regular) as file:
         begin = file.peek(64)
         refuse_packed(_name_of(options), begin)
         side = None
@@ -69,7 +71,7 @@ def _metadata(options, on_field):
     if not options.meta:
         return None
     with naming(options.meta):
-        return read_metadata(options.meta, on_field)
+        return read_metadata(options.meta, on_field, not options.is_beside)
 
 
 def _stream(options, metadata):
@@ -208,7 +210,9 @@ def _options(words):
     if options.recovered and (not (options.document or options.into) or options.no_recover):
         parser.error("--recovered is of --document or --into, and not with --no-recover")
     is_open = options.into or None in _settings(options)
-    if not options.meta and is_open and options.side.endswith(".tbc"):
+    options.waits = True  # if the side is a pipe
+    options.is_beside = not options.meta and is_open and options.side.endswith(".tbc")
+    if options.is_beside:
         options.meta = beside(options.side)
     return options
 
@@ -267,10 +271,11 @@ def _scan(words):
     return scan(words, answer_of)
 
 
-def answer_of(path: str, page: Optional[str], may_end: bool) -> Answer:
+def answer_of(path: str, page: Optional[str], may_end: bool, is_named: bool) -> Answer:
     """The answer for a side, which is read with what lies beside it, and may end without lead-out or not; its page is
-    written where one is named."""
+    written where one is named. A side that nobody named is a file."""
     options = _options([*(["--html", page] if page else []), *["--open-end"] * may_end, "--", path])
+    options.waits = is_named
     source, metadata = _source(options)
     side = _loaded(source, metadata, options)
     _write_files(side, options, not isinstance(source, Side))

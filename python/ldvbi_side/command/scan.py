@@ -13,6 +13,7 @@ from typing import Callable, List, Optional
 from ldvbi.document import is_document
 from ldvbi.metadata import beside
 from ldvbi.packed import refuse_packed
+from ldvbi.regular import regular
 from ..draw.index import head_of, index_of
 from ..draw.page import said_of
 from ..answer.analysis import VERSION
@@ -34,7 +35,7 @@ INDEX = "index.html"
 MOST_JOBS = 4  # where the command line doesn't say
 # About how many bytes of a file there are to a field
 _FIELD_BYTES = {True: 600000, False: 150}  # of a TBC file, of a document
-Read = Callable[[str, Optional[str], bool], Answer]
+Read = Callable[[str, Optional[str], bool, bool], Answer]
 
 
 def _jobs(text):
@@ -79,15 +80,16 @@ def scan(words: List[str], read: Read) -> int:
         raise ValueError("no .tbc and no .vbi.json in %s" % ", ".join(options.paths))
     pages = _pages(sides, options.html)
     index = os.path.join(options.html, INDEX) if options.html else None
+    _refuse_no_file(index)
     refuse_inputs([1, index, *pages], itertools.chain.from_iterable(files_of(side.path) for side in sides))
     kept = dict(_kept(sides, pages, options))
     left = [place for place in range(len(sides)) if place not in kept]
     table = Csv() if options.csv else Json() if options.json else Text([side.path for side in sides])
     rows = []
-    tasks = [(sides[place].path, pages[place]) for place in left]
+    tasks = [(sides[place].path, pages[place], sides[place].is_named) for place in left]
     read_side = functools.partial(_read_side, read, options.open_end)
     with SideBySide(read_side, tasks, options.jobs, _drop_page) as messages, \
-            SidesProgress([_size(path) for path, _ in tasks]) as progress:
+            SidesProgress([_size(path) for path, *_ in tasks]) as progress:
         for row, notes in _in_order(itertools.chain(kept.items(), _results(messages, progress, sides, left))):
             progress.clear()
             for note in notes:
@@ -170,13 +172,14 @@ def _ended_text(status):
 
 def _read_side(read, may_end, task, tell):
     """Sends the row of a side, and what is to be noted of it, and meanwhile which part of it is read."""
-    path, page = task
+    path, page, is_named = task
     begin = time.time_ns()
     notes = io.StringIO()
     try:
         with heard_by(lambda done, fields: tell(done / fields if fields else 1.0)), contextlib.redirect_stderr(notes):
-            _refuse_others(path)
-            answer = read(path, page, may_end)
+            _refuse_others(path, is_named)
+            _refuse_no_file(page)
+            answer = read(path, page, may_end, is_named)
         if page:
             os.utime(page, ns=(begin, begin))  # what a file gets while it is read is newer than its page
         row = row_of(path, said_of(answer), page)
@@ -193,19 +196,26 @@ def _drop_page(task, process):
         drop_part(task[1], process)
 
 
-def _refuse_others(path):
+def _refuse_others(path, is_named):
     """Raises a ValueError for a file that is neither a document nor a TBC file with its metadata beside it."""
-    with open(path, "rb") as file:
+    with open(path, "rb", opener=None if is_named else regular) as file:
         begin = file.read(64)
     refuse_packed(path, begin)
     if not is_document(path, begin) and beside(path) is None:
         raise ValueError(no_metadata(path))
 
 
+def _refuse_no_file(path):
+    """Raises a ValueError where something that is no file stands in the place of one that is to be written."""
+    if path and os.path.exists(path) and not os.path.isfile(path):
+        raise ValueError("%s is no file" % path)
+
+
 def _fault_text(error, path):
     """A fault without the name of the side, which its row has."""
     text = fault_text(error)
-    return text[len(path) + 2:] if text.startswith(path + ": ") else text
+    begin = next((begin for begin in (path + ": ", path + " ") if text.startswith(begin)), "")
+    return text[len(begin):]
 
 
 def _size(path):

@@ -9,6 +9,7 @@ from html.parser import HTMLParser
 from typing import Any, Dict, Iterable, Sequence, Tuple
 from urllib.parse import quote
 
+from ldvbi.regular import regular
 from ..answer.analysis import VERSION
 from ..answer.whole import NO, OPEN, YES, counted
 from .page import MARK, STYLE, escaped
@@ -69,7 +70,7 @@ def head_of(page: str) -> Tuple[str, Dict[str, Any]]:
     """The title of a page, and what it says of itself. Of its body, which may be long, little is read. A ValueError
     where it is no page of a side, or has another form."""
     head = _Head()
-    with open(page, encoding="utf-8", errors="replace") as file, contextlib.suppress(AssertionError):
+    with open(page, encoding="utf-8", errors="replace", opener=regular) as file, contextlib.suppress(AssertionError):
         for _ in range(MOST_PARTS):  # of what isn't HTML the parser asserts that it is
             part = file.read(PART)
             if head.is_read or not part:
