@@ -14,7 +14,7 @@ from ..answer.analysis import VERSION
 from ..answer.whole import NO, OPEN, YES, counted
 from .page import MARK, STYLE, escaped
 
-PART = 65536  # characters of a page that are read at once
+FIRST, PART = 2048, 65536  # characters of a page that are read at once: at first, for most heads are short, and at most
 MOST_PARTS = 64  # in which the head of a page has an end
 
 
@@ -69,10 +69,10 @@ def _is_said(said):
 def head_of(page: str) -> Tuple[str, Dict[str, Any]]:
     """The title of a page, and what it says of itself. Of its body, which may be long, little is read. A ValueError
     where it is no page of a side, or has another form."""
-    head = _Head()
+    head, size = _Head(), FIRST
     with open(page, encoding="utf-8", errors="replace", opener=regular) as file, contextlib.suppress(AssertionError):
         for _ in range(MOST_PARTS):  # of what isn't HTML the parser asserts that it is
-            part = file.read(PART)
+            part, size = file.read(size), min(2 * size, PART)
             if head.is_read or not part:
                 break
             head.feed(part)
