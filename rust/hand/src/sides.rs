@@ -79,7 +79,7 @@ pub struct Field {
 /// |---|---|
 /// | `new`, `cut_bytes`, `line`, `nearest` | nothing of the side |
 /// | `fields`, `stops` | each field that their iterator comes to, every time |
-/// | `seek` of a picture or a time | at most 400 fields, of worn lines some more; the whole side if it isn't found so |
+/// | `seek` of a picture or a time | at most 1,000 fields, of worn lines more; the whole side if it isn't found so |
 /// | `seek` of a chapter, `numbers`, `chapters`, `whole`, `gaps`, `judged` | the whole side, once |
 ///
 /// What is judged of the whole side is kept, 48 bytes of a field, and clones and threads share it. Map a file with
