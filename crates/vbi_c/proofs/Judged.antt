@@ -14,7 +14,8 @@ use Rattle.vbi_c.specs.declared.judging.Judging.{Judging}
 use Rattle.vbi_c.specs.Judging.{seen_in, lines_in}
 
 -- where a believed number is right by what was misread of numbers, it is by what was misread of words
-pub read_sound : (judging : Judging) (readings : List LdvbiFieldReadings) (seen : List Sightings) (numbers : List Number)
+pub read_sound : (judging : Judging) (readings : List LdvbiFieldReadings) (seen : List Sightings)
+    (numbers : List Number)
     (pace : paces.Pace) → seen ≡ map (seen_in judging) readings
     → ((recorded : ℕ → Option ℕ) (i m n : ℕ) → slice_get numbers i ≡ Some (believed n)
     → IsSound pace recorded seen i m → n ≡ m)

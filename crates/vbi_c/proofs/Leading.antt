@@ -78,9 +78,11 @@ sixteen seek bytes count number t a b leads silent zero few =
     (λ to from. silent_outside seek bytes count number t a b (middle_of count 16 0) leads (silent 0 few) from to)
 sixteen seek bytes count number t a b leads silent (suc k) few =
     let below : middle_of count 16 k < a = sixteen seek bytes count number t a b leads silent k (omega (arith, few)) in
-    part_next count a b (count * (2 * k + 1)) (middle_of count 16 k) (middle_of count 16 (suc k)) leads.part leads.inside
+    part_next count a b (count * (2 * k + 1)) (middle_of count 16 k) (middle_of count 16 (suc k)) leads.part
+    leads.inside
     below (omega (arith, below, leads.part, leads.inside)) (omega arith)
-    (λ to from. silent_outside seek bytes count number t a b (middle_of count 16 (suc k)) leads (silent (suc k) few) from
+    (λ to from. silent_outside seek bytes count number t a b (middle_of count 16 (suc k)) leads (silent (suc k) few)
+    from
     to)
 
 pub not_all_silent : (seek : Seek) (bytes : List ℕ) (count number t a b : ℕ) → Leads seek bytes count number t a b
@@ -141,7 +143,8 @@ silent_before seek bytes count number t a b old rest leads within told wide sile
       | inl (n, some) ↦ absurd (none_some old.lower n none some)
       | inr (n, some) ↦
           let high = within.higher n some in
-          let before : old.low + (old.high - old.low) / 2 < a = elim (leb_tells a (old.low + (old.high - old.low) / 2)) [
+          let before : old.low + (old.high - old.low) / 2 < a
+          = elim (leb_tells a (old.low + (old.high - old.low) / 2)) [
             | inl (s, from) ↦ absurd (silent_outside seek bytes count number t a b
                 (old.low + (old.high - old.low) / 2) leads silent from (omega (arith, high, wide)))
             | inr (s, less) ↦ less

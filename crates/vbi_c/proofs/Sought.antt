@@ -104,7 +104,8 @@ pub record IsAt (seek : Seek) (bytes : List ℕ) (count number : ℕ) (pace : pa
 -- the first field with a number, among those from `back` to `ahead` of so many that are judged, where it isn't the very
 -- first of these, or is the first of the side
 pub found_at : (seek : Seek) (bytes : List ℕ) (count first many back ahead place field number : ℕ) (pace : paces.Pace)
-    (numbers : List Number) (none : Number) → first + (back + place) ≡ field → first + many ≤ count → (first ≡ 0) ⊎ (2 * reach ≤ back)
+    (numbers : List Number) (none : Number) → first + (back + place) ≡ field → first + many ≤ count
+    → (first ≡ 0) ⊎ (2 * reach ≤ back)
     → (ahead + 2 * reach ≤ many) ⊎ (first + many ≡ count) → back ≤ ahead → ahead ≤ many
     → AreAnswers pace (map (shown_at seek bytes) (range_with_len first many)) numbers
     → IsFirst (take (ahead - back) (drop back numbers)) number (Some place) → (0 < place) ⊎ (first + back ≡ 0)

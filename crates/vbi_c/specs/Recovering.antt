@@ -3,7 +3,8 @@ use Rattle.std.specs.Prelude.{◌≡◌, ◌<◌, ℕ, ◌*◌, Bool, List, map,
 use Rattle.vbi_words.specs.declared.system.System.{System}
 use Rattle.vbi_words.specs.Geometry.{line_bytes}
 use Rattle.vbi_near.specs.declared.recovery.Recovered.{Recovered}
-use Rattle.vbi_near.specs.Recovery.{IsRecovered}
+use Rattle.vbi_near.specs.Recovery.{IsRecovered, none_erased}
+use Rattle.vbi_field.specs.Shown.{recovery_of}
 use Rattle.vbi_c.specs.declared.setup.Setup.{Setup}
 use Rattle.vbi_c.specs.declared.reading.LdvbiReading.{LdvbiReading}
 use Rattle.vbi_c.specs.declared.fields.LdvbiFieldReadings.{LdvbiFieldReadings}
@@ -23,6 +24,14 @@ AreRecovered setup rows marks readings = (lines : List Recovered)
 -- the bytes of the rows 15, 16 and 17 of a field, which are its lines 16, 17 and 18
 abbrev pub code_bytes : System → List ℕ → List ℕ
 code_bytes system field = take (3 * line_bytes system) (drop (15 * line_bytes system) field)
+
+-- what lines 16, 17 and 18 of a field show, where no column is erased; it is the only answer there is
+-- (`laws::one_recovery`)
+abbrev pub recovered_reading : Setup → List ℕ → LdvbiFieldReadings
+recovered_reading setup field = record {
+  lines = map recovered_for_c
+      (recovery_of setup.system setup.levels (code_bytes setup.system field) (none_erased setup.system));
+}
 
 -- so are those of each of the first fields of a stream, each of which has marks of its own
 abbrev pub AreAllRecovered : Setup → List ℕ → (ℕ → List Bool) → ℕ → List LdvbiFieldReadings → Type 0

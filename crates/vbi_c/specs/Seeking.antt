@@ -11,8 +11,9 @@ use Rattle.vbi_side.specs.Numbers.{nothing, IsAnswer, IsKnown}
 use Rattle.vbi_c.specs.declared.probing.Seek.{Seek}
 use Rattle.vbi_c.specs.declared.seeking.LdvbiSought.{LdvbiSought}
 use Rattle.vbi_c.specs.declared.status.Refusal.{Refusal}
-use Rattle.vbi_c.specs.Fields.{field_in, field_reading}
+use Rattle.vbi_c.specs.Fields.{field_in}
 use Rattle.vbi_c.specs.Judging.{counted_of, asked_of, with_pace, seen_in, IsAskedPace, pace_for_c}
+use Rattle.vbi_c.specs.Recovering.{recovered_reading}
 use Rattle.vbi_c.specs.Setups.{setup_of}
 use Rattle.vbi_c.specs.Statuses.{in_turn}
 
@@ -44,9 +45,9 @@ seek_of system black white counted pace = in_turn (setup_of system black white) 
     in_turn (with_pace (Ok setup.system) (counted_of counted) (asked_of pace))
     (λ judging. Ok (record { setup = setup; judging = judging })))
 
--- what a field of the side shows of its number
+-- what a field of the side shows of its number, with the nearest words of worn lines
 abbrev pub shown_at : Seek → List ℕ → ℕ → Sightings
-shown_at seek bytes i = seen_in seek.judging (field_reading seek.setup (field_in seek.setup.system bytes i))
+shown_at seek bytes i = seen_in seek.judging (recovered_reading seek.setup (field_in seek.setup.system bytes i))
 
 -- what each of so many fields shows
 abbrev pub shown_of : Seek → List ℕ → ℕ → List Sightings

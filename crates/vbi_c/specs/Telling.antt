@@ -1,6 +1,7 @@
 -- Which number some fields tell together, by which a search knows where in a side it is. The rule is this project's
 -- own.
-use Rattle.std.specs.Prelude.{◌≡◌, ◌≤◌, ◌<◌, ◌+◌, ◌-◌, ◌*◌, ◌/◌, ◌⊎◌, ℕ, zero, suc, min, List, length, map, slice_get, Some}
+use Rattle.std.specs.Prelude.{◌≡◌, ◌≤◌, ◌<◌, ◌+◌, ◌-◌, ◌*◌, ◌/◌, ◌⊎◌, ℕ, zero, suc, min, List, length, map, slice_get}
+use Rattle.std.specs.Prelude.{Some}
 use Rattle.std.specs.List.{range_with_len}
 use Rattle.vbi_side.specs.declared.pace.Pace.TheVariants.{Video, Film}
 use Rattle.vbi_side.specs.declared.sighting.Sighting.{Sighting}

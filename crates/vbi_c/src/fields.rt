@@ -52,7 +52,7 @@ fn read_three(setup: &Setup, bytes: &[u8], first: usize) -> LdvbiFieldReadings
 }
 
 /// The readings of a field's lines 16, 17 and 18.
-pub(crate) fn read_whole(setup: &Setup, field: &[u8]) -> LdvbiFieldReadings
+fn read_whole(setup: &Setup, field: &[u8]) -> LdvbiFieldReadings
     requires { length field.now ≡ field_bytes setup.now.system }
     ensures { result ≡ field_reading setup.now field.now }
 {

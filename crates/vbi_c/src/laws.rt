@@ -1,7 +1,8 @@
 //! What the numbers of include/ldvbi.h stand for, and which line tells what, written down by hand. A function here does
 //! nothing: its contract holds each of them.
 
-ghost use Rattle.std.specs.Prelude.{◌≡◌, ◌≤◌, ℕ, List, [], ◌∷◌, map, take, drop, replicate, true, false, Some, None, Ok, Err};
+ghost use Rattle.std.specs.Prelude.{◌≡◌, ◌≤◌, ◌↔◌, ℕ, List, length, [], ◌∷◌, map, take, drop, replicate, true, false};
+ghost use Rattle.std.specs.Prelude.{Some, None, Ok, Err};
 ghost use Rattle.vbi_words.specs.declared.code.Code.TheVariants.{Picture, Chapter, Time, ClvPicture, CxOn, CxOff};
 ghost use Rattle.vbi_words.specs.declared.code.Code.TheVariants.{Users, LeadIn, LeadOut, PictureStop, ClvMark, Other};
 ghost use Rattle.vbi_words.specs.declared.format.Format.TheVariants.{Cav, Clv, Both, Neither};
@@ -12,9 +13,11 @@ ghost use Rattle.vbi_side.specs.declared.lines.Counted.TheVariants.{Pictures, Ti
 ghost use Rattle.vbi_side.specs.declared.pace.Pace.TheVariants.{Video, Film};
 ghost use Rattle.vbi_side.specs.Worked.{field_of};
 ghost use Rattle.vbi_c.specs.declared.judging.Asked.TheVariants.{Given, Found};
+ghost use Rattle.vbi_c.specs.declared.fields.LdvbiFieldReadings.{LdvbiFieldReadings};
 ghost use Rattle.vbi_c.specs.declared.probing.Seek.{Seek};
 ghost use Rattle.vbi_c.specs.declared.record.LdvbiRecord.{LdvbiRecord};
 ghost use Rattle.vbi_c.specs.declared.seeking.LdvbiSought.{LdvbiSought};
+ghost use Rattle.vbi_c.specs.declared.setup.Setup.{Setup};
 ghost use Rattle.vbi_c.specs.Chapters.{chapters_in};
 ghost use Rattle.vbi_c.specs.Codes.{code_for_c, format_for_c};
 ghost use Rattle.vbi_c.specs.Completing.{times_of, with_time, TellsTime};
@@ -23,15 +26,18 @@ ghost use Rattle.vbi_c.specs.Judging.{counted_of, asked_of, given_of, pace_for_c
 ghost use Rattle.vbi_c.specs.Nearest.{near_for_c};
 ghost use Rattle.vbi_c.specs.Readings.{outcome_for_c};
 ghost use Rattle.vbi_c.specs.Record.{HasText};
-ghost use Rattle.vbi_c.specs.Recovering.{code_bytes};
-ghost use Rattle.vbi_c.specs.Seeking.{probe_most, probe_longest, probed_most, around_most, IsSought, IsSoughtIn};
+ghost use Rattle.vbi_c.specs.Recovering.{code_bytes, recovered_reading, AreRecovered, AreAllRecovered};
+ghost use Rattle.vbi_c.specs.Seeking.{shown_of, probe_most, probe_longest, probed_most, around_most, IsSought};
+ghost use Rattle.vbi_c.specs.Seeking.{IsSoughtIn};
 ghost use Rattle.vbi_c.specs.Setups.{system_of, of_system};
 ghost use Rattle.vbi_c.specs.Stops.{IsStopOf};
 ghost use Rattle.vbi_c.specs.Telling.{IsTold, TellsIn};
 ghost use Rattle.vbi_c.specs.Ends.{ends_status, IsEndOf};
+ghost use Rattle.vbi_c.specs.Erased.{none_erased};
 ghost use Rattle.vbi_c.specs.WholeSides.{pace_given, siding_of, both_by, both_for_c, slack_by, may_end_by};
 ghost use Rattle.vbi_c.specs.Worked.{ntsc, pal, judged_as, code_as, reading_as, near_of, near_as, lines_read_as};
-ghost use Rattle.vbi_c.specs.Worked.{field_read_as, video_ending, film_ending, far_ending, second_on_18, sided_as, on_one, on_both};
+ghost use Rattle.vbi_c.specs.Worked.{field_read_as, video_ending, film_ending, far_ending, second_on_18, sided_as};
+ghost use Rattle.vbi_c.specs.Worked.{on_one, on_both};
 ghost use Rattle.vbi_c.specs.declared.status.Refusal.TheVariants.{System, Length, Counted, Pace};
 
 /// What the numbers that C hands over stand for, and the sizes that it is answered.
@@ -105,6 +111,17 @@ pub fn worked_calls()
     ensures stop_on_16 { (answer : ℕ) → IsStopOf (lines_read_as 0x82CFFF 0 0) answer → answer ≡ 1 }
     ensures stop_on_17 { (answer : ℕ) → IsStopOf (lines_read_as 0 0x82CFFF 0) answer → answer ≡ 1 }
     ensures none_on_18 { (answer : ℕ) → IsStopOf (lines_read_as 0 0 0x82CFFF) answer → answer ≡ 0 }
+{}
+
+/// Where no column is erased, a field shows one thing with the nearest words of worn lines. So what a search says of
+/// the fields of a side it says of the readings that `ldvbi_recover_fields` makes of them.
+pub fn one_recovery()
+    ensures field { (setup : Setup) (field : List ℕ) (readings : LdvbiFieldReadings)
+        → AreRecovered setup (code_bytes setup.system field) (none_erased setup.system) readings
+        ↔ (readings ≡ recovered_reading setup field) }
+    ensures side { (seek : Seek) (bytes : List ℕ) (count : ℕ) (all : List LdvbiFieldReadings)
+        → AreAllRecovered seek.setup bytes (λ field. none_erased seek.setup.system) count all → length all ≡ count
+        → map (seen_in seek.judging) all ≡ shown_of seek bytes count }
 {}
 
 /// What a completed field is: line 17 has the word, in the pass of line 16, and the others stay. The times that vote

@@ -1,6 +1,7 @@
 //! Narrowing the fields between which a number is sought, by what is told or shown at a place among them.
 
-ghost use Rattle.std.specs.Prelude.{◌≡◌, ◌↔◌, ◌⊎◌, ℕ, ◌+◌, ◌-◌, ◌*◌, ◌/◌, ◌^◌, ◌<◌, ◌≤◌, length, false, true, None, IfSome};
+ghost use Rattle.std.specs.Prelude.{◌≡◌, ◌↔◌, ◌⊎◌, ℕ, ◌+◌, ◌-◌, ◌*◌, ◌/◌, ◌^◌, ◌<◌, ◌≤◌, length, false, true, None};
+ghost use Rattle.std.specs.Prelude.{IfSome};
 ghost use Rattle.vbi_words.specs.Geometry.{field_bytes};
 ghost use Rattle.vbi_c.specs.Seeking.{probe_most, probe_longest, looked_most};
 ghost use Rattle.vbi_c.specs.Telling.{IsSilent, IsNarrowedAt, IsShownBetween};

@@ -1,6 +1,7 @@
 //! Which number some fields of a side tell together. Each field that is read is counted.
 
-ghost use Rattle.std.specs.Prelude.{◌≡◌, ◌↔◌, ℕ, ◌+◌, ◌-◌, ◌*◌, ◌<◌, ◌≤◌, min, length, map, take, slice_get, true, IfSome, None};
+ghost use Rattle.std.specs.Prelude.{◌≡◌, ◌↔◌, ℕ, ◌+◌, ◌-◌, ◌*◌, ◌<◌, ◌≤◌, min, length, map, take, slice_get, true};
+ghost use Rattle.std.specs.Prelude.{IfSome, None};
 ghost use Rattle.std.specs.List.{range_with_len};
 ghost use Rattle.vbi_words.specs.Geometry.{field_bytes};
 ghost use Rattle.vbi_c.specs.Seeking.{shown_at, probe_longest, looked_most};
@@ -9,8 +10,8 @@ ghost use Rattle.vbi_side.specs.Beliefs.{field_weight, sighting_weight};
 ghost use Rattle.vbi_side.specs.Paces.{fits};
 ghost use Rattle.vbi_side.specs.declared.pace.Pace.TheVariants.{Video};
 
-use crate::fields::read_whole;
 use crate::judging::{Judging, seen_in};
+use crate::recovering::recover_whole;
 use crate::setup::Setup;
 use vbi_side::{Pace, Sighting, Sightings, support};
 
@@ -50,7 +51,7 @@ const NO_SIGHTING: Sighting = Sighting {
     weight: 0,
 };
 
-/// What a field shows of its number.
+/// What a field shows of its number, with the nearest words of worn lines.
 fn shown_at(seek: &Seek, bytes: &[u8], count: usize, field: usize, looked: &mut Looked) -> Sightings
     requires whole { count * field_bytes seek.now.setup.system ≤ length bytes.now }
     requires inside { field < count }
@@ -60,7 +61,7 @@ fn shown_at(seek: &Seek, bytes: &[u8], count: usize, field: usize, looked: &mut 
 {
     looked.fields += 1;
     let size = seek.setup.system.field_bytes();
-    let readings = read_whole(&seek.setup, &bytes[size * field..size * field + size]);
+    let readings = recover_whole(&seek.setup, &bytes[size * field..size * field + size]);
     seen_in(&seek.judging, &readings)
 }
 

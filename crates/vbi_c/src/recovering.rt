@@ -4,7 +4,7 @@ ghost use Rattle.std.specs.Prelude.{◌≡◌, ◌≢◌, ◌*◌, ◌<◌, leng
 ghost use Rattle.vbi_words.specs.Geometry.{line_bytes, field_bytes, width_of};
 ghost use Rattle.vbi_c.specs.Erased.{is_taken, with_erased, erased_of, none_erased};
 ghost use Rattle.vbi_c.specs.Fields.{field_in};
-ghost use Rattle.vbi_c.specs.Recovering.{recovered_for_c, AreRecovered, code_bytes, AreAllRecovered};
+ghost use Rattle.vbi_c.specs.Recovering.{recovered_for_c, recovered_reading, AreRecovered, code_bytes, AreAllRecovered};
 ghost use Rattle.vbi_c.specs.Setups.{rows_setup, fields_setup};
 ghost use Rattle.vbi_c.specs.Statuses.{status_of};
 
@@ -62,6 +62,14 @@ fn code_bytes(system: System, field: &[u8]) -> &[u8]
 {
     let line = system.line_bytes();
     &field[FIRST_ROW * line..FIRST_ROW * line + 3 * line]
+}
+
+/// What lines 16, 17 and 18 of a field show, where no column is erased.
+pub(crate) fn recover_whole(setup: &Setup, field: &[u8]) -> LdvbiFieldReadings
+    requires { length field.now ≡ field_bytes setup.now.system }
+    ensures { result ≡ recovered_reading setup.now field.now }
+{
+    recover_listed(setup, code_bytes(setup.system, field), &[])
 }
 
 /// The bytes of a field of a stream, counted from 0.

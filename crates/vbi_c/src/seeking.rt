@@ -4,7 +4,8 @@
 //! place are read and judged, and the number is answered only of a field that has it by `ldvbi_judge` of the whole
 //! side.
 
-ghost use Rattle.std.specs.Prelude.{◌≡◌, ◌≢◌, ℕ, ◌+◌, ◌-◌, ◌*◌, ◌<◌, ◌≤◌, ◌⊎◌, length, map, take, drop, false, Some, None, IfOk, IfSome, IsTrue};
+ghost use Rattle.std.specs.Prelude.{◌≡◌, ◌≢◌, ℕ, ◌+◌, ◌-◌, ◌*◌, ◌<◌, ◌≤◌, ◌⊎◌, length, map, take, drop, false, Some};
+ghost use Rattle.std.specs.Prelude.{None, IfOk, IfSome, IsTrue};
 ghost use Rattle.std.specs.List.{range_with_len};
 ghost use Rattle.vbi_words.specs.Geometry.{field_bytes};
 ghost use Rattle.vbi_side.specs.declared.pace.Pace as paces;
@@ -167,8 +168,9 @@ fn look_around(
 }
 
 /// Seeks a number in the bytes of a side: the first of the fields in a row that have it. It is the number that
-/// `ldvbi_judge` answers of this field, by the readings of the whole side at this pace. A last field that is cut is
-/// left out. At most 1,000 fields are read, so where the numbers don't rise along the side it may be missed.
+/// `ldvbi_judge` answers of this field at this pace, by what `ldvbi_recover_fields` reads of the whole side. A last
+/// field that is cut is left out. At most 1,000 fields are read, so if the numbers don't rise along the side it may be
+/// missed.
 #[unsafe(no_mangle)]
 pub extern "C" fn ldvbi_seek(
     system: u32,

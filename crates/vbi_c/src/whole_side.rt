@@ -63,7 +63,8 @@ fn both_by(both: u32, numbers: &[Number]) -> bool
     }
 }
 
-/// Whether the believed numbers of a side show that its disc has them on both fields of a picture: 1 if they do, else 0.
+/// Whether the believed numbers of a side show that its disc has them on both fields of a picture: 1 if they do, else
+/// 0.
 #[unsafe(no_mangle)]
 pub extern "C" fn ldvbi_find_both(numbers: &[Number]) -> u32
     ensures { result ≡ both_for_c numbers.now }

@@ -46,8 +46,8 @@ pub struct Job {
 }
 
 impl Job {
-    /// Whether the metadata that lies beside the input is to be read, if there is some: the input is a file, and neither
-    /// metadata nor each of system, black and white is given.
+    /// Whether the metadata that lies beside the input is to be read, if there is some: the input is a file, and
+    /// neither metadata nor each of system, black and white is given.
     pub fn looks_beside(&self) -> bool
         ensures { result ≡ looks_beside self.now }
     {

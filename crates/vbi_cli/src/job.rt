@@ -161,7 +161,9 @@ fn extract_job<R: Read, W: Write>(
     end_of(extract(config, intake, outlet))
 }
 
-/// What is known of a config's numbers.
+/// What is known of a config's numbers: black and white have 16 bits, and the fields a greatest count. Their types say
+/// so, but a proof knows what a type says only of a value that the code has read. That is what the two reads are for,
+/// and nothing else: by `IsConfig` the law `extracted_words` of `vbi_meta` applies to the document.
 fn numbers(config: &Config)
     ensures { IsConfig config.now }
 {

@@ -1,8 +1,10 @@
 -- The bytes of rows 15, 16 and 17 while a stream grows.
-use Rattle.std.proofs.Common.{◌≡◌, ◌≢◌, ℕ, ◌+◌, ◌-◌, ◌*◌, ◌≤◌, ◌<◌, ◌⊎◌, inl, inr, List, ◌++◌, length, take, drop, sym, ap}
+use Rattle.std.proofs.Common.{◌≡◌, ◌≢◌, ℕ, ◌+◌, ◌-◌, ◌*◌, ◌≤◌, ◌<◌, ◌⊎◌, inl, inr, List, ◌++◌, length, take, drop, sym}
+use Rattle.std.proofs.Common.{ap}
 use Rattle.std.proofs.Common.{◌∙◌, arith, append_assoc}
 use Rattle.std.proofs.lemmas.Bool.{cases_lt}
-use Rattle.std.proofs.lemmas.List.{length-append, length-drop, length-take-le, take-append-drop, take_all, drop-drop, drop_at}
+use Rattle.std.proofs.lemmas.List.{length-append, length-drop, length-take-le, take-append-drop, take_all, drop-drop}
+use Rattle.std.proofs.lemmas.List.{drop_at}
 use Rattle.vbi_field.specs.Shown.{joined_rows}
 use Rattle.std.proofs.Math.Nat.{eq-or-lt_of_le, mul-le-mul_right}
 use Rattle.vbi_field.specs.ConfigView.{height_of, line_bytes, field_bytes, System, ConfigView, Ntsc, Pal}
@@ -104,7 +106,8 @@ module _ (s : System) (held b : List ℕ) (r : ℕ) (small : r ≤ 2) (room : 3 
       let m : ℕ = from + length b in
       let k : ℕ = 0 * field_bytes s + line_bytes s * q - m in
       let e : 0 * field_bytes s + line_bytes s * q ≡ m + k = grind (arith, less, whole) in
-      let long : length (take from held ++ b) ≡ m = length-append (take from held) b ∙ ap (λ n. n + length b) long-first in
+      let long : length (take from held ++ b) ≡ m
+      = length-append (take from held) b ∙ ap (λ n. n + length b) long-first in
       ap (take (line_bytes s)) (ap (λ n. drop n spliced) e
       ∙ ap (drop (m + k)) again
       ∙ sym (drop-drop k m ((take from held ++ b) ++ drop m held))

@@ -78,8 +78,11 @@ nothing_erased system n e =
 -- they are three
 pub has_three : (system : System) (slicing : Slicing) (rows : List ℕ) (marks : List Bool) (l : List Recovered)
     (a b c : Recovered) → IsRecovered system slicing rows marks l
-    → record { first = reading_as (get_or l 0 a); second = reading_as (get_or l 1 b); third = reading_as (get_or l 2 c) }
-    ≡ as_readings l
+    → record {
+      first = reading_as (get_or l 0 a);
+      second = reading_as (get_or l 1 b);
+      third = reading_as (get_or l 2 c);
+    } ≡ as_readings l
 has_three system slicing rows marks l a b c (first, second, third, both, seen, e) =
     (λ j. record {
       first = reading_as (get_or (e j) 0 a);

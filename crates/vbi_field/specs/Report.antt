@@ -1,4 +1,5 @@
--- The report of `show`, and that with recovered words: a head line, four lines a whole field, and a last line; lists of ASCII codes.
+-- The report of `show`, and that with recovered words: a head line, four lines a whole field, and a last line; lists of
+-- ASCII codes.
 use Rattle.std.specs.Prelude.{ℕ, ◌+◌, List, [], ◌∷◌, ◌++◌, ◌==◌, if◌then◌else◌, codes, decimal}
 use Rattle.vbi_field.specs.ConfigView.{System, name_of, width_of, height_of, Slicing}
 use Rattle.vbi_field.specs.CodeTexts.{Outcome, Word, hex_text_of, code_text_of, cause_text_of}

@@ -1,5 +1,5 @@
--- What the bytes of a field's three rows show with recovered words, and which word is nearest to a row: as relations, and
--- as functions, which give the only answer there is.
+-- What the bytes of a field's three rows show with recovered words, and which word is nearest to a row: as relations,
+-- and as functions, which give the only answer there is.
 use Rattle.std.specs.Prelude.{ℕ, ◌*◌, Bool, List, [], ◌∷◌, ◌++◌, take, drop}
 use Rattle.vbi_words.specs.declared.system.System.{System}
 use Rattle.vbi_words.specs.declared.outcome.Outcome.TheVariants.{Blank}

@@ -141,8 +141,8 @@ fn marked_text(line: &Reading) -> ArrayString<43>
     text
 }
 
-/// The four lines of the whole field of this number, counted from 1, by its readings and the texts behind the numbers of
-/// its lines.
+/// The four lines of the whole field of this number, counted from 1, by its readings and the texts behind the numbers
+/// of its lines.
 #[tactic(auto, unfolding(crate::specs::Report::field_lines_of))]
 fn field_lines(
     number: u32,

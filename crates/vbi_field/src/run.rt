@@ -1,8 +1,8 @@
 //! The document and the report of a whole stream, pulled from a reader.
 //!
-//! `run` is the one loop, over the kind of text (`Kind`, texts.rt). A line is read into the intake's one array. The kinds
-//! with recovered words keep the bytes of rows 15, 16 and 17 besides, in room that their caller here has; the other two
-//! have no such room.
+//! `run` is the one loop, over the kind of text (`Kind`, texts.rt). A line is read into the intake's one array. The
+//! kinds with recovered words keep the bytes of rows 15, 16 and 17 besides, in room that their caller here has; the
+//! other two have no such room.
 ghost use Rattle.std.specs.Prelude.{◌≡◌, ◌+◌, ◌*◌, ◌^◌, ◌<◌, ◌≤◌, ◌++◌, [], length, take, drop, IsTrue, IfErr};
 ghost use Rattle.vbi_words.specs.Geometry.{height_of, line_bytes};
 ghost use Rattle.vbi_line.specs.Counted.{failures_of, IsSameDevice};

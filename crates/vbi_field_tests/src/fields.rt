@@ -25,8 +25,8 @@ pub(crate) enum Line {
     Word(u32),
     /// A drawn word of which two columns in its first high half cell are black: 170 and 171, or 215 and 216 of PAL.
     Scratched(u32),
-    /// A drawn word of which five columns are turned over, the fourth to the eighth of a cell: of its third in NTSC, 210
-    /// to 214, of its fourth in PAL, 299 to 303.
+    /// A drawn word of which five columns are turned over, the fourth to the eighth of a cell: of its third in NTSC,
+    /// 210 to 214, of its fourth in PAL, 299 to 303.
     Torn(u32),
     /// So many black columns, so many white ones, and black ones to the end.
     Run(usize, usize),

@@ -1,8 +1,8 @@
 //! Documents and reports with recovered words, of rows that are worked out by hand.
 //!
 //! A torn line has five columns of another level, in a cell of 28 columns (NTSC) or 35 (PAL). So its word's row is 5
-//! columns off, and that of the word with this cell's bit turned over is 23 or 30 columns off. No row of another word is
-//! nearer, since rows of two words differ in 28 columns at least, or 35.
+//! columns off, and that of the word with this cell's bit turned over is 23 or 30 columns off. No row of another word
+//! is nearer, since rows of two words differ in 28 columns at least, or 35.
 
 use crate::fields::Line::{Black, Run, Scratched, Torn, Word};
 use crate::fields::{Lines, config, field, front, push_field};

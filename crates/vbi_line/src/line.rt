@@ -10,10 +10,10 @@
 //! a caller's own.
 //!
 //! A contract sees a `Line` (`specs/Line.antt`): the bytes held, the room, and the cursors of the passes as a list, the
-//! latest first. As there are two at most, two numbers hold that list: `cursor`, and `earlier` for the pass before. That
-//! file says at its end which fields make it, so a change of the fields changes that. Bytes of an earlier line stay in
-//! the array, and aren't seen: a pass needs a whole line that was committed. `looked` counts over all lines. Its limits
-//! in the `requires` (2^61, 2^62) only say that there is room for the looks of the next line.
+//! latest first. As there are two at most, two numbers hold that list: `cursor`, and `earlier` for the pass before.
+//! That file says at its end which fields make it, so a change of the fields changes that. Bytes of an earlier line
+//! stay in the array, and aren't seen: a pass needs a whole line that was committed. `looked` counts over all lines.
+//! Its limits in the `requires` (2^61, 2^62) only say that there is room for the looks of the next line.
 //!
 //! The array stands in store.rt, behind one method that lends a part of it, since that lending is the one thing of this
 //! crate whose whole proof is written by hand.

@@ -1,4 +1,27 @@
-//! The nearest word, or none.
+//! The nearest word of some lines, or none.
+//!
+//! A **row** is what a line would be if a word were drawn on it without a fault: black up to the column at which the
+//! word begins, then its 48 half cells, each black or white, and black to the end. A row of no word is black all along.
+//! How far a line is from a row is the sum, over the columns, of how far its sample is from the row's, and the nearest
+//! word is that of the row with the least sum, of all words and all columns at which one may begin:
+//!
+//! ```text
+//! the line   ___.-~-._.-~~~-._.-~-.______   its samples, with noise
+//! its row    ___|~~~|_|~~~~~|_|~~~|______   black and white, the first half cell from the column `start` on
+//! ```
+//!
+//! There are 2^23 words and up to 285 starts, so no row is ever drawn. What a half cell costs depends on where it lies
+//! and on whether it is high, and on nothing else of the word. Sums over the columns (sums.rt) give that by two
+//! subtractions; a bit of a word is then the cheaper one of its two cells (cell.rt, starts.rt), and the least over the
+//! starts is the nearest word (bits.rt, found.rt). Several lines are one line whose columns cost what they cost in all
+//! of them, so a field's lines 17 and 18, or a pile of lines, take no longer than one.
+//!
+//! The nearest word alone says little, as noise has one, too. So a `Near` says how far others are. `rival` is the
+//! nearest other row: what makes one word surer than another. `longer` is the row with one cell more (beyond.rt): where
+//! it is nearer, the signal isn't a word of 24 cells. `shorter` is the row with fewer (within.rt). The nearest code
+//! (near_code.rt, codes.rt) is sought among the words whose code may stand on the line, and its rival is the nearest
+//! other one of these, or none: a code needs a smaller margin than any word, since fewer can be mistaken for it.
+//! said.rt decides by these numbers what a line says; how large a margin has to be stands in `specs/Said.antt`.
 
 ghost use Rattle.std.specs.Prelude.{◌≡◌, ℕ, ◌+◌, ◌≤◌, ◌<◌, length, List};
 ghost use Rattle.vbi_words.specs.Geometry.{width_of};

@@ -5,6 +5,15 @@
 //! and those of lines 17 and 18 together become what the line shows. The definitions of `specs/Recovery.antt`,
 //! `Said.antt`, `Candidates.antt` and `Levelled.antt` go with them.
 //!
+//! What a line shows is decided in this order, and a change of the order changes what a field shows:
+//!
+//! 1. a word of pass 1 and a blank line stay (`own`);
+//! 2. a word of pass 2 stays if the line says it by itself, or a somewhat stretched row confirms it (`own`);
+//! 3. if lines 17 and 18 are both open now, they are asked together first (`shown_pair`);
+//! 4. any other open line says its word alone (`shown_alone`).
+//!
+//! `rule_laws.rt` has worked rows of the rule. Whatever changes a word here changes the tables of docs/measured, too.
+//!
 //! As in `confirmed.rt`, lines as they are are searched only where the levelled ones say no word, and the contracts say
 //! that a call answers as the definitions do by whatever nearest words the lines have, of which there is one each.
 

@@ -23,7 +23,7 @@ pub struct Margins {
     pub other_share: u8,
 }
 
-/// Those of one line.
+/// Those of one line. A code may be less ahead than another word: far fewer words can be mistaken for it.
 const LONE: Margins = Margins {
     code: 6,
     other: 8,
@@ -31,7 +31,7 @@ const LONE: Margins = Margins {
     other_share: 0,
 };
 
-/// Those of one of two lines that don't agree.
+/// Those of one of two lines that don't agree: one of them at least is badly worn, so its nearest word is worth less.
 const APART: Margins = Margins {
     code: 10,
     other: 12,
@@ -39,7 +39,8 @@ const APART: Margins = Margins {
     other_share: 0,
 };
 
-/// Those of two lines together.
+/// Those of two lines together. Wear that they share, as noise that makes all cells count less, grows with both: so
+/// they have to be ahead by a share of what a cell counts, too.
 const BOTH: Margins = Margins {
     code: 8,
     other: 9,

@@ -85,7 +85,8 @@ weight_at-later test later part whole first i k within before agree same =
         rw t (rw s (
         field_later (test (i + k - reach)) (later (first + (i + k - reach))) (slice_get part (i + k - reach))
         (same (i + k - reach))
-        ∙ ap (field_weight (later (first + (i + k - reach)))) (agree (i + k - reach) (omega arith, omega (arith, within)))
+        ∙ ap (field_weight (later (first + (i + k - reach))))
+        (agree (i + k - reach) (omega arith, omega (arith, within)))
         ∙ ap (λ f. field_weight (later f) (slice_get whole f)) (sym (at le))
         ))
     go (inl (t, le)) (inr (s, less)) = absurd (omega (arith, le, less))
@@ -171,7 +172,8 @@ nearly_later : (pace : Pace) (slack first i m j n : ℕ)
 nearly_later Video slack first i m j n =
     same_truth (nearly Video slack i m j n) (nearly Video slack (first + i) m (first + j) n)
     (λ e. let p = video_nearly slack i m j n e in
-    and_so (nat_le (first + j + 2 * m) (first + i + 2 * n + slack)) (nat_le (first + i + 2 * n) (first + j + 2 * m + slack))
+    and_so (nat_le (first + j + 2 * m) (first + i + 2 * n + slack))
+    (nat_le (first + i + 2 * n) (first + j + 2 * m + slack))
     (le-leb (first + j + 2 * m) (first + i + 2 * n + slack) (omega (arith, p.0)))
     (le-leb (first + i + 2 * n) (first + j + 2 * m + slack) (omega (arith, p.1))))
     (λ e. let p = video_nearly slack (first + i) m (first + j) n e in
@@ -195,7 +197,8 @@ seen_near whole part first i j is near = record {
 }
 
 -- a field of the whole that is within reach of field i lies in the part
-within_part : (whole part : List Sightings) (first i j : ℕ) → IsPart Sightings whole part first i → first + i ≤ j + reach
+within_part : (whole part : List Sightings) (first i j : ℕ) → IsPart Sightings whole part first i
+    → first + i ≤ j + reach
     → first ≤ j
 within_part whole part first i j is near = elim is.before [
   | inl none ↦ omega (arith, none)
@@ -233,7 +236,8 @@ left_later pace whole part first i n is (j, m, k, l, leaves) = (
     between h x more less b =
         let at : first + (h - first) ≡ h = omega (arith, more) in
         let near : IsNear i (h - first) = (omega (arith, more, leaves.near), omega (arith, less, leaves.far)) in
-        let here = (believed_later pace part whole first (h - first) x (seen_near whole part first i (h - first) is near)).1
+        let here =
+        (believed_later pace part whole first (h - first) x (seen_near whole part first i (h - first) is near)).1
         (subst (λ f. Believed pace whole f x) (sym at) b) in
         subst (λ f. nearly pace (slack_of (first + j) (first + k)) (first + i) n f x ≡ true) at
         (sym (nearly_later pace (slack_of (first + j) (first + k)) first i n (h - first) x)
@@ -245,7 +249,8 @@ left_back : (pace : Pace) (whole part : List Sightings) (first i n : ℕ) → Is
 left_back pace whole part first i n is (g, m, h, l, leaves) =
     let at : g ≡ first + (g - first) = omega (arith, within_part whole part first i g is leaves.near) in
     let to : h ≡ first + (h - first) = omega (arith, leaves.behind) in
-    go (g - first) (h - first) (subst (λ f. Leaves (Believed pace whole) pace (first + (g - first)) m f l (first + i) n) to
+    go (g - first) (h - first)
+    (subst (λ f. Leaves (Believed pace whole) pace (first + (g - first)) m f l (first + i) n) to
     (subst (λ f. Leaves (Believed pace whole) pace f m h l (first + i) n) at leaves))
   where
     go : (j k : ℕ) → Leaves (Believed pace whole) pace (first + j) m (first + k) l (first + i) n

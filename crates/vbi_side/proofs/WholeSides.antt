@@ -19,7 +19,8 @@ use Rattle.vbi_side.specs.Numbers.{believed, AreAnswers}
 use Rattle.vbi_side.specs.Side.{DiscRuns, DiscCounts, Rises, captured, NoneLost, AreLost, AreEnds, IsAnchor}
 use Rattle.vbi_side.specs.declared.gap.Numbering.{Numbering}
 use Rattle.vbi_side.specs.Gaps.{lost, fields_if, capped, IsGap, HasRightEnds, LostAtLeast}
-use Rattle.vbi_side.specs.Verdicts.{yes, no, cannot_tell, verdict_of, reason, seen_reasons, is_off, reasons_of, HasNone, IsUntold}
+use Rattle.vbi_side.specs.Verdicts.{yes, no, cannot_tell, verdict_of, reason, seen_reasons, is_off, reasons_of, HasNone}
+use Rattle.vbi_side.specs.Verdicts.{IsUntold}
 use Rattle.vbi_side.specs.Verdicts.{IsFinding}
 use Rattle.vbi_side.specs.Verdicts.{is_end_unseen, is_begin_unseen, are_doubtful}
 use Rattle.vbi_side.proofs.Truth.{both, video_fits, film_fits}

@@ -1,5 +1,5 @@
--- Which picture stops that fields show are believed: those that one line shows in pass 1, or that two lines show. A stop
--- stands on lines 16 and 17 (IEC 60857 and IEC 60856). The rule is this project's own.
+-- Which picture stops that fields show are believed: those that one line shows in pass 1, or that two lines show. A
+-- stop stands on lines 16 and 17 (IEC 60857 and IEC 60856). The rule is this project's own.
 use Rattle.std.specs.Prelude.{◌≡◌, ℕ, ◌+◌, ◌≤◌, ◌↔◌, ◌⊎◌, Option, Some, option_map}
 use Rattle.vbi_words.specs.declared.code.Code.{Code}
 use Rattle.vbi_words.specs.declared.code.Code.TheVariants.{PictureStop}
@@ -44,7 +44,8 @@ IsSure line = pass_weight line.pass ≡ 2
 -- line 16 or 17 shows a stop in pass 1, or both show one
 abbrev pub IsToldSurely : Shown → Shown → Type 0
 IsToldSurely line_16 line_17 =
-    (ShowsStop line_16 × IsSure line_16) ⊎ (ShowsStop line_17 × IsSure line_17) ⊎ (ShowsStop line_16 × ShowsStop line_17)
+    (ShowsStop line_16 × IsSure line_16) ⊎ (ShowsStop line_17 × IsSure line_17)
+    ⊎ (ShowsStop line_16 × ShowsStop line_17)
 
 -- ---- what is true of a field: the words that its lines 16 and 17 have on the disc, if they have any
 

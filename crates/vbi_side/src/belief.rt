@@ -20,8 +20,9 @@
 //! chapters.rt weighs chapters by the same sums.
 //!
 //! answers.rt asks `judge_field` of each field, and found.rt counts what is believed at each pace to find the disc's.
-//! due.rt fills in what the believed numbers leave. All else about a side (what is missing, swapped or lost) is judged
-//! by the Python package, by a rule of its own over the whole side (docs/SIDES.md).
+//! due.rt fills in what the believed numbers leave. gap.rt and verdict.rt say by these numbers where a side doesn't go
+//! on, and whether it is whole; the Python package believes the same ones, and names what is missing between them
+//! (docs/SIDES.md).
 //!
 //! A change of a bound changes `specs/Beliefs.antt`, the laws and worked sides that are sharp at it (`Truth.antt`,
 //! `Worked.antt`), include/ldvbi.h, docs/PROMISES.md, and the plain judge in C that `bench/judge.c` compares this one
@@ -35,13 +36,15 @@ ghost use Rattle.vbi_side.specs.Ahead.{fits_as, IsAhead, IsBelieved};
 use crate::pace::Pace;
 use crate::sighting::{Sighting, Sightings};
 
-/// The fields that are looked at on either side of one.
+/// The fields that are looked at on either side of one: 12 pictures, about half a second. With more, a number beside a
+/// jump is outweighed by those beyond it; with fewer, worn fields find too little support.
 pub const REACH: usize = 24;
 
 /// The fields that are looked at for one, itself among them.
 const WINDOW: usize = 2 * REACH + 1;
 
-/// The weight from which on a number is believed.
+/// The weight from which on a number is believed: five lines of pass 1, so that no two fields bring it about, were each
+/// of their four lines misread alike.
 pub const ENOUGH: u32 = 10;
 
 /// The most that one field's sightings weigh.

@@ -54,7 +54,8 @@ fn end_by(outs: u32, ins: u32) -> u32
     }
 }
 
-/// Whether a field is of lead-in or lead-out, by its lines 17 and 18: `NO_END`, `LEAD_OUT`, `DOUBTFUL_END` or `LEAD_IN`.
+/// Whether a field is of lead-in or lead-out, by its lines 17 and 18: `NO_END`, `LEAD_OUT`, `DOUBTFUL_END` or
+/// `LEAD_IN`.
 pub fn judge_end(line_17: &Shown, line_18: &Shown) -> u32
     ensures { result ≡ end_of line_17.now line_18.now }
 {

@@ -51,8 +51,8 @@ pub fn worked_stop_words()
         (0 ∷ 0x82CFFE ∷ 0x83CFFF ∷ 0x87FFFF ∷ 0x88FFFF ∷ 0x807DDD ∷ 0xF00007 ∷ []) ≡ 0 ∷ 0 ∷ 0 ∷ 0 ∷ 0 ∷ 0 ∷ 0 ∷ [] }
 {}
 
-/// The edges of the rule, by lines 16 and 17: one line of pass 1 is enough on either, one of pass 2 or 3 is not, and two
-/// of these are.
+/// The edges of the rule, by lines 16 and 17: one line of pass 1 is enough on either, one of pass 2 or 3 is not, and
+/// two of these are.
 #[tactic(auto, unfolding(vbi_words::specs::Codes::code_of))]
 pub fn worked_stops()
     ensures first { BelievedStop (shown_in 1 0x82CFFF) (shown_in 1 0) }

@@ -4,7 +4,8 @@ ghost use Rattle.std.specs.Prelude.{◌≡◌, ℕ, List, ◌+◌, ◌*◌, ◌<
 ghost use Rattle.vbi_side.specs.Paces.{nearly};
 ghost use Rattle.vbi_side.specs.Gaps.{since_end, ended_between};
 ghost use Rattle.vbi_side.specs.Verdicts.{verdict_of, reason, too_few, seen_reasons, is_off, is_begin_unseen};
-ghost use Rattle.vbi_side.specs.Verdicts.{is_ended_behind, is_end_unseen, count_of, are_doubtful, reasons_of, IsFinding};
+ghost use Rattle.vbi_side.specs.Verdicts.{is_ended_behind, is_end_unseen, count_of, are_doubtful, reasons_of};
+ghost use Rattle.vbi_side.specs.Verdicts.{IsFinding};
 ghost use Rattle.vbi_side.specs.Swaps.{IsSwapTold};
 
 use crate::drift::has_drift;

@@ -21,11 +21,13 @@ too_little seen i n video film run video_is film_is run_is video_less film_less 
 
 pub returns-clause-video : goal.returns-clause-video
 unfolding weight_below run_below
-returns-clause-video c = (inl (lit≤ tt), too_little (video_ending 1) 0 5 5 2 5 refl refl refl (lit< tt) (lit< tt) (lit< tt))
+returns-clause-video c =
+    (inl (lit≤ tt), too_little (video_ending 1) 0 5 5 2 5 refl refl refl (lit< tt) (lit< tt) (lit< tt))
 
 pub returns-clause-film : goal.returns-clause-film
 unfolding weight_below run_below
-returns-clause-film c = (inr (inl (lit≤ tt)), too_little (film_ending 1) 0 5 4 5 4 refl refl refl (lit< tt) (lit< tt) (lit< tt))
+returns-clause-film c =
+    (inr (inl (lit≤ tt)), too_little (film_ending 1) 0 5 4 5 4 refl refl refl (lit< tt) (lit< tt) (lit< tt))
 
 pub returns-clause-far : goal.returns-clause-far
 unfolding weight_below run_below

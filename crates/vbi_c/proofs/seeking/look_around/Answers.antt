@@ -1,6 +1,7 @@
 use Rattle.std.proofs.Common.{◌+◌, ◌-◌, ◌∙◌, arith, inl, inr, sym, subst, refl}
 use Rattle.vbi_c.specs.Leads.{IsFirstKnown}
-use Rattle.vbi_c.proofs.Sought.{found_at, first_found, window, reached, judged_in, begins_there, begins_elsewhere, found_within}
+use Rattle.vbi_c.proofs.Sought.{found_at, first_found, window, reached, judged_in, begins_there, begins_elsewhere}
+use Rattle.vbi_c.proofs.Sought.{found_within}
 use Rattle.vbi_c.proofs.seeking.look_around.Goals as goal
 
 pub returns-in-Some-clause-sought : goal.returns-in-Some-clause-sought
