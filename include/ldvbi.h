@@ -395,7 +395,7 @@ enum { LDVBI_LOOKED = 1000 };
  * `sought`: it needn't be the one that ldvbi_find_pace answers of the side. A cut last field is left out.
  *
  * This is proved: the field that is answered has the number as ldvbi_judge answers it, at this pace, by what
- * ldvbi_read_fields reads of all fields, and the field before it hasn't. The first field with a number is found on a
+ * ldvbi_recover_fields reads of all fields, and the field before it hasn't. The first field with a number is found on a
  * side of at most a million fields where the numbers lead to it: along a sixteenth of the side or more 12 fields from
  * each one on tell a number together, elsewhere none do, and lower numbers are told before the field, higher ones behind
  * it. That a side is so isn't proved: those were that were tried where a player runs on, with any lead-in and lead-out,

@@ -1,6 +1,6 @@
 #!/usr/bin/env python3
 """How many numbers `ldvbi_seek` misses, and how many fields it reads: on drawn sides, of which each number that is
-asked for is one that `ldvbi_judge` answers by the whole side.
+asked for is one that `ldvbi_judge` answers by what `ldvbi_recover_fields` reads of the whole side.
 
 usage: seeks.py KIND [FROM TO [EACH]]     the seeds FROM to TO - 1 (0 to 99), EACH numbers of a side (10)
 
@@ -60,7 +60,7 @@ def sought(seed, kind, each, path):
     setup = PAL if "pal" in layout else NTSC
     counted = "times" if layout.startswith("clv") else "pictures"
     write(path, setup, fields)
-    with ldvbi.Stream(path, *setup) as side:
+    with ldvbi.Stream(path, *setup, recover=True) as side:
         known = {}
         for field, answer in enumerate(ldvbi.judge(side, setup[0], counted)):
             if answer.state in (ldvbi.State.believed, ldvbi.State.due):

@@ -23,8 +23,8 @@ class Sought(NamedTuple):
 def seek(stream: Stream, number: int, counted: Union[Counted, str] = Counted.pictures,
          pace: Union[Pace, str] = Pace.find) -> Optional[Sought]:
     """Where a number is in a stream, of which at most 1,000 fields are read: the field has the number as `judge`
-    answers it by what all fields of the stream show (without recovered words), and the field before it hasn't. None
-    where none was found. Where a player runs on, with any lead-in and lead-out, and most lines are read, each number is
+    answers it by what all fields of the stream show with recovered words, and the field before it hasn't. None where
+    none was found. Where a player runs on, with any lead-in and lead-out, and most lines are read, each number is
     found; to be sure that one isn't there elsewhere, judge the whole side. `counted` and `pace` are as for `judge`. A
     pace that is to be found is taken by the few fields that are judged; it needn't be the one that `find_pace` answers
     of the side."""

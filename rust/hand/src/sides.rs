@@ -4,7 +4,7 @@ use crate::c::{self, LdvbiFieldReadings, LdvbiSought};
 use crate::judged::{Judged, FIND_PACE, NO_NUMBER};
 use crate::lines::{check_lines, done, number_of, reading, recover, rows_of, Error};
 use crate::near::{nearest_of_lines, Near};
-use crate::side::{self, Counted, BELIEVED, PART};
+use crate::side::{self, Counted, BELIEVED};
 use crate::words::{Levels, Reading, System};
 use std::sync::{Arc, Mutex, PoisonError};
 
@@ -79,7 +79,7 @@ pub struct Field {
 /// |---|---|
 /// | `new`, `cut_bytes`, `line`, `nearest` | nothing of the side |
 /// | `fields`, `stops` | each field that their iterator comes to, every time |
-/// | `seek` of a picture or a time | at most 1,000 fields, of worn lines more; the whole side if it isn't found so |
+/// | `seek` of a picture or a time | at most 1,000 fields; the whole side if it isn't found so |
 /// | `seek` of a chapter, `numbers`, `chapters`, `whole`, `gaps`, `judged` | the whole side, once |
 ///
 /// What is judged of the whole side is kept, 48 bytes of a field, and clones and threads share it. Map a file with
@@ -179,24 +179,7 @@ impl<'a> Side<'a> {
         let (system, black, white) = (number_of(self.system), self.levels.black().into(), self.levels.white().into());
         let mut sought = LdvbiSought { field: 0, number: NO_NUMBER, pace: 0, looked: 0 };
         done(c::ldvbi_seek(system, black, white, counted as u32 + 1, FIND_PACE, self.bytes, number, &mut sought));
-        // Recovered words don't count there, by which the fields before may have the number, too.
-        let is_worn = |field| self.read(field).take(1).any(|field| field.lines.iter().any(|line| line.pass == 3));
-        let has_number = |field| self.number_in_part(field, counted, sought.pace) == Some(number);
-        let before = |field: &usize| field.checked_sub(1).filter(|before| is_worn(*before) && has_number(*before));
-        match sought.number.state {
-            side::NOTHING => None,
-            _ => std::iter::successors(Some(sought.field), before).last(),
-        }
-    }
-
-    /// The number of a field at this pace, believed or due, by the fields around that have a say.
-    fn number_in_part(&self, field: usize, counted: Counted, pace: u32) -> Option<u32> {
-        let begin = field.saturating_sub(PART / 2);
-        let part: Vec<_> = self.read(begin).take(field + 1 + PART / 2 - begin).collect();
-        let mut judged = NO_NUMBER;
-        let (system, counted) = (number_of(self.system), counted as u32 + 1);
-        done(c::ldvbi_judge_field(system, counted, pace, &part, field - begin, &mut judged));
-        Number::of(&judged).known()
+        (sought.number.state != side::NOTHING).then_some(sought.field)
     }
 
     /// The readings of the fields from this one on, as the library's other calls take them.
