@@ -6,7 +6,7 @@ ghost use Rattle.std.specs.Prelude.{◌≡◌};
 pub const ABI: u32 = 1;
 
 /// The version of the library: a million for each major, a thousand for each minor, one for each patch.
-pub const VERSION: u32 = 1_000;
+pub const VERSION: u32 = 2_000;
 
 /// The number of the interface that the library has.
 #[unsafe(no_mangle)]
@@ -19,7 +19,7 @@ pub extern "C" fn ldvbi_abi() -> u32
 /// The version that the library has, as a number.
 #[unsafe(no_mangle)]
 pub extern "C" fn ldvbi_version() -> u32
-    ensures { result ≡ 1000 }
+    ensures { result ≡ 2000 }
 {
     VERSION
 }

@@ -7,7 +7,7 @@ use clap::{Arg, ArgAction, Command, value_parser};
 use std::alloc::{AllocError, Global};
 
 /// What the program prints for `--version`, behind its name.
-const VERSION: &str = "0.1.0";
+const VERSION: &str = "0.2.0";
 
 const ABOUT: &str =
     "Reads the biphase code words of LaserDiscs from fields in ld-decode's TBC format";
