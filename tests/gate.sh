@@ -1,7 +1,7 @@
 #!/bin/sh
 # The whole gate, at the top of the repository: every proof, test and stored run by `rt ci`, each wrong body by
 # tests/wrong_bodies.py, then the scripts on the built program and library; then the same source is built by cargo, and
-# compared with what was proved. What was run is compared with the list in git (tests/ran.sh), line by line.
+# compared with what was proved. What was run is compared with the list in git (tests/ran.sh), count by count.
 #
 # `rt ci` works on a copy without must-fail/, whose edits it would try one at a time, while program and library are
 # built here; what these keep, the wrong bodies are tried over. So the program is proved and built twice, and the two
@@ -92,7 +92,7 @@ part 'scripts'
 make -s rust || fails 'the Rust program is not built'
 compared sh tests/scripts.sh rust/ldvbi --rust || fails 'of the scripts on the Rust program one failed'
 part 'the Rust program and its library'
-compared sh tests/ran.sh '^(crate|test|wrong) ' < "$work/ran" || fails 'what was run is not compared'
+compared sh tests/ran.sh '^(crate |tests|wrong )' < "$work/ran" || fails 'what was run is not compared'
 [ ! -e .ci/ran.new ] || { diff .ci/ran.txt .ci/ran.new || fails "what was run isn't what .ci/ran.txt has (make ran)"; }
 cat "$work/times"
 echo "time: all: $(((now - started) / 60)) minutes, and README says $minutes"

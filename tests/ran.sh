@@ -1,7 +1,9 @@
 #!/bin/sh
-# Compares what was run, lines on standard input, with the list in git, .ci/ran.txt; of both those that PATTERN means.
-# Prints each line that is gone (<) or new (>), and then has status 3. The list as it would be then is .ci/ran.new,
-# which `make ran` takes over; what earlier runs found is in it as well, unless the list has changed since.
+# Compares what was run with the list in git, .ci/ran.txt; of both the lines that PATTERN means. The list has each script
+# and crate that ran, how many checks and wrong bodies of it did, and how many tests. Standard input has a line for each
+# of these: `check SCRIPT: ..`, `wrong body CRATE/..`, `test ..`. Prints each line of the list that is gone (<) or new (>),
+# and then has status 3. The list as it would be then is .ci/ran.new, which `make ran` takes over; what earlier runs found
+# is in it as well, unless the list has changed since.
 # usage: sh tests/ran.sh PATTERN < LINES
 set -eu
 LC_ALL=C
@@ -11,7 +13,17 @@ new=${list%.txt}.new
 work=$(mktemp -d)
 trap 'rm -rf "$work"' EXIT
 
-grep -E -e "$1" | sort > "$work/found" || :
+# counted: the lines of standard input, those of checks, tests and wrong bodies as how many there are
+counted() {
+    awk '
+        /^check /      { sub(/:.*/, ""); sub(/^check/, "checks"); many[$0]++; next }
+        /^test /       { many["tests"]++; next }
+        /^wrong body / { sub("/.*", ""); sub(/body/, "bodies"); many[$0]++; next }
+                       { print }
+        END            { for (what in many) print what ": " many[what] }'
+}
+
+counted | grep -E -e "$1" | sort > "$work/found" || :
 grep -E -e "$1" "$list" | sort > "$work/wanted" || :
 before=$(find "$new" -newer "$list" 2> /dev/null) || :
 before=${before:-$list}

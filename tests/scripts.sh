@@ -94,8 +94,8 @@ compared() {
     sed -n 's/^script \([a-z_]*\).*/\1/p' "$RAN"
     [ "$whole" ] && [ -z "$on" ] || return 0
     alone=$(grep -rlx --include='*.sh' '# runs: rust' "$here" | xargs -n 1 basename -s .sh)
-    sed -n 's/^check \([a-z_]*\): .*/\1/p' "$top/.ci/ran.txt" | grep -vxF "$alone"
+    sed -n 's/^checks \([a-z_]*\): .*/\1/p' "$top/.ci/ran.txt" | grep -vxF "$alone"
 }
 sed -n 's/^left out //p' "$RAN" > "$work/left"
 names=$(compared | sort -u | grep -vxFf "$work/left" | paste -s -d '|')
-sh "$here/ran.sh" "^check ($names): $whole" < "$RAN"
+sh "$here/ran.sh" "^checks ($names): $whole" < "$RAN"

@@ -63,11 +63,12 @@ check 'a script that ignores TERM is ended' [ $? = 1 ]
 mkdir -p gate/tests gate/crates/words/must-fail gate/.ci stubs
 cp "$tests/gate.sh" "$tests/ran.sh" gate/tests
 echo 'words: std' > gate/crates.txt
-printf '%s\n' 'crate words' 'test words::one' 'wrong bodies: 1 refused' 'wrong body words/wrong' > list
+printf '%s\n' 'crate words' 'tests: 1' 'wrong bodies words: 1' 'wrong bodies: 1 refused' > list
 stub stubs/rt << 'END'
 mkdir -p crates/ldvbi/out
 echo program > crates/ldvbi/out/ldvbi
-echo "test words::${TEST:-one} ... ${ENDED:-ok}"
+echo "test words::one ... ${ENDED:-ok}"
+[ -z "${MORE:-}" ] || echo 'test words::two ... ok'
 echo "${CRATES:-1} passed, ${FAILED:-0} failed"
 exit "${RT:-0}"
 END
@@ -81,7 +82,7 @@ printf 'words/wrong: %s by a goal: f\nwrong bodies: %s refused\n' "${REFUSED:-re
 exit "${WRONG:-0}"
 END
 stub gate/tests/scripts.sh << 'END'
-[ -z "${NEW:-}" ] || { echo 'check one: it holds' | sort - .ci/ran.txt > .ci/ran.new; exit 3; }
+[ -z "${NEW:-}" ] || { echo 'checks one: 1' | sort - .ci/ran.txt > .ci/ran.new; exit 3; }
 case $* in *--rust) exit "${RUST_SCRIPTS:-0}" ;; *) exit "${SCRIPTS:-0}" ;; esac
 END
 # gate [FAULT]: runs it with this in the environment, and sees whether it passed
@@ -96,7 +97,7 @@ fails_with() {
     ! gate "$1" && [ "$status" = 1 ] && grep -q '^the gate: ' err
 }
 check 'the gate passes where nothing is wrong' gate
-for fault in RT=1 FAILED=1 CRATES=2 ENDED=failed TEST=two MAKE=2 BUILT=another WRONG=1 REFUSED=not BODIES=2 TRIALS=1 \
+for fault in RT=1 FAILED=1 CRATES=2 ENDED=failed MORE=yes MAKE=2 BUILT=another WRONG=1 REFUSED=not BODIES=2 TRIALS=1 \
     PUBLIC=1 SCRIPTS=1 NEW=1 RUST=2 RUST_SCRIPTS=1; do
     check "the gate fails with $fault" fails_with "$fault"
 done
