@@ -23,7 +23,7 @@ PREFIX ?= /usr/local
 LIBDIR ?= $(PREFIX)/lib
 PROGRAM ?= ./$(BUILT)ldvbi
 # The one place of the version; header, library, program and change log are tested against it
-VERSION := 0.1.0
+VERSION := 0.2.0
 # The interface of the library, as include/ldvbi.h has it
 ABI := 1
 ROOT := $(DESTDIR)$(PREFIX)

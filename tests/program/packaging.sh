@@ -150,7 +150,7 @@ packed() {
     tar -tzf "tree/dist/$1" | sed '/\/$/d; s,^[^/]*/,,' | sort > found
     check "what $1 has: $2" cmp found "$2"
 }
-release=ldvbi-0.1.0
+release=ldvbi-$(sed -n 's/^VERSION := //p' "$top/Makefile")
 (cd tree && git ls-files | sort) > source_files
 printf '%s\n' Cargo.toml src/lib.rs > crate_files
 made dist
