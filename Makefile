@@ -1,6 +1,7 @@
 # ldvbi: `make` proves and builds the program, `make lib` proves and builds the library for C, libldvbi.a and
-# libldvbi.so, `make test` is the whole gate, `make setup` installs what the gate needs and the machine lacks, and
-# `make bench` measures program and library beside plain readers, for which it needs rustc, a C compiler and python3.
+# libldvbi.so, `make test` is the whole gate, `make setup` installs what `make rust` and `make check` need and the
+# machine lacks, `make setup test` what the gate needs, too, and `make bench` measures program and library beside plain
+# readers, for which it needs rustc, a C compiler and python3.
 # The toolchain's command `rt` has to be on the PATH; `make test` needs the tools of tests/tools.sh as well. What the
 # toolchain says of a crate goes to crates/NAME/out/make.log.
 #
@@ -105,7 +106,7 @@ libldvbi.so: libldvbi.so.$(ABI)
 	ln -sf libldvbi.so.$(ABI) libldvbi.so
 
 test: toolchain
-	@sh tests/tools.sh rust
+	@sh tests/tools.sh test
 	sh tests/gate.sh
 
 # The same source as plain Rust, for any machine: rust/ldvbi and rust/libldvbi.*, or rust/TARGET/..
@@ -123,8 +124,9 @@ rust-compare:
 	COMPARE_RUNS=$(N) COMPARE_SEED=$(SEED) COMPARE_RUNNER="$(RUNNER)" SCRIPT_SECONDS=86400 \
 	    HARNESS_VERBOSE=1 sh tests/scripts.sh rust/$(if $(TARGET),$(TARGET)/)ldvbi$(if $(findstring windows,$(TARGET)),.exe) rust_compare
 
+# With `test`, whose own are left out else
 setup:
-	sh tests/tools.sh install
+	sh tests/tools.sh install $(filter test,$(MAKECMDGOALS))
 
 # A folder's name is a word of make's, which ends at a space.
 places:
