@@ -1,6 +1,7 @@
 # ldvbi: `make` proves and builds the program, `make lib` proves and builds the library for C, libldvbi.a and
-# libldvbi.so, `make test` is the whole gate, `make setup` installs what the gate needs and the machine lacks, and
-# `make bench` measures program and library beside plain readers, for which it needs rustc, a C compiler and python3.
+# libldvbi.so, `make test` is the whole gate, `make setup` installs what `make rust` and `make check` need and the
+# machine lacks, `make setup test` what the gate needs, too, and `make bench` measures program and library beside plain
+# readers, for which it needs rustc, a C compiler and python3.
 # The toolchain's command `rt` has to be on the PATH; `make test` needs the tools of tests/tools.sh as well. What the
 # toolchain says of a crate goes to crates/NAME/out/make.log.
 #
@@ -11,11 +12,11 @@
 # the manual pages, completions, schema, contrib's files, the Python module, documents and examples to DIR/share, and
 # the library with its header to DIR/lib (or LIBDIR) and DIR/include where it is built, too; `make install-lib` installs
 # the library alone; DESTDIR goes before all of them; `make uninstall PREFIX=DIR` takes all of it away; `make wheel`
-# packs the Python module with the library for pip, and `make venv` puts it into a virtual environment, .venv;
-# `make check PROGRAM=./ldvbi` runs the gate's scripts on the program; `make dist` packs source and what is built, with
-# checksums; `make peers` has other programs read what it reads, and needs mame-tools and libzvbi-dev; `make channel`
+# packs the Python module with the library for pip, and `make venv` puts it into a virtual environment, .venv; `make deb`
+# makes a package of Debian's of what is installed; `make check PROGRAM=./ldvbi` runs the gate's scripts on the program;
+# `make dist` packs source and what is built, with checksums (docs/RELEASING.md); `make peers` has other programs read what it reads, and needs mame-tools and libzvbi-dev; `make channel`
 # has the library read simulated lines of worn discs, and needs python3-numpy and python3-scipy. With FROM=rust
-# `install`, `install-lib`, `wheel` and `venv` take what `make rust` built. The system's loader finds a library that is
+# `install`, `install-lib`, `wheel`, `venv` and `deb` take what `make rust` built. The system's loader finds a library that is
 # installed to /usr/local once `ldconfig` was run as root.
 
 PREFIX ?= /usr/local
@@ -23,7 +24,7 @@ PREFIX ?= /usr/local
 LIBDIR ?= $(PREFIX)/lib
 PROGRAM ?= ./$(BUILT)ldvbi
 # The one place of the version; header, library, program and change log are tested against it
-VERSION := 0.1.0
+VERSION := 0.2.0
 # The interface of the library, as include/ldvbi.h has it
 ABI := 1
 ROOT := $(DESTDIR)$(PREFIX)
@@ -43,8 +44,9 @@ PYTHON := $(wildcard python/*/*.py python/*/*/*.py)
 ASKED := $(FROM)
 FROM ?= $(if $(wildcard ldvbi),proved,$(if $(wildcard rust/ldvbi),rust,proved))
 BUILT := $(if $(filter rust,$(FROM)),rust/)
-# Where `make wheel` puts the wheel
+# Where `make wheel` puts the wheel, and `make deb` the package
 WHEELS ?= dist
+DEBS ?= dist
 SOURCES := $(shell find crates -name out -prune -o \( -name '*.rt' -o -name '*.antt' \) -print)
 LIBRARY_CRATES := $(addprefix crates/,vbi_words/% vbi_line/% vbi_near/% vbi_field/% vbi_side/% vbi_c/%)
 LIBRARY_SOURCES := $(filter $(LIBRARY_CRATES),$(SOURCES))
@@ -105,7 +107,7 @@ libldvbi.so: libldvbi.so.$(ABI)
 	ln -sf libldvbi.so.$(ABI) libldvbi.so
 
 test: toolchain
-	@sh tests/tools.sh rust
+	@sh tests/tools.sh test
 	sh tests/gate.sh
 
 # The same source as plain Rust, for any machine: rust/ldvbi and rust/libldvbi.*, or rust/TARGET/..
@@ -123,8 +125,9 @@ rust-compare:
 	COMPARE_RUNS=$(N) COMPARE_SEED=$(SEED) COMPARE_RUNNER="$(RUNNER)" SCRIPT_SECONDS=86400 \
 	    HARNESS_VERBOSE=1 sh tests/scripts.sh rust/$(if $(TARGET),$(TARGET)/)ldvbi$(if $(findstring windows,$(TARGET)),.exe) rust_compare
 
+# With `test`, whose own are left out else
 setup:
-	sh tests/tools.sh install
+	sh tests/tools.sh install $(filter test,$(MAKECMDGOALS))
 
 # A folder's name is a word of make's, which ends at a space.
 places:
@@ -209,10 +212,17 @@ venv: places said-from $(if $(BUILT),rust/libldvbi.so.$(ABI),lib)
 	.venv/bin/pip install --quiet --disable-pip-version-check --no-index .venv/wheel/*.whl
 	@echo "ldvbi-side is $(CURDIR)/.venv/bin/ldvbi-side; after '. .venv/bin/activate' it is ldvbi-side alone"
 
+# A package of Debian's, which has all of it below /usr
+deb: places said-from $(BUILT)ldvbi $(if $(BUILT),rust/libldvbi.so.$(ABI),lib)
+	rm -rf $(DEBS)/deb
+	$(MAKE) -s install FROM=$(FROM) DESTDIR=$(DEBS)/deb PREFIX=/usr LIBDIR=/usr/lib/$(shell uname -m)-linux-gnu
+	sh packaging/make_deb.sh $(FROM) $(DEBS)/deb $(VERSION) $(DEBS)
+	rm -r $(DEBS)/deb
+
 # Archives of one commit and one program are the same byte for byte, whenever they are made. Uncommitted changes aren't
-# in them. The source; what `make install` installs, as it is proved and as `make rust` built it; the crate that `make
-# rust` wrote, in the form of those that cargo takes; the wheel. What isn't built, or is older than its source, is left
-# out.
+# in them. The source; what `make install` installs, as it is proved and as `make rust` built it, stripped; the crate
+# that `make rust` wrote, in the form of those that cargo takes; wheel and package of Debian's, of what is proved, else
+# of what `make rust` built. What isn't built, or is older than its source, is left out.
 PACK := gzip -9n
 RELEASE := ldvbi-$(VERSION)
 RUST_RELEASE = $(RELEASE)-rust-$(shell uname -m)-linux
@@ -221,6 +231,8 @@ RUST_RELEASE = $(RELEASE)-rust-$(shell uname -m)-linux
 # built of a crate, and where it found others on this machine, is left out. All can read it, whoever packed it.
 packed = tar -C dist --sort=name --mtime="@$$(git log -1 --format=%ct)" --owner=0 --group=0 --numeric-owner \
 	    --mode=go+rX,go-w --exclude=target --exclude=.cargo -cf - $(1) | $(PACK) > dist/$(1).$(2) && rm -r dist/$(1)
+# Strips what is installed below this folder of dist/, if there is a tool for that
+stripped = { ! command -v strip > /dev/null || strip --strip-unneeded dist/$(1)/bin/ldvbi; }
 # Whether the last `make rust` was of the source as it is. It leaves the times of a crate that hasn't changed.
 is_rust_current = [ -e rust/ldvbi ] && \
 	    [ -z "$$(find $(SOURCES) $(wildcard rust/hand rust/*.py rust/*.sh) -type f -newer rust/ldvbi)" ]
@@ -229,19 +241,23 @@ dist:
 	rm -rf dist
 	mkdir dist
 	git archive --prefix=$(RELEASE)/ HEAD | $(PACK) > dist/$(RELEASE).tar.gz
-	if $(MAKE) -q ldvbi 2> /dev/null; then \
+	@if $(MAKE) -q ldvbi 2> /dev/null; then \
 		$(MAKE) -s install FROM=proved DESTDIR=dist/ PREFIX=$(RELEASE)-x86_64-linux && \
-		$(call packed,$(RELEASE)-x86_64-linux,tar.gz); \
+		$(call stripped,$(RELEASE)-x86_64-linux) && $(call packed,$(RELEASE)-x86_64-linux,tar.gz); \
 	else \
 		echo "the program isn't built, or is older than its source: it isn't packed"; \
 	fi
-	if $(is_rust_current); then \
+	@if $(is_rust_current); then \
 		$(MAKE) -s install FROM=rust DESTDIR=dist/ PREFIX=$(RUST_RELEASE) && \
-		$(call packed,$(RUST_RELEASE),tar.gz) && \
+		$(call stripped,$(RUST_RELEASE)) && $(call packed,$(RUST_RELEASE),tar.gz) && \
 		cp -r rust/crate dist/$(RELEASE) && $(call packed,$(RELEASE),crate); \
 	fi
-	if [ -e libldvbi.so ] && $(MAKE) -q lib 2> /dev/null; then $(MAKE) -s wheel FROM=proved WHEELS=dist; fi
-	cd dist && sha256sum $(RELEASE)* > SHA256SUMS
+	@if [ -e libldvbi.so ] && $(MAKE) -q ldvbi lib 2> /dev/null; then from=proved; \
+	elif [ -e rust/libldvbi.so.$(ABI) ] && $(is_rust_current); then from=rust; \
+	else exit 0; fi; \
+	$(MAKE) -s wheel FROM=$$from WHEELS=dist && \
+	    { ! command -v dpkg-deb > /dev/null || $(MAKE) -s deb FROM=$$from DEBS=dist; }
+	cd dist && sha256sum ldvbi* > SHA256SUMS
 
 bench: ldvbi lib rust
 	sh bench/all.sh ./ldvbi
@@ -263,5 +279,5 @@ toolchain:
 	    echo "make: the proved build needs the toolchain of Rattle, whose command rt is not on the PATH" >&2; \
 	    echo "make: without it: make rust && make install FROM=rust" >&2; exit 1; }
 
-.PHONY: lib test ran rust rust-compare setup places said-from install install-lib uninstall check wheel venv dist
+.PHONY: lib test ran rust rust-compare setup places said-from install install-lib uninstall check wheel venv deb dist
 .PHONY: bench peers channel clean toolchain

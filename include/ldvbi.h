@@ -71,10 +71,10 @@ size_t ldvbi_field_bytes(uint32_t system);
 
 /* ---- Versions: that of this header. As a number it has a million for each major, a thousand for each minor. */
 #define LDVBI_VERSION_MAJOR 0
-#define LDVBI_VERSION_MINOR 1
+#define LDVBI_VERSION_MINOR 2
 #define LDVBI_VERSION_PATCH 0
 #define LDVBI_VERSION (LDVBI_VERSION_MAJOR * 1000000 + LDVBI_VERSION_MINOR * 1000 + LDVBI_VERSION_PATCH)
-#define LDVBI_VERSION_TEXT "0.1.0"
+#define LDVBI_VERSION_TEXT "0.2.0"
 
 /* The interface that this header declares. An addition, as of a call, a status or a kind, keeps the number and the
  * library's name libldvbi.so.1; a change or a removal raises both. So a program that was built with this header runs

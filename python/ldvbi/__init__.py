@@ -49,4 +49,4 @@ __all__ = ["System", "Cause", "Kind", "Format", "Counted", "Pace", "Both", "Stat
            "judge", "judge_field", "complete_times", "find_pace", "judge_chapters", "judge_stops", "judge_ends",
            "judge_side", "first_of", "seek", "nearest", "recover_pile", "draw_line"]
 
-__version__ = "0.1.0"
+__version__ = "0.2.0"

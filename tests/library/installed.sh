@@ -89,13 +89,23 @@ cp -r usr moved
 mv usr gone
 builds_on moved "$work/moved/lib"
 mv gone usr
-for version in 0.1.0 0.0.9 '0.1.0;EXACT'; do
-    check "version $version is there" configures "$work/usr" $version
-done
-for version in 0.1.1 0.2 1.0 '0.0.9;EXACT'; do
-    ! configures "$work/usr" $version
-    check "version $version is not" sh -c "[ $status != 0 ] && head -n 1 err | grep -q '^CMake Error'"
-done
+version=$(header_version)
+while IFS='|' read -r which wanted; do
+    check "$which version is there" configures "$work/usr" "$wanted"
+done << END
+this|$version
+an earlier|0.0.9
+exactly this|$version;EXACT
+END
+while IFS='|' read -r which wanted; do
+    ! configures "$work/usr" "$wanted"
+    check "$which version is not" sh -c "[ $status != 0 ] && head -n 1 err | grep -q '^CMake Error'"
+done << END
+a later|$version.1
+the next minor|0.$((1 + $(echo "$version" | cut -d . -f 2)))
+the next major|1.0
+exactly an earlier|0.0.9;EXACT
+END
 makes install-lib PREFIX="$work/debian" LIBDIR="$work/debian/lib/x86_64-linux-gnu"
 builds_on 'below its architecture' "$work/debian/lib/x86_64-linux-gnu"
 makes install-lib PREFIX="$work/apart" LIBDIR="$work/elsewhere"
@@ -116,7 +126,7 @@ ln -s "$work/usr/bin/ldvbi-side" linked
 for command in usr/bin/ldvbi-side ./linked; do
     check "$command reads a TBC file" prints 0 'field 7, frame 4' $command cav.tbc $ntsc --seek 3
 done
-check 'the installed program' prints 0 'ldvbi 0.1.0' usr/bin/ldvbi --version
+check 'the installed program' prints 0 "ldvbi $version" usr/bin/ldvbi --version
 
 # What `make rust` leaves is taken from there
 mkdir user/rust
@@ -127,7 +137,6 @@ check 'make install FROM=rust' makes install FROM=rust PREFIX="$work/rust"
 check 'CMake builds on it' cmake_builds "$work/rust"
 
 # The wheel: its name, its files, their hashes; once more the same, and from rust/
-version=$(header_version)
 processor=$(uname -m)
 wheel=ldvbi-$version-py3-none-manylinux_2_17_$processor.whl
 check 'make wheel' does env PATH=/usr/bin:/bin make -s -C "$top" wheel WHEELS="$work/wheels"

@@ -2,11 +2,11 @@
 # Compares the documents with the source, and runs their command blocks in their order, the examples of the manual pages
 # and those of the help texts: what they print is what stands there.
 #
-# A block marked ```sh or ```bash is run, and has to succeed, each of its commands in turn and each part of a pipe. A
-# block marked ```text that comes next is what it prints, on standard output and standard error. One marked ```console
-# has commands and what they print by turns: a command begins with `$ `, each further line of it with `> `. A block
-# marked `skip` as well (```sh skip) is left out, one marked `lib` where the library isn't built; every other block runs
-# where no library is found.
+# A block marked ```sh or ```bash is run, and has to succeed, each of its commands in turn and each part of a pipe; so is
+# one marked ```python, by Python with the module. A block marked ```text that comes next is what it prints, on standard
+# output and standard error. One marked ```console has commands and what they print by turns: a command begins with
+# `$ `, each further line of it with `> `. A block marked `skip` as well (```sh skip) is left out, one marked `lib` where
+# the library isn't built; every other block runs where no library is found.
 # usage: sh tests/program/docs.sh PROGRAM
 # runs: everywhere
 # fails where: README.md|s/^picture 1$/picture 2/
@@ -30,17 +30,17 @@ cat > cut.awk << 'AWK'
 /^```/ {
     inside = 1
     kind = substr($1, 4)
-    if (substr($0, 4) !~ /^(text|c|words|(sh|bash|console)( (skip|lib))?)$/)
+    if (substr($0, 4) !~ /^(text|c|rust|words|(sh|bash|console|python)( (skip|lib))?)$/)
         print "a block with the mark " substr($0, 4) > "/dev/stderr"
     file = printed = "/dev/null"
-    text = sprintf("%s.%02d.text", name, number += kind ~ /^(sh|bash|console)$/)
-    if (kind ~ /^(sh|bash|console)$/) {
-        file = sprintf("%s.%02d.%s", name, number, kind == "bash" ? kind : "sh")
+    text = sprintf("%s.%02d.text", name, number += kind ~ /^(sh|bash|console|python)$/)
+    if (kind ~ /^(sh|bash|console|python)$/) {
+        file = sprintf("%s.%02d.%s", name, number, kind ~ /^(bash|python)$/ ? kind : "sh")
         printed = kind == "console" ? text : printed
         print file, $2
     } else if (kind == "text" && behind)
         file = text
-    behind = kind ~ /^(sh|bash)$/
+    behind = kind ~ /^(sh|bash|python)$/
     printf "" > file
     next
 }
@@ -102,7 +102,10 @@ document() {
         # What isn't marked as needing the library finds none.
         LDVBI_LIBRARY=$([ "$mark" = lib ] || echo "$work/absent")
         # What is marked `sh` is of that shell's grammar; bash can see that each command of a pipe succeeds.
-        in_folder $2 sh -c '[ "${1##*.}" = bash ] || sh -n "$1" && exec bash -e -o pipefail "$1"' sh ../$block
+        case $block in
+            *.python) in_folder $2 env PYTHONPATH="$top/python" python3 ../$block ;;
+            *) in_folder $2 sh -c '[ "${1##*.}" = bash ] || sh -n "$1" && exec bash -e -o pipefail "$1"' sh ../$block ;;
+        esac
         check "$block: $(head -n 1 $block)" prints ${block%.*}.text
     done < blocks
     LDVBI_LIBRARY=
@@ -151,13 +154,15 @@ folder readme
 document "$top/README.md" readme
 folder recipes
 document "$top/docs/RECIPES.md" recipes
+folder modules
+document "$top/docs/PYTHON.md" modules
 sides trial
 document "$top/docs/FORMATS.md" trial
 
 # The lines of README and of the pages for callers stand in a program of examples/, or in a caller that is proved.
-# lines_of [FILE]: the lines of a source without their indents, of an import one for each word
+# lines_of [FILE]: the lines of a source, or of its documents, without their indents, of an import one for each word
 lines_of() {
-    sed 's/^ *//; /^\(ghost \)\?use /s/[^a-zA-Z0-9_][^a-zA-Z0-9_]*/\n/g' "$@"
+    sed 's/^\(\/\/!\)\? *//; /^\(ghost \)\?use /s/[^a-zA-Z0-9_][^a-zA-Z0-9_]*/\n/g' "$@"
 }
 while read -r page kind source; do
     sed -n '/^```'$kind'$/,/^```$/{/^```/d;p;}' "$top/$page" | lines_of > found
@@ -166,6 +171,7 @@ while read -r page kind source; do
     check "the example of $page is of $source" [ ! -s err ]
 done << 'END'
 README.md c examples/say.c
+README.md rust rust/hand/src/lib.rs
 docs/LIBRARY.md c examples/whole.c
 crates/vbi_words/CALLING.md rust crates/vbi_line_tests/src/calling.rt
 crates/vbi_line/CALLING.md rust crates/vbi_line_tests/src/calling.rt

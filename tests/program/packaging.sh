@@ -150,7 +150,7 @@ packed() {
     tar -tzf "tree/dist/$1" | sed '/\/$/d; s,^[^/]*/,,' | sort > found
     check "what $1 has: $2" cmp found "$2"
 }
-release=ldvbi-0.1.0
+release=ldvbi-$(sed -n 's/^VERSION := //p' "$top/Makefile")
 (cd tree && git ls-files | sort) > source_files
 printf '%s\n' Cargo.toml src/lib.rs > crate_files
 made dist
@@ -186,7 +186,12 @@ if [ -e "$built/libldvbi.a" ]; then
     path=/usr/bin:/bin
     made dist
     packed $release-x86_64-linux.tar.gz files_of_both
-    check 'a wheel beside it' [ "$(find tree/dist -name '*.whl' | wc -l)" = 1 ]
+    check 'a wheel and a package beside it' [ "$(find tree/dist -name '*.whl' -o -name '*.deb' | wc -l)" = 2 ]
+    dpkg-deb -x tree/dist/*.deb debian
+    below debian/usr | sed 's,^lib/x86_64-linux-gnu,lib,; s/[.]1[.]gz$/.1/' | sort > found
+    printf 'share/%s\n' doc/ldvbi/changelog.Debian.gz doc/ldvbi/copyright lintian/overrides/ldvbi |
+        sort - files_of_both > wanted
+    check 'what is in the package' cmp found wanted
     touch tree/crates.txt
     made dist
     check 'neither where they are older than their source' [ "$(wc -l < tree/dist/SHA256SUMS)" = 1 ]
@@ -198,7 +203,7 @@ if [ -e "$built/libldvbi.a" ]; then
     check 'its description names what the archive needs' \
         grep -qx 'Libs.private: -lpthread -ldl' static/lib/pkgconfig/ldvbi.pc
 else
-    leave_out 22
+    leave_out 23
 fi
 rm -rf tree/rust/crate tree/rust/ldvbi tree/rust/libldvbi.*
 

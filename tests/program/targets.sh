@@ -38,8 +38,8 @@ while IFS='|' read -r words wanted; do
     done
 done << 'END'
 setup|tests/tools.sh install
-test|tests/tools.sh rust,tests/gate.sh
-setup test|tests/tools.sh install,tests/tools.sh rust,tests/gate.sh
+test|tests/tools.sh test,tests/gate.sh
+setup test|tests/tools.sh install test,tests/tools.sh test,tests/gate.sh
 check|tests/tools.sh,tests/scripts.sh ./ldvbi --as-built
 check PROGRAM=/a/ldvbi|tests/tools.sh,tests/scripts.sh /a/ldvbi --as-built
 check FROM=rust|tests/tools.sh,tests/scripts.sh ./rust/ldvbi --as-built
@@ -102,33 +102,37 @@ sed "s,/usr/bin/python3,$work/no_module,; s,/usr/share/doc,$work/none," "$top/te
 stub no_module 'exit 1'
 mkdir none alone
 ln -s "$(command -v sh)" alone/sh
-# tools WORD: runs tools.sh with nothing on the PATH but a shell and what the folder `alone` has
+# tools [WORDS]: runs tools.sh with nothing on the PATH but a shell and what the folder `alone` has
 tools() {
     (unset CC CXX && PATH=$work/alone && export PATH && sh ./tools.sh ${1:-}) < empty > out 2> err
     status=$?
 }
 tools ''
 check 'the tools that the scripts need' \
-    [ "$status $(grep -c '^tests: missing .*: gcc .* zsh python3-.* (make setup' err) $(grep -c rust err)" = '1 1 0' ]
-tools rust
-all=$(sed 's/.* packages: \(.*\) (.*/\1/' err)
+    [ "$status $(grep -c '^tests: missing .*: gcc .* zsh python3-.* (make setup i' err) $(grep -c rust err)" = '1 1 0' ]
+tools test
+all=$(sed 's/.* packages: \(.*\) (make setup test .*/\1/' err)
 stub alone/apt-get 'echo "apt-get $*"; exit ${FAULT:-0}'
 stub alone/id 'echo ${USER_NUMBER:-0}'
 stub alone/sudo 'echo sudo; "$@"'
-printf '%s\n' "installing: $all" 'apt-get update' "apt-get install -y $all" > wanted_text
-tools install
+printf '%s\n' "installing these of Debian's packages, and what they depend on: $all" 'apt-get update' \
+    "apt-get install -y --no-install-recommends $all" > wanted_text
+tools 'install test'
 judge 'setup as root' 0 wanted_text ''
+tools install
+for package in $all; do grep -q "^installing.* $package\( \|$\)" out || echo $package; done > found
+check 'setup leaves to the gate what it alone needs' [ "$(paste -s -d ' ' found)" = \
+    'cmake pkg-config rustc rustfmt rust-clippy python3-setuptools python3-wheel librust-libc-dev' ]
 USER_NUMBER=1000 FAULT=1
 export USER_NUMBER FAULT
 tools install
 check 'setup by sudo, which fails where the packages do' [ "$status $(grep -c '^sudo$' out)" = '1 1' ]
 # Each of these is asked for, and seven crates; then nothing is missing but a module that is.
-tools rust
-for tool in cc c++ nm python3 jq prove pkg-config cmake git less mandoc mypy parallel pv zsh rustc cargo rustfmt \
-    cargo-clippy; do
+tools test
+for tool in cc c++ nm make python3 jq prove pkg-config cmake git mandoc mypy pv zsh rustc cargo rustfmt cargo-clippy; do
     before=$(wc -w < err)
     stub alone/$tool 'exit 0'
-    tools rust
+    tools test
     [ "$(wc -w < err)" -lt "$before" ] || echo "$tool"
 done > unasked
 check 'each tool is asked for' [ ! -s unasked ]
@@ -136,13 +140,13 @@ crates=$(grep -o 'librust-[a-z-]*-dev' err)
 check 'seven crates are asked for' [ "$(echo $crates | wc -w)" = 7 ]
 (cd none && mkdir $crates)
 stub no_module 'exit 0'
-for word in '' rust install; do
-    tools $word
-    judge "nothing is missing: '$word'" 0 empty ''
+for words in '' test install; do
+    tools $words
+    judge "nothing is missing: '$words'" 0 empty ''
 done
 for pair in jsonschema coverage ensurepip:venv setuptools wheel; do
     stub no_module "[ \"\$2\" != 'import ${pair%:*}' ]"
-    tools ''
+    tools test
     check "the module ${pair%:*}" [ "$status $(grep -c "packages: python3-${pair#*:} (make setup" err)" = '1 1' ]
 done
 finish

@@ -121,7 +121,7 @@ while read -r text words; do
     run $words
     check "the help by $words" helped "$text"
 done < rows
-echo 'ldvbi 0.1.0' > version
+sed -n 's/^VERSION := /ldvbi /p' "$top/Makefile" > version
 judge_rows << 'END'
 the version|--version|0|version|
 the version in short|-V|0|version|
