@@ -25,11 +25,12 @@ USAGE = {
         "--document --csv", "--document --json", "--document --summary", "--document --bad-lines", "--csv --seek 1",
         "--seek x", "--seek -1", "--system SECAM", "--black 1.0", "--recovered", "--recovered --json",
         "--recovered --document --no-recover"),
-    "compare side.vbi.json": ("",), "join side.vbi.json": ("", "side.vbi.json --csv --ranges"),
+    "join side.vbi.json": ("", "side.vbi.json --csv --ranges"),
     "scan": ("", "-j 0 side.tbc", "-j x side.tbc", "--csv --json side.tbc", "--again side.tbc")}
 # Those in which a name is empty
 UNNAMED = ("side.vbi.json --html", "side.vbi.json --svg", "side.vbi.json -o", "side.vbi.json --map", "side.tbc --into",
-           "side.tbc --meta", "scan side.vbi.json --html", "join side.vbi.json side.vbi.json --html")
+           "side.tbc --meta", "scan side.vbi.json --html", "join side.vbi.json side.vbi.json --html",
+           "join side.vbi.json side.vbi.json --meta")
 
 
 class Messages(Calls):
@@ -69,7 +70,7 @@ class Messages(Calls):
     def test_compressed_files(self):
         for name, words in (("packed.tbc", "packed.tbc LEVELS"), ("packed.tbc.gz", "packed.tbc.gz"),
                             ("packed.vbi.json", "packed.vbi.json"),
-                            ("packed.vbi.json", "compare side.vbi.json packed.vbi.json"),
+                            ("packed.vbi.json", "join side.vbi.json packed.vbi.json"),
                             ("packed.tbc.json", "side.tbc --meta packed.tbc.json")):
             self.each_file(name, words, (": it is compressed (gzip): unpack it first", gzip.compress(b"video")))
 
@@ -95,13 +96,11 @@ class Messages(Calls):
 
     def test_outputs(self):
         self.metadata("side.tbc.json")
-        self.printed("side.vbi.json --html page.html")
         os.mkdir(self.named("folder"))
         for option in ("-o", "--svg", "--html", "--map"):
             self.each((ABSENT, "side.vbi.json %s absent/out" % option),
                       ("folder: Is a directory", "side.vbi.json %s folder" % option))
-        self.each((ABSENT, "join side.tbc side.vbi.json --html absent/out"), (ABSENT, "index absent/out page.html"),
-                  ("absent.html: No such file or directory", "index index.html absent.html"))
+        self.each((ABSENT, "join side.tbc side.vbi.json --html absent/out"))
 
 
 class Naming(unittest.TestCase):
@@ -124,9 +123,9 @@ SIDES = ("whole.tbc", "lost.tbc", "dark.tbc", "cut.tbc")
 OPTIONS = {"": (0, 1, 4, 1), "--summary": (0, 1, 4, 1), "--seek 12": (0, 1, 1, 0), **dict.fromkeys((
     "--csv", "--json", "--bad-lines", "--document", "--svg side.svg", "--html side.html", "--map side.map",
     "--into copy.json"), (0, 0, 0, 3))}
-# The same of commands, in front of the name of a side; a side without numbers can't be compared.
-COMMANDS = {"scan": (0, 1, 4, 1), "join whole.tbc": (0, 0, 2, 3), "compare whole.tbc": (0, 0, 2, 3)}
-PRINTED = ("index", "--help", "--version")
+# The same of commands, in front of the name of a side; a side without numbers can't be joined.
+COMMANDS = {"scan": (0, 1, 4, 1), "join whole.tbc": (0, 0, 2, 3)}
+PRINTED = ("--help", "--version")
 # What goes with options, and has no status of its own
 WITH_OTHERS = {"--meta", "--system", "--black", "--white", "--no-recover", "--recovered", "--strict", "--open-end",
                "--output"}
@@ -153,14 +152,13 @@ class Statuses(Scans, Calls):
         for words, statuses in COMMANDS.items():
             for side, status in zip(SIDES, statuses):
                 self.check(status, "%s %s" % (words, side))
-        for words in ("join whole.tbc absent", "compare whole.tbc absent", "index out absent"):
-            self.check(2, words)
+        self.check(2, "join whole.tbc absent")
 
     def test_of_many_sides_the_weightiest(self):
         for words, status in (("scan whole.tbc dark.tbc", 4), ("scan dark.tbc lost.tbc", 1),
                               ("scan lost.tbc dark.tbc", 1), ("scan absent lost.tbc dark.tbc", 2),
                               # a capture that is cut, whichever it is
-                              ("join cut.tbc whole.tbc lost.tbc", 3), ("compare cut.tbc whole.tbc", 3)):
+                              ("join cut.tbc whole.tbc lost.tbc", 3)):
             self.assertEqual(self.run_words(words)[0], status, words)
 
     def test_what_is_printed_alone(self):
@@ -186,8 +184,7 @@ class Statuses(Scans, Calls):
 
 # The statuses of each command, and of none: yes or done, no, a fault, a cut field, can't tell, and those of signals
 SIGNALS = [129, 130, 143]
-STATUSES = {"": [0, 1, 2, 3, 4, *SIGNALS], "compare": [0, 2, 3, *SIGNALS], "join": [0, 2, 3, *SIGNALS],
-            "index": [0, 2, *SIGNALS], "scan": [0, 1, 2, 4, *SIGNALS]}
+STATUSES = {"": [0, 1, 2, 3, 4, *SIGNALS], "join": [0, 2, 3, *SIGNALS], "scan": [0, 1, 2, 4, *SIGNALS]}
 
 
 class Parsers(unittest.TestCase):

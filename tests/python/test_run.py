@@ -1,4 +1,4 @@
-"""The command: metadata beside TBC files, two captures, tables; and the files that it writes, never in the place of an
+"""The command: metadata beside TBC files, tables; and the files that it writes, never in the place of an
 input."""
 
 import json
@@ -65,13 +65,6 @@ class Metadata(Calls):
                 ("--strict --open-end", 1, b"whole: no: no lead-in")):
             found = self.run_command("side.tbc LEVELS --summary " + words)
             self.assertEqual((found[0], found[1].split(b"\n")[0]), (status, wanted))
-
-    def test_comparison(self):
-        write_stream(self.named("other.tbc"), NTSC, pictures(16)[4:])
-        self.metadata("other.tbc.json")
-        found = json.loads(self.printed("compare --json other.tbc side.vbi.json"))
-        self.assertEqual([found["a"], found["b"]], [[{"first": 12, "last": 15, "count": 4}],
-                                                    [{"first": 0, "last": 3, "count": 4}]])
 
 
 FIELDS = """field,frame,format,picture,chapter,time,stop,doubt,status,users,unknown
@@ -143,7 +136,7 @@ class Files(Calls):
             self.assertIn("(pictures/%s)" % name, text)
             self.assertEqual(self.read(name), self.read(os.path.join(docs, "pictures", name)))
 
-    def test_pages_and_their_index(self):
+    def test_pages(self):
         columns = bytearray(self.read("side.tbc"))
         begin = 2 * ((2 * 263 + 16) * 910 + 170)
         columns[begin:begin + 10] = columns[:10]  # five black columns in line 17 of field 3
@@ -154,9 +147,6 @@ class Files(Calls):
         self.write("side.vbi.json", self.extracted("side.tbc"))
         self.assertEqual(self.printed("side.vbi.json --html two.html"), b"")
         self.assertNotIn("Bad lines,", self.text("two.html"))
-        self.assertEqual(self.printed("index index.html side.html two.html"), b"")
-        self.assertIn('<a href="two.html">side.vbi.json</a>', self.text("index.html"))
-        self.refused(IN_PLACE % "side.html", "index side.html side.html")
 
     def test_no_output_in_the_place_of_an_input(self):
         self.metadata("side.tbc.json")
@@ -167,8 +157,7 @@ class Files(Calls):
                             ("new", "side.vbi.json --svg new -o new"), ("new", "side.vbi.json --svg new --map new")):
             with self.subTest(words):
                 self.refused(IN_PLACE % name, words)
-        for words in ("side.vbi.json", "compare side.vbi.json side.vbi.json", "join side.vbi.json side.vbi.json",
-                      "scan side.vbi.json"):
+        for words in ("side.vbi.json", "join side.vbi.json side.vbi.json", "scan side.vbi.json"):
             with self.subTest(words), open(self.named("side.vbi.json"), "ab") as file:
                 self.assertEqual(self.run_command(words, stdout=file),
                                  (2, None, "ldvbi-side: %s\n" % IN_PLACE % "standard output"))

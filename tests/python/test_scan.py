@@ -137,7 +137,6 @@ class Pipes(Scans, Calls):
             os.mkfifo(self.named(name))
             if row:
                 self.assertEqual(self.row("--html pages side.tbc").split(",")[-1], row)
-                self.refused(row, "index i.html " + page)
             else:
                 self.refused("pages/index.html is no file", "scan --html pages side.tbc")
             shutil.rmtree(self.named("pages"))

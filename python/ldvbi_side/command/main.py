@@ -23,7 +23,8 @@ from .faults import SETTINGS, STANDARD_INPUT, fault_text, naming, no_metadata, r
 from .into import Into
 from .map import COLUMNS as MAP_COLUMNS, head_rows, map_rows
 from .outputs import refuse_inputs, whole_file
-from .parsers import parser_of_compare, parser_of_index, parser_of_side
+from .parser import settings_in
+from .parsers import parser_of_side
 from .progress import Progress
 from .statuses import FAULT, OF_SIDE, of_many
 from .summary import summary
@@ -36,11 +37,10 @@ def _settings(options):
     return [options.system, options.black, options.white]
 
 
-def _refuse_settings(options, names, sources):
-    """Raises a ValueError where system or levels are given, and none of the sources with these names is a TBC file."""
-    is_given = any(value is not None for value in _settings(options))
-    if is_given and all(isinstance(source, Side) for source in sources):
-        raise ValueError("%s: a document has its system and levels; they are options of a TBC file" % names[0])
+def _refuse_settings(options, name, is_tbc):
+    """Raises a ValueError where system or levels are given, and the side with this name is a document."""
+    if not is_tbc and any(value is not None for value in _settings(options)):
+        raise ValueError("%s: a document has its system and levels; they are options of a TBC file" % name)
 
 
 def _name_of(options):
@@ -199,10 +199,11 @@ def _is_judged(options):
     return any([*_drawn(options), options.csv, options.json, options.bad_lines, options.seek, options.summary])
 
 
-def _options(words):
-    """The options of these words, with the metadata beside the TBC file where they leave something open."""
+def _options(words, settings=None):
+    """The options of these words, and of these settings, with the metadata beside the TBC file where they leave
+    something open."""
     parser = parser_of_side(NAME)
-    options = parser.parse_args(words)
+    options = parser.parse_args(words, settings)
     if not (_is_printed(options) or any(_files(options))):
         options.summary = True
     if "" in (options.meta, options.output, *_files(options)):
@@ -217,52 +218,22 @@ def _options(words):
     return options
 
 
-def _side_at(path):
-    """The side of a document, or of a TBC file with its metadata beside it."""
-    options = _options(["--", path])
-    return _loaded(*_source(options), options)
-
-
 def _join(words):
     """Prints what captures have together."""
-    from .join import run_join  # which loads much that a single side doesn't need, as compare does
-    cuts = []
-
-    def load(path):
-        side = _side_at(path)
-        cuts.append(_cut_status(side.cut, side.system, path))
-        return side
-
-    return of_many([run_join(NAME, words, load), *cuts])
-
-
-def _compare(words):
-    """Prints what two sides have of each other's numbers."""
-    from .compare import as_json, compare, comparison_text
-    options = parser_of_compare(NAME).parse_args(words)
-    refuse_inputs([1], options.sides)
-    given = ["--%s=%s" % pair for pair in zip(("system", "black", "white"), _settings(options)) if pair[1] is not None]
-    of_each = [_options([*given, "--", path]) for path in options.sides]
-    sources = [_source(one) for one in of_each]
-    _refuse_settings(options, options.sides, [source for source, _ in sources])
-    sides = [_loaded(*source, one) for source, one in zip(sources, of_each)]
-    found = compare(*sides, options.sides)
-    if options.json:
-        print(json.dumps(as_json(found)))
-    else:
-        print(*map(printable, comparison_text(found, options.sides)), sep="\n")
-    return of_many(_cut_status(side.cut, side.system, path) for side, path in zip(sides, options.sides))
-
-
-def _index(words):
-    """Writes a page that links those of many sides."""
-    options = parser_of_index(NAME).parse_args(words)
-    refuse_inputs([options.index], options.pages)
-    from ..draw.index import index_of
-    text = index_of(options.index, options.pages)
-    with whole_file(options.index) as file:
-        file.write(text)
-    return 0
+    from ..join.captures import capture_of  # these load much that a single side doesn't need
+    from .join import join_options, print_joined
+    given = join_options(NAME, words)
+    captures, statuses, is_tbc = [], [], False
+    for path in given.sides:  # one at a time, so that no more than one is held as a whole
+        options = _options(["--", path], settings_in(given))
+        source, metadata = _source(options)
+        is_tbc = is_tbc or not isinstance(source, Side)
+        side = _loaded(source, metadata, options)
+        captures.append(capture_of(side, path))
+        statuses.append(_cut_status(side.cut, side.system, path))
+    _refuse_settings(given, given.sides[0], is_tbc)
+    print_joined(given, captures)
+    return of_many(statuses)
 
 
 def _scan(words):
@@ -296,7 +267,7 @@ def _answer(options):
     """Prints and draws what the options ask for."""
     into = Into(options.into) if options.into else None
     source, metadata = _source(options, into and into.places.add)
-    _refuse_settings(options, [_name_of(options)], [source])
+    _refuse_settings(options, _name_of(options), not isinstance(source, Side))
     if options.document:
         if isinstance(source, Side):
             raise ValueError("%s is a document, and --document is of a TBC file" % _name_of(options))
@@ -331,7 +302,7 @@ def _answer(options):
 def main(words: Optional[List[str]] = None) -> int:
     words = sys.argv[1:] if words is None else words
     try:
-        command = {"compare": _compare, "join": _join, "index": _index, "scan": _scan}.get(words[0] if words else "")
+        command = {"join": _join, "scan": _scan}.get(words[0] if words else "")
         try:
             status = command(words[1:]) if command else _run(_options(words))
         except SystemExit:

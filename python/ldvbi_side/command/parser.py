@@ -1,8 +1,13 @@
-"""What reads the words of each command."""
+"""What reads the words of each command, and the options by which a side is read, which several commands have."""
 
 import argparse
 import sys
 from typing import IO, Optional
+
+from ldvbi import System
+from .statuses import OPEN_END
+
+LEVELS = "the sample of %s, from 0 to 65535, in place of the metadata's; black is below white"
 
 
 class Parser(argparse.ArgumentParser):
@@ -10,3 +15,27 @@ class Parser(argparse.ArgumentParser):
 
     def _print_message(self, message: str, file: Optional[IO[str]] = None) -> None:
         (file or sys.stderr).write(message)
+
+
+def add_settings(parser: argparse.ArgumentParser, tbc: str = "a TBC file", side: str = "a side") -> None:
+    """Adds the options by which a side is read. `tbc` and `side` are what the help calls what they are of."""
+    parser.add_argument("--meta", metavar="FILE", help="take system and levels of %s from this .tbc.json or .tbc.db of "
+                        "ld-decode, and not from the one beside the file. Levels with decimals are rounded to the "
+                        "nearest whole number. The count of fields in it is compared with the side. Its isFirstField "
+                        "shows single lost fields, of a document as well; columns in its dropOuts count for no "
+                        "recovered word" % tbc)
+    parser.add_argument("--system", choices=list(System.__members__), help="the system of %s, in place of the "
+                        "metadata's" % tbc)
+    parser.add_argument("--black", metavar="N", type=int, help=LEVELS % "black")
+    parser.add_argument("--white", metavar="N", type=int, help=LEVELS % "white")
+    parser.add_argument("--no-recover", action="store_true", help="leave out the words that are recovered from worn "
+                        "lines of %s, those of pass 3" % tbc)
+    parser.add_argument("--strict", action="store_true", help="say that %s without lead-in or lead-out, or with an "
+                        "unread number, isn't whole" % side)
+    parser.add_argument("--open-end", action="store_true", help=OPEN_END + ". With --strict, too")
+
+
+def settings_in(options: argparse.Namespace) -> argparse.Namespace:
+    """Those of the options that `add_settings` adds."""
+    names = ("meta", "system", "black", "white", "no_recover", "strict", "open_end")
+    return argparse.Namespace(**{name: getattr(options, name) for name in names})
