@@ -1,5 +1,5 @@
-"""Several captures of one side: what they have together, which one each number is taken from, which one shows it better,
-and where they disagree about a number; and the command `join`."""
+"""Several captures of one side: what they have together, which one each number is taken from, which one shows it
+better, and where they disagree about a number; and the command `join`."""
 
 import functools
 import json
@@ -392,7 +392,8 @@ class Command(Calls):
                 (IN_PLACE % "other.tbc", "side.vbi.json other.tbc --html other.tbc"),
                 (IN_PLACE % "other.tbc.json", "side.vbi.json other.tbc --html other.tbc.json"),
                 (IN_PLACE % "meta", "side.tbc other.tbc --meta other.tbc.json --html meta"),
-                (NO_METADATA, "side.vbi.json side.tbc"), (NO_METADATA, "other.tbc side.tbc --system NTSC --black 16384"),
+                (NO_METADATA, "side.vbi.json side.tbc"),
+                (NO_METADATA, "other.tbc side.tbc --system NTSC --black 16384"),
                 ("side.tbc has no numbers to join", "side.tbc side.vbi.json --system NTSC --black=60000 --white=60001"),
                 ("side.vbi.json: a document has its system and levels; they are options of a TBC file",
                  "side.vbi.json side.vbi.json --white 51200")):

@@ -13,6 +13,7 @@ from discs import times
 from ldvbi import draw_line as steep
 from ldvbi.readings import Levels
 from ldvbi_side.answer.entries import Best
+from ldvbi_side.command.join import NOTHING_SHOWS
 from ldvbi_side.join.captures import capture_of
 from ldvbi_side.join.joined import join
 from ldvbi_side.join.piles import _levelled
@@ -194,7 +195,7 @@ class Command(Calls, Captures):
             self.metadata("%d.tbc.json" % cell)
         words = "join 5.tbc 6.tbc"
         self.assertIn(b"\nread together: 2 (picture 5, picture 12)\n", self.printed(words))
-        rows = self.printed(words + " --csv").decode().split("\n")
+        rows = self.printed(words + " --csv", said="ldvbi-side: %s\n" % NOTHING_SHOWS).decode().split("\n")
         self.assertEqual([row for row in rows if not row.endswith(",read")][1:-1], [
             "5,5.tbc,9,5,together", "12,5.tbc,23,12,together"])
 

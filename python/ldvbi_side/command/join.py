@@ -62,12 +62,12 @@ def parser_of_join(program: str) -> argparse.ArgumentParser:
     parser.add_argument("sides", nargs="+", metavar="SIDE", action=_TwoOrMore,
                         help="a document, or a TBC file with its metadata beside it or with the options below; two or "
                         "more of them")
-    add_settings(parser, "each TBC file", "each side")
+    add_settings(parser, "each TBC file")
     output = parser.add_mutually_exclusive_group()
     output.add_argument("--csv", action="store_true", help="print a row for each number, with the capture to take it "
                         "from, and its first field and frame there")
     output.add_argument("--ranges", action="store_true", help="print the same in stretches of numbers that one "
-                        "capture has in fields that follow each other: they say which capture has which frames better")
+                        "capture has in fields that follow each other, to see which capture has which frames better")
     output.add_argument("--json", action="store_true", help="print all that they have together, as JSON")
     parser.add_argument("--html", metavar="FILE", help="write a page into this file on which the captures are bars, "
                         "one above the other; print only what another option asks for")

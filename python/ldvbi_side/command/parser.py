@@ -17,8 +17,8 @@ class Parser(argparse.ArgumentParser):
         (file or sys.stderr).write(message)
 
 
-def add_settings(parser: argparse.ArgumentParser, tbc: str = "a TBC file", side: str = "a side") -> None:
-    """Adds the options by which a side is read. `tbc` and `side` are what the help calls what they are of."""
+def add_settings(parser: argparse.ArgumentParser, tbc: str = "a TBC file") -> None:
+    """Adds the options by which a side is read. `tbc` is what the help calls the files that some of them are of."""
     parser.add_argument("--meta", metavar="FILE", help="take system and levels of %s from this .tbc.json or .tbc.db of "
                         "ld-decode, and not from the one beside the file. Levels with decimals are rounded to the "
                         "nearest whole number. The count of fields in it is compared with the side. Its isFirstField "
@@ -30,8 +30,8 @@ def add_settings(parser: argparse.ArgumentParser, tbc: str = "a TBC file", side:
     parser.add_argument("--white", metavar="N", type=int, help=LEVELS % "white")
     parser.add_argument("--no-recover", action="store_true", help="leave out the words that are recovered from worn "
                         "lines of %s, those of pass 3" % tbc)
-    parser.add_argument("--strict", action="store_true", help="say that %s without lead-in or lead-out, or with an "
-                        "unread number, isn't whole" % side)
+    parser.add_argument("--strict", action="store_true", help="say that a side without lead-in or lead-out, or with an "
+                        "unread number, isn't whole")
     parser.add_argument("--open-end", action="store_true", help=OPEN_END + ". With --strict, too")
 
 
