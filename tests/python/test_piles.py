@@ -232,7 +232,7 @@ class TriedLevels(InFolder):
         how many."""
         tried = self.levels(setup).tried
         best = tried.best
-        return [tried.read, tried.lines, best and options_of(best), best and best.read]
+        return [tried.read, tried.lines, best and options_of(tried), best and best.read]
 
     def test_rows(self):
         """A sample is high above the middle of the levels. So where codes are at 40 % of white no line has a high one;
@@ -264,7 +264,7 @@ class TriedLevels(InFolder):
             self.assertEqual(tried.best, Best(setup[0], None, None, 120))
             self.assertLess(20 * tried.read, tried.lines)
         self.draw(at_share(NTSC, 40))
-        self.assertEqual(self.best(PAL)[2:], ["--system NTSC --white 30000", 120])
+        self.assertEqual(self.best(PAL)[2:], ["--system NTSC --black 16384 --white 30000", 120])
 
     def test_one_of_two_fields_has_a_number(self):
         """Fields are looked at in pairs, all over the side: half of 200 lines are read."""

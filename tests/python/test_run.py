@@ -57,6 +57,15 @@ class Metadata(Calls):
         self.assertEqual((known["metadataFields"], known["frameBegin"], said.split("\n")[0]), (
             11, 1, "ldvbi-side: side.tbc: 12 fields and 7 bytes, side.tbc.json says 11: " + ANOTHER))
 
+    def test_what_a_summary_says_to_try(self):
+        """Metadata of another system lies beside the side: by the options that are named it is read."""
+        write_stream(self.named("side.tbc"), NTSC, pictures(60))
+        self.metadata("side.tbc.json", system="PAL", fieldWidth=1135, fieldHeight=313, white16bIre=54016)
+        found = re.search(r"^try: (.*), without --meta \(120 lines read, now [01] of 80\)$",
+                          self.run_words("side.tbc", "--summary")[1], re.M)
+        self.assertEqual(found[1], "--system NTSC --black 16384 --white 54016")
+        self.assertIn("line 17: 60 words, ", self.run_words("side.tbc " + found[1])[1])
+
     def test_strict(self):
         write_stream(self.named("side.tbc"), NTSC, words_of("1..4"))
         for words, status, wanted in (

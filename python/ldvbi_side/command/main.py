@@ -13,7 +13,6 @@ from ldvbi.metadata import beside, read_metadata, settings_of
 from ldvbi.packed import refuse_packed
 from ldvbi.regular import regular
 from ldvbi.stream import cut_of
-from ..draw.plot import plot_command
 from ..outside import (NAME, bytes_of_document, drop_standard_output, flush, flush_or_drop, printable, raise_lost,
                        say)
 from ..seek import seek, text_of
@@ -169,14 +168,8 @@ def _write_files(side, options, is_tbc):
         from ..draw.page import page_of
         from ..draw.plotting import plotter
         with whole_file(options.html) as file:
-            lines = summary(side.analysis.answer, _plot_command(side, options))
-            file.write(page_of(side, os.path.basename(options.side), lines,
+            file.write(page_of(side, os.path.basename(options.side), summary(side.analysis.answer),
                                plotter(side, options.side) if is_tbc else None))
-
-
-def _plot_command(side, options):
-    """What makes the command that draws a line of this side, of its field and its number."""
-    return lambda *line: plot_command(side, options.side, *line)
 
 
 def _files(options):
@@ -287,7 +280,7 @@ def _answer(options):
         print(text_of(found))
         return int(found is None)
     if options.summary:
-        print(*map(printable, summary(answer, _plot_command(side, options))), sep="\n")
+        print(*map(printable, summary(answer)), sep="\n")
         return OF_SIDE[answer.whole]
     if options.json:
         json.dump(side.answer, sys.stdout)
