@@ -3,8 +3,11 @@ the command lines that are refused. The exit statuses of all options and command
 docs/FORMATS.md, and the version; and the parsers of the command, of whose texts the manual page and the completions are
 made."""
 
+import bz2
 import gzip
+import lzma
 import os
+import re
 import unittest
 
 import ldvbi
@@ -14,6 +17,7 @@ from ldvbi_side.command.faults import naming
 from ldvbi_side.command.parsers import parser_of_side, parsers
 from ldvbi_side.command.statuses import MEANINGS, statuses_of
 from scanned import Scans
+from streams import PROGRAM, TOP
 
 SETTINGS = "give --meta, or --system, --black and --white"
 HALF = "--system NTSC --black 16384"
@@ -68,11 +72,56 @@ class Messages(Calls):
             ("side.tbc: white is not from 0 to 65535", "side.tbc --white 65536 " + HALF))
 
     def test_compressed_files(self):
-        for name, words in (("packed.tbc", "packed.tbc LEVELS"), ("packed.tbc.gz", "packed.tbc.gz"),
-                            ("packed.vbi.json", "packed.vbi.json"),
-                            ("packed.vbi.json", "join side.vbi.json packed.vbi.json"),
-                            ("packed.tbc.json", "side.tbc --meta packed.tbc.json")):
-            self.each_file(name, words, (": it is compressed (gzip): unpack it first", gzip.compress(b"video")))
+        """Of a side alone the message has the command that reads it."""
+        extract = "ldvbi extract --meta "
+        for name, words, data, text in (
+                ("my side.tbc.gz", "'my side.tbc.gz'", gzip.compress(b"video"),
+                 "gzip): zcat 'my side.tbc.gz' | %s'my side.tbc.json' | ldvbi-side -" % extract),
+                ("packed.tbc", "packed.tbc LEVELS", bz2.compress(b"video"),
+                 "bzip2): bzcat packed.tbc | %spacked.tbc.json | ldvbi-side -" % extract),
+                ("side.tbc.xz", "side.tbc.xz --meta one.json", lzma.compress(b"video"),
+                 "xz): xzcat side.tbc.xz | %sone.json | ldvbi-side -" % extract),
+                ("s.tbc.lzma", "s.tbc.lzma", lzma.compress(b"video", lzma.FORMAT_ALONE),
+                 "lzma): lzcat s.tbc.lzma | %ss.tbc.json | ldvbi-side -" % extract),
+                ("side.tbc.zip", "side.tbc.zip", b"PK\x03\x04" + bytes(60),
+                 "zip): unzip -p side.tbc.zip | %sside.tbc.json | ldvbi-side -" % extract),
+                ("side.tbc.zst", "side.tbc.zst", b"\x28\xb5\x2f\xfd" + bytes(60),
+                 "zstd): zstdcat side.tbc.zst | %sside.tbc.json | ldvbi-side -" % extract),
+                ("side.vbi.json.gz", "side.vbi.json.gz", gzip.compress(b"{}"),
+                 "gzip): zcat side.vbi.json.gz | ldvbi-side -"),
+                ("side.tbc.flac", "side.tbc.flac", b"fLaC\x00\x00\x00\x22" + bytes(60), "FLAC): unpack it first"),
+                ("b.vbi.json", "join side.vbi.json b.vbi.json", gzip.compress(b"{}"), "gzip): unpack it first"),
+                ("meta.json", "side.tbc --meta meta.json", gzip.compress(b"{}"), "gzip): unpack it first")):
+            self.each_file(name, words, (": it is compressed (" + text, data))
+
+    def test_the_command_for_a_compressed_file_is_taken(self):
+        self.write("side.tbc.gz", gzip.compress(self.read("side.tbc")))
+        self.metadata("side.tbc.json")
+        command = self.run_words("side.tbc.gz")[2].partition("(gzip): ")[2].strip()
+        for name, path in (("ldvbi", PROGRAM), ("ldvbi-side", os.path.join(TOP, "python", "ldvbi-side"))):
+            command = re.sub("\\b%s " % name, path + " ", command)
+        status, text, said = self.run_command("-c", command, command=["sh"])
+        self.assertEqual((status, said), (1, ""))
+        self.assertEqual(text, self.run_command("side.vbi.json")[1])
+
+    def test_standard_input(self):
+        """It has a document: for a TBC file, and what is compressed, the message says what to do."""
+        make = "standard input is no document; make one of a TBC file: ldvbi extract --meta %s | ldvbi-side -"
+        for words, data, text in (
+                ("-", self.read("side.tbc")[:100000], make % "side.tbc.json"),
+                ("- --meta 'a b.json'", b"\0", make % "'a b.json'"),
+                ("-", gzip.compress(b"{}"), "standard input: it is compressed (gzip): unpack it first"),
+                ("-", b"", "standard input: " + NOT_JSON), ("-", b" {x", "standard input: not JSON: line 1 is wrong "
+                                                            "from column 3 on")):
+            with open(self.write("in", data), "rb") as file:
+                self.assertEqual(self.run_command(words, stdin=file), (2, b"", "ldvbi-side: %s\n" % text), data[:20])
+
+    def test_a_word_that_is_no_command(self):
+        os.symlink("nowhere", self.named("lost"))
+        text = "%s is no file and no command; the commands are join and scan"
+        self.each((text % "scna", "scna"), (text % "scna", "scna folder -j 1"),
+                  (text % "compare", "compare side.vbi.json side.vbi.json"), (text % "index", "index a.html b.html"),
+                  ("lost: No such file or directory", "lost"))
 
     def test_documents(self):
         self.each_file(
@@ -82,8 +131,7 @@ class Messages(Calls):
             (": not JSON: NaN is no number", b'{"version":NaN}'),
             (": not JSON: it is nested too deep", b"[" * 100000), (": not JSON: a number is too long", b"1" * 5000),
             (": field 1: seqNo is not there", self.document.replace(b'"seqNo":1,', b'"number":1,')))
-        self.each(("standard input: " + NOT_JSON, "-"),
-                  ("side.vbi.json is a document, and --document is of a TBC file", "side.vbi.json --document"),
+        self.each(("side.vbi.json is a document, and --document is of a TBC file", "side.vbi.json --document"),
                   *(("side.vbi.json: a document has its system and levels; they are options of a TBC file",
                      "side.vbi.json " + option) for option in ("--black 16384", "--system PAL")))
 

@@ -3,7 +3,9 @@ sides, in which order, and what is compressed."""
 
 import contextlib
 import csv
+import bz2
 import gzip
+import lzma
 import io
 import json
 import os
@@ -213,8 +215,9 @@ FOLDERS = (
     # what is named is taken for a side, whatever its name is
     ("d/a.json d/tbc", "d/a.json d/tbc absent", "absent d/a.json d/tbc"),
     # a side has one row
-    ("d/a.tbc d/a.vbi.json d/a.tbc.gz d/b.tbc.gz d/c.tbc.zst d/d.tbc.flac d/e.vbi.json d/e/e.tbc d/f.gz", "d",
-     "d/a.tbc d/b.tbc.gz d/c.tbc.zst d/d.tbc.flac d/e/e.tbc d/e.vbi.json"),
+    ("d/a.tbc d/a.vbi.json d/a.tbc.gz d/b.tbc.gz d/c.tbc.zst d/d.tbc.flac d/e.vbi.json d/e/e.tbc d/f.gz d/g.tbc.xz",
+     "d",
+     "d/a.tbc d/b.tbc.gz d/c.tbc.zst d/d.tbc.flac d/e/e.tbc d/e.vbi.json d/g.tbc.xz"),
     ("d/a.vbi.json d/a.tbc", "d/a.vbi.json d/a.tbc", "d/a.tbc d/a.vbi.json"),
     ("d/a.tbc d/b.tbc", "d/a.tbc d ./d/a.tbc", "./d/a.tbc d/b.tbc"))
 
@@ -272,6 +275,8 @@ class Folders(InFolder):
         for begin, name in ((gzip.compress(b""), "gzip"), (b"\x1f\x8b\x08\x08" + bytes(8), "gzip"),
                             (b"\x28\xb5\x2f\xfd" + bytes(8), "zstd"), (b"fLaC\x00\x00\x00\x22", "FLAC"),
                             (b"fLaC\x80\x00\x00\x22\x10", "FLAC"), (b"", None), (bytes(64), None),
+                            (lzma.compress(b""), "xz"), (lzma.compress(b"", lzma.FORMAT_ALONE), "lzma"),
+                            (bz2.compress(b"x"), "bzip2"), (b"PK\x03\x04" + bytes(8), "zip"),
                             (b"\x1f\x8b\x09\x00" + bytes(8), None), (b"\x1f\x8b\x08\x40" + bytes(8), None),
                             (b"fLaC" + bytes(8), None), (b"\x00" + gzip.compress(b""), None)):
             self.assertEqual(packed_as(begin), name, begin)

@@ -18,7 +18,8 @@ from ..outside import (NAME, bytes_of_document, drop_standard_output, flush, flu
 from ..seek import seek, text_of
 from ..answer.entries import Answer
 from ..side import Side, side_of_document, side_of_stream, stream_of_tbc
-from .faults import SETTINGS, STANDARD_INPUT, fault_text, naming, no_metadata, refuse_folder
+from .faults import (SETTINGS, STANDARD_INPUT, fault_text, naming, no_metadata, refuse_folder, refuse_no_document,
+                     refuse_packed_side)
 from .into import Into
 from .map import COLUMNS as MAP_COLUMNS, head_rows, map_rows
 from .outputs import refuse_inputs, whole_file
@@ -57,12 +58,23 @@ def _source(options, on_field=None):
             open(0 if is_standard_input else options.side, "rb", closefd=not is_standard_input,
                  opener=None if options.waits else regular) as file:
         begin = file.peek(64)
-        refuse_packed(_name_of(options), begin)
+        _refuse_begin(options, begin)
         side = None
         if is_standard_input or is_document(options.side, begin):
             side = side_of_document(bytes_of_document(file, begin))
     metadata = _metadata(options, on_field)
     return side or _stream(options, metadata), metadata
+
+
+def _refuse_begin(options, begin):
+    """Raises a ValueError where a side that begins with these bytes is compressed, or is standard input and no text."""
+    if options.side == "-":
+        refuse_packed(STANDARD_INPUT, begin)
+        refuse_no_document(begin, options.meta)
+    elif options.is_alone:
+        refuse_packed_side(options.side, begin, options.meta)
+    else:
+        refuse_packed(options.side, begin)
 
 
 def _metadata(options, on_field):
@@ -205,6 +217,7 @@ def _options(words, settings=None):
         parser.error("--recovered is of --document or --into, and not with --no-recover")
     is_open = options.into or None in _settings(options)
     options.waits = True  # if the side is a pipe
+    options.is_alone = settings is None  # not one of several
     options.is_beside = not options.meta and is_open and options.side.endswith(".tbc")
     if options.is_beside:
         options.meta = beside(options.side)
@@ -292,10 +305,21 @@ def _answer(options):
     return _cut_status(side.cut, side.system, _name_of(options))
 
 
+_COMMANDS = {"join": _join, "scan": _scan}
+
+
+def _refuse_no_command(word):
+    """Raises a ValueError for a word that could be a command's name, and is neither one nor that of a file."""
+    if word.isalpha() and not os.path.lexists(word):
+        raise ValueError("%s is no file and no command; the commands are %s" % (word, " and ".join(_COMMANDS)))
+
+
 def main(words: Optional[List[str]] = None) -> int:
     words = sys.argv[1:] if words is None else words
     try:
-        command = {"join": _join, "scan": _scan}.get(words[0] if words else "")
+        command = _COMMANDS.get(words[0]) if words else None
+        if words and not command:
+            _refuse_no_command(words[0])
         try:
             status = command(words[1:]) if command else _run(_options(words))
         except SystemExit:
