@@ -211,7 +211,10 @@ class Statuses(Scans, Calls):
 
     def test_what_is_printed_alone(self):
         """The version, and the summary of a side without an option."""
-        self.assertEqual(self.run_words("--version"), (0, "ldvbi-side %s\n" % ldvbi.__version__, ""))
+        status, text, said = self.run_words("--version")
+        self.assertEqual((status, said), (0, ""))
+        self.assertRegex(text, r"^ldvbi-side %s\nlibrary [0-9.]+ \([a-zR, ]+\): /.*libldvbi\.so\.1\n\Z" % re.escape(
+            ldvbi.__version__))
         for name in SIDES:
             self.assertEqual(self.run_words(name), self.run_words(name, "--summary"))
         self.assertEqual(self.run_words("whole.tbc")[1].split("\n")[0], "whole: yes")
@@ -250,5 +253,5 @@ class Parsers(unittest.TestCase):
         """So the manual page makes sentences of them, and zsh shows their first clause."""
         for command, parser in parsers("ldvbi-side").items():
             for action in parser._actions:
-                if action.dest not in ("help", "version"):
+                if action.dest != "help":
                     self.assertRegex(action.help, "^[a-z-].*[^.]$", (command, action.dest))

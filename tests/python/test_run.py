@@ -22,6 +22,9 @@ class WithoutLibrary(Calls):
             self.assertEqual((status, text, said.count("\n")), (2, b"", 1), words)
             self.assertTrue(said.startswith("ldvbi-side: no library to read and judge with (/absent: "), said)
         self.assertEqual(self.run_command("--help", env=absent), self.run_command("--help"))
+        status, text, said = self.run_words("--version", env=absent)
+        self.assertEqual((status, text.count("\n"), said), (0, 2, ""))
+        self.assertIn("\nno library to read and judge with (/absent: ", text)
 
 
 class Metadata(Calls):

@@ -261,4 +261,5 @@ class Others(Calls):
                 self.assertEqual(self.run_command(words)[0], 2)
         with open("/dev/zero", "rb") as zeros:
             self.assertEqual(self.run_command("-", stdin=zeros), (
-                2, b"", "ldvbi-side: standard input is no document; make one of a TBC file: ldvbi extract --meta side.tbc.json | ldvbi-side -\n"))
+                2, b"", "ldvbi-side: standard input is no document; make one of a TBC file: ldvbi extract --meta "
+                "side.tbc.json | ldvbi-side -\n"))

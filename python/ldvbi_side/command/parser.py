@@ -2,9 +2,11 @@
 
 import argparse
 import sys
-from typing import IO, Optional
+from typing import IO, Any, Optional, Sequence
 
-from ldvbi import System
+from ldvbi import System, __version__
+from ldvbi.library import library_text
+from ..outside import NAME, printable
 from .statuses import OPEN_END
 
 LEVELS = "the sample of %s, from 0 to 65535, in place of the metadata's; black is below white"
@@ -15,6 +17,22 @@ class Parser(argparse.ArgumentParser):
 
     def _print_message(self, message: str, file: Optional[IO[str]] = None) -> None:
         (file or sys.stderr).write(message)
+
+
+class Version(argparse.Action):
+    """Prints the version, and which library is loaded, or why none is."""
+
+    def __init__(self, option_strings: Sequence[str], dest: str, **more: Any) -> None:
+        super().__init__(option_strings, argparse.SUPPRESS, nargs=0, **more)
+
+    def __call__(self, parser: argparse.ArgumentParser, namespace: argparse.Namespace, values: Any,
+                 option_string: Optional[str] = None) -> None:
+        print("%s %s" % (NAME, __version__))
+        try:
+            print(printable(library_text()))
+        except OSError as error:
+            print(printable(str(error)))
+        parser.exit()
 
 
 def add_settings(parser: argparse.ArgumentParser, tbc: str = "a TBC file") -> None:

@@ -3,9 +3,8 @@
 import argparse
 from typing import Dict
 
-from ldvbi import __version__
 from ..seek import wanted_of
-from .parser import Parser, add_settings
+from .parser import Parser, Version, add_settings
 from .statuses import statuses_text
 from .summary import MOST_LINES
 
@@ -27,7 +26,7 @@ def parser_of_side(program: str) -> argparse.ArgumentParser:
     """What reads the words where there is no command."""
     parser = Parser(prog=program, description=DESCRIPTION)
     parser.add_argument("side", help="the TBC file, or the document; - is standard input, for a document")
-    parser.add_argument("--version", action="version", version="%s %s" % (program, __version__))
+    parser.add_argument("--version", action=Version, help="print the version, and which library is loaded")
     add_settings(parser)
     output = parser.add_mutually_exclusive_group()
     output.add_argument("--csv", action="store_true", help="print a row for each field with any word")
