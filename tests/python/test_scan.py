@@ -215,9 +215,8 @@ FOLDERS = (
     # what is named is taken for a side, whatever its name is
     ("d/a.json d/tbc", "d/a.json d/tbc absent", "absent d/a.json d/tbc"),
     # a side has one row
-    ("d/a.tbc d/a.vbi.json d/a.tbc.gz d/b.tbc.gz d/c.tbc.zst d/d.tbc.flac d/e.vbi.json d/e/e.tbc d/f.gz d/g.tbc.xz",
-     "d",
-     "d/a.tbc d/b.tbc.gz d/c.tbc.zst d/d.tbc.flac d/e/e.tbc d/e.vbi.json d/g.tbc.xz"),
+    ("d/a.tbc d/a.vbi.json d/a.tbc.gz d/b.tbc.gz d/c.tbc.zst d/d.tbc.flac d/e.vbi.json d/e/e.tbc d/f.gz", "d",
+     "d/a.tbc d/b.tbc.gz d/c.tbc.zst d/d.tbc.flac d/e/e.tbc d/e.vbi.json"),
     ("d/a.vbi.json d/a.tbc", "d/a.vbi.json d/a.tbc", "d/a.tbc d/a.vbi.json"),
     ("d/a.tbc d/b.tbc", "d/a.tbc d ./d/a.tbc", "./d/a.tbc d/b.tbc"))
 

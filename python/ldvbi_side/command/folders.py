@@ -4,12 +4,10 @@ import hashlib
 import os
 from typing import Dict, Iterable, List, NamedTuple, Optional
 
-from ldvbi.packed import ENDS
-
 TBC, DOCUMENT = ".tbc", ".vbi.json"
 MOST_OF_NAME = 200  # bytes; a name with all that comes to it may have 255
 # A compressed TBC file is a side that can't be read.
-_PACKED = tuple(TBC + end for end in ENDS)
+_PACKED = tuple(TBC + end for end in (".gz", ".zst", ".flac"))
 
 
 class Found(NamedTuple):
