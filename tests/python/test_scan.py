@@ -1,13 +1,13 @@
 """`scan`: the table of a folder of sides, its statuses, and the pages with their index; which files of folders are
 sides, in which order, and what is compressed."""
 
+import bz2
 import contextlib
 import csv
-import bz2
 import gzip
-import lzma
 import io
 import json
+import lzma
 import os
 import re
 import shutil
