@@ -137,7 +137,7 @@ def option_of(action: argparse.Action, parser: argparse.ArgumentParser) -> Optio
         if action in group._group_actions:
             others = [one.option_strings[-1] for one in group._group_actions]
             in_group = True
-    text = {"help": "print help", "version": "print the version"}.get(action.dest, action.help or "")
+    text = "print help" if action.dest == "help" else action.help or ""
     value = "" if action.nargs == 0 else str(action.metavar or "NAME")
     return Option(tuple(action.option_strings), value, takes_of(action), tuple(action.choices or ()), text,
                   clause(text), tuple(others), in_group)

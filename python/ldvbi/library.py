@@ -1,10 +1,11 @@
 """The library libldvbi.so: where it is, its calls, its refusals as exceptions. It is loaded when it is first called."""
 
+import contextlib
 import ctypes
 import enum
 import functools
 import os
-from typing import Any, NamedTuple
+from typing import Any, Dict, List, NamedTuple, Tuple
 
 from .classes import whole_number
 
@@ -81,7 +82,8 @@ _ARGUMENTS = {
     "ldvbi_draw_line": _SETUP + [_NUMBER, _MEMORY, _SIZE],
 }
 # Those of the calls that an older library may lack, and what it can't do then
-_LATER = {
+_LATER: Dict[str, Tuple[str, List[Any]]] = {
+    "ldvbi_version": ("say its version", []),
     "ldvbi_judge": ("judge numbers", [_NUMBER] * 3 + [_MEMORY, _SIZE] * 3),
     "ldvbi_judge_field": ("judge one field", [_NUMBER] * 3 + [_MEMORY, _SIZE, _SIZE, _MEMORY]),
     "ldvbi_seek": ("seek numbers", _SETUP + [_NUMBER] * 2 + [_MEMORY, _SIZE, _NUMBER, _MEMORY]),
@@ -137,6 +139,31 @@ def later_call(name: str) -> Any:
     except AttributeError:
         raise OSError("%s is too old to %s, it has no %s: %s a later one, LDVBI_LIBRARY names its file"
                       % (calls._name, purpose, name, _MAKE)) from None
+
+
+# ---- What is loaded
+
+_SAYS_FROM = 2000  # the version from which on a library that is plain Rust says so, by a call that no other one has
+
+
+def library_text() -> str:
+    """The library's version, how it was built, and its file. An OSError where there is no library that fits."""
+    calls = library()
+    version = later_call("ldvbi_version")()
+    built = "proved" if version >= _SAYS_FROM else "proved or plain Rust"
+    if hasattr(calls, "ldvbi_plain_rust"):
+        built = "plain Rust, not proved"
+    return "library %d.%d.%d (%s): %s" % (version // 1000000, version // 1000 % 1000, version % 1000, built,
+                                          _path_of(calls._name))
+
+
+def _path_of(name):
+    """The file that was loaded under this name, by which the system's loader may have found it."""
+    if os.sep in name:
+        return os.path.abspath(name)
+    with contextlib.suppress(OSError), open("/proc/self/maps", encoding="utf-8", errors="surrogateescape") as maps:
+        return next((line[line.index("/"):-1] for line in maps if line.endswith("/%s\n" % name)), name)
+    return name
 
 
 # ---- Arguments and refusals

@@ -5,7 +5,11 @@ from typing import Optional
 
 # What of the header has one value alone is looked at, too: the first two bytes of gzip may be a sample.
 _BEGINS = {"gzip": re.compile(rb"\x1f\x8b\x08[\x00-\x1f]"), "zstd": re.compile(rb"\x28\xb5\x2f\xfd"),
+           "xz": re.compile(rb"\xfd7zXZ\x00"), "bzip2": re.compile(rb"BZh[1-9]1AY&"),
+           "lzma": re.compile(rb"\x5d\x00\x00[\x00-\xff][\x00-\x0f]\xff{3}"), "zip": re.compile(rb"PK\x03\x04"),
            "FLAC": re.compile(rb"fLaC[\x00\x80]\x00\x00\x22")}
+# With what the names of such files end
+ENDS = (".gz", ".zst", ".xz", ".bz2", ".lzma", ".zip", ".flac")
 
 
 def packed_as(begin: bytes) -> Optional[str]:

@@ -98,7 +98,11 @@ def _changes(own: Setup, best: Setup, count: int) -> Best:
                 white if white != own.levels.white else None, count)
 
 
-def options_of(best: Best) -> str:
-    """The options that name what is another, as they are given to the command."""
-    named = (("system", best.system), ("black", best.black), ("white", best.white))
+def options_of(tried: Tried) -> str:
+    """The options that name what is another in the best trial, as they are given to the command. Beside another system
+    stand both levels: metadata of the side's own system would be refused."""
+    best = tried.best or Best(None, None, None, 0)
+    black, white = (tried.black, tried.white) if best.system else (None, None)
+    named = (("system", best.system), ("black", black if best.black is None else best.black),
+             ("white", white if best.white is None else best.white))
     return " ".join("--%s %s" % one for one in named if one[1] is not None)

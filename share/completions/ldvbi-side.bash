@@ -14,21 +14,14 @@ _ldvbi_side() {
     [ "$COMP_CWORD" != 1 ] || command=
 
     case $command in
-        compare)
-            options='--help --json --system --black --white'
+        join)
+            options='--help --meta --system --black --white --no-recover --strict --open-end --csv --ranges --json'
+            options="$options "'--html'
             case $before in
                 --system) answers='NTSC PAL' ;;
+                --meta | --html) compopt -o default; return ;;
                 --black | --white) return ;;
             esac
-            ;;
-        join)
-            options='--help --csv --ranges --json --html'
-            case $before in
-                --html) compopt -o default; return ;;
-            esac
-            ;;
-        index)
-            options='--help'
             ;;
         scan)
             options='--help --jobs --open-end --csv --json --html --again'
@@ -38,8 +31,8 @@ _ldvbi_side() {
             esac
             ;;
         *)
-            options='--help --version --meta --system --black --white --no-recover --csv --json --bad-lines --seek'
-            options="$options "'--summary --document --recovered --strict --open-end --output --svg --html --map --into'
+            options='--help --version --meta --system --black --white --no-recover --strict --open-end --csv --json'
+            options="$options "'--bad-lines --seek --summary --document --recovered --output --svg --html --map --into'
             case $before in
                 --system) answers='NTSC PAL' ;;
                 --meta | -o | --output | --svg | --html | --map | --into) compopt -o default; return ;;

@@ -19,9 +19,11 @@ more=$(nm -D --undefined-only "$built/libldvbi.so.1" | sed 's/^ *U //; s/@.*//' 
 check 'the library needs memcpy and memset at most' [ -z "$more" ]
 more=$(nm -u "$built/libldvbi.a" 2> err | sed -n 's/^ *U //p' | grep -vx 'memcpy\|memset')
 check 'the archive needs memcpy and memset at most' [ -z "$more" ]
-nm -D --defined-only "$built/libldvbi.so.1" | sed 's/.* //' | sort > exported
+nm -D --defined-only "$built/libldvbi.so.1" | sed 's/.* //' | sort > all
+grep -vx ldvbi_plain_rust all > exported
 sed -n 's/^\(LDVBI_[A-Z0-9()]* \)*[a-z0-9_]* \(ldvbi_[a-z_]*\)(.*/\2/p' "$top/include/ldvbi.h" | sort > declared
 check 'the library gives what the header declares, and nothing else' cmp -s exported declared
+check 'the library does not say that it is plain Rust' cmp -s all exported
 check 'the name of the library has the number of its interface' \
     sh -c "readelf -d '$built/libldvbi.so.1' | grep -q 'SONAME.*\[libldvbi.so.1\]'"
 check 'the library is bound when it is loaded' \

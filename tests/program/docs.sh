@@ -152,6 +152,11 @@ check 'the examples of causes in FORMATS.md are those of the program' cmp out ca
 
 folder readme
 document "$top/README.md" readme
+# What README's commands write at the top of a checkout isn't taken for a change of it.
+git init -q ignoring && cp "$top/.gitignore" ignoring
+find readme -type f | sed 's/^readme.//' > out
+git -C ignoring check-ignore --no-index --stdin < out > err
+check 'git ignores what the commands of README write' cmp out err
 folder recipes
 document "$top/docs/RECIPES.md" recipes
 folder modules

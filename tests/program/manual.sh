@@ -34,11 +34,11 @@ for command in '' $commands; do
 done
 sort -u ./*.options > wanted
 page ldvbi.1
-for command in '' compare join index scan; do
+for command in '' join scan; do
     COLUMNS=500 PYTHONDONTWRITEBYTECODE=1 bounded "$side" $command --help < empty 2> err |
         options_in_help > ${command:-side}.options
 done
-sort -u side.options compare.options join.options index.options scan.options > wanted
+sort -u side.options join.options scan.options > wanted
 page ldvbi-side.1
 
 # offered COMMAND: checks what is offered behind each of these command lines: those of the file `offers`, and what
@@ -94,9 +94,8 @@ ldvbi-side scan --|$(list scan.options)
 ldvbi-side scan --j|--jobs --json
 ldvbi-side scan -j |
 ldvbi-side join --|$(list join.options)
-ldvbi-side join a.tbc --r|--ranges
-ldvbi-side compare --|--black --help --json --system --white
-ldvbi-side compare a.tbc --system |NTSC PAL
+ldvbi-side join a.tbc --ra|--ranges
+ldvbi-side join a.tbc --system |NTSC PAL
 END
 printf '%s\n' 'ldvbi-side |files' 'ldvbi-side --svg |files' 'ldvbi-side -o s|files' \
     'ldvbi-side scan --html |files' > bash.offers

@@ -41,7 +41,7 @@ def hand_made():
 def together():
     """What captures have together, with each form of a member, by name."""
     for name, *texts in (("detour", "1..50 151..170 71..100", "1..98"), ("lost", "1..3 6..8", "6..9", "1..3"),
-                         ("some", "NTSC t0..4499!7%1000", "NTSC t0..4499!7%1000 -1:200"),
+                         ("some", "NTSC t0..4499!7%1000", "NTSC t0..4499!7%1000 -1:200 401=-/-/-"),
                          ("minutes", "m58..59x3000", "m58..59x3000")):
         yield name, as_json(joined(*(made(text, side) for text in texts)))
 

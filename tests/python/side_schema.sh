@@ -139,5 +139,5 @@ END
 
 # What captures have together
 says valid join 4 together
-places join together "$here/join_schema.txt" '68 places, 1220 documents'
+places join together "$here/join_schema.txt" '88 places, 1683 documents'
 finish

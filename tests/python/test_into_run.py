@@ -8,7 +8,7 @@ import resource
 from unittest import mock
 
 from cases import in_database
-from command_runs import COMMAND, IN_PLACE, NO_METADATA, SIZE, Calls
+from command_runs import COMMAND, IN_PLACE, SIZE, Calls
 from ldvbi_side.command import into
 from ldvbi_side.into.text import Places
 from streams import NTSC, pictures, worn_line, write_stream
@@ -207,16 +207,3 @@ class Long(Copies):
             self.assertEqual(len(self.words_of(copy)), 20004)
 
 
-class Sides(Copies):
-    def test_compare_with_system_and_levels(self):
-        """These stand in place of the metadata's, each by itself."""
-        os.link(self.named("side.tbc"), self.named("other.tbc"))
-        wanted = self.printed("compare side.vbi.json side.vbi.json")
-        self.assertEqual(self.printed("compare LEVELS other.tbc other.tbc"),
-                         wanted.replace(b"side.vbi.json", b"other.tbc"))
-        for text, words in (
-                ("side.tbc has no numbers to compare", "side.tbc side.vbi.json --black=60000 --white=60001"),
-                (NO_METADATA.replace("side.tbc", "other.tbc"), "other.tbc side.tbc --system NTSC --black 16384"),
-                ("side.vbi.json: a document has its system and levels; they are options of a TBC file",
-                 "side.vbi.json side.vbi.json --white 51200")):
-            self.refused(text, "compare " + words)

@@ -1,24 +1,24 @@
-"""Several captures of one side: what they have together, which one each number is taken from, and where they disagree
-about a number; two of them compared; and the command `join`."""
+"""Several captures of one side: what they have together, which one each number is taken from, which one shows it
+better, and where they disagree about a number; and the command `join`."""
 
 import functools
 import json
+import os
 import unittest
 import xml.etree.ElementTree as xml
 
 from cases import reason
 from command_runs import IN_PLACE, NO_METADATA, Calls
-from compact import cells_of, made, span
+from compact import cells_of, made, span, words_of
 from discs import joined, side
-from ldvbi_side.command.compare import as_json as compared, compare, comparison_text
-from ldvbi_side.command.join import joined_text, range_rows
+from ldvbi_side.command.join import NOTHING_SHOWS, joined_text, range_rows
 from ldvbi_side.draw.bars import COLOURS, bars_of
 from ldvbi_side.draw.together import page_of_joined
 from ldvbi_side.join.captures import capture_of
 from ldvbi_side.join.joined import join
 from ldvbi_side.join.plain import as_json
 from ldvbi_side.judge.places import Showing
-from streams import NTSC, pictures, write_stream
+from streams import NTSC, pictures, worn_line, write_stream
 
 SPACE = "{http://www.w3.org/2000/svg}"
 DETOUR = "1..50 151..170 71..100"
@@ -110,7 +110,7 @@ class Stretches(unittest.TestCase):
         """A capture that is too short to decide what the clock leaves out goes by the other one."""
         for one, other in ((SOME, SOME), (SOME + " -401:8990", SOME), (SOME, SOME + " -401:8990")):
             found = together(one, other, system="NTSC")
-            self.assertEqual((found.together.missing, len(found.together.left_out), found.disagreements), ([], 5, []))
+            self.assertEqual((found.missing, len(found.left_out), found.disagreements), ([], 5, []))
             self.assertIn("skipped by the disc itself: 5", joined_text(found))
         found = as_json(together(SOME + " -1:38", SOME, system="NTSC"))
         self.assertEqual(found["lacks"], [  # from 0:00:00.20 on
@@ -132,15 +132,67 @@ class Stretches(unittest.TestCase):
 
     def test_texts(self):
         self.assertEqual(list(joined_text(together("1..40 -41:46", "1..40 -61:62", "1..30 -9:10"))), [
-            "together: pictures 1 to 40, none lost",
-            "a: has 37, lacks 3 (pictures 21 to 23 in b and c)",
-            "b: has 39, lacks 1 (picture 31 in a)",
-            "c: has 29, lacks 11 (picture 5 in a and b, picture 31 in a, pictures 32 to 40 in a and b)",
+            "together: pictures 1 to 40, none lost", NOTHING_SHOWS,
+            "a: has 37, 1 of them alone, lacks 3 (pictures 21 to 23 in b and c), whole: no", "better in a: none",
+            "b: has 39, none of them alone, lacks 1 (picture 31 in a), whole: no", "better in b: none",
+            "c: has 29, none of them alone, lacks 11 (picture 5 in a and b, picture 31 in a, pictures 32 to 40 in a "
+            "and b), whole: no", "better in c: none", "alike: 39 (pictures 1 to 30, pictures 32 to 40)",
             "lacking in all: none", "disagreements: none"])
-        self.assertEqual(list(joined_text(together("1..10", "21..40"))), [
-            "together: pictures 1 to 40, 10 lost", "a: has 10, lacks 20 (pictures 21 to 40 in b)",
-            "b: has 20, lacks 10 (pictures 1 to 10 in a)", "lacking in all: 10 (pictures 11 to 20 lost)",
-            "disagreements: none"])
+        self.assertEqual(list(joined_text(together("1..10", "21..40 3=-/#22/-"))), [
+            "together: pictures 1 to 40, 10 lost", NOTHING_SHOWS,
+            "a: has 10, 10 of them alone, lacks 20 (pictures 21 to 40 in b), whole: yes", "better in a: none",
+            "b: has 20, 20 of them alone, lacks 10 (pictures 1 to 10 in a), whole: no", "better in b: none",
+            "alike: none", "lacking in all: 10 (pictures 11 to 20 lost)", "disagreements: none"])
+
+
+# Of 4 the first one has 3, 2, none that is read, and 2 of another pass; the other one 2, and a line that is doubtful.
+# Picture 13 is alike, as line 16 isn't the number's. The first one has lost 21 to 23, the other one 31, and each may
+# have lost a field of the picture before.
+ONE = "1..40 3=-/#2*/#2 5=-/?/#3 7=? 15=-/#8*/#8* -41:46"
+OTHER = "1..40 9=-/#5*/#5* 11=-/#6/#70000 15=-/#8/- 25=#13/#13/#13 -61:62"
+# Captures, and which numbers one has alone, shows better than any other, or as well as another
+STANDING = """
+    what each has | %s ; %s | alone b 21-23 3, a 31 1 | better b 2-4 3, a 5-6 2, a 8 1, b 20 1, a 30 1
+        | alike 1 1, 7 1, 9-19 11, 24-29 6, 32-40 9
+    what both lack | 1..40 -21:30 ; 1..40 -29:34 | alone b 11-14 4, a 16-17 2 | better b 10 1 | alike 1-9 9, 18-40 23
+    times | t1490..1509 ; t1495..1519 | alone a 0:00:59.15-0:00:59.19 5, b 0:01:00.10-0:01:00.19 10 | better
+        | alike 0:00:59.20-0:01:00.09 15
+    minutes | m58..59x3000 ; m59x3000 | alone a 0:58 1 | alike 0:59 1
+    shown again, and worse at first | 1..30 11..40 31=-/#16*/- ; 1..40 | alone | better | alike 1-40 40
+    and later | 1..30 11..40 71=-/#16*/- ; 1..40 | alike 1-40 40
+    due is less than any line | 1..40 7=? ; 1..40 7=-/?/#4* | better b 4 1
+    pass 1 is more than recovered | 1..40 7=-/?/#4 ; 1..40 7=-/?/#4^ | better a 4 1
+    pass 2 isn't | 1..40 7=-/?/#4* ; 1..40 7=-/?/#4^ | better | alike 1-40 40
+    seconds count | t100..139 ; t100..139 21.16=s4.10* | better a 0:00:04.10 1
+    better than both others | 1..40 3=-/#2*/- ; 1..40 3=-/#2/- 5=? ; 1..39 3=-/#2*/- | better b 2 1
+        | alike 1 1, 3-40 38
+""" % (ONE, OTHER)
+
+
+class Standing(unittest.TestCase):
+    def test_rows(self):
+        """Each one the other way round, too."""
+        for name, captures, *wanted in cells_of(STANDING):
+            texts = captures.split(" ; ")
+            for ones, names in ((texts, "abc"), (texts[::-1], "abc"[:len(texts)][::-1])):
+                found = as_json(together(*ones))
+                for text in wanted:
+                    standing, _, stretches = text.partition(" ")
+                    with self.subTest((name, standing, names)):
+                        self.assertEqual(", ".join(" ".join([
+                            *(names["abc".index(each["capture"])] for _ in [0] if "capture" in each), span(each),
+                            str(each["count"])]) for each in found[standing]), stretches)
+
+    def test_what_is_better_is_taken(self):
+        found = together(ONE, OTHER)
+        sources = {row.number: row.source for row in found.taken}
+        self.assertEqual([sources[one.first] for one in found.better], [one.capture for one in found.better])
+        self.assertEqual(list(joined_text(found))[3:8], [
+            "better in a: 4 (pictures 5 to 6, picture 8, picture 30)",
+            "b: has 39, 3 of them alone, lacks 1 (picture 31 in a), whole: no",
+            "better in b: 4 (pictures 2 to 4, picture 20)",
+            "alike: 28 (picture 1, picture 7, pictures 9 to 19, pictures 24 to 29 and 1 more)",
+            "lacking in all: none"])
 
 
 # A capture has lost every fifth field of 30 pictures of film, which looks like a stretch of video. Both have picture 61
@@ -198,18 +250,39 @@ REFUSED = (
     (None, CHAPTERS, "1..40 2:30/2=-/c1/c1 32:40/2=-/c2/c2 42:80/2=-/c3/c3"),
     (None, CHAPTERS, "32..59 2:56/2=-/c5/c5"), (None, CHAPTERS, "50..89 2:80/2=-/c5/c5"),
     ("a and b differ in the programme status of 40 of 40 numbers (at 0:00:00.00 it is 8BA000 and 8DC0A1): two discs?",
-     "t0..39", "t0..39 2:80/2.16=8DC0A1"), (None, "t0..39", "t0..39 2:40/2.16=8DC0A1"))
-# Why they aren't compared, either
-ALIKE = (("a has pictures of PAL, b has times of PAL: two discs?", "1..40", "t0..29"),
-         ("a has pictures of NTSC, b has pictures of PAL: two discs?", "NTSC 1..9", "1..9"),
-         ("b has no numbers to %s", "1..40", "B"), ("a has no numbers to %s", "", "1..40"))
+     "t0..39", "t0..39 2:80/2.16=8DC0A1"), (None, "t0..39", "t0..39 2:40/2.16=8DC0A1"),
+    ("a has pictures of PAL, b has times of PAL: two discs?", "1..40", "t0..29"),
+    ("a has pictures of NTSC, b has pictures of PAL: two discs?", "NTSC 1..9", "1..9"),
+    # of film pictures with an odd number have three fields: ten of these are followed by another one
+    ("a has pictures of film, b has pictures of video: two discs?", "NTSC f1..20", "NTSC 1..20"),
+    ("b has pictures of film, a has pictures of video: two discs?", "NTSC b1..20", "NTSC f1..20"),
+    (None, "NTSC f1..19", "NTSC 1..40"), (None, "NTSC f1..40", "NTSC 41..80"),
+    ("b has no numbers to join", "1..40", "B"), ("a has no numbers to join", "", "1..40"))
+# What shows that captures are of one disc: a chapter that begins at one number, a programme status, or a users' code
+SHOWN = (
+    ("chapter", CHAPTERS, CHAPTERS), ("", "1..40 2:80/2=-/c1/c1", "1..40 2:80/2=-/c1/c1"),
+    ("chapter", CHAPTERS, "12..21 2:8/2=-/c1/c1 10:20/2=-/c2/c2"),
+    ("", CHAPTERS, "13..21 2:6/2=-/c1/c1 8:18/2=-/c2/c2"),
+    ("", CHAPTERS, "1..40 2:30/2=-/c1/c1 32:60/2=-/c2/c2 62:80/2=-/c3/c3"),
+    ("programme status", "t0..39", "t30..69"), ("", "t0..39", "t31..69"), ("", "t0..39", "t0..39 2:20/2.16=8DC0A1"),
+    ("users' code", "83D0A1/-/- 1..40", "83D0A1/-/- 1..40"), ("", "83D0A1/-/- 1..40", "83D0A2/-/- 1..40"),
+    ("users' code", "83D0A1/-/- 1..40", "83D0A2/-/- 41..60", "83D0A1/-/- 83D0A2/-/- 61..80"),
+    ("", "83D0A1/-/- 1..40", "83D0A1/-/- 1..40", "1..40"),
+    ("chapter, users' code", CHAPTERS + " 83D0A1/-/-", "83D0A1/-/- 41..60", CHAPTERS))
 
 
-class Refused(unittest.TestCase):
-    def test_rows(self):
-        for call, name, rows in ((joined, "join", REFUSED + ALIKE), (compare, "compare", ALIKE)):
-            for text, *sides in rows:
-                self.assertEqual(reason(call, *(made(one, side) for one in sides)), text and text.replace("%s", name))
+class OneDisc(unittest.TestCase):
+    def test_refused(self):
+        for text, *sides in REFUSED:
+            with self.subTest(sides):
+                self.assertEqual(reason(joined, *(made(one, side) for one in sides)), text)
+
+    def test_shown(self):
+        for kinds, *texts in SHOWN:
+            with self.subTest(texts):
+                found = together(*texts)
+                self.assertEqual(", ".join(found.shown_by), kinds)
+                self.assertEqual(list(joined_text(found)).count(NOTHING_SHOWS), int(not kinds))
 
 
 class Page(unittest.TestCase):
@@ -250,61 +323,14 @@ class Page(unittest.TestCase):
         for text in (*("<p>%s</p>" % text for text in joined_text(self.found)), bars_of(self.found),
                      '<details id="missing"><summary>numbers that no capture has: 1</summary>',
                      "<tr><td>22</td><td>22</td><td>1</td><td>lost</td></tr>",
+                     # each has lost what comes behind the picture, and perhaps a field of that
+                     "<tr><td>a</td><td>10</td><td>10</td><td>1</td></tr>\n<tr><td>b</td><td>20</td><td>20</td>",
                      "<p>disagreements of two captures: 0</p>", '<head><meta charset="utf-8"><title>a, b</title>'):
             self.assertIn(text, page)
-        self.assertEqual(page.count("<details"), 3)
+        self.assertEqual(page.count("<details"), 5)
         page = page_of_joined(join([capture_of(made("1..40", side), name) for name in ("<a>.tbc", "b & c.tbc")]), [])
         self.assertIn("<h1>&lt;a&gt;.tbc, b &amp; c.tbc</h1>", page)
         self.assertNotIn("<a>", page)
-
-
-# Of 4 the first one has 3, 2, none that is read, and 2 of another pass; the other one 2, and a line that is doubtful.
-# Picture 13 is alike, as line 16 isn't the number's. The first one has lost 21 to 23, the other one 31.
-ONE = "1..40 3=-/#2*/#2 5=-/?/#3 7=? 15=-/#8*/#8* -41:46"
-OTHER = "1..40 9=-/#5*/#5* 11=-/#6/#70000 15=-/#8/- 25=#13/#13/#13 -61:62"
-COMPARED = """
-    what each has | %s | %s | a 31 1 | b 21-23 3 | betterA 5-6 2 | betterB 2-4 3
-        | same 1 1, 7-20 14, 24-30 7, 32-40 9 | missing
-    what both lack | 1..40 -21:30 | 1..40 -29:34 | a 16-17 2 | b 11-14 4 | missing 15 1
-    times | t1490..1509 | t1495..1519 | a 0:00:59.15-0:00:59.19 5 | b 0:01:00.10-0:01:00.19 10 | betterA | betterB
-        | same 0:00:59.20-0:01:00.09 15
-    minutes | m58..59x3000 | m59x3000 | a 0:58 1 | same 0:59 1
-    shown again, and worse at first | 1..30 11..40 31=-/#16*/- | 1..40 | same 1-40 40
-    and later | 1..30 11..40 71=-/#16*/- | 1..40 | same 1-40 40
-    due is less than any line | 1..40 7=? | 1..40 7=-/?/#4* | betterB 4 1
-    pass 1 is more than recovered | 1..40 7=-/?/#4 | 1..40 7=-/?/#4^ | betterA 4 1
-    pass 2 isn't | 1..40 7=-/?/#4* | 1..40 7=-/?/#4^ | same 1-40 40
-    seconds count | t100..139 | t100..139 21.16=s4.10* | betterA 0:00:04.10 1
-""" % (ONE, OTHER)
-
-
-class Comparing(unittest.TestCase):
-    def test_rows(self):
-        """Each one the other way round, too."""
-        turned = {"a": "b", "b": "a", "betterA": "betterB", "betterB": "betterA"}
-        for name, one, other, *wanted in cells_of(COMPARED):
-            one, other = made(one, side), made(other, side)
-            for found, names in ((compare(one, other), {}), (compare(other, one), turned)):
-                found = compared(found)
-                for text in wanted:
-                    verdict, _, stretches = text.partition(" ")
-                    with self.subTest((name, verdict, names)):
-                        self.assertEqual(", ".join("%s %d" % (span(each), each["count"])
-                                                   for each in found[names.get(verdict, verdict)]), stretches)
-
-    def test_text(self):
-        found = compare(made(ONE, side), made(OTHER, side))
-        self.assertEqual((found.version, found.unit, found.counts), (1, "picture", [37, 39]))
-        self.assertEqual(list(comparison_text(found, ("x.tbc", "y.tbc"))), [
-            "pictures: 37 in x.tbc, 39 in y.tbc, 36 in both",
-            "in x.tbc alone: 1 (picture 31)", "in y.tbc alone: 3 (pictures 21 to 23)",
-            "better in x.tbc: 2 (pictures 5 to 6)", "better in y.tbc: 3 (pictures 2 to 4)",
-            "alike in both: 31 (picture 1, pictures 7 to 20, pictures 24 to 30, pictures 32 to 40)",
-            "together: pictures 1 to 40, none lost"])
-        found = compare(made("1..40 -21:30", side), made("1..40 -29:34", side))
-        self.assertEqual(compared(found)["missing"][0]["why"], "lost")
-        self.assertEqual(list(comparison_text(found, ("x", "y")))[-1], "together: pictures 1 to 40, 1 lost")
-        self.assertEqual(reason(compare, made("B", side), made("1..9", side), "xy"), "x has no numbers to compare")
 
 
 class Command(Calls):
@@ -315,25 +341,27 @@ class Command(Calls):
         write_stream(self.named("other.tbc"), NTSC, pictures(16)[4:8] + pictures(16)[10:])
         self.metadata("other.tbc.json")
 
-    def joined(self, words=""):
-        return self.printed("join side.vbi.json other.tbc " + words)
+    def joined(self, words="", said=""):
+        return self.printed("join side.vbi.json other.tbc " + words, said=said)
 
     def test_text_and_tables(self):
         """Of a picture with one field each has its own stretch."""
-        self.assertEqual(self.joined().decode().split("\n")[:2], [
-            "together: pictures 0 to 15, none lost", "side.vbi.json: has 12, lacks 4 (pictures 12 to 15 in other.tbc)"])
-        rows = self.joined("--csv").decode().split("\n")
+        self.assertEqual(self.joined().decode().split("\n")[:3], [
+            "together: pictures 0 to 15, none lost", NOTHING_SHOWS,
+            "side.vbi.json: has 12, 6 of them alone, lacks 4 (pictures 12 to 15 in other.tbc), whole: no"])
+        said = "ldvbi-side: %s\n" % NOTHING_SHOWS
+        rows = self.joined("--csv", said).decode().split("\n")
         self.assertEqual([*rows[:2], *rows[12:14], *rows[16:]], [
             "number,source,field,frame,how", "0,side.vbi.json,1,1,read", "11,side.vbi.json,12,6,read",
             "12,other.tbc,7,4,read", "15,other.tbc,10,5,read", ""])
-        rows = self.joined("--ranges").decode().split("\n")
+        rows = self.joined("--ranges", said).decode().split("\n")
         self.assertEqual([*rows[:2], *rows[16:]], ["first,last,source,first field,last field", "0,0,side.vbi.json,1,1",
                                                    "15,15,other.tbc,10,10", ""])
         found = json.loads(self.joined("--json"))
-        self.assertEqual([found["version"], found["system"], found["format"], found["unit"], found["captures"][1],
-                          found["taken"][12], found["ranges"][12]], [
-            1, "NTSC", "cav", "picture",
-            {"name": "other.tbc", "fields": 10, "numbers": {"count": 10, "least": 4, "greatest": 15}},
+        self.assertEqual([found["version"], found["system"], found["format"], found["unit"], found["shownBy"],
+                          found["captures"][1], found["taken"][12], found["ranges"][12]], [
+            1, "NTSC", "cav", "picture", [],
+            {"name": "other.tbc", "fields": 10, "whole": "no", "numbers": {"count": 10, "least": 4, "greatest": 15}},
             [12, "other.tbc", 7, 4, "read"],
             {"first": 12, "last": 12, "count": 1, "source": "other.tbc", "field": 7, "lastField": 7}])
 
@@ -341,9 +369,34 @@ class Command(Calls):
         self.assertEqual(self.joined("--html page.html"), b"")
         page = self.read("page.html")
         self.assertIn(b"<h1>side.vbi.json, other.tbc</h1>\n<p>together: pictures 0 to 15, none lost</p>", page)
-        self.assertEqual(self.joined("--csv --html page.html"), self.joined("--csv"))
+        self.assertEqual(self.joined("--json --html page.html"), self.joined("--json"))
         self.assertEqual(self.read("page.html"), page)
 
+    def test_sides_are_read_as_the_options_say(self):
+        """Both end without lead-out, and field 5 is worn. By the metadata the second fields begin frames."""
+        fields = words_of("1..8")
+        fields[4] = [0, *2 * [worn_line(0xF00003, NTSC, 9, 11)]]
+        for name in ("one.tbc", "two.tbc"):
+            write_stream(self.named(name), NTSC, fields)
+        self.metadata("meta.json", count=16)
+        for words, whole, frame, how in (
+                ("LEVELS", "can't tell", 3, "read"), ("--meta meta.json", "can't tell", 2, "read"),
+                ("LEVELS --no-recover", "can't tell", 3, "neighbours"), ("LEVELS --open-end", "yes", 3, "read"),
+                ("LEVELS --strict", "no", 3, "read")):
+            found = json.loads(self.printed("join --json one.tbc two.tbc " + words))
+            self.assertEqual(([one["whole"] for one in found["captures"]], found["taken"][2]),
+                             ([whole, whole], [3, "one.tbc", 5, frame, how]), words)
+
     def test_refused(self):
-        self.refused(IN_PLACE % "other.tbc", "join side.vbi.json other.tbc --html other.tbc")
-        self.refused(NO_METADATA, "join side.vbi.json side.tbc")
+        for text, words in (
+                (IN_PLACE % "other.tbc", "side.vbi.json other.tbc --html other.tbc"),
+                (IN_PLACE % "other.tbc.json", "side.vbi.json other.tbc --html other.tbc.json"),
+                (IN_PLACE % "meta", "side.tbc other.tbc --meta other.tbc.json --html meta"),
+                (NO_METADATA, "side.vbi.json side.tbc"),
+                (NO_METADATA, "other.tbc side.tbc --system NTSC --black 16384"),
+                ("side.tbc has no numbers to join", "side.tbc side.vbi.json --system NTSC --black=60000 --white=60001"),
+                ("side.vbi.json: a document has its system and levels; they are options of a TBC file",
+                 "side.vbi.json side.vbi.json --white 51200")):
+            os.symlink("other.tbc.json", self.named("meta"))
+            self.refused(text, "join " + words)
+            os.unlink(self.named("meta"))

@@ -3,8 +3,11 @@ the command lines that are refused. The exit statuses of all options and command
 docs/FORMATS.md, and the version; and the parsers of the command, of whose texts the manual page and the completions are
 made."""
 
+import bz2
 import gzip
+import lzma
 import os
+import re
 import unittest
 
 import ldvbi
@@ -14,6 +17,7 @@ from ldvbi_side.command.faults import naming
 from ldvbi_side.command.parsers import parser_of_side, parsers
 from ldvbi_side.command.statuses import MEANINGS, statuses_of
 from scanned import Scans
+from streams import PROGRAM, TOP
 
 SETTINGS = "give --meta, or --system, --black and --white"
 HALF = "--system NTSC --black 16384"
@@ -25,11 +29,12 @@ USAGE = {
         "--document --csv", "--document --json", "--document --summary", "--document --bad-lines", "--csv --seek 1",
         "--seek x", "--seek -1", "--system SECAM", "--black 1.0", "--recovered", "--recovered --json",
         "--recovered --document --no-recover"),
-    "compare side.vbi.json": ("",), "join side.vbi.json": ("", "side.vbi.json --csv --ranges"),
+    "join side.vbi.json": ("", "side.vbi.json --csv --ranges"),
     "scan": ("", "-j 0 side.tbc", "-j x side.tbc", "--csv --json side.tbc", "--again side.tbc")}
 # Those in which a name is empty
 UNNAMED = ("side.vbi.json --html", "side.vbi.json --svg", "side.vbi.json -o", "side.vbi.json --map", "side.tbc --into",
-           "side.tbc --meta", "scan side.vbi.json --html", "join side.vbi.json side.vbi.json --html")
+           "side.tbc --meta", "scan side.vbi.json --html", "join side.vbi.json side.vbi.json --html",
+           "join side.vbi.json side.vbi.json --meta")
 
 
 class Messages(Calls):
@@ -67,11 +72,56 @@ class Messages(Calls):
             ("side.tbc: white is not from 0 to 65535", "side.tbc --white 65536 " + HALF))
 
     def test_compressed_files(self):
-        for name, words in (("packed.tbc", "packed.tbc LEVELS"), ("packed.tbc.gz", "packed.tbc.gz"),
-                            ("packed.vbi.json", "packed.vbi.json"),
-                            ("packed.vbi.json", "compare side.vbi.json packed.vbi.json"),
-                            ("packed.tbc.json", "side.tbc --meta packed.tbc.json")):
-            self.each_file(name, words, (": it is compressed (gzip): unpack it first", gzip.compress(b"video")))
+        """Of a side alone the message has the command that reads it."""
+        extract = "ldvbi extract --meta "
+        for name, words, data, text in (
+                ("my side.tbc.gz", "'my side.tbc.gz'", gzip.compress(b"video"),
+                 "gzip): zcat 'my side.tbc.gz' | %s'my side.tbc.json' | ldvbi-side -" % extract),
+                ("packed.tbc", "packed.tbc LEVELS", bz2.compress(b"video"),
+                 "bzip2): bzcat packed.tbc | %spacked.tbc.json | ldvbi-side -" % extract),
+                ("side.tbc.xz", "side.tbc.xz --meta one.json", lzma.compress(b"video"),
+                 "xz): xzcat side.tbc.xz | %sone.json | ldvbi-side -" % extract),
+                ("s.tbc.lzma", "s.tbc.lzma", lzma.compress(b"video", lzma.FORMAT_ALONE),
+                 "lzma): lzcat s.tbc.lzma | %ss.tbc.json | ldvbi-side -" % extract),
+                ("side.tbc.zip", "side.tbc.zip", b"PK\x03\x04" + bytes(60),
+                 "zip): unzip -p side.tbc.zip | %sside.tbc.json | ldvbi-side -" % extract),
+                ("side.tbc.zst", "side.tbc.zst", b"\x28\xb5\x2f\xfd" + bytes(60),
+                 "zstd): zstdcat side.tbc.zst | %sside.tbc.json | ldvbi-side -" % extract),
+                ("side.vbi.json.gz", "side.vbi.json.gz", gzip.compress(b"{}"),
+                 "gzip): zcat side.vbi.json.gz | ldvbi-side -"),
+                ("side.tbc.flac", "side.tbc.flac", b"fLaC\x00\x00\x00\x22" + bytes(60), "FLAC): unpack it first"),
+                ("b.vbi.json", "join side.vbi.json b.vbi.json", gzip.compress(b"{}"), "gzip): unpack it first"),
+                ("meta.json", "side.tbc --meta meta.json", gzip.compress(b"{}"), "gzip): unpack it first")):
+            self.each_file(name, words, (": it is compressed (" + text, data))
+
+    def test_the_command_for_a_compressed_file_is_taken(self):
+        self.write("side.tbc.gz", gzip.compress(self.read("side.tbc")))
+        self.metadata("side.tbc.json")
+        command = self.run_words("side.tbc.gz")[2].partition("(gzip): ")[2].strip()
+        for name, path in (("ldvbi", PROGRAM), ("ldvbi-side", os.path.join(TOP, "python", "ldvbi-side"))):
+            command = re.sub("\\b%s " % name, path + " ", command)
+        status, text, said = self.run_command("-c", command, command=["sh"])
+        self.assertEqual((status, said), (1, ""))
+        self.assertEqual(text, self.run_command("side.vbi.json")[1])
+
+    def test_standard_input(self):
+        """It has a document: for a TBC file, and what is compressed, the message says what to do."""
+        make = "standard input is no document; make one of a TBC file: ldvbi extract --meta %s | ldvbi-side -"
+        for words, data, text in (
+                ("-", self.read("side.tbc")[:100000], make % "side.tbc.json"),
+                ("- --meta 'a b.json'", b"\0", make % "'a b.json'"),
+                ("-", gzip.compress(b"{}"), "standard input: it is compressed (gzip): unpack it first"),
+                ("-", b"", "standard input: " + NOT_JSON), ("-", b" {x", "standard input: not JSON: line 1 is wrong "
+                                                            "from column 3 on")):
+            with open(self.write("in", data), "rb") as file:
+                self.assertEqual(self.run_command(words, stdin=file), (2, b"", "ldvbi-side: %s\n" % text), data[:20])
+
+    def test_a_word_that_is_no_command(self):
+        os.symlink("nowhere", self.named("lost"))
+        text = "%s is no file and no command; the commands are join and scan"
+        self.each((text % "scna", "scna"), (text % "scna", "scna folder -j 1"),
+                  (text % "compare", "compare side.vbi.json side.vbi.json"), (text % "index", "index a.html b.html"),
+                  ("lost: No such file or directory", "lost"))
 
     def test_documents(self):
         self.each_file(
@@ -81,8 +131,7 @@ class Messages(Calls):
             (": not JSON: NaN is no number", b'{"version":NaN}'),
             (": not JSON: it is nested too deep", b"[" * 100000), (": not JSON: a number is too long", b"1" * 5000),
             (": field 1: seqNo is not there", self.document.replace(b'"seqNo":1,', b'"number":1,')))
-        self.each(("standard input: " + NOT_JSON, "-"),
-                  ("side.vbi.json is a document, and --document is of a TBC file", "side.vbi.json --document"),
+        self.each(("side.vbi.json is a document, and --document is of a TBC file", "side.vbi.json --document"),
                   *(("side.vbi.json: a document has its system and levels; they are options of a TBC file",
                      "side.vbi.json " + option) for option in ("--black 16384", "--system PAL")))
 
@@ -95,13 +144,11 @@ class Messages(Calls):
 
     def test_outputs(self):
         self.metadata("side.tbc.json")
-        self.printed("side.vbi.json --html page.html")
         os.mkdir(self.named("folder"))
         for option in ("-o", "--svg", "--html", "--map"):
             self.each((ABSENT, "side.vbi.json %s absent/out" % option),
                       ("folder: Is a directory", "side.vbi.json %s folder" % option))
-        self.each((ABSENT, "join side.tbc side.vbi.json --html absent/out"), (ABSENT, "index absent/out page.html"),
-                  ("absent.html: No such file or directory", "index index.html absent.html"))
+        self.each((ABSENT, "join side.tbc side.vbi.json --html absent/out"))
 
 
 class Naming(unittest.TestCase):
@@ -124,9 +171,9 @@ SIDES = ("whole.tbc", "lost.tbc", "dark.tbc", "cut.tbc")
 OPTIONS = {"": (0, 1, 4, 1), "--summary": (0, 1, 4, 1), "--seek 12": (0, 1, 1, 0), **dict.fromkeys((
     "--csv", "--json", "--bad-lines", "--document", "--svg side.svg", "--html side.html", "--map side.map",
     "--into copy.json"), (0, 0, 0, 3))}
-# The same of commands, in front of the name of a side; a side without numbers can't be compared.
-COMMANDS = {"scan": (0, 1, 4, 1), "join whole.tbc": (0, 0, 2, 3), "compare whole.tbc": (0, 0, 2, 3)}
-PRINTED = ("index", "--help", "--version")
+# The same of commands, in front of the name of a side; a side without numbers can't be joined.
+COMMANDS = {"scan": (0, 1, 4, 1), "join whole.tbc": (0, 0, 2, 3)}
+PRINTED = ("--help", "--version")
 # What goes with options, and has no status of its own
 WITH_OTHERS = {"--meta", "--system", "--black", "--white", "--no-recover", "--recovered", "--strict", "--open-end",
                "--output"}
@@ -153,19 +200,21 @@ class Statuses(Scans, Calls):
         for words, statuses in COMMANDS.items():
             for side, status in zip(SIDES, statuses):
                 self.check(status, "%s %s" % (words, side))
-        for words in ("join whole.tbc absent", "compare whole.tbc absent", "index out absent"):
-            self.check(2, words)
+        self.check(2, "join whole.tbc absent")
 
     def test_of_many_sides_the_weightiest(self):
         for words, status in (("scan whole.tbc dark.tbc", 4), ("scan dark.tbc lost.tbc", 1),
                               ("scan lost.tbc dark.tbc", 1), ("scan absent lost.tbc dark.tbc", 2),
                               # a capture that is cut, whichever it is
-                              ("join cut.tbc whole.tbc lost.tbc", 3), ("compare cut.tbc whole.tbc", 3)):
+                              ("join cut.tbc whole.tbc lost.tbc", 3)):
             self.assertEqual(self.run_words(words)[0], status, words)
 
     def test_what_is_printed_alone(self):
         """The version, and the summary of a side without an option."""
-        self.assertEqual(self.run_words("--version"), (0, "ldvbi-side %s\n" % ldvbi.__version__, ""))
+        status, text, said = self.run_words("--version")
+        self.assertEqual((status, said), (0, ""))
+        self.assertRegex(text, r"^ldvbi-side %s\nlibrary [0-9.]+ \([a-zR, ]+\): /.*libldvbi\.so\.1\n\Z" % re.escape(
+            ldvbi.__version__))
         for name in SIDES:
             self.assertEqual(self.run_words(name), self.run_words(name, "--summary"))
         self.assertEqual(self.run_words("whole.tbc")[1].split("\n")[0], "whole: yes")
@@ -186,8 +235,7 @@ class Statuses(Scans, Calls):
 
 # The statuses of each command, and of none: yes or done, no, a fault, a cut field, can't tell, and those of signals
 SIGNALS = [129, 130, 143]
-STATUSES = {"": [0, 1, 2, 3, 4, *SIGNALS], "compare": [0, 2, 3, *SIGNALS], "join": [0, 2, 3, *SIGNALS],
-            "index": [0, 2, *SIGNALS], "scan": [0, 1, 2, 4, *SIGNALS]}
+STATUSES = {"": [0, 1, 2, 3, 4, *SIGNALS], "join": [0, 2, 3, *SIGNALS], "scan": [0, 1, 2, 4, *SIGNALS]}
 
 
 class Parsers(unittest.TestCase):
@@ -205,5 +253,5 @@ class Parsers(unittest.TestCase):
         """So the manual page makes sentences of them, and zsh shows their first clause."""
         for command, parser in parsers("ldvbi-side").items():
             for action in parser._actions:
-                if action.dest not in ("help", "version"):
+                if action.dest != "help":
                     self.assertRegex(action.help, "^[a-z-].*[^.]$", (command, action.dest))

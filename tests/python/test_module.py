@@ -177,6 +177,21 @@ class Library(InFolder):
                              "blank\n%s is too old to %s, it has no ldvbi_%s: %s a later one, %s" % (
                                  file, purpose, name, MAKE, NAMES))
 
+    def test_which_is_loaded(self):
+        """The proved one is known by its version: from then on plain Rust says what it is. The loader may find it."""
+        version = "unsigned ldvbi_version(void) { return %d; }\n"
+        plain = "unsigned ldvbi_plain_rust(void) { return 1; }\n"
+        for more, text in ((version % 1000, "0.1.0 (proved or plain Rust)"), (version % 2000, "0.2.0 (proved)"),
+                           (version % 12034056 + plain, "12.34.56 (plain Rust, not proved)")):
+            file = self.other(1, 0, 0, more)
+            for name in (file, "other.so"):
+                self.assertEqual(run(TRY % "ldvbi.library.library_text()", LDVBI_LIBRARY=name,
+                                     LD_LIBRARY_PATH=self.folder), "library %s: %s\n" % (text, file))
+        self.assertRegex(run(TRY % "ldvbi.library.library_text()", LDVBI_LIBRARY=self.other(1, 0, 0)),
+                         "^.*/other.so is too old to say its version, it has no ldvbi_version: ")
+        with mock.patch("builtins.open", side_effect=OSError):
+            self.assertEqual(library._path_of("libldvbi.so.1"), "libldvbi.so.1")
+
     def test_places(self):
         """Each place before those behind it; the variable before all, but an empty one names none. Without a file the
         loader looks for the name."""

@@ -35,8 +35,8 @@ class Page:
             self.rows[one.get("id")] = [[cell.text or "" for cell in row.iter("td")] for row in one.iter("tr")][1:]
 
 
-def page(one, plot=None, title="side.tbc", command="dd"):
-    return page_of(one, title, summary(one.analysis.answer, lambda *line: command), plot)
+def page(one, plot=None, title="side.tbc", more=()):
+    return page_of(one, title, [*summary(one.analysis.answer), *more], plot)
 
 
 def cell(value):
@@ -79,7 +79,7 @@ class Pages(unittest.TestCase):
         one = damaged()
         read = Page(page(one))
         self.assertEqual(list(map(": ".join, zip(read.texts["dt"], read.texts["dd"]))),
-                         list(summary(one.analysis.answer, lambda *line: "dd"))[1:])
+                         list(summary(one.analysis.answer))[1:])
         self.assertEqual(read.texts["li"], [reason["text"] for reason in one.answer["reasons"]])
         self.assertLessEqual({"numbers lost, undecided or unread: 2", "unread, and their fields: 1"},
                              set(read.texts["summary"]))
@@ -109,9 +109,9 @@ class Pages(unittest.TestCase):
         name = '<b>"&\u00fc</b>.tbc'
         one = side(rows("Bx60"))
         one.answer["<b>&later</b>"] = [{"<b>&first": "<b>&one</b>", "near": None, "is": False, "places": [1, 2]}]
-        read = Page(page(one, title=name, command="dd if='%s'" % name))
+        read = Page(page(one, title=name, more=["name: " + name]))
         self.assertEqual([read.texts["h1"], read.texts["title"][:2]], [[name], [name, name]])
-        self.assertIn("dd if='%s'" % name, " ".join(read.texts["dd"]))
+        self.assertEqual(read.texts["dd"][-1], name)
         self.assertEqual(read.rows["<b>&later</b>"][0], ["<b>&one</b>", "", "no", "1, 2"])
         self.assertEqual(read.heads["<b>&later</b>"][0], "<b>&first")
         self.assertNotIn("b", [tag for tag, _ in read.tags])
@@ -126,7 +126,7 @@ class Pages(unittest.TestCase):
             self.assertEqual(re.findall("<h2>Bad lines, (.*)</h2>", found), [head] if head else [])
             self.assertEqual((len(drawn), drawn[:1], drawn[-1:]), (count, [(1, 16)] if count else [], last))
             self.assertNotIn("<h2>", page(one))
-        with mock.patch("ldvbi_side.draw.plot._PLACES", ()):  # nothing is drawn without the script
+        with mock.patch("ldvbi_side.draw.plotting._PLACES", ()):  # nothing is drawn without the script
             self.assertIsNone(plotter(side(rows("?/-/-")), "side.tbc"))
 
 

@@ -13,6 +13,7 @@ from discs import times
 from ldvbi import draw_line as steep
 from ldvbi.readings import Levels
 from ldvbi_side.answer.entries import Best
+from ldvbi_side.command.join import NOTHING_SHOWS
 from ldvbi_side.join.captures import capture_of
 from ldvbi_side.join.joined import join
 from ldvbi_side.join.piles import _levelled
@@ -194,7 +195,7 @@ class Command(Calls, Captures):
             self.metadata("%d.tbc.json" % cell)
         words = "join 5.tbc 6.tbc"
         self.assertIn(b"\nread together: 2 (picture 5, picture 12)\n", self.printed(words))
-        rows = self.printed(words + " --csv").decode().split("\n")
+        rows = self.printed(words + " --csv", said="ldvbi-side: %s\n" % NOTHING_SHOWS).decode().split("\n")
         self.assertEqual([row for row in rows if not row.endswith(",read")][1:-1], [
             "5,5.tbc,9,5,together", "12,5.tbc,23,12,together"])
 
@@ -231,7 +232,7 @@ class TriedLevels(InFolder):
         how many."""
         tried = self.levels(setup).tried
         best = tried.best
-        return [tried.read, tried.lines, best and options_of(best), best and best.read]
+        return [tried.read, tried.lines, best and options_of(tried), best and best.read]
 
     def test_rows(self):
         """A sample is high above the middle of the levels. So where codes are at 40 % of white no line has a high one;
@@ -263,7 +264,7 @@ class TriedLevels(InFolder):
             self.assertEqual(tried.best, Best(setup[0], None, None, 120))
             self.assertLess(20 * tried.read, tried.lines)
         self.draw(at_share(NTSC, 40))
-        self.assertEqual(self.best(PAL)[2:], ["--system NTSC --white 30000", 120])
+        self.assertEqual(self.best(PAL)[2:], ["--system NTSC --black 16384 --white 30000", 120])
 
     def test_one_of_two_fields_has_a_number(self):
         """Fields are looked at in pairs, all over the side: half of 200 lines are read."""

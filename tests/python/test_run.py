@@ -1,4 +1,4 @@
-"""The command: metadata beside TBC files, two captures, tables; and the files that it writes, never in the place of an
+"""The command: metadata beside TBC files, tables; and the files that it writes, never in the place of an
 input."""
 
 import json
@@ -22,6 +22,9 @@ class WithoutLibrary(Calls):
             self.assertEqual((status, text, said.count("\n")), (2, b"", 1), words)
             self.assertTrue(said.startswith("ldvbi-side: no library to read and judge with (/absent: "), said)
         self.assertEqual(self.run_command("--help", env=absent), self.run_command("--help"))
+        status, text, said = self.run_words("--version", env=absent)
+        self.assertEqual((status, text.count("\n"), said), (0, 2, ""))
+        self.assertIn("\nno library to read and judge with (/absent: ", text)
 
 
 class Metadata(Calls):
@@ -57,6 +60,15 @@ class Metadata(Calls):
         self.assertEqual((known["metadataFields"], known["frameBegin"], said.split("\n")[0]), (
             11, 1, "ldvbi-side: side.tbc: 12 fields and 7 bytes, side.tbc.json says 11: " + ANOTHER))
 
+    def test_what_a_summary_says_to_try(self):
+        """Metadata of another system lies beside the side: by the options that are named it is read."""
+        write_stream(self.named("side.tbc"), NTSC, pictures(60))
+        self.metadata("side.tbc.json", system="PAL", fieldWidth=1135, fieldHeight=313, white16bIre=54016)
+        found = re.search(r"^try: (.*), without --meta \(120 lines read, now [01] of 80\)$",
+                          self.run_words("side.tbc", "--summary")[1], re.M)
+        self.assertEqual(found[1], "--system NTSC --black 16384 --white 54016")
+        self.assertIn("line 17: 60 words, ", self.run_words("side.tbc " + found[1])[1])
+
     def test_strict(self):
         write_stream(self.named("side.tbc"), NTSC, words_of("1..4"))
         for words, status, wanted in (
@@ -65,13 +77,6 @@ class Metadata(Calls):
                 ("--strict --open-end", 1, b"whole: no: no lead-in")):
             found = self.run_command("side.tbc LEVELS --summary " + words)
             self.assertEqual((found[0], found[1].split(b"\n")[0]), (status, wanted))
-
-    def test_comparison(self):
-        write_stream(self.named("other.tbc"), NTSC, pictures(16)[4:])
-        self.metadata("other.tbc.json")
-        found = json.loads(self.printed("compare --json other.tbc side.vbi.json"))
-        self.assertEqual([found["a"], found["b"]], [[{"first": 12, "last": 15, "count": 4}],
-                                                    [{"first": 0, "last": 3, "count": 4}]])
 
 
 FIELDS = """field,frame,format,picture,chapter,time,stop,doubt,status,users,unknown
@@ -143,7 +148,7 @@ class Files(Calls):
             self.assertIn("(pictures/%s)" % name, text)
             self.assertEqual(self.read(name), self.read(os.path.join(docs, "pictures", name)))
 
-    def test_pages_and_their_index(self):
+    def test_pages(self):
         columns = bytearray(self.read("side.tbc"))
         begin = 2 * ((2 * 263 + 16) * 910 + 170)
         columns[begin:begin + 10] = columns[:10]  # five black columns in line 17 of field 3
@@ -154,9 +159,6 @@ class Files(Calls):
         self.write("side.vbi.json", self.extracted("side.tbc"))
         self.assertEqual(self.printed("side.vbi.json --html two.html"), b"")
         self.assertNotIn("Bad lines,", self.text("two.html"))
-        self.assertEqual(self.printed("index index.html side.html two.html"), b"")
-        self.assertIn('<a href="two.html">side.vbi.json</a>', self.text("index.html"))
-        self.refused(IN_PLACE % "side.html", "index side.html side.html")
 
     def test_no_output_in_the_place_of_an_input(self):
         self.metadata("side.tbc.json")
@@ -167,8 +169,7 @@ class Files(Calls):
                             ("new", "side.vbi.json --svg new -o new"), ("new", "side.vbi.json --svg new --map new")):
             with self.subTest(words):
                 self.refused(IN_PLACE % name, words)
-        for words in ("side.vbi.json", "compare side.vbi.json side.vbi.json", "join side.vbi.json side.vbi.json",
-                      "scan side.vbi.json"):
+        for words in ("side.vbi.json", "join side.vbi.json side.vbi.json", "scan side.vbi.json"):
             with self.subTest(words), open(self.named("side.vbi.json"), "ab") as file:
                 self.assertEqual(self.run_command(words, stdout=file),
                                  (2, None, "ldvbi-side: %s\n" % IN_PLACE % "standard output"))

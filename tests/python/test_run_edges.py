@@ -60,8 +60,8 @@ class Closed(Runs):
     def test_output(self):
         self.metadata("side.tbc.json")
         said = "ldvbi-side: standard output: Bad file descriptor\n"
-        for words in ("side.tbc --document", "side.vbi.json --json", "--help", "compare side.vbi.json side.vbi.json",
-                      "join side.vbi.json side.tbc", "scan -j 1 side.vbi.json"):
+        for words in ("side.tbc --document", "side.vbi.json --json", "--help", "join side.vbi.json side.tbc",
+                      "scan -j 1 side.vbi.json"):
             with self.subTest(words):
                 self.assertEqual(self.closed([1], words), (2, b"", said))
         # where nothing is printed nothing is wrong
@@ -220,7 +220,7 @@ class Names(Calls):
         title = next(xml.fromstring(self.read("side.svg")).iter("{http://www.w3.org/2000/svg}text"))
         # shown, and under the pointer
         self.assertEqual("".join(title.itertext()), 2 * "s\ufffd\ufffd[31m\ufffd<&>.tbc")
-        self.assertEqual(self.run_command("compare", self.NAME, "side.vbi.json")[0], 0)
+        self.assertEqual(self.run_command("join", self.NAME, "side.vbi.json")[0], 0)
 
     def test_on_standard_output(self):
         """In a locale of ASCII, say, a letter that it lacks is escaped; a name that is no text is printed as it is."""
@@ -238,7 +238,7 @@ class Names(Calls):
 
     def test_that_begin_as_options_do(self):
         self.write("-x", self.document)
-        for status, words in ((1, "-- -x"), (0, "compare -- -x -x"), (0, "join -- -x -x"), (1, "scan -- -x")):
+        for status, words in ((1, "-- -x"), (0, "join -- -x -x"), (1, "scan -- -x")):
             self.assertEqual(self.run_command(words)[::2], (status, ""), words)
 
 
@@ -256,9 +256,10 @@ class Others(Calls):
             self.assertLess(len(shown), 750)
 
     def test_what_has_no_end(self):
-        for words in ("/dev/zero", "side.tbc --meta /dev/zero", "index index.html /dev/zero", "scan --csv /dev/zero"):
+        for words in ("/dev/zero", "side.tbc --meta /dev/zero", "scan --csv /dev/zero"):
             with self.subTest(words):
                 self.assertEqual(self.run_command(words)[0], 2)
         with open("/dev/zero", "rb") as zeros:
             self.assertEqual(self.run_command("-", stdin=zeros), (
-                2, b"", "ldvbi-side: standard input: not JSON: line 1 is wrong from column 1 on\n"))
+                2, b"", "ldvbi-side: standard input is no document; make one of a TBC file: ldvbi extract --meta "
+                "side.tbc.json | ldvbi-side -\n"))

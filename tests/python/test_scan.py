@@ -1,11 +1,13 @@
 """`scan`: the table of a folder of sides, its statuses, and the pages with their index; which files of folders are
 sides, in which order, and what is compressed."""
 
+import bz2
 import contextlib
 import csv
 import gzip
 import io
 import json
+import lzma
 import os
 import re
 import shutil
@@ -137,7 +139,6 @@ class Pipes(Scans, Calls):
             os.mkfifo(self.named(name))
             if row:
                 self.assertEqual(self.row("--html pages side.tbc").split(",")[-1], row)
-                self.refused(row, "index i.html " + page)
             else:
                 self.refused("pages/index.html is no file", "scan --html pages side.tbc")
             shutil.rmtree(self.named("pages"))
@@ -273,6 +274,8 @@ class Folders(InFolder):
         for begin, name in ((gzip.compress(b""), "gzip"), (b"\x1f\x8b\x08\x08" + bytes(8), "gzip"),
                             (b"\x28\xb5\x2f\xfd" + bytes(8), "zstd"), (b"fLaC\x00\x00\x00\x22", "FLAC"),
                             (b"fLaC\x80\x00\x00\x22\x10", "FLAC"), (b"", None), (bytes(64), None),
+                            (lzma.compress(b""), "xz"), (lzma.compress(b"", lzma.FORMAT_ALONE), "lzma"),
+                            (bz2.compress(b"x"), "bzip2"), (b"PK\x03\x04" + bytes(8), "zip"),
                             (b"\x1f\x8b\x09\x00" + bytes(8), None), (b"\x1f\x8b\x08\x40" + bytes(8), None),
                             (b"fLaC" + bytes(8), None), (b"\x00" + gzip.compress(b""), None)):
             self.assertEqual(packed_as(begin), name, begin)

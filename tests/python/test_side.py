@@ -13,7 +13,6 @@ from ldvbi.readings import Cut, Levels
 from ldvbi_side.command.map import head_rows, map_rows
 from ldvbi_side.command.summary import MOST_LINES, summary
 from ldvbi_side.command.tables import bad_line_rows, field_rows
-from ldvbi_side.draw.plot import plot_command, tbc_name
 from ldvbi_side.answer.entries import Best, FewWords, Swapped, Tried
 from ldvbi_side.answer.lines import SIZES
 from ldvbi_side.seek import seek, text_of, wanted_of
@@ -130,7 +129,7 @@ class Tables(unittest.TestCase):
 
 
 def lines_of(one):
-    return list(summary(one.analysis.answer, lambda *line: plot_command(one, "side.tbc", *line)))
+    return list(summary(one.analysis.answer))
 
 
 DAMAGED = """
@@ -221,59 +220,44 @@ class Summaries(unittest.TestCase):
             [{"digit": 3, "digits": "00F", "count": 1, "first": 6, "last": 6}], "yes", []])
 
     def test_levels(self):
-        blank, bad, recovered = (lines_of(made(text, side))[6] for text in ("NTSC Bx4", "-/?/!x4", "-/#3^/#3^x30"))
-        self.assertRegex(blank, r"^levels: lines 17 and 18 have 0 words, 0 are bad, 8 blank: black and white may be "
-                         r"too high, or the side has no codes\. Look at one: dd if=side\.tbc bs=1820 skip=542 count=1 "
-                         r"status=none \| python3 \S*contrib/plot_line\.py --system NTSC --black 16384 --white 51200 "
-                         r"--title 'side\.tbc, field 3, line 17' > line\.svg$")
-        self.assertRegex(bad, r"^levels: lines 17 and 18 have 0 words, 8 are bad, 0 blank: black and white may be "
-                         r"wrong, or the signal is noise\. Look at one: dd ")
-        self.assertRegex(recovered, "^levels: lines 17 and 18 have 0 words of their own, 60 are bad, 0 blank: ")
-        one = made("NTSC Bx20", side)  # of which other levels read more
-        tried = Tried(40, 0, 16384, 51200, Best(None, None, 30000, 40))
-        levels = one.analysis.answer.levels._replace(tried=tried)
-        one.analysis = one.analysis._replace(answer=one.analysis.answer._replace(levels=levels))
-        self.assertIn(": 0 of 40 lines read with black 16384, white 51200; 40 with --white 30000. Look at one: dd ",
-                      lines_of(one)[6])
+        """What lines 17 and 18 have, and what to try, by what else is known; each in a line of 100 columns at most."""
+        def trial(*best):
+            return Tried(200, 10, 16384, 51200, Best(*best))
+        lower = "try: lower black and white, if the side has codes at all"
+        other = "try: another black and white; the signal may be noise, see --bad-lines"
+        for text, tried, wanted in (
+                ("Bx4", None, ["0 words, 0 are bad, 8 blank", lower]), ("-/?/!x4", None, ["0 words, 8 are bad, 0 blank",
+                                                                                      other]),
+                ("-/#3^/#3^x30", None, ["0 words of their own, 60 are bad, 0 blank", other]),
+                ("Bx4", trial(None, None, 30000, 98), ["0 words, 0 are bad, 8 blank",
+                                                       "try: --white 30000 (98 lines read, now 10 of 200)"]),
+                ("Bx4", trial("PAL", None, None, 200), [
+                    "0 words, 0 are bad, 8 blank",
+                    "try: --system PAL --black 16384 --white 51200, without --meta (200 lines read, now 10 of 200)"])):
+            one = made(text, side)
+            answer = one.analysis.answer
+            found = list(summary(answer._replace(levels=answer.levels._replace(tried=tried))))[6:8]
+            self.assertEqual(found, ["levels: lines 17 and 18 have " + wanted[0], wanted[1]])
+            self.assertLessEqual(max(map(len, found)), 100)
 
     def test_levels_are_blamed_of_the_right_file_alone(self):
-        text = "perhaps another system, or another file's metadata. Look at one: dd "
         for expected, cut, is_other in ((4, None, False), (None, None, False), (5, None, True), (3, None, True),
                                         (4, Cut(5, 7), True), (None, Cut(5, 7), True)):
             for shown in ("Bx4", "-/?/!x4"):
                 one = made(shown, side, cut=cut)
                 one.expected = expected
-                line = lines_of(one)[6]
-                self.assertEqual((text in line, "black and white may be" in line), (is_other, not is_other), line)
+                line = lines_of(one)[7]
+                self.assertEqual(line == "try: another system, or this file's own metadata", is_other, line)
+                self.assertEqual("black and white" in line, not is_other)
 
-    def test_at_most_25_lines(self):
+    def test_at_most_26_lines(self):
         # a second row of numbers on line 17
         known = made("NTSC t0..8999!400%1001 -101:110 1:17972/2.17=@2:20", typed)
         self.assertTrue(known.second_rows and known.left_out)
         known = known._replace(levels=FewWords("bad", 1, 9, 1, 1, 17, None), swapped=[Swapped(1, "2:20:00.00")])
-        lines = list(summary(known, lambda *line: "dd"))
-        self.assertEqual((len(lines), MOST_LINES), (25, 25))
+        lines = list(summary(known))
+        self.assertEqual((len(lines), MOST_LINES), (26, 26))
         self.assertTrue([line for line in lines if line.startswith("a second row of numbers, not taken: 2:20:")])
-
-
-class Plotting(InFolder):
-    def test_the_command(self):
-        """From another folder the script's whole path is printed, and its name where it isn't there."""
-        self.assertEqual([tbc_name(name) for name in ("a/side.vbi.json", "side.json", "side.tbc", "-")],
-                         ["a/side.tbc", "side.tbc", "side.tbc", "side.tbc"])
-        command = plot_command(made("B", side), "my side.tbc", 1, 16)
-        self.assertIn("dd if='my side.tbc' bs=2270 skip=15 ", command)
-        self.assertIn("--title 'my side.tbc, field 1, line 16'", command)
-
-        def path():
-            return plot_command(made("B", side), "side.tbc", 1, 16).split("python3 ")[1].split(" ")[0]
-        self.assertTrue(os.path.exists(path()))
-        self.addCleanup(os.chdir, os.getcwd())
-        os.chdir(self.folder)
-        self.assertTrue(os.path.isabs(path()))
-        for places in ((), ("nowhere/plot_line.py",)):
-            with mock.patch("ldvbi_side.draw.plot._PLACES", places):
-                self.assertEqual(path(), "plot_line.py")
 
 
 class Sides(unittest.TestCase):

@@ -3,7 +3,9 @@
 import contextlib
 import os
 import shlex
-from typing import Iterator
+from typing import Iterator, Optional
+
+from ldvbi.packed import ENDS, packed_as, refuse_packed
 
 STANDARD_INPUT, STANDARD_OUTPUT = "standard input", "standard output"
 SETTINGS = "give --meta, or --system, --black and --white"
@@ -32,6 +34,30 @@ def naming(name: str) -> Iterator[None]:
     except ValueError as error:
         text = str(error)
         raise ValueError(text if text.startswith(name) else "%s: %s" % (name, text)) from None
+
+
+# What unpacks a file to standard output, by the form in which it is packed
+_UNPACKS = {"gzip": "zcat", "zstd": "zstdcat", "xz": "xzcat", "bzip2": "bzcat", "lzma": "lzcat", "zip": "unzip -p"}
+
+
+def refuse_packed_side(path: str, begin: bytes, meta: Optional[str]) -> None:
+    """Raises a ValueError where a side begins with these bytes, and is compressed: with the command that reads it, by
+    this metadata, or by that beside it."""
+    unpack = _UNPACKS.get(packed_as(begin) or "")
+    if unpack is None:
+        refuse_packed(path, begin)
+        return
+    name = next((path[:-len(end)] for end in ENDS if path.endswith(end)), path)
+    extract = "" if name.endswith(".json") else "ldvbi extract --meta %s | " % shlex.quote(meta or name + ".json")
+    raise ValueError("%s: it is compressed (%s): %s %s | %sldvbi-side -" % (
+        path, packed_as(begin), unpack, shlex.quote(path), extract))
+
+
+def refuse_no_document(begin: bytes, meta: Optional[str]) -> None:
+    """Raises a ValueError where standard input begins with these bytes, and isn't text, as a TBC file."""
+    if begin.strip() and not begin.lstrip().startswith(b"{"):
+        raise ValueError("%s is no document; make one of a TBC file: ldvbi extract --meta %s | ldvbi-side -" % (
+            STANDARD_INPUT, shlex.quote(meta or "side.tbc.json")))
 
 
 def refuse_folder(path: str) -> None:

@@ -4,41 +4,48 @@ import argparse
 import csv
 import json
 import sys
-from typing import Any, Callable, Dict, Iterator, List, Optional, Tuple
+from typing import Any, Dict, Iterator, List, Optional, Tuple
 
 from ..draw.marks import SKIPPED, fields_text
-from ..join.captures import TOGETHER, capture_of
-from ..join.entries import Dispute, Joined, Lacking, Told, Together
+from ..join.captures import TOGETHER, Capture
+from ..join.entries import Dispute, Joined, Lacking, Told
 from ..join.joined import join
 from ..join.plain import as_json
-from ..outside import printable
-from ..side import Side
+from ..outside import printable, say
+from .folders import files_of
 from .outputs import refuse_inputs, whole_file
-from .parser import Parser
+from .parser import Parser, add_settings
 from .statuses import statuses_text
 from .summary import listed, named
 
 DESCRIPTION = """Joins two or more captures of one side by their numbers. It says which numbers they have together,
-which of these each one lacks and who has them, which all lack, and where two of them disagree about a number. A number
-that none of several TBC files reads is read together, if their lines say it as one pile. Captures that can't be of one
-disc are refused. """ + statuses_text("join")
+which of these each one lacks and who has them, which of them one capture shows better than others, which all lack, and
+where two of them disagree about a number. A number that none of several TBC files reads is read together, if their
+lines say it as one pile. Captures that can't be of one disc are refused. """ + statuses_text("join")
+NOTHING_SHOWS = "nothing but their numbers shows that these are one disc"
 TAKEN_COLUMNS = ("number", "source", "field", "frame", "how")
 RANGE_COLUMNS = ("first", "last", "source", "first field", "last field")
 
 
-def run_join(program: str, words: List[str], load: Callable[[str], Side]) -> int:
-    """Prints what the captures that these words name have together. `load` makes the side of a file."""
+def join_options(program: str, words: List[str]) -> argparse.Namespace:
+    """The options of these words, which write over no file that is read."""
     parser = parser_of_join(program)
     options = parser.parse_args(words)
-    if options.html == "":
+    if "" in (options.html, options.meta):
         parser.error("a file has to have a name")
-    refuse_inputs([1, options.html], options.sides)
-    # one side at a time, so that no more than one is held as a whole
-    joined = join([capture_of(load(path), path) for path in options.sides])
+    refuse_inputs([1, options.html], [*(file for path in options.sides for file in files_of(path)), options.meta])
+    return options
+
+
+def print_joined(options: argparse.Namespace, captures: List[Capture]) -> None:
+    """Prints and draws what these captures have together, as the options ask for it."""
+    joined = join(captures)
     if options.html:
         from ..draw.together import page_of_joined
         with whole_file(options.html) as file:
             file.write(page_of_joined(joined, joined_text(joined)))
+    if (options.csv or options.ranges) and not joined.shown_by:
+        say(NOTHING_SHOWS)  # which all other forms have in themselves
     if options.csv:
         _print_rows(TAKEN_COLUMNS, joined.taken)
     elif options.ranges:
@@ -47,19 +54,20 @@ def run_join(program: str, words: List[str], load: Callable[[str], Side]) -> int
         print(json.dumps(as_json(joined)))
     elif not options.html:
         print(*map(printable, joined_text(joined)), sep="\n")
-    return 0
 
 
 def parser_of_join(program: str) -> argparse.ArgumentParser:
     """What reads the words behind `join`."""
     parser = Parser(prog=program + " join", description=DESCRIPTION)
     parser.add_argument("sides", nargs="+", metavar="SIDE", action=_TwoOrMore,
-                        help="a document, or a TBC file with its metadata beside it; two or more of them")
+                        help="a document, or a TBC file with its metadata beside it or with the options below; two or "
+                        "more of them")
+    add_settings(parser, "each TBC file")
     output = parser.add_mutually_exclusive_group()
     output.add_argument("--csv", action="store_true", help="print a row for each number, with the capture to take it "
                         "from, and its first field and frame there")
     output.add_argument("--ranges", action="store_true", help="print the same in stretches of numbers that one "
-                        "capture has in fields that follow each other")
+                        "capture has in fields that follow each other, to see which capture has which frames better")
     output.add_argument("--json", action="store_true", help="print all that they have together, as JSON")
     parser.add_argument("--html", metavar="FILE", help="write a page into this file on which the captures are bars, "
                         "one above the other; print only what another option asks for")
@@ -91,28 +99,39 @@ def range_rows(joined: Joined) -> Iterator[Tuple[Any, ...]]:
 
 def joined_text(joined: Joined) -> Iterator[str]:
     """What was joined, as lines: lists in the disc's order, four places of each at most."""
-    unit, (_, missing, left_out) = joined.unit, joined.together
-    yield together_text(unit, joined.together)
-    for one in joined.captures:
-        lacks = [lack for lack in joined.lacks if lack.capture == one.name]
-        yield "%s: has %d, lacks %s" % (one.name, one.numbers.count_, listed(
-            _count(lacks), lacks, lambda lack: "%s in %s" % (_numbers_of(lack, unit), " and ".join(lack.in_))))
+    unit, missing = joined.unit, joined.missing
+    found = ["%d %s" % (count, why) for why, count in _counts(missing).items()] or ["none lost"]
+    yield "together: %s, %s" % (named(unit, *joined.numbers[1:]), ", ".join(found))
+    if not joined.shown_by:
+        yield NOTHING_SHOWS
+    yield from _capture_lines(joined)
+    yield "alike: " + _listed(joined.alike, unit)
     yield "lacking in all: " + listed(_count(missing), missing, lambda one: "%s %s" % (
         _numbers_of(one, unit), one.why))
-    if left_out:
-        yield "%s: %d" % (SKIPPED, _count(left_out))
+    if joined.left_out:
+        yield "%s: %d" % (SKIPPED, _count(joined.left_out))
     piled = [one.number for one in joined.taken if one.how == TOGETHER]
     if piled:
         yield "read together: " + listed(len(piled), piled, lambda number: named(unit, number, number))
-    found = joined.disagreements
-    yield "disagreements: " + listed(len(found), found, lambda one: _disagreement_text(one, unit))
+    disputes = joined.disagreements
+    yield "disagreements: " + listed(len(disputes), disputes, lambda one: _disagreement_text(one, unit))
 
 
-def together_text(unit: Optional[str], together: Together) -> str:
-    """The numbers that captures have together, from the least to the greatest, and how many between these none has."""
-    _, least, greatest = together.numbers
-    texts = ["%d %s" % (count, why) for why, count in _counts(together.missing).items()] or ["none lost"]
-    return "together: %s, %s" % (named(unit, least, greatest), ", ".join(texts))
+def _capture_lines(joined):
+    """What each capture has and lacks, and which numbers it shows better than all others that have them."""
+    unit = joined.unit
+    for one in joined.captures:
+        lacks, alone, better = ([part for part in parts if part.capture == one.name]
+                                for parts in (joined.lacks, joined.alone, joined.better))
+        lacking = listed(_count(lacks), lacks, lambda lack: "%s in %s" % (
+            _numbers_of(lack, unit), " and ".join(lack.in_)))
+        yield "%s: has %d, %s of them alone, lacks %s, whole: %s" % (
+            one.name, one.numbers.count_, _count(alone) or "none", lacking, one.whole)
+        yield "better in %s: %s" % (one.name, _listed(better, unit))
+
+
+def _listed(stretches, unit):
+    return listed(_count(stretches), stretches, lambda one: _numbers_of(one, unit))
 
 
 def _counts(missing: List[Lacking]) -> Dict[str, int]:

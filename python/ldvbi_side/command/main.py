@@ -13,17 +13,18 @@ from ldvbi.metadata import beside, read_metadata, settings_of
 from ldvbi.packed import refuse_packed
 from ldvbi.regular import regular
 from ldvbi.stream import cut_of
-from ..draw.plot import plot_command
 from ..outside import (NAME, bytes_of_document, drop_standard_output, flush, flush_or_drop, printable, raise_lost,
                        say)
 from ..seek import seek, text_of
 from ..answer.entries import Answer
 from ..side import Side, side_of_document, side_of_stream, stream_of_tbc
-from .faults import SETTINGS, STANDARD_INPUT, fault_text, naming, no_metadata, refuse_folder
+from .faults import (SETTINGS, STANDARD_INPUT, fault_text, naming, no_metadata, refuse_folder, refuse_no_document,
+                     refuse_packed_side)
 from .into import Into
 from .map import COLUMNS as MAP_COLUMNS, head_rows, map_rows
 from .outputs import refuse_inputs, whole_file
-from .parsers import parser_of_compare, parser_of_index, parser_of_side
+from .parser import settings_in
+from .parsers import parser_of_side
 from .progress import Progress
 from .statuses import FAULT, OF_SIDE, of_many
 from .summary import summary
@@ -36,11 +37,10 @@ def _settings(options):
     return [options.system, options.black, options.white]
 
 
-def _refuse_settings(options, names, sources):
-    """Raises a ValueError where system or levels are given, and none of the sources with these names is a TBC file."""
-    is_given = any(value is not None for value in _settings(options))
-    if is_given and all(isinstance(source, Side) for source in sources):
-        raise ValueError("%s: a document has its system and levels; they are options of a TBC file" % names[0])
+def _refuse_settings(options, name, is_tbc):
+    """Raises a ValueError where system or levels are given, and the side with this name is a document."""
+    if not is_tbc and any(value is not None for value in _settings(options)):
+        raise ValueError("%s: a document has its system and levels; they are options of a TBC file" % name)
 
 
 def _name_of(options):
@@ -58,12 +58,23 @@ def _source(options, on_field=None):
             open(0 if is_standard_input else options.side, "rb", closefd=not is_standard_input,
                  opener=None if options.waits else regular) as file:
         begin = file.peek(64)
-        refuse_packed(_name_of(options), begin)
+        _refuse_begin(options, begin)
         side = None
         if is_standard_input or is_document(options.side, begin):
             side = side_of_document(bytes_of_document(file, begin))
     metadata = _metadata(options, on_field)
     return side or _stream(options, metadata), metadata
+
+
+def _refuse_begin(options, begin):
+    """Raises a ValueError where a side that begins with these bytes is compressed, or is standard input and no text."""
+    if options.side == "-":
+        refuse_packed(STANDARD_INPUT, begin)
+        refuse_no_document(begin, options.meta)
+    elif options.is_alone:
+        refuse_packed_side(options.side, begin, options.meta)
+    else:
+        refuse_packed(options.side, begin)
 
 
 def _metadata(options, on_field):
@@ -169,14 +180,8 @@ def _write_files(side, options, is_tbc):
         from ..draw.page import page_of
         from ..draw.plotting import plotter
         with whole_file(options.html) as file:
-            lines = summary(side.analysis.answer, _plot_command(side, options))
-            file.write(page_of(side, os.path.basename(options.side), lines,
+            file.write(page_of(side, os.path.basename(options.side), summary(side.analysis.answer),
                                plotter(side, options.side) if is_tbc else None))
-
-
-def _plot_command(side, options):
-    """What makes the command that draws a line of this side, of its field and its number."""
-    return lambda *line: plot_command(side, options.side, *line)
 
 
 def _files(options):
@@ -199,10 +204,11 @@ def _is_judged(options):
     return any([*_drawn(options), options.csv, options.json, options.bad_lines, options.seek, options.summary])
 
 
-def _options(words):
-    """The options of these words, with the metadata beside the TBC file where they leave something open."""
+def _options(words, settings=None):
+    """The options of these words, and of these settings, with the metadata beside the TBC file where they leave
+    something open."""
     parser = parser_of_side(NAME)
-    options = parser.parse_args(words)
+    options = parser.parse_args(words, settings)
     if not (_is_printed(options) or any(_files(options))):
         options.summary = True
     if "" in (options.meta, options.output, *_files(options)):
@@ -211,58 +217,29 @@ def _options(words):
         parser.error("--recovered is of --document or --into, and not with --no-recover")
     is_open = options.into or None in _settings(options)
     options.waits = True  # if the side is a pipe
+    options.is_alone = settings is None  # not one of several
     options.is_beside = not options.meta and is_open and options.side.endswith(".tbc")
     if options.is_beside:
         options.meta = beside(options.side)
     return options
 
 
-def _side_at(path):
-    """The side of a document, or of a TBC file with its metadata beside it."""
-    options = _options(["--", path])
-    return _loaded(*_source(options), options)
-
-
 def _join(words):
     """Prints what captures have together."""
-    from .join import run_join  # which loads much that a single side doesn't need, as compare does
-    cuts = []
-
-    def load(path):
-        side = _side_at(path)
-        cuts.append(_cut_status(side.cut, side.system, path))
-        return side
-
-    return of_many([run_join(NAME, words, load), *cuts])
-
-
-def _compare(words):
-    """Prints what two sides have of each other's numbers."""
-    from .compare import as_json, compare, comparison_text
-    options = parser_of_compare(NAME).parse_args(words)
-    refuse_inputs([1], options.sides)
-    given = ["--%s=%s" % pair for pair in zip(("system", "black", "white"), _settings(options)) if pair[1] is not None]
-    of_each = [_options([*given, "--", path]) for path in options.sides]
-    sources = [_source(one) for one in of_each]
-    _refuse_settings(options, options.sides, [source for source, _ in sources])
-    sides = [_loaded(*source, one) for source, one in zip(sources, of_each)]
-    found = compare(*sides, options.sides)
-    if options.json:
-        print(json.dumps(as_json(found)))
-    else:
-        print(*map(printable, comparison_text(found, options.sides)), sep="\n")
-    return of_many(_cut_status(side.cut, side.system, path) for side, path in zip(sides, options.sides))
-
-
-def _index(words):
-    """Writes a page that links those of many sides."""
-    options = parser_of_index(NAME).parse_args(words)
-    refuse_inputs([options.index], options.pages)
-    from ..draw.index import index_of
-    text = index_of(options.index, options.pages)
-    with whole_file(options.index) as file:
-        file.write(text)
-    return 0
+    from ..join.captures import capture_of  # these load much that a single side doesn't need
+    from .join import join_options, print_joined
+    given = join_options(NAME, words)
+    captures, statuses, is_tbc = [], [], False
+    for path in given.sides:  # one at a time, so that no more than one is held as a whole
+        options = _options(["--", path], settings_in(given))
+        source, metadata = _source(options)
+        is_tbc = is_tbc or not isinstance(source, Side)
+        side = _loaded(source, metadata, options)
+        captures.append(capture_of(side, path))
+        statuses.append(_cut_status(side.cut, side.system, path))
+    _refuse_settings(given, given.sides[0], is_tbc)
+    print_joined(given, captures)
+    return of_many(statuses)
 
 
 def _scan(words):
@@ -296,7 +273,7 @@ def _answer(options):
     """Prints and draws what the options ask for."""
     into = Into(options.into) if options.into else None
     source, metadata = _source(options, into and into.places.add)
-    _refuse_settings(options, [_name_of(options)], [source])
+    _refuse_settings(options, _name_of(options), not isinstance(source, Side))
     if options.document:
         if isinstance(source, Side):
             raise ValueError("%s is a document, and --document is of a TBC file" % _name_of(options))
@@ -316,7 +293,7 @@ def _answer(options):
         print(text_of(found))
         return int(found is None)
     if options.summary:
-        print(*map(printable, summary(answer, _plot_command(side, options))), sep="\n")
+        print(*map(printable, summary(answer)), sep="\n")
         return OF_SIDE[answer.whole]
     if options.json:
         json.dump(side.answer, sys.stdout)
@@ -328,10 +305,21 @@ def _answer(options):
     return _cut_status(side.cut, side.system, _name_of(options))
 
 
+_COMMANDS = {"join": _join, "scan": _scan}
+
+
+def _refuse_no_command(word):
+    """Raises a ValueError for a word that could be a command's name, and is neither one nor that of a file."""
+    if word.isalpha() and not os.path.lexists(word):
+        raise ValueError("%s is no file and no command; the commands are %s" % (word, " and ".join(_COMMANDS)))
+
+
 def main(words: Optional[List[str]] = None) -> int:
     words = sys.argv[1:] if words is None else words
     try:
-        command = {"compare": _compare, "join": _join, "index": _index, "scan": _scan}.get(words[0] if words else "")
+        command = _COMMANDS.get(words[0]) if words else None
+        if words and not command:
+            _refuse_no_command(words[0])
         try:
             status = command(words[1:]) if command else _run(_options(words))
         except SystemExit:

@@ -1,8 +1,15 @@
-"""What reads the words of each command."""
+"""What reads the words of each command, and the options by which a side is read, which several commands have."""
 
 import argparse
 import sys
-from typing import IO, Optional
+from typing import IO, Any, Optional, Sequence
+
+from ldvbi import System, __version__
+from ldvbi.library import library_text
+from ..outside import NAME, printable
+from .statuses import OPEN_END
+
+LEVELS = "the sample of %s, from 0 to 65535, in place of the metadata's; black is below white"
 
 
 class Parser(argparse.ArgumentParser):
@@ -10,3 +17,43 @@ class Parser(argparse.ArgumentParser):
 
     def _print_message(self, message: str, file: Optional[IO[str]] = None) -> None:
         (file or sys.stderr).write(message)
+
+
+class Version(argparse.Action):
+    """Prints the version, and which library is loaded, or why none is."""
+
+    def __init__(self, option_strings: Sequence[str], dest: str, **more: Any) -> None:
+        super().__init__(option_strings, argparse.SUPPRESS, nargs=0, **more)
+
+    def __call__(self, parser: argparse.ArgumentParser, namespace: argparse.Namespace, values: Any,
+                 option_string: Optional[str] = None) -> None:
+        print("%s %s" % (NAME, __version__))
+        try:
+            print(printable(library_text()))
+        except OSError as error:
+            print(printable(str(error)))
+        parser.exit()
+
+
+def add_settings(parser: argparse.ArgumentParser, tbc: str = "a TBC file") -> None:
+    """Adds the options by which a side is read. `tbc` is what the help calls the files that some of them are of."""
+    parser.add_argument("--meta", metavar="FILE", help="take system and levels of %s from this .tbc.json or .tbc.db of "
+                        "ld-decode, and not from the one beside the file. Levels with decimals are rounded to the "
+                        "nearest whole number. The count of fields in it is compared with the side. Its isFirstField "
+                        "shows single lost fields, of a document as well; columns in its dropOuts count for no "
+                        "recovered word" % tbc)
+    parser.add_argument("--system", choices=list(System.__members__), help="the system of %s, in place of the "
+                        "metadata's" % tbc)
+    parser.add_argument("--black", metavar="N", type=int, help=LEVELS % "black")
+    parser.add_argument("--white", metavar="N", type=int, help=LEVELS % "white")
+    parser.add_argument("--no-recover", action="store_true", help="leave out the words that are recovered from worn "
+                        "lines of %s, those of pass 3" % tbc)
+    parser.add_argument("--strict", action="store_true", help="say that a side without lead-in or lead-out, or with an "
+                        "unread number, isn't whole")
+    parser.add_argument("--open-end", action="store_true", help=OPEN_END + ". With --strict, too")
+
+
+def settings_in(options: argparse.Namespace) -> argparse.Namespace:
+    """Those of the options that `add_settings` adds."""
+    names = ("meta", "system", "black", "white", "no_recover", "strict", "open_end")
+    return argparse.Namespace(**{name: getattr(options, name) for name in names})

@@ -3,22 +3,16 @@
 import argparse
 from typing import Dict
 
-from ldvbi import System, __version__
 from ..seek import wanted_of
-from .parser import Parser
-from .statuses import OPEN_END, statuses_text
+from .parser import Parser, Version, add_settings
+from .statuses import statuses_text
 from .summary import MOST_LINES
 
 DESCRIPTION = """Reads a side from a TBC file, or from a document that `ldvbi extract` wrote, and says what its words
 mean together: which numbers, times and chapters are believed, and which are lost, unread, shown again or doubtful. A
-file is taken for a document if its name ends with .json or its text begins as a document does. The words `compare SIDE
-SIDE` compare two sides, and `join SIDE SIDE..` joins captures of one; `index FILE PAGE..` writes a file that links
-pages of --html; `scan PATH..` prints a table of the sides in folders. """ + statuses_text()
-COMPARISON = """Compares two captures of one side by their numbers. It says which numbers only one of them has, and
-which of those that both have one of them shows better: by more lines, or by lines read without smoothing instead of
-others. It ends with what the two have together. """ + statuses_text("compare")
-INDEX = "Writes a page that links these pages. " + statuses_text("index")
-LEVELS = "the sample of %s, from 0 to 65535, in place of the metadata's; black is below white"
+file is taken for a document if its name ends with .json or its text begins as a document does. The words `join SIDE
+SIDE..` compare and join captures of one side, and `scan PATH..` prints a table of the sides in folders. """ \
+    + statuses_text()
 
 
 def _wanted(text):
@@ -28,20 +22,12 @@ def _wanted(text):
         raise argparse.ArgumentTypeError(str(error)) from None
 
 
-
 def parser_of_side(program: str) -> argparse.ArgumentParser:
     """What reads the words where there is no command."""
     parser = Parser(prog=program, description=DESCRIPTION)
     parser.add_argument("side", help="the TBC file, or the document; - is standard input, for a document")
-    parser.add_argument("--version", action="version", version="%s %s" % (program, __version__))
-    parser.add_argument("--meta", metavar="FILE", help="take system and levels of a TBC file from this .tbc.json or "
-                        ".tbc.db of ld-decode, and not from the one beside the file. Levels with decimals are rounded "
-                        "to the nearest whole number. The count of fields in it is compared with the side. Its "
-                        "isFirstField shows single lost fields, of a document as well; columns in its dropOuts count "
-                        "for no recovered word")
-    _add_settings(parser)
-    parser.add_argument("--no-recover", action="store_true", help="leave out the words that are recovered from worn "
-                        "lines of a TBC file, those of pass 3")
+    parser.add_argument("--version", action=Version, help="print the version, and which library is loaded")
+    add_settings(parser)
     output = parser.add_mutually_exclusive_group()
     output.add_argument("--csv", action="store_true", help="print a row for each field with any word")
     output.add_argument("--json", action="store_true", help="print all that is known of the side, every list in full")
@@ -58,9 +44,6 @@ def parser_of_side(program: str) -> argparse.ArgumentParser:
     parser.add_argument("--recovered", action="store_true", help="copy with --into the recovered words, too; print "
                         "with --document the one that has the recovered "
                         "words, too, of version 3")
-    parser.add_argument("--strict", action="store_true", help="say that a side without lead-in or lead-out, or with an "
-                        "unread number, isn't whole")
-    parser.add_argument("--open-end", action="store_true", help=OPEN_END + ". With --strict, too")
     parser.add_argument("-o", "--output", metavar="FILE", help="print into this file, which gets its name only when it "
                         "is complete")
     parser.add_argument("--svg", metavar="FILE", help="draw the side into this file; print only what another option "
@@ -76,34 +59,8 @@ def parser_of_side(program: str) -> argparse.ArgumentParser:
     return parser
 
 
-def _add_settings(parser):
-    parser.add_argument("--system", choices=list(System.__members__), help="the system of a TBC file, in "
-                        "place of the metadata's")
-    parser.add_argument("--black", metavar="N", type=int, help=LEVELS % "black")
-    parser.add_argument("--white", metavar="N", type=int, help=LEVELS % "white")
-
-
-def parser_of_compare(program: str) -> argparse.ArgumentParser:
-    """What reads the words behind `compare`."""
-    parser = Parser(prog=program + " compare", description=COMPARISON)
-    parser.add_argument("sides", nargs=2, metavar="SIDE", help="a document, or a TBC file with its metadata beside "
-                        "it or with the options below")
-    parser.add_argument("--json", action="store_true", help="print all stretches, as JSON")
-    _add_settings(parser)
-    return parser
-
-
-def parser_of_index(program: str) -> argparse.ArgumentParser:
-    """What reads the words behind `index`."""
-    parser = Parser(prog=program + " index", description=INDEX)
-    parser.add_argument("index", metavar="FILE", help="the page to write")
-    parser.add_argument("pages", nargs="+", metavar="PAGE", help="a page that --html wrote")
-    return parser
-
-
 def parsers(program: str) -> Dict[str, argparse.ArgumentParser]:
     """What reads the words behind each command, and behind none; the manual page and the completions are made of it."""
     from .join import parser_of_join  # each of these two loads much that no other command needs
     from .scan import parser_of_scan
-    return {"": parser_of_side(program), "compare": parser_of_compare(program), "join": parser_of_join(program),
-            "index": parser_of_index(program), "scan": parser_of_scan()}
+    return {"": parser_of_side(program), "join": parser_of_join(program), "scan": parser_of_scan()}

@@ -19,8 +19,8 @@ MEANINGS: Tuple[Tuple[Tuple[str, ...], Dict[int, str]], ...] = (
                  4: "none is known not to be whole, and of some it can't be told"}),
     (("--csv", "--json", "--bad-lines", "--document", "--svg", "--html", "--map", "--into"),
      {0: "it is done", CUT: "done, and the last field is cut"}),
-    (("join", "compare"), {0: "it is done", CUT: "done, and the last field is cut"}),
-    (("index", "--help", "--version"), {0: "it is done"}),
+    (("join",), {0: "it is done", CUT: "done, and the last field is cut"}),
+    (("--help", "--version"), {0: "it is done"}),
 )
 OF_ALL = {FAULT: "a fault, named in one line on standard error, or a refused command line",
           129: "its terminal was closed", 130: "ended by Ctrl-C", 143: "ended by `kill`"}

@@ -9,13 +9,13 @@ from ..answer.entries import Answer
 from ..answer.whole import UNITS, counted, other_file
 from ..levels import options_of
 
-MOST_LINES = 25
+MOST_LINES = 26
 MOST_LISTED = 4  # places in a line
 Item = TypeVar("Item")
 
 
-def summary(answer: Answer, plot_command: Callable[[int, int], str]) -> Iterator[str]:
-    """The lines of the summary. `plot_command` makes the command that draws a line, of its field and its number."""
+def summary(answer: Answer) -> Iterator[str]:
+    """The lines of the summary."""
     reasons = "; ".join(one.text for one in answer.reasons)
     yield "whole: " + answer.whole + (": " + reasons if reasons else "")
     cut = answer.cut_field
@@ -25,7 +25,7 @@ def summary(answer: Answer, plot_command: Callable[[int, int], str]) -> Iterator
     for line in LINES:
         yield _line_text(line, answer.lines[line])
     if answer.levels:
-        yield _levels_text(answer, plot_command)
+        yield from _levels_lines(answer)
     if answer.numbers.count_:
         yield from _number_lines(answer)
     else:
@@ -45,25 +45,26 @@ def _line_text(line, rates):
         line, words, rates.pass2, recovered, bad, share, rates.blank)
 
 
-def _levels_text(answer, plot_command):
+def _levels_lines(answer):
+    """Of a side with few words what its lines show, and what to try."""
     levels = answer.levels
-    if levels.tried and levels.tried.best:
-        why = _tried_text(levels.tried)
-    elif other_file(answer):
-        why = "perhaps another system, or another file's metadata"
-    elif levels.shows == "blank":
-        why = "black and white may be too high, or the side has no codes"
-    else:
-        why = "black and white may be wrong, or the signal is noise"
     own = " of their own" if any(answer.lines[line].near for line in (17, 18)) else ""
-    return "levels: lines 17 and 18 have %d words%s, %d are bad, %d blank: %s. Look at one: %s" % (
-        levels.words, own, levels.bad, levels.blank, why, plot_command(levels.field, levels.line))
+    yield "levels: lines 17 and 18 have %d words%s, %d are bad, %d blank" % (
+        levels.words, own, levels.bad, levels.blank)
+    if levels.tried and levels.tried.best:
+        yield "try: " + _tried_text(levels.tried)
+    elif other_file(answer):
+        yield "try: another system, or this file's own metadata"
+    elif levels.shows == "blank":
+        yield "try: lower black and white, if the side has codes at all"
+    else:
+        yield "try: another black and white; the signal may be noise, see --bad-lines"
 
 
 def _tried_text(tried):
-    """What other levels, or the other system, read of some lines."""
-    return "%d of %d lines read with black %d, white %d; %d with %s" % (
-        tried.read, tried.lines, tried.black, tried.white, tried.best.read, options_of(tried.best))
+    """What other levels, or the other system, read of some lines; of the other system there may be more of these."""
+    rest = ", without --meta" if tried.best.system else ""
+    return "%s%s (%d lines read, now %d of %d)" % (options_of(tried), rest, tried.best.read, tried.read, tried.lines)
 
 
 def listed(count: int, ones: Collection[Item], text_of: Callable[[Item], str], places: Optional[int] = None) -> str:

@@ -29,7 +29,7 @@ class _Numbers:
     """The numbers along the bars."""
 
     def __init__(self, joined: Joined) -> None:
-        self.scale = Scale(str(joined.unit), joined.system, joined.together.numbers, 0, 0)
+        self.scale = Scale(str(joined.unit), joined.system, joined.numbers, 0, 0)
         self.axis = Axis(self.scale.greatest - self.scale.least + 1)
 
     def place(self, number: Any) -> int:
@@ -50,11 +50,11 @@ def bars_of(joined: Joined) -> str:
     svg.text(LEFT, TITLE_Y, "%s together" % counted(len(names), "capture"), class_="title", font_size=17,
              font_weight="bold")
     _draw_legend(svg)
-    lacking = [numbers.stretch(one, "in no capture, " + one.why) for one in joined.together.missing]
+    lacking = [numbers.stretch(one, "in no capture, " + one.why) for one in joined.missing]
     for row, name in enumerate(names):
         _draw_capture(svg, numbers, joined, BARS_TOP + STEP * row, name, lacking)
     top = BARS_TOP + STEP * len(names)
-    count = sum(one.count_ for one in joined.together.missing)
+    count = sum(one.count_ for one in joined.missing)
     _draw_lane(svg, numbers, top, "in none: %d" % count, NOWHERE, lacking)
     _draw_lane(svg, numbers, top + STEP, "disagreements: %d" % len(joined.disagreements), DISAGREEMENT,
                list(_disagreeing(numbers, joined)))

@@ -9,16 +9,20 @@ from ..answer.entries import BadLine
 from ..near import nearest_in
 from ..outside import shown
 from ..side import Side
-from .plot import script
+
+_HERE = os.path.dirname(os.path.dirname(os.path.abspath(__file__)))  # the package
+# in a wheel, in the repository, and as installed to PREFIX/share/ldvbi
+_PLACES = ("contrib/plot_line.py", "../../contrib/plot_line.py", "../../plot_line.py")
 
 
 def plotter(side: Side, path: str) -> Optional[Callable[[BadLine], str]]:
     """What draws one of the answer's bad lines, read from this TBC file, as an SVG, where words are recovered with the
     row of its nearest word; None where plot_line.py isn't there."""
-    place = script()
-    if not os.path.exists(place):
+    places = [os.path.join(_HERE, place) for place in _PLACES]
+    script = next(filter(os.path.exists, places), None)
+    if script is None:
         return None
-    picture = runpy.run_path(place)["picture"]
+    picture = runpy.run_path(script)["picture"]
 
     def plot(bad):
         with open(path, "rb") as file:

@@ -11,7 +11,9 @@ from .page import STYLE, escaped
 
 # The lists of the answer that the page has, and how it names them
 LISTS = {
-    "lacks": "numbers that one capture lacks and another has", "missing": "numbers that no capture has",
+    "lacks": "numbers that one capture lacks and another has", "alone": "numbers that one capture alone has",
+    "better": "numbers that several captures have, and one shows better than the others",
+    "missing": "numbers that no capture has",
     "leftOut": "numbers skipped by the disc itself", "ranges": "what to take from which capture",
 }
 

@@ -62,6 +62,12 @@ class Capture(NamedTuple):
         """The numbers of some stretches, of which the first and the last one are as the answer has them."""
         return {number for first, last in stretches for number in range(self.ordinal(first), self.ordinal(last) + 1)}
 
+    def lasts(self, number: int) -> Optional[int]:
+        """How many fields come from a number to the next one, where these two are first; None where either isn't
+        there."""
+        one, after = self.first.get(number), self.first.get(number + 1)
+        return after.field - one.field if one and after else None
+
     def places_in(self, first: int, last: int) -> List[Place]:
         """The places of these fields."""
         return [place for place in self.places if first <= place.field <= last]

@@ -7,9 +7,10 @@ from ..answer.entries import Extent
 
 
 class Held(NamedTuple):
-    """A capture by its name, how many fields it has, and its numbers."""
+    """A capture by its name, how many fields it has, whether it is whole, and its numbers."""
     name: str
     fields: int
+    whole: str
     numbers: Extent
 
 
@@ -28,6 +29,21 @@ class Lack(NamedTuple):
     last: Any
     count_: int
     in_: List[str]
+
+
+class Shown(NamedTuple):
+    """Numbers, `count_` of them, that a capture has alone, or that it shows better than others."""
+    capture: str
+    first: Any
+    last: Any
+    count_: int
+
+
+class Alike(NamedTuple):
+    """Numbers, `count_` of them, that no capture shows better than all others."""
+    first: Any
+    last: Any
+    count_: int
 
 
 class Told(NamedTuple):
@@ -64,22 +80,22 @@ class Range(NamedTuple):
     last_field: int
 
 
-class Together(NamedTuple):
-    """The numbers that any capture has, those between them that none has, and those that the disc leaves out."""
-    numbers: Extent
-    missing: List[Lacking]
-    left_out: List[Lacking]
-
-
 class Joined(NamedTuple):
-    """All that captures have together."""
+    """All that captures have together: the numbers that any of them has, those between them that none has, those that
+    the disc leaves out, and so on. `shown_by` are the kinds of codes which show that they are of one disc."""
     version: int
     system: str
     format: str
     unit: Optional[str]
+    shown_by: List[str]
     captures: List[Held]
-    together: Together
+    numbers: Extent
+    missing: List[Lacking]
+    left_out: List[Lacking]
     lacks: List[Lack]
+    alone: List[Shown]
+    better: List[Shown]
+    alike: List[Alike]
     disagreements: List[Dispute]
     taken: List[Source]
     ranges: List[Range]

@@ -6,10 +6,10 @@ from ..answer.entries import Extent, frame_of
 from ..judge.paces import Unit
 from .captures import DUE, TOGETHER, Capture
 from .disagreements import Part, disagreements_of, disputed_in
-from .entries import Dispute, Held, Joined, Lack, Lacking, Range, Source, Together, Told
-from .others import refuse_other_discs
+from .entries import Alike, Dispute, Held, Joined, Lack, Lacking, Range, Shown, Source, Told
+from .others import refuse_other_discs, shown_by
 from .piles import read_together
-from .taken import Taken, follows, stretches_of, taken_of
+from .taken import ALIKE, ALONE, BETTER, Taken, follows, stretches_of, taken_of
 
 VERSION = 1  # of the answer's form
 CLOCK, LOST, UNDECIDED = "clock", "lost", "undecided"
@@ -23,27 +23,28 @@ def join(captures: List[Capture]) -> Joined:
     unit, found = captures[0].unit(), disagreements_of(captures)
     disputed = disputed_in(found)
     taken, piled = taken_of(captures, disputed), read_together(captures, disputed)
-    together = together_of(captures)
-    left_out = captures[0].numbers_of((one.first, one.last) for one in together.left_out)
+    missing = _missing(captures, [one.number for one in taken])
+    left_out = captures[0].numbers_of((one.first, one.last) for one in missing if one.why == CLOCK)
     return Joined(
-        VERSION, captures[0].answer.system, captures[0].answer.format, unit.name,
-        [_of_capture(one) for one in captures], together,
+        VERSION, captures[0].answer.system, captures[0].answer.format, unit.name, shown_by(captures),
+        [_of_capture(one) for one in captures],
+        Extent(len(taken), unit.text_of(taken[0].number), unit.text_of(taken[-1].number)),
+        [one for one in missing if one.why != CLOCK], [one for one in missing if one.why == CLOCK],
         [one for capture in captures for one in _lacks(capture, captures, taken, left_out)],
+        _shown(ALONE, taken, unit, left_out), _shown(BETTER, taken, unit, left_out),
+        [Alike(*one[:3]) for one in _stretches_with(ALIKE, taken, lambda _: None, unit, left_out)],
         [Dispute(one.why, [_told(one.one, unit), _told(one.other, unit)]) for one in found],
         [Source(unit.text_of(one.number), one.capture.name, one.place.field, _frame(one),
                 TOGETHER if one.number in piled else one.place.how) for one in taken],
         [_range(one, unit) for one in stretches_of(taken, left_out)])
 
 
-def together_of(captures: List[Capture]) -> Together:
-    """The numbers that any of these captures has, and those between them that none has."""
-    unit = captures[0].unit()
-    numbers = sorted(set().union(*(capture.first for capture in captures)))
+def _missing(captures: List[Capture], numbers: List[int]) -> List[Lacking]:
+    """The numbers between these, which ascend, that no capture has."""
     whys = _whys_of(captures)
     lacking = [number for one, other in zip(numbers, numbers[1:]) for number in range(one + 1, other)]
-    missing = [Lacking(*one) for one in _stretches(lacking, lambda number: whys.get(number, LOST), unit, set())]
-    return Together(Extent(len(numbers), unit.text_of(numbers[0]), unit.text_of(numbers[-1])),
-                    [one for one in missing if one.why != CLOCK], [one for one in missing if one.why == CLOCK])
+    return [Lacking(*one) for one in _stretches(lacking, lambda number: whys.get(number, LOST), captures[0].unit(),
+                                                set())]
 
 
 def _whys_of(captures: List[Capture]) -> Dict[int, str]:
@@ -71,7 +72,8 @@ def _stretches(numbers: Iterable[int], said_of: Callable[[int], Any], unit: Unit
 
 
 def _of_capture(capture):
-    return Held(capture.name, capture.answer.fields, capture.answer.numbers._replace(count_=len(capture.first)))
+    answer = capture.answer
+    return Held(capture.name, answer.fields, answer.whole, answer.numbers._replace(count_=len(capture.first)))
 
 
 def _lacks(capture, captures, taken, left_out):
@@ -81,6 +83,18 @@ def _lacks(capture, captures, taken, left_out):
     def having(number):
         return [other.name for other in captures if number in other.first]
     return [Lack(capture.name, *one) for one in _stretches(lacking, having, capture.unit(), left_out)]
+
+
+def _shown(standing: str, taken: List[Taken], unit: Unit, left_out: Set[int]) -> List[Shown]:
+    """The numbers that stand so in the capture from which they are taken, with that one's name."""
+    capture_of = {one.number: one.capture.name for one in taken}
+    return [Shown(name, first, last, count) for first, last, count, name in _stretches_with(
+        standing, taken, capture_of.get, unit, left_out)]
+
+
+def _stretches_with(standing, taken, said_of, unit, left_out):
+    """The numbers that stand so, in stretches of which the same is said."""
+    return _stretches([one.number for one in taken if one.standing == standing], said_of, unit, left_out)
 
 
 def _told(part: Part, unit: Unit) -> Told:

@@ -3,20 +3,14 @@
 from typing import Any, Dict
 
 from ..answer.as_json import entries, entry
-from .entries import Joined, Together
+from .entries import Joined
 
 
 def as_json(joined: Joined) -> Dict[str, Any]:
     """The plain data of what captures have together."""
-    return {
-        "version": joined.version, "system": joined.system, "format": joined.format, "unit": joined.unit,
-        "captures": [entry(one, numbers=entry(one.numbers)) for one in joined.captures], **of_together(joined.together),
-        "lacks": entries(joined.lacks),
-        "disagreements": [entry(one, between=entries(one.between)) for one in joined.disagreements],
-        "taken": list(map(list, joined.taken)), "ranges": entries(joined.ranges)}
-
-
-def of_together(together: Together) -> Dict[str, Any]:
-    """The plain data of the numbers of captures."""
-    return {"numbers": entry(together.numbers), "missing": entries(together.missing),
-            "leftOut": entries(together.left_out)}
+    return entry(
+        joined, captures=[entry(one, numbers=entry(one.numbers)) for one in joined.captures],
+        numbers=entry(joined.numbers), missing=entries(joined.missing), leftOut=entries(joined.left_out),
+        lacks=entries(joined.lacks), alone=entries(joined.alone), better=entries(joined.better),
+        alike=entries(joined.alike), taken=list(map(list, joined.taken)), ranges=entries(joined.ranges),
+        disagreements=[entry(one, between=entries(one.between)) for one in joined.disagreements])

@@ -28,6 +28,12 @@ unsafe fn room<'a, T>(start: *mut T, length: usize) -> &'a mut [T] {
     from_raw_parts_mut(start, length.min(MOST / size_of::<T>()))
 }
 
+/// Says of this library that it is built from the source without its contracts: the proved one has no such call.
+#[no_mangle]
+pub extern "C" fn ldvbi_plain_rust() -> u32 {
+    1
+}
+
 #[no_mangle]
 pub extern "C" fn ldvbi_abi() -> u32 {
     c::ldvbi_abi()
