@@ -39,7 +39,8 @@ class Metadata(Calls):
                 ("side.tbc --white 51200 --document", 0, self.document, None),
                 ("side.tbc LEVELS --seek 4", 0, b"field 5, frame 3\n", None),
                 ("side.tbc --meta other.json LEVELS --seek 4", 0, b"field 5, frame 2\n", None),
-                ("side.tbc --meta other.json --seek 4", 1, b"not found\n", None),
+                ("side.tbc --meta other.json --seek 4", 1, b"", "not found: no number of the side is believed"),
+                ("side.vbi.json --seek 12", 1, b"", "not found: the numbers end at 11, in field 12"),
                 ("side.vbi.json --meta side.tbc.json --seek 4", 0, b"field 5, frame 2\n", None),
                 ("side.vbi.json --meta without.json --seek 4", 0, b"field 5, frame 3\n",
                  "without.json has no isFirstField of each field"),
@@ -116,7 +117,7 @@ class Tables(Calls):
 class Files(Calls):
     def test_outputs_into_a_file(self):
         for words, option, status in (("--document", "-o", 0), ("--csv", "--output", 0), ("", "-o", 1),
-                                      ("--seek 99", "--output", 1)):
+                                      ("--seek 3", "--output", 0)):
             printed = self.run_command("side.tbc LEVELS " + words)
             self.assertEqual(self.run_command("side.tbc LEVELS %s %s out" % (words, option)), (status, b"", ""))
             self.assertEqual((status, self.read("out"), ""), printed)

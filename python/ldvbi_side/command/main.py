@@ -16,7 +16,7 @@ from ldvbi.stream import cut_of
 from ..draw.plot import plot_command
 from ..outside import (NAME, bytes_of_document, drop_standard_output, flush, flush_or_drop, printable, raise_lost,
                        say)
-from ..seek import seek, text_of
+from ..seek import seek, text_of, why_not
 from ..answer.entries import Answer
 from ..side import Side, side_of_document, side_of_stream, stream_of_tbc
 from .faults import SETTINGS, STANDARD_INPUT, fault_text, naming, no_metadata, refuse_folder
@@ -282,6 +282,16 @@ def answer_of(path: str, page: Optional[str], may_end: bool, is_named: bool) -> 
     return side.analysis.answer
 
 
+def _print_place(answer, wanted):
+    """Prints where something is. The answer is the exit status."""
+    found = seek(answer, wanted)
+    if found is None:
+        say("not found: " + why_not(answer, wanted))
+        return 1
+    print(text_of(found))
+    return 0
+
+
 def _run(options):
     """What the options ask for. The answer is the exit status."""
     inputs = [0 if options.side == "-" else options.side, options.meta]
@@ -312,9 +322,7 @@ def _answer(options):
     answer = side.analysis.answer  # whose faults come before all that is printed
     _write_files(side, options, not isinstance(source, Side))
     if options.seek:
-        found = seek(answer, options.seek)
-        print(text_of(found))
-        return int(found is None)
+        return _print_place(answer, options.seek)
     if options.summary:
         print(*map(printable, summary(answer, _plot_command(side, options))), sep="\n")
         return OF_SIDE[answer.whole]
