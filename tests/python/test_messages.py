@@ -24,7 +24,7 @@ USAGE = {
     "side.tbc LEVELS": (
         "--document --csv", "--document --json", "--document --summary", "--document --bad-lines", "--csv --seek 1",
         "--seek x", "--seek -1", "--system SECAM", "--black 1.0", "--recovered", "--recovered --json",
-        "--recovered --document --no-recover"),
+        "--recovered --document --no-recover", "--as-read"),
     "compare side.vbi.json": ("",), "join side.vbi.json": ("", "side.vbi.json --csv --ranges"),
     "scan": ("", "-j 0 side.tbc", "-j x side.tbc", "--csv --json side.tbc", "--again side.tbc")}
 # Those in which a name is empty
@@ -128,8 +128,8 @@ OPTIONS = {"": (0, 1, 4, 1), "--summary": (0, 1, 4, 1), "--seek 12": (0, 1, 1, 0
 COMMANDS = {"scan": (0, 1, 4, 1), "join whole.tbc": (0, 0, 2, 3), "compare whole.tbc": (0, 0, 2, 3)}
 PRINTED = ("index", "--help", "--version")
 # What goes with options, and has no status of its own
-WITH_OTHERS = {"--meta", "--system", "--black", "--white", "--no-recover", "--recovered", "--strict", "--open-end",
-               "--output"}
+WITH_OTHERS = {"--meta", "--system", "--black", "--white", "--no-recover", "--recovered", "--as-read", "--strict",
+               "--open-end", "--output"}
 
 
 class Statuses(Scans, Calls):

@@ -72,7 +72,10 @@ def parser_of_side(program: str) -> argparse.ArgumentParser:
                         "another option asks for")
     parser.add_argument("--into", metavar="FILE", help="write a copy of ld-decode's metadata into this file, of --meta "
                         "or beside the TBC file, in which each field has its words as vbi.vbiData (in a .tbc.db a row "
-                        "of the table vbi); print only what another option asks for")
+                        "of the table vbi), with 0 for a word that is set aside; print only what another option asks "
+                        "for")
+    parser.add_argument("--as-read", action="store_true", help="copy with --into the words as they were read, those "
+                        "that are set aside, too")
     return parser
 
 
