@@ -29,6 +29,7 @@ USAGE = {
     "scan": ("", "-j 0 side.tbc", "-j x side.tbc", "--csv --json side.tbc", "--again side.tbc")}
 # Those in which a name is empty
 UNNAMED = ("side.vbi.json --html", "side.vbi.json --svg", "side.vbi.json -o", "side.vbi.json --map", "side.tbc --into",
+           "side.vbi.json --chapters",
            "side.tbc --meta", "scan side.vbi.json --html", "join side.vbi.json side.vbi.json --html")
 
 
@@ -97,7 +98,7 @@ class Messages(Calls):
         self.metadata("side.tbc.json")
         self.printed("side.vbi.json --html page.html")
         os.mkdir(self.named("folder"))
-        for option in ("-o", "--svg", "--html", "--map"):
+        for option in ("-o", "--svg", "--html", "--map", "--chapters"):
             self.each((ABSENT, "side.vbi.json %s absent/out" % option),
                       ("folder: Is a directory", "side.vbi.json %s folder" % option))
         self.each((ABSENT, "join side.tbc side.vbi.json --html absent/out"), (ABSENT, "index absent/out page.html"),
@@ -123,7 +124,7 @@ SIDES = ("whole.tbc", "lost.tbc", "dark.tbc", "cut.tbc")
 # nothing is in dark.tbc, and behind all pictures of cut.tbc a part of one more field.
 OPTIONS = {"": (0, 1, 4, 1), "--summary": (0, 1, 4, 1), "--seek 12": (0, 1, 1, 0), **dict.fromkeys((
     "--csv", "--json", "--bad-lines", "--document", "--svg side.svg", "--html side.html", "--map side.map",
-    "--into copy.json"), (0, 0, 0, 3))}
+    "--chapters side.txt", "--into copy.json"), (0, 0, 0, 3))}
 # The same of commands, in front of the name of a side; a side without numbers can't be compared.
 COMMANDS = {"scan": (0, 1, 4, 1), "join whole.tbc": (0, 0, 2, 3), "compare whole.tbc": (0, 0, 2, 3)}
 PRINTED = ("index", "--help", "--version")

@@ -10,6 +10,7 @@ from cases import InFolder, reason
 from compact import made
 from discs import plain, side, typed
 from ldvbi.readings import Cut, Levels
+from ldvbi_side.command.chapters import chapter_spans
 from ldvbi_side.command.map import head_rows, map_rows
 from ldvbi_side.command.summary import MOST_LINES, summary
 from ldvbi_side.command.tables import bad_line_rows, field_rows
@@ -24,7 +25,8 @@ CLOCK, NOWHERE = "no clock shows it", "no field shows it"
 SOUGHT = (
     ("Lx2 1..20", {"1": "3 2", "020": "41 21", "21": "the numbers end at 20, in field 41",
                    "0": "the numbers begin at 1, in field 3", "0:00:00.00": "the side counts pictures, not times",
-                   "0:00:00": "the side counts pictures, not seconds", "0:00": "the side counts pictures, not minutes"}),
+                   "0:00:00": "the side counts pictures, not seconds",
+                   "0:00": "the side counts pictures, not minutes"}),
     # from 1:08:58
     ("t103450..103549", {"1:08": "1 1", "1:09": "101 51", "1:09:01": "151 76", "1:09:01.24": "199 100",
                          "1:08:59.25": CLOCK, "1:08:60": CLOCK, "1:60": CLOCK, "1:9:1.3": "157 79",
@@ -128,6 +130,25 @@ class Maps(unittest.TestCase):
             row = found and [found["field"], found["frame"], "read" if found["read"] else "neighbours"]
             self.assertEqual(mapped.get(number), row, number)
         self.assertIn("neighbours", [row[2] for row in mapped.values()])
+
+
+# A side, and its chapters, each with its fields, counted from 0
+CHAPTERS = (
+    ("Lx2 1..40 24:82/2=-/c1/c1 Ox2", "0 3-23, 1 23-82"),
+    # the codes of the last fields are unread
+    ("1..20 22:30/2=-/c1/c1 32:40=?", "0 1-21, 1 21-40"),
+    # chapter 7 is doubtful
+    ("1..40 22:80/2=-/c3/c3 4=-/c7/c7", "0 1-21, 3 21-80"),
+    # two sides
+    ("Lx2 1..20 4:42/2=-/c1/c1 Ox2 Lx2 1..20", "1 3-42, 0 47-86"),
+    ("Lx2 1..20 4:42/2=-/c1/c1 Lx2 1..20", "1 3-42, 0 45-84"),
+    ("Bx10", ""))
+
+class Chapters(unittest.TestCase):
+    def test_where_they_end(self):
+        for text, wanted in CHAPTERS:
+            found = ", ".join("%d %d-%d" % one for one in chapter_spans(made(text, typed)))
+            self.assertEqual(found, wanted, text)
 
 
 # Rows of sides: field, frame, format, picture, chapter, time, stop, doubtful, programme status, users' codes, unknown.

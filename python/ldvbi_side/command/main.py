@@ -168,6 +168,10 @@ def _write_files(side, options, is_tbc, into):
         with whole_file(options.map) as file:
             answer = side.analysis.answer
             _print_table(MAP_COLUMNS, [*head_rows(answer, side.levels), *map_rows(answer)], file)
+    if options.chapters:
+        from .chapters import chapters_text
+        with whole_file(options.chapters) as file:
+            file.write(chapters_text(side.analysis.answer, options.chapters))
     if options.html:
         from ..draw.page import page_of
         from ..draw.plotting import plotter
@@ -189,7 +193,7 @@ def _files(options):
 
 def _drawn(options):
     """Those of them that have what the words mean."""
-    return [options.svg, options.map, options.html]
+    return [options.svg, options.map, options.chapters, options.html]
 
 
 def _is_printed(options):
