@@ -1,18 +1,18 @@
 """The copy of ld-decode's metadata that `--into` writes: each field has its words there, as docs/FORMATS.md
-describes."""
+describes. And where the copies of a scan stand."""
 
 import os
 import stat
-from typing import TYPE_CHECKING, Iterable, Iterator, Optional, Union
+from typing import TYPE_CHECKING, Iterable, Iterator, List, Optional, Sequence, Union
 
 from ldvbi import BLOCK, PACKED_FIELD, Stream
 from ldvbi.codes import LINES
-from ldvbi.metadata import Metadata, is_database
+from ldvbi.metadata import Metadata, beside, is_database
 from ..into.field import AS_READ, BELIEVED, Words
 from ..into.text import Places
 from ..side import RECOVERED, Side
 from .faults import no_metadata
-from .outputs import refuse_inputs, whole_file, whole_path
+from .outputs import drop_parts, refuse_inputs, whole_file, whole_path
 from .progress import Progress
 
 if TYPE_CHECKING:
@@ -79,6 +79,31 @@ class Into:
             other = self.places.other_in(new.name) if os.path.isfile(new.name) else None
             if other:
                 raise ValueError("%s: its copy has other %s" % (self._old, other))
+
+
+def copies_in(folder: Optional[str], paths: Sequence[str], sides: Sequence[str]) -> List[Optional[str]]:
+    """The copy of each of these sides, which a scan found by these paths, in a folder: they stand there as the sides do
+    in the folder that has all of them. None of a side without metadata beside it, and of all if no folder is named."""
+    if not folder:
+        return [None] * len(sides)
+    above = os.path.commonpath([os.path.abspath(path if os.path.isdir(path) else os.path.dirname(path))
+                                for path in paths])
+    copies: List[Optional[str]] = []
+    for side in sides:
+        metadata = beside(side) if side.endswith(".tbc") else None
+        copies.append(metadata and os.path.join(folder, os.path.relpath(metadata, above)))
+    return copies
+
+
+def make_folders(copies: Iterable[Optional[str]]) -> None:
+    """Makes the folders of these copies, without what earlier processes left of some there."""
+    for folder in sorted({os.path.dirname(copy) for copy in copies if copy}):
+        try:
+            os.makedirs(folder, exist_ok=True)
+        except OSError as error:
+            error.filename = folder  # and not one of those that it is in
+            raise
+        drop_parts(folder)
 
 
 def _words_of_stream(stream: Stream) -> Iterator[Words]:
