@@ -31,18 +31,19 @@ _ldvbi_side() {
             options='--help'
             ;;
         scan)
-            options='--help --jobs --open-end --csv --json --html --again'
+            options='--help --jobs --open-end --csv --json --html --into --again'
             case $before in
-                --html) compopt -o dirnames; return ;;
+                --html | --into) compopt -o dirnames; return ;;
                 -j | --jobs) return ;;
             esac
             ;;
         *)
             options='--help --version --meta --system --black --white --no-recover --csv --json --bad-lines --seek'
-            options="$options "'--summary --document --recovered --strict --open-end --output --svg --html --map --into'
+            options="$options "'--summary --document --recovered --strict --open-end --output --svg --html --map --chapters'
+            options="$options "'--into --as-read'
             case $before in
                 --system) answers='NTSC PAL' ;;
-                --meta | -o | --output | --svg | --html | --map | --into) compopt -o default; return ;;
+                --meta | -o | --output | --svg | --html | --map | --chapters | --into) compopt -o default; return ;;
                 --black | --white | --seek) return ;;
             esac
             ;;
