@@ -6,5 +6,6 @@ rows, scan, parsers, main
 `statuses` has the exit statuses, `parser` what reads words, and `faults` the words of what goes wrong. `summary`,
 `tables`, `map`, `chapters`, `join` and `compare` make the texts of `--summary`, of `--csv` and `--bad-lines`, of
 `--map`, of `--chapters` and of the two commands with these names; each is a function from a side or an answer to rows
-or lines. `outputs` writes to files, `progress` to the terminal. `into` writes the copy of ld-decode's metadata. `folders`,
-`processes` and `rows` are the parts of `scan`. `parsers` has the options, and `main` brings it all together."""
+or lines. `outputs` writes to files, `progress` to the terminal. `into` writes the copy of ld-decode's metadata.
+`folders`, `processes` and `rows` are the parts of `scan`. `parsers` has the options, and `main` brings it all
+together."""

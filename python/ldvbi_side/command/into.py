@@ -3,7 +3,7 @@ describes. And where the copies of a scan stand."""
 
 import os
 import stat
-from typing import TYPE_CHECKING, Iterable, Iterator, List, Optional, Sequence, Union
+from typing import Any, Iterable, Iterator, List, Optional, Sequence, Union
 
 from ldvbi import BLOCK, PACKED_FIELD, Stream
 from ldvbi.codes import LINES
@@ -15,9 +15,6 @@ from .faults import no_metadata
 from .outputs import drop_parts, refuse_inputs, whole_file, whole_path
 from .progress import Progress
 
-if TYPE_CHECKING:
-    from ..into.rows import Rows  # the smallest Pythons have no sqlite3
-
 
 class Into:
     """The copy that gets this name, of the metadata of a side. `places` have to be told of these as they are read, then
@@ -27,7 +24,7 @@ class Into:
     def __init__(self, path: str, is_recovered: bool) -> None:
         self._path, self._is_recovered = path, is_recovered
         self._name = self._old = ""  # of the side, and of its metadata
-        self._rows: Optional["Rows"] = None
+        self._rows: Any = None  # the `Rows` of a database
         self.places = Places()
 
     def prepare(self, name: str, source: Union[Side, Stream], metadata: Optional[Metadata]) -> None:
@@ -42,20 +39,20 @@ class Into:
             raise ValueError("%s is no file that can be copied" % self._old)
         with open(self._old, "rb") as file:
             if is_database(file.read(16)):
-                from ..into.rows import BESIDE, Rows
+                from ..into.rows import BESIDE, Rows  # the smallest Pythons have no sqlite3
                 refuse_inputs([self._path], [self._old + end for end in BESIDE])
                 self._rows = Rows(self._old)
             elif metadata.parameters is None:
                 raise ValueError("%s is no metadata with videoParameters" % self._old)
-        count = len(source.readings if isinstance(source, Side) else source)
-        fields = len(self.places if self._rows is None else self._rows)
+        count = len(source.readings) if isinstance(source, Side) else len(source)
+        fields = len(self.places) if self._rows is None else len(self._rows)
         if count != fields:
             raise ValueError("%s has %d whole fields, and %s has %d" % (name, count, self._old, fields))
 
     def write_read(self, source: Union[Side, Stream]) -> None:
         """Writes the copy with the words that a document has, or that the lines of a TBC file show."""
         if isinstance(source, Side):
-            self._write((words for words in source.readings.words()), AS_READ)
+            self._write(source.readings.words(), AS_READ)
         elif self._is_recovered:
             self._write(_words_of_stream(source), AS_READ)
         else:
@@ -68,7 +65,7 @@ class Into:
         self._write(_believed_words(side, is_whole), BELIEVED)
 
     def _write(self, words: Iterable[Words], said: str) -> None:
-        if self._rows:
+        if self._rows is not None:
             from ..into.rows import BESIDE
             with whole_path(self._path, BESIDE) as part:
                 self._rows.copy(part, words, said)
