@@ -18,6 +18,8 @@ from .scanner import NotJson, Scanner
 
 # What is told of each field of a JSON text: its place in the text, in characters, its own text, and its value
 OnField = Callable[[int, str, Any], None]
+# What is told of each other member of the text: its name, and of its value the place and the own text
+OnMember = Callable[[str, int, str], None]
 
 
 class Metadata(NamedTuple):
@@ -49,10 +51,11 @@ def is_database(begin: bytes) -> bool:
 
 
 @paused()
-def read_metadata(path: str, on_field: Optional[OnField] = None, waits: bool = True) -> Metadata:
+def read_metadata(path: str, on_field: Optional[OnField] = None, waits: bool = True,
+                  on_member: Optional[OnMember] = None) -> Metadata:
     """The `Metadata` of a file, which is read once, since it may be a pipe. A database of another form is a ValueError,
     and so is a compressed file; a text that isn't metadata has none of all this. `on_field` is called with each field
-    of a text as it is read. If it `waits`, the file may be a pipe."""
+    of a text as it is read, `on_member` with each other member. If it `waits`, the file may be a pipe."""
     with open(path, "rb", opener=None if waits else regular) as file:
         begin = file.peek(16)
         refuse_packed(path, begin)
@@ -62,7 +65,7 @@ def read_metadata(path: str, on_field: Optional[OnField] = None, waits: bool = T
             found = _Found(database.parameters_of_database(path), database.first_of_database(path),
                            database.dropouts_of_database(path))
         else:
-            found = _of_text(file, on_field)
+            found = _of_text(file, on_field, on_member)
     parameters, first, dropouts = found
     count = len(first) if first else _count(parameters or {})
     is_known = first and all(isinstance(one, bool) for one in first)
@@ -76,7 +79,7 @@ class _Found(NamedTuple):
     dropouts: List[Dropout]
 
 
-def _of_text(file: BinaryIO, on_field: Optional[OnField]) -> _Found:
+def _of_text(file: BinaryIO, on_field: Optional[OnField], on_member: Optional[OnMember]) -> _Found:
     """What a JSON text has. Of members with one name the last one counts."""
     parameters: Optional[Dict[str, Any]] = None
     first: List[Any] = []
@@ -89,6 +92,8 @@ def _of_text(file: BinaryIO, on_field: Optional[OnField]) -> _Found:
                     first, dropouts = _of_each(_told(scanner, on_field) if on_field else scanner.values())
                     continue
                 value = scanner.value()
+                if on_member:
+                    on_member(name, scanner.begin, scanner.text)
                 if name == "videoParameters":
                     parameters = value if isinstance(value, dict) else None
                 elif name == "fields":

@@ -4,6 +4,8 @@ import re
 from typing import Any, Dict, NamedTuple, Optional, Tuple
 
 from .answer.entries import Answer, frame_of
+from .answer.whole import UNITS
+from .judge.paces import RATES
 
 _WANTED = re.compile(r"(?P<picture>[0-9]+)|(?P<time>[0-9]+:[0-9]+:[0-9]+\.[0-9]+)"
                      r"|(?P<part>[0-9]+:[0-9]{2}(:[0-9]{2})?)|chapter (?P<chapter>[0-9]+)")
@@ -63,13 +65,68 @@ def _numbered(answer, wanted):
     return found + [(one.field, False, one.read) for one in answer.unread if fits(one.number)]
 
 
-def text_of(found: Optional[Dict[str, Any]]) -> str:
+def text_of(found: Dict[str, Any]) -> str:
     """What `seek` found, as a line of text."""
-    if found is None:
-        return "not found"
     text = "field %(field)d, frame %(frame)d" % found
     if found["read"]:
         return text
     other = "no number was read there" if found["other"] is None else (
         "another number was read there: %s" % found["other"])
     return text + ", by the numbers around it: " + other
+
+
+# ---- What isn't found
+
+_PARTS = {2: "minutes", 3: "seconds", 4: "times"}  # what is asked for by so many numbers of a time
+_WHYS = {"lost": "lost", "unread": "unread", "clock": "skipped by the disc itself"}
+_NOWHERE = "no field shows it"
+
+
+def why_not(answer: Answer, wanted: Wanted) -> str:
+    """Why `seek` finds nothing, as the end of a sentence."""
+    if wanted.kind == "chapter":
+        return _why_no_chapter(answer, wanted.numbers[0])
+    if not answer.numbers.count_:
+        return "no number of the side is believed"
+    asked = _PARTS.get(len(wanted.numbers), "pictures")
+    if (asked == "pictures") != (answer.unit == "picture") or answer.unit == "minute" and asked != "minutes":
+        return "the side counts %s, not %s" % (UNITS[str(answer.unit)], asked)
+    if any(one >= limit for one, limit in zip(wanted.numbers[1:], (60, 60, RATES[answer.system]))):
+        return "no clock shows it"
+    least, greatest = (_part(end, wanted) for end in answer.numbers[1:])
+    if not least <= wanted.numbers <= greatest:
+        return _beyond("numbers", wanted.numbers < least, [(number, field) for number, field, _ in answer.showings],
+                       answer.numbers.least if wanted.numbers < least else answer.numbers.greatest)
+    stretches = sorted(answer.missing + answer.left_out, key=lambda one: one.after)
+    may_skip = (answer.unit, answer.system) == ("time", "NTSC")
+    undecided = "lost, unread or skipped by the disc itself" if may_skip else "lost or unread"
+    whys = ["%s after field %d" % (_WHYS.get(one.why, undecided), one.after) for one in stretches
+            if _part(one.first, wanted) <= wanted.numbers <= _part(one.last, wanted)]
+    return ", ".join(dict.fromkeys(whys)) or _NOWHERE
+
+
+def _part(number, wanted):
+    """As much of a number as is wanted: of a time its hours and minutes alone, perhaps."""
+    return tuple(int(one) for one in re.findall("[0-9]+", str(number)))[:len(wanted.numbers)]
+
+
+def _beyond(what, is_before, places, end):
+    """That something begins or ends with this number, and its first field of these places."""
+    field = next(field for number, field in places if number == end)
+    return "the %s %s at %s, in field %d" % (what, "begin" if is_before else "end", end, field)
+
+
+def _why_no_chapter(answer, wanted):
+    chapters = answer.chapters
+    if not chapters:
+        return "no chapter of the side is believed"
+    least, greatest = (end(one.chapter for one in chapters) for end in (min, max))
+    if not least <= wanted <= greatest:
+        return _beyond("chapters", wanted < least, [one[:2] for one in chapters],
+                       least if wanted < least else greatest)
+    for one, other in zip(chapters, chapters[1:]):
+        if one.chapter < wanted < other.chapter:
+            is_loss = any(lost.after < other.field and lost.before > one.last for lost in answer.lost)
+            return "chapter %d follows chapter %d in field %d" % (other.chapter, one.chapter, other.field) + (
+                ", and fields are lost before it" if is_loss else "")
+    return _NOWHERE

@@ -24,9 +24,9 @@ _ldvbi_side() {
             esac
             ;;
         scan)
-            options='--help --jobs --open-end --csv --json --html --again'
+            options='--help --jobs --open-end --csv --json --html --into --again'
             case $before in
-                --html) compopt -o dirnames; return ;;
+                --html | --into) compopt -o dirnames; return ;;
                 -j | --jobs) return ;;
             esac
             ;;
@@ -35,7 +35,7 @@ _ldvbi_side() {
             options="$options "'--bad-lines --seek --summary --document --recovered --output --svg --html --map --into'
             case $before in
                 --system) answers='NTSC PAL' ;;
-                --meta | -o | --output | --svg | --html | --map | --into) compopt -o default; return ;;
+                --meta | -o | --output | --svg | --html | --map | --chapters | --into) compopt -o default; return ;;
                 --black | --white | --seek) return ;;
             esac
             ;;

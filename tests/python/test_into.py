@@ -19,7 +19,7 @@ from ldvbi_side.into.field import place_of_words
 from ldvbi_side.into.rows import Rows
 from ldvbi_side.into.text import Places
 
-WORDS = (8572927, 0, 15803205)
+WORDS, SAID = (8572927, 0, 15803205), "as read"
 # Fields, and what becomes of them: WORDS is a list of the words, and WORDS, has spaces in it. The numbers alone are
 # others, where there are three items; any other value gives way to a list. A field without them gets them behind all
 # else, in its style, and so does a member vbi. Names are what they mean, others are no matter, and what stands twice is
@@ -43,6 +43,24 @@ FORMS = r"""
     {"a":1,"a":2} -> {"a":1,"a":2,"vbi":{"vbiData":WORDS}}
     {"seqNo":7,"%d":"%s"} -> {"seqNo":7,"%d":"%s","vbi":{"vbiData":WORDS}}
 """
+# Documents without a field, and what becomes of them: the member that says which words these are comes before all
+# others, in their style, or is changed where it is.
+MEMBERS = r"""
+    {} -> {"ldvbiWords":"as read"}
+    {"fields":[]} -> {"ldvbiWords":"as read","fields":[]}
+    \n{ "fields" : 5} -> \n{ "ldvbiWords" : "as read", "fields" : 5}
+    {\r\n\t"a": 1,\r\n\t"b": 2\r\n} -> {\r\n\t"ldvbiWords": "as read",\r\n\t"a": 1,\r\n\t"b": 2\r\n}
+    {"ldvbiWords" : [1],"a":2,"\u006cdvbiWords":"x"} -> {"ldvbiWords" : SAID,"a":2,"\u006cdvbiWords":SAID}
+    {"a":{"ldvbiWords":1},"fields":[]} -> {"ldvbiWords":"as read","a":{"ldvbiWords":1},"fields":[]}
+"""
+
+
+def rows_of(table):
+    """The two texts of each row, in which SAID stands for what is said."""
+    for row in table.strip().split("\n"):
+        for old, new in (("\\n", "\n"), ("\\r", "\r"), ("\\t", "\t"), ("SAID", '"as read"')):
+            row = row.replace(old, new)
+        yield row.strip(" ").split(" -> ")
 
 
 def with_words(text, number=7):
@@ -56,21 +74,20 @@ def copied(text, words, piece=1 << 18):
     places, new = Places(), io.StringIO(newline="")
     scanner = Scanner(io.StringIO(text, newline=""), piece)
     for name in scanner.members():
-        if name != "fields":
+        if name != "fields" or not scanner.comes("["):
             scanner.value()
+            places.add_member(name, scanner.begin, scanner.text)
             continue
         for _ in scanner.items():
             field = scanner.value()
             places.add(scanner.begin, scanner.text, field)
-    places.copy(io.StringIO(text, newline=""), new, iter(words))
+    places.copy(io.StringIO(text, newline=""), new, iter(words), SAID)
     return len(places), new.getvalue()
 
 
 class Fields(unittest.TestCase):
     def test_where_they_go(self):
-        for row in FORMS.strip().split("\n"):
-            old, _, new = row.strip().partition(" -> ")
-            old, new = (text.replace("\\n", "\n").replace("\\r", "\r").replace("\\t", "\t") for text in (old, new))
+        for old, new in rows_of(FORMS):
             new = new.replace("WORDS, ", "[8572927, 0, 15803205]").replace("WORDS", "[8572927,0,15803205]")
             with self.subTest(old):
                 self.assertEqual(with_words(old), new)
@@ -88,7 +105,8 @@ class Fields(unittest.TestCase):
 
 class Documents(unittest.TestCase):
     def test_all_else_is_the_same(self):
-        """White space of any kind, and numbers that are written in another way: what isn't a word stays."""
+        """White space of any kind, and numbers that are written in another way: what isn't a word stays, but for what an
+        older copy says of its words."""
         choose = random.Random(49)
         parts = {"?": ["1.50", "-0", "1E+2", '"\\u00fc\\/"', '"ü"', "[ 1,2 ]", '{"vbi" : 3}', "null", "1" * 30],
                  "~": ["", "", " ", "\n", "\r\n\t", "  "]}
@@ -99,20 +117,19 @@ class Documents(unittest.TestCase):
         for _ in range(200):
             fields = [members(("x", "?"), ("y", "?"), ("vbiData", "?"), ("seqNo", number),
                               ("vbi", members(("a", "?"), ("vbiData", "[~%d~,~%d~,~%d~]")))) for number in range(1, 6)]
-            text = members(("fields", "[%s]" % ",".join(fields)), ("z", "?"))
+            text = members(("fields", "[%s]" % ",".join(fields)), ("z", "?"), ("ldvbiWords", "@"))
             text = re.sub("[?~]", lambda mark: choose.choice(parts[mark[0]]), text)
             words = [tuple(choose.choice([0, choose.randrange(0x800000, 0x1000000)]) for _ in range(3))
                      for _ in range(5)]
             piece = choose.choice([1, 10, 1 << 18])
-            old = text.replace("%d", choose.choice(["0", "-1", "1.5"]))
+            old = text.replace("%d", choose.choice(["0", "-1", "1.5"])).replace("@", choose.choice(parts["?"]))
             with self.subTest((piece, text)):
-                self.assertEqual(copied(old, words, piece), (5, text % sum(words, ())))
+                self.assertEqual(copied(old, words, piece), (5, text.replace("@", '"as read"') % sum(words, ())))
 
     def test_no_field_at_all(self):
-        for text in ("{}", '{"fields":[]}', ' { "fields" : [ ] } \n', '{"fields":5}'):
-            places, new = Places(), io.StringIO()
-            places.copy(io.StringIO(text), new, iter(()))
-            self.assertEqual((len(places), new.getvalue()), (0, text))
+        for old, new in rows_of(MEMBERS):
+            with self.subTest(old):
+                self.assertEqual(copied(old, []), (0, new))
 
     def test_a_field_that_is_refused_is_named(self):
         self.assertEqual(reason(copied, '{"fields":[{"seqNo":1},{"seqNo":3}]}', [WORDS] * 2), "field 2: its seqNo is 3")
@@ -130,6 +147,8 @@ CREATE TABLE vbi (capture_id INTEGER NOT NULL, field_id INTEGER NOT NULL, vbi0 I
 CREATE TABLE drop_outs (capture_id INTEGER NOT NULL, field_id INTEGER NOT NULL, startx INTEGER NOT NULL);
 INSERT INTO capture VALUES (4, 'NTSC', 910, NULL, 51200, 16384, 'ü');
 """
+
+ALL_WORDS = ("SELECT * FROM vbi ORDER BY field_id", "SELECT words FROM ldvbi_words")
 
 
 def words(count):
@@ -158,7 +177,7 @@ class Databases(InFolder):
         return [in_database(path, *statements) for path in (self.path, self.copy)]
 
     def refused(self, text):
-        found = reason(lambda: Rows(self.path).copy(self.copy, words(12)))
+        found = reason(lambda: Rows(self.path).copy(self.copy, words(12), SAID))
         self.assertEqual(found, "%s: %s" % (self.path, text))
 
 
@@ -169,19 +188,22 @@ class Copies(Databases):
             before = in_database(self.path, "SELECT * FROM vbi")
             rows = Rows(self.path)
             self.assertEqual(len(rows), 12)
-            rows.copy(self.copy, words(12))
-            self.assertEqual(in_database(self.copy, "SELECT * FROM vbi ORDER BY field_id"), [
-                [(4, begin + place, *three) for place, three in enumerate(words(12))] + [(4, 150, 1, 2, 3)]])
+            rows.copy(self.copy, words(12), "believed")
+            wanted = [(4, begin + place, *three) for place, three in enumerate(words(12))] + [(4, 150, 1, 2, 3)]
+            self.assertEqual(in_database(self.copy, *ALL_WORDS), [wanted, [("believed",)]])
             self.assertEqual(in_database(self.path, "SELECT * FROM vbi"), before)
+            Rows(self.copy).copy(self.named("two"), words(12), SAID)
+            self.assertEqual(in_database(self.named("two"), *ALL_WORDS), [wanted, [(SAID,)]])
             os.unlink(self.copy)
 
     def test_all_else_is_the_same(self):
         self.make("CREATE INDEX by_field ON vbi (field_id)", "UPDATE vbi SET note = 'kept'", "PRAGMA user_version = 3",
                   "CREATE VIEW words AS SELECT * FROM vbi", count=1000,
                   form=FORM.replace("vbi2 INTEGER NOT NULL,", "vbi2 INTEGER NOT NULL, note TEXT DEFAULT 'new',"))
-        Rows(self.path).copy(self.copy, words(1000))
+        Rows(self.path).copy(self.copy, words(1000), SAID)
         self.assertEqual(*self.both("PRAGMA user_version", "PRAGMA journal_mode", *(
-            "SELECT * FROM " + name for name in ("sqlite_master", "capture", "field_record", "drop_outs"))))
+            "SELECT * FROM " + name for name in ("sqlite_master WHERE name <> 'ldvbi_words'", "capture", "field_record",
+                                                 "drop_outs"))))
         found = in_database(self.copy, "SELECT note, count(*) FROM vbi GROUP BY note", "PRAGMA integrity_check",
                             "PRAGMA foreign_key_check")
         self.assertEqual(found, [[("kept", 334), ("new", 666)], [("ok",)], []])
@@ -191,7 +213,7 @@ class Copies(Databases):
                                 "INSERT INTO vbi VALUES (7, 1, 2, 3), (6, 1, 2, 3)")
         rows = Rows(self.path)
         self.assertEqual(len(rows), 2)
-        rows.copy(self.copy, words(2))
+        rows.copy(self.copy, words(2), SAID)
         self.assertEqual(in_database(self.copy, "SELECT * FROM vbi"), [[(7, *words(2)[1]), (6, *words(2)[0])]])
 
     def test_what_was_written_last_is_copied_too(self):
@@ -201,7 +223,7 @@ class Copies(Databases):
             other.execute("PRAGMA journal_mode = WAL")
             other.execute("UPDATE field_record SET median_burst_ire = 5 WHERE field_id = 11")
             other.commit()
-            Rows(self.path).copy(self.copy, words(12))
+            Rows(self.path).copy(self.copy, words(12), SAID)
             self.assertTrue(os.path.exists(self.path + "-wal"))
         found = in_database(self.copy, "SELECT field_id FROM field_record WHERE median_burst_ire = 5")
         self.assertEqual(found, [[(11,)]])
@@ -215,7 +237,7 @@ class Copies(Databases):
 
         self.make()
         with self.assertRaises(KeyboardInterrupt):
-            Rows(self.path).copy(self.copy, interrupted())
+            Rows(self.path).copy(self.copy, interrupted(), SAID)
         self.assertEqual(*self.both("SELECT * FROM vbi"))
         self.make(form=FORM.replace("vbi2 INTEGER NOT NULL,", "vbi2 INTEGER NOT NULL CHECK (vbi2 <> %d)," % 0xF00007))
         os.unlink(self.copy)
@@ -238,11 +260,12 @@ class Copies(Databases):
                 ("DELETE FROM vbi WHERE field_id = 11", "words in the row of field_id 11"),
                 ("DELETE FROM drop_outs WHERE field_id = 3", "rows in the table drop_outs"),
                 ("INSERT INTO capture (system) VALUES ('PAL')", "rows in the table capture"),
-                ("DROP TABLE field_record", "rows in the table field_record")):
+                ("DROP TABLE field_record", "rows in the table field_record"),
+                ("UPDATE ldvbi_words SET words = 'believed'", "rows in the table ldvbi_words")):
             self.make()
             with mock.patch.object(Rows, "_fill", lambda self, new, *more, one=statement: (
                     fill(self, new, *more), new.execute(one), new.commit())):
-                found = reason(lambda: Rows(self.path).copy(self.copy, words(12)))
+                found = reason(lambda: Rows(self.path).copy(self.copy, words(12), SAID))
             self.assertEqual(found, "%s: its copy has other %s" % (self.path, text))
             os.unlink(self.copy)
 

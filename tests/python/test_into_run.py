@@ -1,7 +1,6 @@
 """The option --into of the command as a process: which words it copies, where it writes, and what it leaves alone."""
 
 import io
-import itertools
 import json
 import os
 import resource
@@ -9,12 +8,27 @@ from unittest import mock
 
 from cases import in_database
 from command_runs import COMMAND, IN_PLACE, SIZE, Calls
+from compact import word_of, words_of
 from ldvbi_side.command import into
 from ldvbi_side.into.text import Places
 from streams import NTSC, pictures, worn_line, write_stream
 from test_into import FORM
 
 MEMORY = 50 << 20  # bytes
+# Of a side with two worn lines the words of some fields, by what is asked for. In field 9 line 18 is set aside, in field
+# 14 a chapter is, and a code out of place isn't. Line 17 of field 11 and line 18 of field 13 are recovered.
+FIELDS = "1..12 3.16=c0 9.18=#79999 14=-/c7/c7"
+WORN = ((11, 17, 0xF00006), (13, 18, 0xF79999))
+BELIEVED = ("believed", "3 c0 #2 #2 9 - #5 - 14 - - -")
+READ = ("as read", "3 c0 #2 #2 9 - #5 #79999 14 - c7 c7")
+COPIES = (
+    ("side.tbc", *BELIEVED, "11 - - #6 13 - #7 -"), ("side.tbc --no-recover", *BELIEVED, "11 - - #6 13 - #7 -"),
+    ("side.tbc --recovered", *BELIEVED, "11 - #6 #6 13 - #7 -"), ("side.tbc --as-read", *READ, "11 - - #6 13 - #7 -"),
+    ("side.tbc --as-read --recovered", *READ, "11 - #6 #6 13 - #7 #79999"),
+    # a document has the words that it has
+    ("two.vbi.json", *BELIEVED, "11 - - #6 13 - #7 -"), ("two.vbi.json --as-read", *READ, "11 - - #6 13 - #7 -"),
+    ("three.vbi.json", *BELIEVED, "11 - #6 #6 13 - #7 -"),
+    ("three.vbi.json --as-read", *READ, "11 - #6 #6 13 - #7 #79999"))
 
 
 class Copies(Calls):
@@ -32,6 +46,12 @@ class Copies(Calls):
             rows, = in_database(self.named(name), "SELECT vbi0, vbi1, vbi2 FROM vbi ORDER BY field_id")
             return list(map(list, rows))
         return [field["vbi"]["vbiData"] for field in json.loads(self.read(name))["fields"]]
+
+    def said_of(self, name):
+        """Which words a copy has, as it says itself."""
+        if name.endswith(".db"):
+            return in_database(self.named(name), "SELECT words FROM ldvbi_words")[0][0][0]
+        return json.loads(self.read(name))["ldvbiWords"]
 
 
 class Words(Copies):
@@ -64,24 +84,32 @@ class Words(Copies):
         text = self.text("side.tbc.json").replace(", ", ",\r\n").replace("\\u00fc", "ü")
         self.write("side.tbc.json", text)
         self.copied("side.tbc LEVELS --meta side.tbc.json")
+        text = text.replace("{", '{"ldvbiWords": "believed", ', 1)
         for words in self.words_of("side.vbi.json"):
             text = text.replace("[0,\r\n0,\r\n0]", json.dumps(words).replace(", ", ",\r\n"), 1)
         self.assertEqual(self.text("copy.json"), text)
         self.assertIn("14318181.818181818", text)
 
-    def test_recovered_words(self):
-        fields = pictures(12)
-        fields[4][1] = worn_line(0xF00004, NTSC, 10, 10)
+    def test_believed_read_and_recovered_words(self):
+        fields = words_of(FIELDS, 30)
+        for field, line, word in WORN:
+            fields[field - 1][line - 16] = worn_line(word, NTSC, 10, 10)
         write_stream(self.named("side.tbc"), NTSC, fields)
-        self.run_command("side.tbc --document --recovered -o side.vbi.json")
-        for words, word in (("side.tbc", 0), ("side.tbc --recovered", 0xF00004)):
-            self.assertEqual(self.copied(words)[4], [0xF00004, word, 0xF00004])
-        self.assertEqual(self.words_of("copy.json"), self.words_of("side.vbi.json"))
-        # a document has the words that it has
-        self.copied("side.vbi.json --meta side.tbc.json", "other.json")
-        self.assertEqual(self.read("other.json"), self.read("copy.json"))
-        self.refused("side.vbi.json is a document, and --recovered is of a TBC file",
-                     "side.vbi.json --meta side.tbc.json --into other.json --recovered")
+        self.metadata("side.tbc.json", count=24)
+        self.database(24)
+        self.printed("side.tbc --document -o two.vbi.json")
+        self.printed("side.tbc --document --recovered -o three.vbi.json")
+        for words, said, *wanted in COPIES:
+            for name, meta in (("copy.json", "side.tbc.json"), ("copy.db", "side.tbc.db")):
+                with self.subTest((words, name)):
+                    found = self.copied("%s --meta %s" % (words, meta), name)
+                    items = " ".join(wanted).split()
+                    for field, *three in zip(*(items[place::4] for place in range(4))):
+                        self.assertEqual(found[int(field) - 1], [
+                            0 if one == "-" else int(word_of(one), 16) for one in three], field)
+                    self.assertEqual(self.said_of(name), said)
+        self.refused("two.vbi.json is a document, and --recovered is of a TBC file",
+                     "two.vbi.json --meta side.tbc.json --into other.json --recovered")
 
     def test_beside_what_is_printed(self):
         for words, status in (("--seek 3", 0), ("--summary", 1), ("--document", 0), ("--svg svg", 0),
@@ -155,17 +183,18 @@ class Interrupted(Copies):
     def test_nothing_is_left_of_a_copy(self):
         """Where its words end in a fault. Until then a part of it is there under another name."""
         self.database(12)
-        before, parts, words = self.names(), [], into._words_of_stream
+        before, parts = self.names(), []
 
-        def failing(stream):
-            yield from itertools.islice(words(stream), 5)
+        def failing(*_):
+            yield from [(0, 0, 0)] * 5
             parts.extend(set(self.names()) - set(before))
             raise ValueError("no more words")
-        for meta in ("side.tbc.json", "side.tbc.db"):
-            with mock.patch.object(into, "_words_of_stream", failing):
-                self.assertEqual(self.run_command("side.tbc --into copy --meta " + meta)[:2], (2, b""))
-            self.assertEqual(self.names(), before)
-        self.assertEqual(len(parts), 2)
+        for words, option in (("_words_of_stream", " --as-read"), ("_believed_words", "")):
+            for meta in ("side.tbc.json", "side.tbc.db"):
+                with mock.patch.object(into, words, failing):
+                    self.assertEqual(self.run_command("side.tbc --into copy --meta " + meta + option)[:2], (2, b""))
+                self.assertEqual(self.names(), before)
+        self.assertEqual(len(parts), 4)
         for part in parts:
             self.assertRegex(part, r"^\.ldvbi-copy\.[0-9a-f]{8}-%d\.part$" % os.getpid())
 
@@ -174,10 +203,11 @@ class Interrupted(Copies):
         """Nothing is left of one that isn't as it was to be written. What is no file isn't read back."""
         before, copy = self.names(), Places.copy
         for old, new, text in (("15728640, 15728640", "15728640, 15728641", "words in field 1"),
+                               ('"believed"', '"as read"', "ldvbiWords"),
                                ('"fields": [', '"fields": [{"vbi": {"vbiData": [1, 2, 3]}}, ', "13 fields")):
-            def altered(self, file, written, words, old=old, new=new):
+            def altered(self, file, written, words, said, old=old, new=new):
                 text = io.StringIO()
-                copy(self, file, text, words)
+                copy(self, file, text, words, said)
                 written.write(text.getvalue().replace(old, new, 1))
             with mock.patch.object(Places, "copy", altered):
                 self.refused("side.tbc.json: its copy has other " + text, "side.tbc --into copy.json")

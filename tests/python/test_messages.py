@@ -28,13 +28,13 @@ USAGE = {
     "side.tbc LEVELS": (
         "--document --csv", "--document --json", "--document --summary", "--document --bad-lines", "--csv --seek 1",
         "--seek x", "--seek -1", "--system SECAM", "--black 1.0", "--recovered", "--recovered --json",
-        "--recovered --document --no-recover"),
+        "--recovered --document --no-recover", "--as-read"),
     "join side.vbi.json": ("", "side.vbi.json --csv --ranges"),
     "scan": ("", "-j 0 side.tbc", "-j x side.tbc", "--csv --json side.tbc", "--again side.tbc")}
 # Those in which a name is empty
 UNNAMED = ("side.vbi.json --html", "side.vbi.json --svg", "side.vbi.json -o", "side.vbi.json --map", "side.tbc --into",
-           "side.tbc --meta", "scan side.vbi.json --html", "join side.vbi.json side.vbi.json --html",
-           "join side.vbi.json side.vbi.json --meta")
+           "side.vbi.json --chapters", "side.tbc --meta", "scan side.vbi.json --html", "scan side.vbi.json --into",
+           "join side.vbi.json side.vbi.json --html", "join side.vbi.json side.vbi.json --meta")
 
 
 class Messages(Calls):
@@ -145,7 +145,7 @@ class Messages(Calls):
     def test_outputs(self):
         self.metadata("side.tbc.json")
         os.mkdir(self.named("folder"))
-        for option in ("-o", "--svg", "--html", "--map"):
+        for option in ("-o", "--svg", "--html", "--map", "--chapters"):
             self.each((ABSENT, "side.vbi.json %s absent/out" % option),
                       ("folder: Is a directory", "side.vbi.json %s folder" % option))
         self.each((ABSENT, "join side.tbc side.vbi.json --html absent/out"))
@@ -170,13 +170,13 @@ SIDES = ("whole.tbc", "lost.tbc", "dark.tbc", "cut.tbc")
 # nothing is in dark.tbc, and behind all pictures of cut.tbc a part of one more field.
 OPTIONS = {"": (0, 1, 4, 1), "--summary": (0, 1, 4, 1), "--seek 12": (0, 1, 1, 0), **dict.fromkeys((
     "--csv", "--json", "--bad-lines", "--document", "--svg side.svg", "--html side.html", "--map side.map",
-    "--into copy.json"), (0, 0, 0, 3))}
+    "--chapters side.txt", "--into copy.json"), (0, 0, 0, 3))}
 # The same of commands, in front of the name of a side; a side without numbers can't be joined.
 COMMANDS = {"scan": (0, 1, 4, 1), "join whole.tbc": (0, 0, 2, 3)}
 PRINTED = ("--help", "--version")
 # What goes with options, and has no status of its own
-WITH_OTHERS = {"--meta", "--system", "--black", "--white", "--no-recover", "--recovered", "--strict", "--open-end",
-               "--output"}
+WITH_OTHERS = {"--meta", "--system", "--black", "--white", "--no-recover", "--recovered", "--as-read", "--strict",
+               "--open-end", "--output"}
 
 
 class Statuses(Scans, Calls):
@@ -191,7 +191,8 @@ class Statuses(Scans, Calls):
         """A run has this status, and only what isn't done is said."""
         with self.subTest(words):
             found, _, said = self.run_words(*words.split())
-            self.assertEqual((found, said.count("\n")), (status, int(status in (2, 3))), said)
+            is_said = status in (2, 3) or status == 1 and "--seek" in words
+            self.assertEqual((found, said.count("\n")), (status, int(is_said)), said)
 
     def test_each_option_and_command(self):
         for words, statuses in OPTIONS.items():

@@ -322,7 +322,7 @@ class Command(Calls):
         self.assertIn(b'"vbiNear":[null,{"word":%d,"distance":600,"rival":1600},null]' % WORD, found)
         row = self.printed("side.tbc", "--bad-lines").decode().split("\n")[1].split(",")
         self.assertEqual([*row[:2], *row[4:]], ["12", "17", "F12345", "600", "1600"])
-        self.printed("side.tbc", "--into", "copy.json", "--recovered")
+        self.printed("side.tbc", "--into", "copy.json", "--recovered", "--as-read")
         self.assertEqual(json.loads(self.read("copy.json"))["fields"][11],
                          {"isFirstField": True, **self.told, "vbi": {"vbiData": [0, WORD, 0]}})
 

@@ -80,6 +80,11 @@ class LongNames(InFolder):
             self.assertEqual(len(self.names()), 1)
             drop_part(self.named(name), os.getpid())
             self.assertEqual(self.names(), [])
+            with self.assertRaises(KeyboardInterrupt), mock.patch("shutil.rmtree"), whole_path(self.named(name), []):
+                raise KeyboardInterrupt
+            self.assertEqual(len(self.names()), 1)
+            drop_part(self.named(name), os.getpid())
+            self.assertEqual(self.names(), [])
 
     def test_what_processes_left_that_are_gone(self):
         """Those of this machine alone, and nothing that only looks so."""

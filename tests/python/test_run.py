@@ -7,7 +7,7 @@ import re
 
 from command_runs import IN_PLACE, Calls
 from compact import words_of
-from streams import NTSC, PROGRAM, TOP, line_with, pictures, write_stream
+from streams import NTSC, PAL, PROGRAM, TOP, line_with, pictures, write_stream
 
 ANOTHER = "another system, or another file's metadata?"
 
@@ -42,7 +42,8 @@ class Metadata(Calls):
                 ("side.tbc --white 51200 --document", 0, self.document, None),
                 ("side.tbc LEVELS --seek 4", 0, b"field 5, frame 3\n", None),
                 ("side.tbc --meta other.json LEVELS --seek 4", 0, b"field 5, frame 2\n", None),
-                ("side.tbc --meta other.json --seek 4", 1, b"not found\n", None),
+                ("side.tbc --meta other.json --seek 4", 1, b"", "not found: no number of the side is believed"),
+                ("side.vbi.json --seek 12", 1, b"", "not found: the numbers end at 11, in field 12"),
                 ("side.vbi.json --meta side.tbc.json --seek 4", 0, b"field 5, frame 2\n", None),
                 ("side.vbi.json --meta without.json --seek 4", 0, b"field 5, frame 3\n",
                  "without.json has no isFirstField of each field"),
@@ -118,10 +119,20 @@ class Tables(Calls):
                 3, wanted or re.sub("[^,]*,[^,]*,\\d+$", ",,", BAD_LINES, flags=re.M), said % name))
 
 
+# A side, and its chapters as ffprobe has them: number, time base, begin and end, in fields and in seconds, and name
+CHAPTERS = (
+    (NTSC, "L 1..6 7:13/2=-/c1/c1", ("0,1001/60000,2,0.033367,6,0.100100,Chapter 0",
+                                     "1,1001/60000,6,0.100100,13,0.216883,Chapter 1")),
+    (PAL, "L 1..6 7:13/2=-/c21/c21", ("0,1/50,2,0.040000,6,0.120000,Chapter 0",
+                                      "1,1/50,6,0.120000,13,0.260000,Chapter 21")),
+    (NTSC, "Bx4", ()))
+QUIET = ("-v", "error")
+
+
 class Files(Calls):
     def test_outputs_into_a_file(self):
         for words, option, status in (("--document", "-o", 0), ("--csv", "--output", 0), ("", "-o", 1),
-                                      ("--seek 99", "--output", 1)):
+                                      ("--seek 3", "--output", 0)):
             printed = self.run_command("side.tbc LEVELS " + words)
             self.assertEqual(self.run_command("side.tbc LEVELS %s %s out" % (words, option)), (status, b"", ""))
             self.assertEqual((status, self.read("out"), ""), printed)
@@ -137,6 +148,20 @@ class Files(Calls):
         self.assertEqual(self.printed("side.tbc LEVELS --map three --document --svg svg"), self.document)
         self.assertEqual([self.read("two"), self.read("three")], [self.read("side.map")] * 2)
         self.assertIn(b"<svg", self.read("svg"))
+
+    def test_chapters(self):
+        """As ffmpeg and ffprobe read them; the labels have the same times and names."""
+        for (system, black, white), words, wanted in CHAPTERS:
+            write_stream(self.named("side.tbc"), (system, black, white), words_of(words))
+            for name in ("side.ffmeta", "side.txt"):
+                self.printed("side.tbc --system %s --black %d --white %d --chapters %s" % (system, black, white, name))
+            _, found, said = self.run_command(*QUIET, "-show_chapters", "-of", "csv", "side.ffmeta",
+                                              command=["ffprobe"])
+            self.assertEqual((found.decode(), said), ("".join("chapter,%s\n" % row for row in wanted), ""))
+            _, found, _ = self.run_command(*QUIET, "-i", "side.ffmeta", "-f", "ffmetadata", "-", command=["ffmpeg"])
+            self.assertEqual(re.sub("encoder=.*\n", "", found.decode()), self.text("side.ffmeta").replace("\n\n", "\n"))
+            self.assertEqual(self.text("side.txt").splitlines(), [
+                "\t".join(row.split(",")[place] for place in (3, 5, 6)) for row in wanted])
 
     def test_the_pictures_of_the_documents(self):
         """Those of docs/SIDES.md, made again."""

@@ -19,6 +19,7 @@ from cases import InFolder
 from command_runs import IN_PLACE, Calls
 from ldvbi.packed import packed_as
 from ldvbi_side.command.folders import Found, files_of, page_name, sides_in
+from ldvbi_side.command.into import copies_in
 from ldvbi_side.command.main import answer_of
 from ldvbi_side.command.scan import scan
 from scanned import ROWS, Scans
@@ -207,6 +208,39 @@ class Pages(Scans, Calls):
         self.assertEqual(self.text(page), whole)
 
 
+class Copies(Scans, Calls):
+    def test_each_side_has_one(self):
+        """Whatever its page says, but none that has a fault, and no document."""
+        for name, count in (("a/1.tbc", 61), ("a/2.tbc", 60), ("c.tbc", 61)):
+            self.add(name, "1..30 9.18=#79999 O")
+            self.metadata(name + ".json", count=count)
+        self.write("a/3.vbi.json", self.document)
+        self.scan("--html pages a c.tbc")
+        for folder in ("one", "two"):
+            status, text, said = self.scan("--csv --html pages --into %s a c.tbc" % folder)
+            self.assertEqual((status, said, text.split("\n")[2]), (
+                2, "", 'a/2.tbc,fault,,,,,,,,,,"has 61 whole fields, and a/2.tbc.json has 60"'))
+            self.assertEqual([sorted(os.listdir(self.named(folder + end))) for end in ("/a", "")],
+                             [["1.tbc.json"], ["a", "c.tbc.json"]])
+        known = json.loads(self.read("one/a/1.tbc.json"))
+        self.assertEqual((known["ldvbiWords"], known["fields"][8]["vbi"]), ("believed", {"vbiData": [0, 0xF00005, 0]}))
+
+    def test_refused(self):
+        self.add("side.tbc")
+        self.refused(IN_PLACE % "./side.tbc.json", "scan side.tbc --into .")
+        self.refused("side.tbc/a: Not a directory", "scan side.tbc --into side.tbc/a")
+        os.makedirs(self.named("copies"))
+        os.mkfifo(self.named("copies/side.tbc.json"))
+        self.assertEqual(self.row("--into copies side.tbc").split(",")[-1], "copies/side.tbc.json is no file")
+
+
+# What a scan is asked for, sides that it finds, and where their copies stand; each side has metadata but a/3.tbc
+COPIES = (
+    ("a", "a/1.tbc a/b/1.tbc a/b/2.vbi.json a/3.tbc", "x/1.tbc.json x/b/1.tbc.db - -"),
+    ("a/b a", "a/b/1.tbc a/1.tbc", "x/b/1.tbc.db x/1.tbc.json"),
+    ("a/b ./c.tbc", "a/b/1.tbc ./c.tbc", "x/a/b/1.tbc.db x/c.tbc.json"),
+    ("c.tbc", "c.tbc", "x/c.tbc.json"))
+
 # Files, what is asked for, and the sides that are found
 FOLDERS = (
     ("d/b.tbc d/a/z.tbc d/a.tbc d/c/a.tbc c.tbc", "d c.tbc", "c.tbc d/a/z.tbc d/a.tbc d/b.tbc d/c/a.tbc"),
@@ -269,6 +303,12 @@ class Folders(InFolder):
         self.add("a.tbc", "a.tbc.db")
         self.assertEqual(files_of("a.tbc"), ["a.tbc", "a.tbc.db"])
         self.assertEqual(files_of("b.tbc"), ["b.tbc"])
+
+    def test_where_copies_stand(self):
+        self.add("a/1.tbc.json", "a/b/1.tbc.db", "a/b/2.vbi.json.json", "c.tbc.json")
+        for paths, sides, wanted in COPIES:
+            found = copies_in("x", paths.split(), sides.split())
+            self.assertEqual(" ".join(one or "-" for one in found), wanted, paths)
 
     def test_packed_forms(self):
         for begin, name in ((gzip.compress(b""), "gzip"), (b"\x1f\x8b\x08\x08" + bytes(8), "gzip"),

@@ -10,31 +10,61 @@ from cases import InFolder, reason
 from compact import made
 from discs import plain, side, typed
 from ldvbi.readings import Cut, Levels
+from ldvbi_side.command.chapters import chapter_spans
 from ldvbi_side.command.map import head_rows, map_rows
 from ldvbi_side.command.summary import MOST_LINES, summary
 from ldvbi_side.command.tables import bad_line_rows, field_rows
 from ldvbi_side.answer.entries import Best, FewWords, Swapped, Tried
 from ldvbi_side.answer.lines import SIZES
-from ldvbi_side.seek import seek, text_of, wanted_of
+from ldvbi_side.seek import seek, text_of, wanted_of, why_not
 
 AROUND = ", by the numbers around it: "
-# Of sides what is found of what is asked for: field and frame
+CLOCK, NOWHERE = "no clock shows it", "no field shows it"
+# Of sides what is found of what is asked for: field and frame, or why it isn't
 SOUGHT = (
-    ("Lx2 1..20", {"1": "3 2", "020": "41 21", "21": "", "0": "", "0:00:00.00": "", "0:00": ""}),
-    ("t103450..103549", {"1:08": "1 1", "1:09": "101 51", "1:09:01": "151 76", "1:09:01.24": "199 100",  # from 1:08:58
-                         "1:08:59.25": "", "1:9:1.3": "157 79", "11:09": "", "1:10": "", "69": "", "0:01:09.00": ""}),
+    ("Lx2 1..20", {"1": "3 2", "020": "41 21", "21": "the numbers end at 20, in field 41",
+                   "0": "the numbers begin at 1, in field 3", "0:00:00.00": "the side counts pictures, not times",
+                   "0:00:00": "the side counts pictures, not seconds",
+                   "0:00": "the side counts pictures, not minutes"}),
+    # from 1:08:58
+    ("t103450..103549", {"1:08": "1 1", "1:09": "101 51", "1:09:01": "151 76", "1:09:01.24": "199 100",
+                         "1:08:59.25": CLOCK, "1:08:60": CLOCK, "1:60": CLOCK, "1:9:1.3": "157 79",
+                         "11:09": "the numbers end at 1:09:01.24, in field 199",
+                         "1:10": "the numbers end at 1:09:01.24, in field 199",
+                         "69": "the side counts times, not pictures",
+                         "0:01:09.00": "the numbers begin at 1:08:58.00, in field 1"}),
     # of a minute the first field counts that wasn't read
     ("t103450..103549 101=?/?/?", {"1:09": "101 51" + AROUND + "no number was read there", "1:09:00.01": "103 52"}),
-    ("m69..70x3000", {"1:09": "1 1", "1:10": "3001 1501", "1:11": "", "1:09:00": "", "1:09:00.00": ""}),
+    ("m69..70x3000", {"1:09": "1 1", "1:10": "3001 1501", "1:11": "the numbers end at 1:10, in field 3001",
+                      "1:09:00": "the side counts minutes, not seconds",
+                      "1:09:00.00": "the side counts minutes, not times"}),
     # a doubtful field answers for no other number
     ("1..20 19=-/#70000*/#70000 9=-/#15/?", {
-        "70000": "", "15": "29 15", "5": "9 5" + AROUND + "another number was read there: 15",
+        "70000": "the numbers end at 20, in field 39", "15": "29 15",
+        "5": "9 5" + AROUND + "another number was read there: 15",
         "10": "19 10" + AROUND + "another number was read there: 70000"}),
     # of a number that comes by again the field in which it was read
     ("1..30 11..50 39=?", {"20": "79 40"}),
-    ("1..40 22:80/2=-/c3/c3 4=-/c7/c7", {"chapter 0": "2 1", "chapter 3": "22 11", "chapter 7": ""}),
+    ("1..40 22:80/2=-/c3/c3 4=-/c7/c7", {
+        "chapter 0": "2 1", "chapter 3": "22 11", "chapter 7": "the chapters end at 3, in field 22",
+        "chapter 2": "chapter 3 follows chapter 0 in field 22"}),
+    ("1..10 31..40 2:20/2=-/c1/c1 22:40/2=-/c3/c3", {
+        "chapter 0": "the chapters begin at 1, in field 2",
+        "chapter 2": "chapter 3 follows chapter 1 in field 22, and fields are lost before it"}),
+    # where they go back none follows
+    ("Lx2 1..40 4:82/2=-/c5/c5 Ox2 Lx2 1..40 88:166/2=-/c3/c3", {"chapter 4": NOWHERE}),
     # a side that begins with a second field
-    ("PAL/1 1..20 -1", {"2": "2 1", "chapter 0": "1 0"}))
+    ("PAL/1 1..20 -1", {"2": "2 1", "chapter 0": "1 0"}),
+    ("1..11 14..30 41=-/c0/c0", {"12": "lost after field 21", "13": "lost after field 21",
+                                 "23": "unread after field 39"}),
+    ("t0..199 t400..599", {"0:00:07.24": "399 200", "0:00:10": "lost after field 399",
+                           "0:00:15.24": "lost after field 399", "0:00:16.00": "401 201"}),
+    ("f1..30 24=-/c0/c0", {"10": "lost or unread after field 21"}),
+    ("NTSC t0..1 t3..4", {"0:00:00.02": "lost, unread or skipped by the disc itself after field 3"}),
+    ("NTSC t0..2409!400%1001", {"0:00:13.10": "skipped by the disc itself after field 799"}),
+    ("m0x3000 m5..6x3000", {"0:03": "lost after field 1"}),
+    ("Lx2 1..20 Ox2 Lx2 41..60", {"30": NOWHERE}),
+    ("Bx10", {"3": "no number of the side is believed", "chapter 1": "no chapter of the side is believed"}))
 
 
 class Seeking(unittest.TestCase):
@@ -50,8 +80,10 @@ class Seeking(unittest.TestCase):
         for text, asked in SOUGHT:
             for number, wanted in asked.items():
                 with self.subTest((text, number)):
-                    found = text_of(seek(made(text, typed), wanted_of(number)))
-                    self.assertEqual(re.sub(r"^field (\d+), frame ", r"\1 ", found), wanted or "not found")
+                    known, asked_for = made(text, typed), wanted_of(number)
+                    found = seek(known, asked_for)
+                    said = text_of(found) if found else why_not(known, asked_for)
+                    self.assertEqual(re.sub(r"^field (\d+), frame ", r"\1 ", said), wanted)
 
 
 # A side, and its map: of each kind the number, the field, the frame and how it is known there
@@ -97,6 +129,25 @@ class Maps(unittest.TestCase):
             row = found and [found["field"], found["frame"], "read" if found["read"] else "neighbours"]
             self.assertEqual(mapped.get(number), row, number)
         self.assertIn("neighbours", [row[2] for row in mapped.values()])
+
+
+# A side, and its chapters, each with its fields, counted from 0
+CHAPTERS = (
+    ("Lx2 1..40 24:82/2=-/c1/c1 Ox2", "0 3-23, 1 23-82"),
+    # the codes of the last fields are unread
+    ("1..20 22:30/2=-/c1/c1 32:40=?", "0 1-21, 1 21-40"),
+    # chapter 7 is doubtful
+    ("1..40 22:80/2=-/c3/c3 4=-/c7/c7", "0 1-21, 3 21-80"),
+    # two sides
+    ("Lx2 1..20 4:42/2=-/c1/c1 Ox2 Lx2 1..20", "1 3-42, 0 47-86"),
+    ("Lx2 1..20 4:42/2=-/c1/c1 Lx2 1..20", "1 3-42, 0 45-84"),
+    ("Bx10", ""))
+
+class Chapters(unittest.TestCase):
+    def test_where_they_end(self):
+        for text, wanted in CHAPTERS:
+            found = ", ".join("%d %d-%d" % one for one in chapter_spans(made(text, typed)))
+            self.assertEqual(found, wanted, text)
 
 
 # Rows of sides: field, frame, format, picture, chapter, time, stop, doubtful, programme status, users' codes, unknown.

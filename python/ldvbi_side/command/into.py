@@ -1,76 +1,106 @@
 """The copy of ld-decode's metadata that `--into` writes: each field has its words there, as docs/FORMATS.md
-describes."""
+describes. And where the copies of a scan stand."""
 
 import os
 import stat
-from typing import Iterable, Iterator, Optional, Union
+from typing import Any, Iterable, Iterator, List, Optional, Sequence, Union
 
 from ldvbi import BLOCK, PACKED_FIELD, Stream
-from ldvbi.metadata import Metadata, is_database
-from ..into.field import Words
+from ldvbi.codes import LINES
+from ldvbi.metadata import Metadata, beside, is_database
+from ..into.field import AS_READ, BELIEVED, Words
 from ..into.text import Places
-from ..side import Side
+from ..side import RECOVERED, Side
 from .faults import no_metadata
-from .outputs import refuse_inputs, whole_file, whole_path
+from .outputs import drop_parts, refuse_inputs, whole_file, whole_path
 from .progress import Progress
 
 
 class Into:
-    """The copy that gets this name. `places` have to be told of each field as the metadata are read."""
+    """The copy that gets this name, of the metadata of a side. `places` have to be told of these as they are read, then
+    `prepare` refuses what can't be copied, before anything is judged. With `is_recovered` the words that are recovered
+    from worn lines of a TBC file are among those of the copy; a document has the words that it has."""
 
-    def __init__(self, path: str) -> None:
-        self._path = path
+    def __init__(self, path: str, is_recovered: bool) -> None:
+        self._path, self._is_recovered = path, is_recovered
+        self._name = self._old = ""  # of the side, and of its metadata
+        self._rows: Any = None  # the `Rows` of a database
         self.places = Places()
 
-    def write(self, name: str, source: Union[Side, Stream], metadata: Optional[Metadata], is_recovered: bool) -> None:
-        """Writes the copy, with the words of a side that has this name: those of a document, or those that the lines of
-        a TBC file show. With `is_recovered` those that are recovered from its worn lines are among them."""
+    def prepare(self, name: str, source: Union[Side, Stream], metadata: Optional[Metadata]) -> None:
+        """Takes in the metadata of a side that has this name, and of which there is this document or TBC file. Words in
+        the wrong fields are worse than none: a ValueError where the two have different counts of fields."""
         if metadata is None:
             raise ValueError("%s: %s; give the metadata to copy by --meta" % (name, no_metadata(name)))
+        if isinstance(source, Side) and self._is_recovered:
+            raise ValueError("%s is a document, and --recovered is of a TBC file" % name)
+        self._name, self._old = name, metadata.path
+        if not stat.S_ISREG(os.stat(self._old).st_mode):
+            raise ValueError("%s is no file that can be copied" % self._old)
+        with open(self._old, "rb") as file:
+            if is_database(file.read(16)):
+                from ..into.rows import BESIDE, Rows  # the smallest Pythons have no sqlite3
+                refuse_inputs([self._path], [self._old + end for end in BESIDE])
+                self._rows = Rows(self._old)
+            elif metadata.parameters is None:
+                raise ValueError("%s is no metadata with videoParameters" % self._old)
+        count = len(source.readings) if isinstance(source, Side) else len(source)
+        fields = len(self.places) if self._rows is None else len(self._rows)
+        if count != fields:
+            raise ValueError("%s has %d whole fields, and %s has %d" % (name, count, self._old, fields))
+
+    def write_read(self, source: Union[Side, Stream]) -> None:
+        """Writes the copy with the words that a document has, or that the lines of a TBC file show."""
         if isinstance(source, Side):
-            if is_recovered:
-                raise ValueError("%s is a document, and --recovered is of a TBC file" % name)
-            self._write(name, len(source.readings), metadata, _words_of_side(source))
-        elif is_recovered:
-            self._write(name, len(source), metadata, _words_of_stream(source))
+            self._write(source.readings.words(), AS_READ)
+        elif self._is_recovered:
+            self._write(_words_of_stream(source), AS_READ)
         else:
-            with Stream(name, source.system, source.black, source.white) as plain:
-                self._write(name, len(plain), metadata, _words_of_stream(plain))
+            with Stream(self._name, source.system, source.black, source.white) as plain:
+                self._write(_words_of_stream(plain), AS_READ)
 
-    def _write(self, name: str, count: int, metadata: Metadata, words: Iterable[Words]) -> None:
-        path = metadata.path
-        if not stat.S_ISREG(os.stat(path).st_mode):
-            raise ValueError("%s is no file that can be copied" % path)
-        with open(path, "rb") as file:
-            is_text = not is_database(file.read(16))
-        if is_text:
-            if metadata.parameters is None:
-                raise ValueError("%s is no metadata with videoParameters" % path)
-            _compare_counts(name, count, path, len(self.places))
-            with open(path, encoding="utf-8", newline="") as old, whole_file(self._path) as new:
-                self.places.copy(old, new, words)
-                new.flush()
-                other = self.places.other_in(new.name) if os.path.isfile(new.name) else None
-                if other:
-                    raise ValueError("%s: its copy has other %s" % (path, other))
-        else:
-            from ..into.rows import BESIDE, Rows  # the smallest Pythons have no sqlite3
-            refuse_inputs([self._path], [path + end for end in BESIDE])
-            rows = Rows(path)
-            _compare_counts(name, count, path, len(rows))
+    def write_believed(self, side: Side) -> None:
+        """Writes the copy without the words of a side whose number its answer sets aside."""
+        is_whole = self._is_recovered or side.samples is None
+        self._write(_believed_words(side, is_whole), BELIEVED)
+
+    def _write(self, words: Iterable[Words], said: str) -> None:
+        if self._rows is not None:
+            from ..into.rows import BESIDE
             with whole_path(self._path, BESIDE) as part:
-                rows.copy(part, words)
+                self._rows.copy(part, words, said)
+            return
+        with open(self._old, encoding="utf-8", newline="") as old, whole_file(self._path) as new:
+            self.places.copy(old, new, words, said)
+            new.flush()
+            other = self.places.other_in(new.name) if os.path.isfile(new.name) else None
+            if other:
+                raise ValueError("%s: its copy has other %s" % (self._old, other))
 
 
-def _compare_counts(name: str, count: int, path: str, fields: int) -> None:
-    """Words in the wrong fields are worse than none."""
-    if count != fields:
-        raise ValueError("%s has %d whole fields, and %s has %d" % (name, count, path, fields))
+def copies_in(folder: Optional[str], paths: Sequence[str], sides: Sequence[str]) -> List[Optional[str]]:
+    """The copy of each of these sides, which a scan found by these paths, in a folder: they stand there as the sides do
+    in the folder that has all of them. None of a side without metadata beside it, and of all if no folder is named."""
+    if not folder:
+        return [None] * len(sides)
+    above = os.path.commonpath([os.path.abspath(path if os.path.isdir(path) else os.path.dirname(path))
+                                for path in paths])
+    copies: List[Optional[str]] = []
+    for side in sides:
+        metadata = beside(side) if side.endswith(".tbc") else None
+        copies.append(metadata and os.path.join(folder, os.path.relpath(metadata, above)))
+    return copies
 
 
-def _words_of_side(side: Side) -> Iterator[Words]:
-    for one, two, three in side.readings:
-        yield one.word, two.word, three.word
+def make_folders(copies: Iterable[Optional[str]]) -> None:
+    """Makes the folders of these copies, without what earlier processes left of some there."""
+    for folder in sorted({os.path.dirname(copy) for copy in copies if copy}):
+        try:
+            os.makedirs(folder, exist_ok=True)
+        except OSError as error:
+            error.filename = folder  # and not one of those that it is in
+            raise
+        drop_parts(folder)
 
 
 def _words_of_stream(stream: Stream) -> Iterator[Words]:
@@ -78,3 +108,14 @@ def _words_of_stream(stream: Stream) -> Iterator[Words]:
         for block in progress.over(stream.packed(0, len(stream)), BLOCK):
             for _, _, _, one, _, _, _, two, _, _, _, three in PACKED_FIELD.iter_unpack(block):
                 yield one, two, three
+
+
+def _believed_words(side: Side, has_recovered: bool) -> Iterator[Words]:
+    """The words of each field, with 0 for one whose number is set aside, and for one that is recovered, unless those
+    are wanted, too. Codes out of place stay: no number is believed for them."""
+    aside = {one[:2] for one in side.analysis.answer.doubtful}
+    for field, (words, passes) in enumerate(zip(side.readings.words(), side.readings.passes()), 1):
+        one, two, three = (
+            0 if (field, line) in aside or of_pass == RECOVERED and not has_recovered else word
+            for line, word, of_pass in zip(LINES, words, passes))
+        yield one, two, three

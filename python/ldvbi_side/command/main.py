@@ -15,7 +15,7 @@ from ldvbi.regular import regular
 from ldvbi.stream import cut_of
 from ..outside import (NAME, bytes_of_document, drop_standard_output, flush, flush_or_drop, printable, raise_lost,
                        say)
-from ..seek import seek, text_of
+from ..seek import seek, text_of, why_not
 from ..answer.entries import Answer
 from ..side import Side, side_of_document, side_of_stream, stream_of_tbc
 from .faults import (SETTINGS, STANDARD_INPUT, fault_text, naming, no_metadata, refuse_folder, refuse_no_document,
@@ -48,9 +48,9 @@ def _name_of(options):
     return STANDARD_INPUT if options.side == "-" else options.side
 
 
-def _source(options, on_field=None):
-    """The side of the document that the options name, or the stream of the TBC file; and the metadata, or None, whose
-    fields `on_field` is told of."""
+def _source(options, into=None):
+    """The side of the document that the options name, or the stream of the TBC file; and the metadata, or None, of
+    which a copy is told."""
     is_standard_input = options.side == "-"
     if not is_standard_input:
         refuse_folder(options.side)
@@ -62,7 +62,7 @@ def _source(options, on_field=None):
         side = None
         if is_standard_input or is_document(options.side, begin):
             side = side_of_document(bytes_of_document(file, begin))
-    metadata = _metadata(options, on_field)
+    metadata = _metadata(options, into)
     return side or _stream(options, metadata), metadata
 
 
@@ -77,12 +77,13 @@ def _refuse_begin(options, begin):
         refuse_packed(options.side, begin)
 
 
-def _metadata(options, on_field):
+def _metadata(options, into):
     """The metadata that the options name, or None."""
     if not options.meta:
         return None
     with naming(options.meta):
-        return read_metadata(options.meta, on_field, not options.is_beside)
+        return read_metadata(options.meta, into and into.places.add, not options.is_beside,
+                             into and into.places.add_member)
 
 
 def _stream(options, metadata):
@@ -120,7 +121,7 @@ def _loaded(source, metadata, options):
     side = _side_of(source)
     side.is_strict, side.may_end = options.strict, options.open_end
     if metadata:
-        _add_fields(side, _name_of(options), metadata, isinstance(source, Side))
+        _add_fields(side, _name_of(options), metadata, isinstance(source, Side) and _is_asked(options))
     return side
 
 
@@ -166,8 +167,10 @@ def _cut_status(cut, system, name):
     return 3
 
 
-def _write_files(side, options, is_tbc):
-    """Writes each file that the options name beside what is printed."""
+def _write_files(side, options, is_tbc, into):
+    """Writes each file that the options name beside what is printed. `into` is a copy of the metadata, or None."""
+    if into and not options.as_read:
+        into.write_believed(side)
     if options.svg:
         from ..draw.drawing import drawing_of
         with whole_file(options.svg) as file:
@@ -176,6 +179,10 @@ def _write_files(side, options, is_tbc):
         with whole_file(options.map) as file:
             answer = side.analysis.answer
             _print_table(MAP_COLUMNS, [*head_rows(answer, side.levels), *map_rows(answer)], file)
+    if options.chapters:
+        from .chapters import chapters_text
+        with whole_file(options.chapters) as file:
+            file.write(chapters_text(side.analysis.answer, options.chapters))
     if options.html:
         from ..draw.page import page_of
         from ..draw.plotting import plotter
@@ -191,7 +198,7 @@ def _files(options):
 
 def _drawn(options):
     """Those of them that have what the words mean."""
-    return [options.svg, options.map, options.html]
+    return [options.svg, options.map, options.chapters, options.html]
 
 
 def _is_printed(options):
@@ -199,9 +206,19 @@ def _is_printed(options):
     return any([options.csv, options.json, options.bad_lines, options.seek, options.summary, options.document])
 
 
-def _is_judged(options):
-    """Whether it is asked what the words mean, and not for words alone."""
+def _is_asked(options):
+    """Whether it is asked what the words mean."""
     return any([*_drawn(options), options.csv, options.json, options.bad_lines, options.seek, options.summary])
+
+
+def _is_judged(options):
+    """Whether the words are judged, and not read alone."""
+    return _is_asked(options) or options.into and not options.as_read
+
+
+def _into(options):
+    """The copy of the metadata that the options ask for, or None."""
+    return Into(options.into, options.recovered) if options.into else None
 
 
 def _options(words, settings=None):
@@ -215,6 +232,8 @@ def _options(words, settings=None):
         parser.error("a file has to have a name")
     if options.recovered and (not (options.document or options.into) or options.no_recover):
         parser.error("--recovered is of --document or --into, and not with --no-recover")
+    if options.as_read and not options.into:
+        parser.error("--as-read is of --into")
     is_open = options.into or None in _settings(options)
     options.waits = True  # if the side is a pipe
     options.is_alone = settings is None  # not one of several
@@ -248,15 +267,29 @@ def _scan(words):
     return scan(words, answer_of)
 
 
-def answer_of(path: str, page: Optional[str], may_end: bool, is_named: bool) -> Answer:
-    """The answer for a side, which is read with what lies beside it, and may end without lead-out or not; its page is
-    written where one is named. A side that nobody named is a file."""
-    options = _options([*(["--html", page] if page else []), *["--open-end"] * may_end, "--", path])
+def answer_of(path: str, page: Optional[str], may_end: bool, is_named: bool, copy: Optional[str] = None) -> Answer:
+    """The answer for a side, which is read with what lies beside it, and may end without lead-out or not; its page, and
+    a copy of its metadata, are written where they are named. A side that nobody named is a file."""
+    named = [word for option, name in (("--html", page), ("--into", copy)) if name for word in (option, name)]
+    options = _options([*named, *["--open-end"] * may_end, "--", path])
     options.waits = is_named
-    source, metadata = _source(options)
+    into = _into(options)
+    source, metadata = _source(options, into)
+    if into:
+        into.prepare(path, source, metadata)
     side = _loaded(source, metadata, options)
-    _write_files(side, options, not isinstance(source, Side))
+    _write_files(side, options, not isinstance(source, Side), into)
     return side.analysis.answer
+
+
+def _print_place(answer, wanted):
+    """Prints where something is. The answer is the exit status."""
+    found = seek(answer, wanted)
+    if found is None:
+        say("not found: " + why_not(answer, wanted))
+        return 1
+    print(text_of(found))
+    return 0
 
 
 def _run(options):
@@ -271,27 +304,27 @@ def _run(options):
 
 def _answer(options):
     """Prints and draws what the options ask for."""
-    into = Into(options.into) if options.into else None
-    source, metadata = _source(options, into and into.places.add)
+    into = _into(options)
+    source, metadata = _source(options, into)
     _refuse_settings(options, _name_of(options), not isinstance(source, Side))
+    if into:
+        into.prepare(options.side, source, metadata)
     if options.document:
         if isinstance(source, Side):
             raise ValueError("%s is a document, and --document is of a TBC file" % _name_of(options))
         if options.recovered and metadata and not _is_judged(options):
             _is_of_another(metadata, _name_of(options), len(source), cut_of(source), True)
         _print_document(options, source)
-    if into:
-        into.write(options.side, source, metadata, options.recovered)
+    if into and options.as_read:
+        into.write_read(source)
     if not _is_judged(options):
         cut = source.cut if isinstance(source, Side) else cut_of(source)
         return _cut_status(cut, source.system, _name_of(options))
     side = _loaded(source, metadata, options)
     answer = side.analysis.answer  # whose faults come before all that is printed
-    _write_files(side, options, not isinstance(source, Side))
+    _write_files(side, options, not isinstance(source, Side), into)
     if options.seek:
-        found = seek(answer, options.seek)
-        print(text_of(found))
-        return int(found is None)
+        return _print_place(answer, options.seek)
     if options.summary:
         print(*map(printable, summary(answer)), sep="\n")
         return OF_SIDE[answer.whole]

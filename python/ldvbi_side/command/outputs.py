@@ -126,12 +126,16 @@ def drop_parts(folder: str) -> None:
     for name in os.listdir(folder):
         match = _NAME_OF_PART.fullmatch(name)
         if match and match[1] == _machine() and not _is_there(int(match[2])):
-            part = os.path.join(folder, name)
-            with contextlib.suppress(OSError):
-                if os.path.isdir(part):
-                    shutil.rmtree(part)
-                else:
-                    os.unlink(part)
+            _drop(os.path.join(folder, name))
+
+
+def _drop(part):
+    """Removes a part, which is a folder if something is written beside it."""
+    with contextlib.suppress(OSError):
+        if os.path.isdir(part):
+            shutil.rmtree(part)
+        else:
+            os.unlink(part)
 
 
 def _is_there(process):
@@ -154,8 +158,7 @@ def _rename(part, target):
 def drop_part(path: str, process: int) -> None:
     """Removes what a process, which has ended, left of a file that it was to write to this path: nothing, if it could
     see to that itself."""
-    with contextlib.suppress(FileNotFoundError):
-        os.unlink(_part_by(os.path.realpath(path), process))
+    _drop(_part_by(os.path.realpath(path), process))
 
 
 def refuse_inputs(outputs: Iterable[Place], inputs: Iterable[Place]) -> None:

@@ -4,6 +4,7 @@ import argparse
 from typing import Dict
 
 from ..seek import wanted_of
+from .chapters import LABELS
 from .parser import Parser, Version, add_settings
 from .statuses import statuses_text
 from .summary import MOST_LINES
@@ -53,9 +54,15 @@ def parser_of_side(program: str) -> argparse.ArgumentParser:
     parser.add_argument("--map", metavar="FILE", help="write into this file system, levels and count of fields, and "
                         "where each number, chapter and picture stop is, for a player to seek by; print only what "
                         "another option asks for")
+    parser.add_argument("--chapters", metavar="FILE", help="write the chapters into this file, as ffmpeg's metadata "
+                        "or, if its name ends with %s, as Audacity's labels; print only what another option asks for"
+                        % LABELS)
     parser.add_argument("--into", metavar="FILE", help="write a copy of ld-decode's metadata into this file, of --meta "
                         "or beside the TBC file, in which each field has its words as vbi.vbiData (in a .tbc.db a row "
-                        "of the table vbi); print only what another option asks for")
+                        "of the table vbi), with 0 for a word that is set aside; print only what another option asks "
+                        "for")
+    parser.add_argument("--as-read", action="store_true", help="copy with --into the words as they were read, those "
+                        "that are set aside, too")
     return parser
 
 

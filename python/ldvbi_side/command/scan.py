@@ -21,6 +21,7 @@ from ..answer.entries import Answer
 from ..outside import say
 from .faults import fault_text, no_metadata
 from .folders import files_of, page_name, sides_in
+from .into import copies_in, make_folders
 from .outputs import drop_part, drop_parts, refuse_inputs, whole_file
 from .parser import Parser
 from .processes import Ended, SideBySide
@@ -35,7 +36,7 @@ INDEX = "index.html"
 MOST_JOBS = 4  # where the command line doesn't say
 # About how many bytes of a file there are to a field
 _FIELD_BYTES = {True: 600000, False: 150}  # of a TBC file, of a document
-Read = Callable[[str, Optional[str], bool, bool], Answer]
+Read = Callable[[str, Optional[str], bool, bool, Optional[str]], Answer]
 
 
 def _jobs(text):
@@ -57,6 +58,8 @@ def parser_of_scan() -> argparse.ArgumentParser:
     output.add_argument("--json", action="store_true", help="print the table as JSON, at the end")
     parser.add_argument("--html", metavar="FOLDER", help="write a page for each side into this folder, and %s, which "
                         "links them. A side whose page is newer than its files isn't read again" % INDEX)
+    parser.add_argument("--into", metavar="FOLDER", help="write into this folder a copy of the metadata beside each "
+                        "TBC file, with its believed words, in folders as those of the sides; each side is read again")
     parser.add_argument("--again", action="store_true", help="read each side, and write its page anew")
     return parser
 
@@ -64,7 +67,7 @@ def parser_of_scan() -> argparse.ArgumentParser:
 def _options(words):
     parser = parser_of_scan()
     options = parser.parse_args(words)
-    if options.html == "":
+    if "" in (options.html, options.into):
         parser.error("a folder has to have a name")
     if options.again and not options.html:
         parser.error("--again is of --html")
@@ -81,14 +84,16 @@ def scan(words: List[str], read: Read) -> int:
     pages = _pages(sides, options.html)
     index = os.path.join(options.html, INDEX) if options.html else None
     _refuse_no_file(index)
-    refuse_inputs([1, index, *pages], itertools.chain.from_iterable(files_of(side.path) for side in sides))
+    copies = copies_in(options.into, options.paths, [side.path for side in sides])
+    refuse_inputs([1, index, *pages, *copies], itertools.chain.from_iterable(files_of(side.path) for side in sides))
+    make_folders(copies)
     kept = dict(_kept(sides, pages, options))
     left = [place for place in range(len(sides)) if place not in kept]
     table = Csv() if options.csv else Json() if options.json else Text([side.path for side in sides])
     rows = []
-    tasks = [(sides[place].path, pages[place], sides[place].is_named) for place in left]
+    tasks = [(sides[place].path, pages[place], sides[place].is_named, copies[place]) for place in left]
     read_side = functools.partial(_read_side, read, options.open_end)
-    with SideBySide(read_side, tasks, options.jobs, _drop_page) as messages, \
+    with SideBySide(read_side, tasks, options.jobs, _drop_files) as messages, \
             SidesProgress([_size(path) for path, *_ in tasks]) as progress:
         for row, notes in _in_order(itertools.chain(kept.items(), _results(messages, progress, sides, left))):
             progress.clear()
@@ -120,7 +125,7 @@ def _kept(sides, pages, options):
     for place, (side, page) in enumerate(zip(sides, pages)):
         if side.fault is not None:
             yield place, (fault_row(side.path, side.fault), [])
-        elif page and not options.again:
+        elif page and not (options.again or options.into):
             said = _said_before(side.path, page, options.open_end)
             if said:
                 yield place, (row_of(side.path, said, page), [])
@@ -172,14 +177,15 @@ def _ended_text(status):
 
 def _read_side(read, may_end, task, tell):
     """Sends the row of a side, and what is to be noted of it, and meanwhile which part of it is read."""
-    path, page, is_named = task
+    path, page, is_named, copy = task
     begin = time.time_ns()
     notes = io.StringIO()
     try:
         with heard_by(lambda done, fields: tell(done / fields if fields else 1.0)), contextlib.redirect_stderr(notes):
             _refuse_others(path, is_named)
             _refuse_no_file(page)
-            answer = read(path, page, may_end, is_named)
+            _refuse_no_file(copy)
+            answer = read(path, page, may_end, is_named, copy)
         if page:
             os.utime(page, ns=(begin, begin))  # what a file gets while it is read is newer than its page
         row = row_of(path, said_of(answer), page)
@@ -190,10 +196,11 @@ def _read_side(read, may_end, task, tell):
     tell((row, [line.partition(": ")[2] for line in notes.getvalue().splitlines()]))
 
 
-def _drop_page(task, process):
-    """Removes what a process, which has ended, left of an unfinished page."""
-    if task[1]:
-        drop_part(task[1], process)
+def _drop_files(task, process):
+    """Removes what a process, which has ended, left of an unfinished page, and of a copy."""
+    _, page, _, copy = task
+    for path in filter(None, (page, copy)):
+        drop_part(path, process)
 
 
 def _refuse_others(path, is_named):

@@ -17,6 +17,10 @@ _THREE = re.compile(r"\[({w}){i}({w},{w}){i}({w},{w}){i}({w})\]".format(w=_WHITE
 _DECODER = json.JSONDecoder()
 
 
+BELIEVED, AS_READ = "believed", "as read"  # which words a copy has; it says so in this member, beside its fields
+MEMBER = "ldvbiWords"
+
+
 class Place(NamedTuple):
     """A part of a text, from its begin to its end, and what stands there in its copy, with `%d` for each word."""
     begin: int
@@ -42,6 +46,15 @@ def place_of_words(text: str, field: Any, number: int) -> Place:
         return _added(text, begin, end, '"vbiData"%s%s' % (colon, _list_with(gap)))
     data_begin, data_end = _value_place(text, begin, end, "vbiData")
     return Place(data_begin, data_end, _list_like(text[data_begin:data_end]) or _list_with(_style_of(text, begin)[2]))
+
+
+def place_of_member(text: str) -> Place:
+    """The place of that member before all others of a document that begins with this text, with `%s` for its value."""
+    begin = text.index("{")
+    first = _FIRST.match(text, begin)
+    comma, colon, _ = _style_of(text, begin)
+    place = begin + 1 + (len(first[1]) if first else 0)
+    return Place(place, place, '"%s"%s"%%s"%s' % (MEMBER, colon, comma if first else ""))
 
 
 def _style_of(text: str, begin: int) -> Tuple[str, str, str]:

@@ -1,5 +1,5 @@
 """A database of ld-decode's metadata, copied with the words of its fields: the table `vbi` has a row for each of
-them."""
+them, and a table of its own, which no reader of ld-decode's looks for, says which words these are."""
 
 import array
 import contextlib
@@ -17,6 +17,8 @@ _UPDATE = """UPDATE main.vbi SET (vbi0, vbi1, vbi2) = (
     WHERE field_id IN (SELECT field_id FROM temp.words)"""
 _INSERT = """INSERT INTO main.vbi (%sfield_id, vbi0, vbi1, vbi2) SELECT %sfield_id, vbi0, vbi1, vbi2 FROM temp.words
     WHERE field_id NOT IN (SELECT field_id FROM main.vbi)"""
+_SAID = "ldvbi_words"
+_SAY = ("CREATE TABLE IF NOT EXISTS main.%s (words TEXT NOT NULL)" % _SAID, "DELETE FROM main." + _SAID)
 
 
 class Rows:
@@ -40,9 +42,9 @@ class Rows:
     def __len__(self) -> int:
         return len(self._fields)
 
-    def copy(self, path: str, words: Iterable[Words]) -> None:
-        """Makes a copy of the database, in which each field in turn has these words. All of them come into it in one
-        transaction; the other columns of a row that is there stay as they are."""
+    def copy(self, path: str, words: Iterable[Words], said: str) -> None:
+        """Makes a copy of the database, in which each field in turn has these words, with what is said of them. All of
+        them come into it in one transaction; the other columns of a row that is there stay as they are."""
         of_capture = ("", "")
         if "capture_id" in self._columns:
             of_capture = ("capture_id, ", "(SELECT capture_id FROM main.capture), ")
@@ -53,15 +55,15 @@ class Rows:
                 old.backup(new, pages=1000, progress=lambda *_: None)
                 limit_steps(new)
                 wanted = _counts_of(new)
-                self._fill(new, _noted(words, written), _INSERT % of_capture)
+                self._fill(new, _noted(words, written), _INSERT % of_capture, said)
             except sqlite3.Error as error:
                 raise ValueError("SQLite can't copy it: %s" % error) from None
         with opened(path) as database:
-            other = self._other(database, written, wanted)
+            other = self._other(database, written, wanted, said)
         if other:
             raise ValueError("%s: its copy has other %s" % (self._path, other))
 
-    def _fill(self, new, words, insert):
+    def _fill(self, new, words, insert, said):
         new.execute("PRAGMA temp_store = MEMORY")
         new.execute(_WORDS)
         with new:
@@ -69,18 +71,23 @@ class Rows:
                 (field, *three) for field, three in zip(self._fields, words)))
             new.execute(_UPDATE)
             new.execute(insert)
+            for statement in _SAY:
+                new.execute(statement)
+            new.execute("INSERT INTO main.%s (words) VALUES (?)" % _SAID, (said,))
 
-    def _other(self, database, written, wanted):
-        """What the copy has otherwise: whatever the database has that isn't known here, all words are to be in it, and
-        its other tables are to be as long. None where nothing is."""
+    def _other(self, database, written, wanted, said):
+        """What the copy has otherwise: whatever the database has that isn't known here, all words are to be in it, with
+        what is said of them, and its other tables are to be as long. None where nothing is."""
         rows = database.execute("SELECT field_id, vbi0, vbi1, vbi2 FROM vbi ORDER BY field_id")
         known = {field: tuple(three) for field, *three in rows}
         for place, field in enumerate(self._fields):
             if known.get(field) != tuple(written[3 * place:3 * place + 3]):
                 return "words in the row of field_id %d" % field
+        if database.execute("SELECT words FROM " + _SAID).fetchall() != [(said,)]:
+            return "rows in the table " + _SAID
         found = _counts_of(database)
         return next(("rows in the table " + table for table, count in wanted.items()
-                     if table != "vbi" and found.get(table) != count), None)
+                     if table not in ("vbi", _SAID) and found.get(table) != count), None)
 
 
 def _noted(words: Iterable[Words], written: "array.array[int]") -> Iterator[Words]:
