@@ -32,7 +32,8 @@ _ldvbi_side() {
             ;;
         *)
             options='--help --version --meta --system --black --white --no-recover --strict --open-end --csv --json'
-            options="$options "'--bad-lines --seek --summary --document --recovered --output --svg --html --map --into'
+            options="$options "'--bad-lines --seek --summary --document --recovered --output --svg --html --map --chapters'
+            options="$options "'--into --as-read'
             case $before in
                 --system) answers='NTSC PAL' ;;
                 --meta | -o | --output | --svg | --html | --map | --chapters | --into) compopt -o default; return ;;
