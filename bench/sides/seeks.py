@@ -4,10 +4,13 @@ asked for is one that `ldvbi_judge` answers by what `ldvbi_recover_fields` reads
 
 usage: seeks.py KIND [FROM TO [EACH]]     the seeds FROM to TO - 1 (0 to 99), EACH numbers of a side (10)
 
-KIND is `clean`: any lead-in, pictures and lead-out, every line read; or a kind of PLAYED in simulated_kinds.py, as
-`worn`, or `skips`, CLV sides whose minutes are mostly unread; or `all`, the kinds of KINDS in turn. A side is a file
+KIND is `clean`: any lead-in, pictures and lead-out, every line read; or `noise`: the same of 1,000 pictures at most,
+with noise whose deviation is 35 % of white - black on each line with a word; or a kind of PLAYED in
+simulated_kinds.py, as `worn`, or `skips`, CLV sides whose minutes are mostly unread; or `all`, the kinds of KINDS in
+turn. A side is a file
 with holes in TMPDIR. LDVBI_LIBRARY names another library. A line of totals is printed for each layout."""
 
+import array
 import collections
 import os
 import random
@@ -21,10 +24,10 @@ NTSC, PAL = ("NTSC", 16384, 51200), ("PAL", 16384, 54016)
 LEAD_IN, LEAD_OUT = 0x88FFFF, 0x80EEEE
 
 
-def clean(seed):
+def clean(seed, pictures=(300, 500, 1000, 3000, 10000)):
     """The words of the fields of a side of which each line is read, and its layout."""
     rng = random.Random("clean %d" % seed)
-    pictures = rng.choice((300, 500, 1000, 3000, 10000))
+    pictures = rng.choice(pictures)
     lead_in, lead_out = (rng.choice((0, 8, 100, 600, 2000, 6000, rng.randrange(8000))) for _ in range(2))
     most = 7 * pictures  # each end
     fields = [[0, LEAD_IN, LEAD_IN]] * min(lead_in, most)
@@ -39,9 +42,19 @@ def played(seed, kind):
     return [field["vbi"]["vbiData"] for field in side.document["fields"]], side.layout
 
 
-def write(path, setup, fields):
-    """A file with the three lines of each field that have words."""
+def noisy(row, noise, rng, deviation=0.35 * (NTSC[2] - NTSC[1])):
+    """A row of samples with noise, of which `noise` has many values of deviation 1."""
+    samples = array.array("H", row)
+    begin = rng.randrange(len(noise) - len(samples))
+    return array.array("H", (min(max(int(sample + deviation * one), 0), 65535)
+                             for sample, one in zip(samples, noise[begin:]))).tobytes()
+
+
+def write(path, setup, fields, seed=None):
+    """A file with the three lines of each field that have words; with noise on them if a seed is given."""
     size, row = ldvbi.field_bytes(setup[0]), ldvbi.line_bytes(setup[0])
+    rng = random.Random("noise %s" % seed)
+    noise = [] if seed is None else [rng.gauss(0, 1) for _ in range(100000)]
     drawn = {}
     with open(path, "wb") as file:
         file.truncate(size * len(fields))
@@ -51,15 +64,19 @@ def write(path, setup, fields):
                     if word not in drawn:
                         drawn[word] = ldvbi.draw_line(word, *setup)
                     file.seek(size * field + row * line)
-                    file.write(drawn[word])
+                    file.write(noisy(drawn[word], noise, rng) if noise else drawn[word])
 
 
 def sought(seed, kind, each, path):
     """The layout of a side, and of each number that is asked for whether it is found, and the fields that are read."""
-    fields, layout = clean(seed) if kind == "clean" else played(seed, kind)
+    is_noisy = kind == "noise"
+    if is_noisy:
+        fields, layout = clean(seed, (300, 500, 1000))
+    else:
+        fields, layout = clean(seed) if kind == "clean" else played(seed, kind)
     setup = PAL if "pal" in layout else NTSC
     counted = "times" if layout.startswith("clv") else "pictures"
-    write(path, setup, fields)
+    write(path, setup, fields, seed if is_noisy else None)
     with ldvbi.Stream(path, *setup, recover=True) as side:
         known = {}
         for field, answer in enumerate(ldvbi.judge(side, setup[0], counted)):

@@ -2,6 +2,7 @@ mod Drawn
 pub mod Erasing
 mod Judged
 pub mod Marks
+mod OneRecovery
 pub mod MarkedLines
 pub mod Sought
 pub mod PartOfReadings

@@ -15,7 +15,7 @@ pub mod Growing
 mod HeldRows
 pub mod OneDocument
 mod OneRecoveredDocument
-mod OneShown
+pub mod OneShown
 pub mod Pieces
 pub mod Positions
 pub mod PullEnds

@@ -5,8 +5,8 @@ use Rattle.vbi_c.proofs.Marks.{erased_of-empty}
 use Rattle.vbi_c.proofs.OneRecovery.{only_recovery}
 use Rattle.vbi_c.proofs.recovering.recover_whole.Goals as goal
 
-pub returns-clause : goal.returns-clause
-returns-clause c =
+pub returns : goal.returns
+returns c =
     let setup = c.args.setup.now in
     let marks = none_erased setup.system in
     let readings = c.recover_listed.result in
