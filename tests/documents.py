@@ -18,7 +18,7 @@ import re
 import sys
 
 # The least that each check has to look at. A check that finds less no longer understands the documents.
-LEAST = {"links": 70, "paths": 180, "names": 1300, "faults": 28}
+LEAST = {"links": 70, "paths": 170, "names": 1300, "faults": 28}
 # The links to the net, of which nothing else is looked at
 NET = ["https://github.com/happycube/ld-decode"]
 # Where a path that a document names may begin

@@ -5,7 +5,7 @@
 usage: measure.py FROM TO [--kind KIND]... [--parity] [--show N] [--into FILE]     the seeds FROM to TO - 1
 
 Without --kind each seed has a kind of KINDS; --kind `each` is each kind of PLAYED. --parity hands over isFirstField of
-each field, too; --show prints the first N differences, --into writes the rows of docs/MEASURED.md."""
+each field, too; --show prints the first N differences, --into writes the rows of a file of docs/measured."""
 
 import operator
 import time
@@ -78,7 +78,7 @@ def print_table(totals):
 
 
 def row_of(kind, counts):
-    """The cells of a kind's row in docs/MEASURED.md."""
+    """The cells of a kind's row in a file of docs/measured."""
     first, missing, reasons = ("%d/%d" % (counts[name], counts["sides"])
                                for name in ("first fields", "missing", "reasons"))
     said, own = OF_KIND.get(kind, ("", "lost"))

@@ -11,7 +11,7 @@ from simulate import KINDS, PLAYED
 
 def parser():
     """What a run is asked for: the seeds from `begin` to `end` - 1, the kinds, how many texts are shown, and the file
-    that gets the rows of docs/MEASURED.md."""
+    that gets the rows, as in docs/measured."""
     found = argparse.ArgumentParser()
     found.add_argument("begin", type=int)
     found.add_argument("end", type=int)
@@ -36,7 +36,7 @@ def totals_of(options, counts_of):
 
 
 def write_rows(options, head, rows):
-    """Writes a table of docs/MEASURED.md, if that is asked for: what was run, its head, and the cells of each row."""
+    """Writes a table, as in docs/measured, if that is asked for: what was run, its head, and the cells of each row."""
     if options.into:
         with open(options.into, "w", encoding="ascii") as file:
             print(os.path.basename(sys.argv[0]), *sys.argv[1:], file=file)
