@@ -20,7 +20,8 @@ done
 missing=
 # A command, and behind a colon the packages that have it, where these have another name
 for pair in "${CC:-cc}:gcc libc6-dev" "${CXX:-c++}:g++" nm:binutils make python3 jq prove:perl git mandoc mypy pv zsh \
-    ${rust:+cargo} ${gate:+cmake pkg-config rustc rustfmt cargo-clippy:rust-clippy}; do
+    ${rust:+cargo} ${gate:+cmake pkg-config rustc rustfmt cargo-clippy:rust-clippy /usr/sbin/debootstrap:debootstrap}
+do
     command -v "${pair%%:*}" > /dev/null || missing="$missing ${pair#*:}"
 done
 # The system's Python, whose packages are Debian's, runs a command of docs/RECIPES.md, and the wheel is tried by it; its
