@@ -32,7 +32,8 @@ fi
 # goes with the process.
 in_bare() {
     does unshare --mount sh -c 'mount -t proc proc "$1/proc" && exec env -i HOME=/nowhere \
-        DEBIAN_FRONTEND=noninteractive PATH=/usr/local/bin:/usr/sbin:/usr/bin:/sbin:/bin chroot "$1" bash -c "cd /src && $2"' sh "$1" "$2"
+        DEBIAN_FRONTEND=noninteractive PATH=/usr/local/bin:/usr/sbin:/usr/bin:/sbin:/bin \
+        chroot "$1" bash -c "cd /src && $2"' sh "$1" "$2"
 }
 check 'a bare Debian' does unshare --mount debootstrap --variant=minbase bookworm one "$mirror"
 cp /etc/resolv.conf one/etc
