@@ -103,7 +103,7 @@ document() {
         LDVBI_LIBRARY=$([ "$mark" = lib ] || echo "$work/absent")
         # What is marked `sh` is of that shell's grammar; bash can see that each command of a pipe succeeds.
         case $block in
-            *.python) in_folder $2 env PYTHONPATH="$top/python" python3 ../$block ;;
+            *.python) in_folder $2 env PYTHONPATH=python python3 ../$block ;;
             *) in_folder $2 sh -c '[ "${1##*.}" = bash ] || sh -n "$1" && exec bash -e -o pipefail "$1"' sh ../$block ;;
         esac
         check "$block: $(head -n 1 $block)" prints ${block%.*}.text
