@@ -12,7 +12,7 @@
 . "$(dirname "$0")/../helpers.sh"
 
 # Downloads and cargo take longer than other runs.
-seconds=900
+seconds=1800
 mirror=${MIRROR:-http://deb.debian.org/debian}
 
 sed -n '/^```sh skip$/,/^```$/{/^```$/q;/^```/d;p;}' "$top/README.md" > setup.sh
