@@ -24,12 +24,12 @@ fault() {
     exit 1
 }
 
-# tagged WORD..: the scripts with one of these words in their line. Those of answers/ and python/, which take longest,
-# come first.
+# tagged WORD..: the scripts with one of these words in their line. Those that take longest come first: of answers/ and
+# python/, and the one that waits for downloads.
 tagged() {
     for word; do
         (cd "$here" && grep -rlw --include='*.sh' "^# runs: .*$word" .)
-    done | sed 's|^./answers|./~&|' | LC_ALL=C sort -ru | sed 's|~./||'
+    done | sed 's,^./\(answers\|program/bare\),./~&,' | LC_ALL=C sort -ru | sed 's|~./||'
 }
 
 # named NAME..: the scripts with these names

@@ -23,6 +23,8 @@ for pair in "${CC:-cc}:gcc libc6-dev" "${CXX:-c++}:g++" nm:binutils make python3
     pv zsh ${rust:+cargo} ${gate:+cmake pkg-config rustc rustfmt cargo-clippy:rust-clippy}; do
     command -v "${pair%%:*}" > /dev/null || missing="$missing ${pair#*:}"
 done
+# It isn't on the PATH of everybody.
+[ -z "$gate" ] || [ -x /usr/sbin/debootstrap ] || missing="$missing debootstrap"
 # The system's Python, whose packages are Debian's, runs a command of docs/RECIPES.md, and the wheel is tried by it; its
 # coverage records which lines run.
 for pair in jsonschema coverage ensurepip:venv ${gate:+setuptools wheel}; do

@@ -28,7 +28,7 @@ header_version() {
     sed -n 's/^#define LDVBI_VERSION_TEXT "\(.*\)"$/\1/p' "$top/include/ldvbi.h"
 }
 
-# program_in_readme: makes say.c, of which README has five lines, and the line that it reads
+# program_in_readme: makes say.c, of which README has three lines, and the line that it reads
 program_in_readme() {
     cp "$top/examples/say.c" say.c
     echo '- F12345 -' | bounded "$program" draw $ntsc > said.tbc

@@ -2,11 +2,11 @@
 # Compares the documents with the source, and runs their command blocks in their order, the examples of the manual pages
 # and those of the help texts: what they print is what stands there.
 #
-# A block marked ```sh or ```bash is run, and has to succeed, each of its commands in turn and each part of a pipe; so is
-# one marked ```python, by Python with the module. A block marked ```text that comes next is what it prints, on standard
-# output and standard error. One marked ```console has commands and what they print by turns: a command begins with
-# `$ `, each further line of it with `> `. A block marked `skip` as well (```sh skip) is left out, one marked `lib` where
-# the library isn't built; every other block runs where no library is found.
+# A block marked ```sh or ```bash is run, and has to succeed, each of its commands in turn and each part of a pipe. So
+# is one marked ```python, by Python with the module. A block marked ```text that comes next is what it prints, on
+# standard output and standard error. One marked ```console has commands and what they print by turns: a command begins
+# with `$ `, each further line of it with `> `. A block marked `skip` as well (```sh skip) is left out, one marked `lib`
+# where the library isn't built; every other block runs where no library is found.
 # usage: sh tests/program/docs.sh PROGRAM
 # runs: everywhere
 # fails where: README.md|s/^picture 1$/picture 2/
@@ -103,7 +103,7 @@ document() {
         LDVBI_LIBRARY=$([ "$mark" = lib ] || echo "$work/absent")
         # What is marked `sh` is of that shell's grammar; bash can see that each command of a pipe succeeds.
         case $block in
-            *.python) in_folder $2 env PYTHONPATH="$top/python" python3 ../$block ;;
+            *.python) in_folder $2 env PYTHONPATH=python python3 ../$block ;;
             *) in_folder $2 sh -c '[ "${1##*.}" = bash ] || sh -n "$1" && exec bash -e -o pipefail "$1"' sh ../$block ;;
         esac
         check "$block: $(head -n 1 $block)" prints ${block%.*}.text

@@ -98,7 +98,8 @@ ran / env FAULT=3 "$work/tree/.ci/run"
 check '.ci/run fails where that does' [ "$status" = 3 ]
 
 # tests/tools.sh where no tool is there, and where all are but one; the system's Python is one that has no module
-sed "s,/usr/bin/python3,$work/no_module,; s,/usr/share/doc,$work/none," "$top/tests/tools.sh" > tools.sh
+sed "s,/usr/bin/python3,$work/no_module,; s,/usr/share/doc,$work/none,; s,/usr/sbin,$work/alone," \
+    "$top/tests/tools.sh" > tools.sh
 stub no_module 'exit 1'
 mkdir none alone
 ln -s "$(command -v sh)" alone/sh
@@ -122,14 +123,15 @@ judge 'setup as root' 0 wanted_text ''
 tools install
 for package in $all; do grep -q "^installing.* $package\( \|$\)" out || echo $package; done > found
 check 'setup leaves to the gate what it alone needs' [ "$(paste -s -d ' ' found)" = \
-    'cmake pkg-config rustc rustfmt rust-clippy python3-setuptools python3-wheel librust-libc-dev' ]
+    'cmake pkg-config rustc rustfmt rust-clippy debootstrap python3-setuptools python3-wheel librust-libc-dev' ]
 USER_NUMBER=1000 FAULT=1
 export USER_NUMBER FAULT
 tools install
 check 'setup by sudo, which fails where the packages do' [ "$status $(grep -c '^sudo$' out)" = '1 1' ]
 # Each of these is asked for, and seven crates; then nothing is missing but a module that is.
 tools test
-for tool in cc c++ nm make python3 jq prove pkg-config cmake git mandoc mypy pv zsh rustc cargo rustfmt cargo-clippy; do
+for tool in cc c++ nm make python3 jq prove pkg-config cmake git ffmpeg mandoc mypy pv zsh debootstrap rustc cargo \
+    rustfmt cargo-clippy; do
     before=$(wc -w < err)
     stub alone/$tool 'exit 0'
     tools test
