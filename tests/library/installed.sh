@@ -170,10 +170,10 @@ check 'its command reads a TBC file' prints 0 'field 7, frame 4' venv/bin/ldvbi-
 check 'the library is that of the wheel' prints 0 "$work/venv/lib" venv/bin/python -c '
 from ldvbi.library import _library_file
 print(_library_file().split("/python3")[0])'
-bounded venv/bin/ldvbi-side cav.tbc --system NTSC --black 60000 --white 65535 --summary < empty > said 2> err
-sed -n 's/.*\(dd if=.* line.svg\).*/\1/p' said > plot.sh
-check 'the summary has a command that draws a line' grep -q 'python3 venv/.*/ldvbi_side/contrib/plot_line.py ' plot.sh
-check 'it runs without the program' does env PATH="$work/venv/bin:/usr/bin:/bin" sh plot.sh
+# By these levels each sample is high.
+does env PATH="$work/venv/bin:/usr/bin:/bin" venv/bin/ldvbi-side cav.tbc --system NTSC --black 0 --white 200 \
+    --html page.html
+check 'without the program its page draws bad lines' grep -q '<h2>Bad lines, drawn' page.html
 # Without the program the module reads the line: the same picture of each cause and pass
 plot=$(echo venv/lib/python3*/site-packages)/ldvbi_side/contrib/plot_line.py
 for description in 82CFFF '82CFFF @170-171L' L910 'L900 H10' '82CFFF @170-174L' 'L164 H746'; do

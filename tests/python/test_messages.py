@@ -74,11 +74,17 @@ class Messages(Calls):
     def test_compressed_files(self):
         """Of a side alone the message has the command that reads it."""
         extract = "ldvbi extract --meta "
+        self.write("b.tbc.db", b"")
         for name, words, data, text in (
                 ("my side.tbc.gz", "'my side.tbc.gz'", gzip.compress(b"video"),
                  "gzip): zcat 'my side.tbc.gz' | %s'my side.tbc.json' | ldvbi-side -" % extract),
-                ("packed.tbc", "packed.tbc LEVELS", bz2.compress(b"video"),
-                 "bzip2): bzcat packed.tbc | %spacked.tbc.json | ldvbi-side -" % extract),
+                ("packed.tbc", "packed.tbc LEVELS", bz2.compress(b"video"), "bzip2): bzcat packed.tbc | "
+                 "ldvbi extract --system NTSC --black 16384 --white 51200 | ldvbi-side -"),
+                ("packed.tbc", "packed.tbc --white 5", bz2.compress(b"video"),
+                 "bzip2): bzcat packed.tbc | %spacked.tbc.json --white 5 | ldvbi-side -" % extract),
+                # a database is read by no other program
+                ("a.tbc.gz", "a.tbc.gz --meta a.db", gzip.compress(b"video"), "gzip): unpack it first"),
+                ("b.tbc.gz", "b.tbc.gz", gzip.compress(b"video"), "gzip): unpack it first"),
                 ("side.tbc.xz", "side.tbc.xz --meta one.json", lzma.compress(b"video"),
                  "xz): xzcat side.tbc.xz | %sone.json | ldvbi-side -" % extract),
                 ("s.tbc.lzma", "s.tbc.lzma", lzma.compress(b"video", lzma.FORMAT_ALONE),
@@ -109,7 +115,7 @@ class Messages(Calls):
         make = "standard input is no document; make one of a TBC file: ldvbi extract --meta %s | ldvbi-side -"
         for words, data, text in (
                 ("-", self.read("side.tbc")[:100000], make % "side.tbc.json"),
-                ("- --meta 'a b.json'", b"\0", make % "'a b.json'"),
+                ("- --meta 'a b.json'", b"\0", make % "'a b.json'"), ("- --meta a.db", b"\0", make % "side.tbc.json"),
                 ("-", gzip.compress(b"{}"), "standard input: it is compressed (gzip): unpack it first"),
                 ("-", b"", "standard input: " + NOT_JSON), ("-", b" {x", "standard input: not JSON: line 1 is wrong "
                                                             "from column 3 on")):

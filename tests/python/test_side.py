@@ -1,12 +1,10 @@
 """The class `Side`, seeking, the map that a player loads, and what the command prints of an answer."""
 
 import gc
-import os
 import re
 import unittest
-from unittest import mock
 
-from cases import InFolder, reason
+from cases import reason
 from compact import made
 from discs import plain, side, typed
 from ldvbi.readings import Cut, Levels

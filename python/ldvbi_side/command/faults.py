@@ -1,9 +1,10 @@
 """What goes wrong, as a line that begins with the name of the file, in words that say what was looked for there."""
 
+import argparse
 import contextlib
 import os
 import shlex
-from typing import Iterator, Optional
+from typing import Iterator
 
 from ldvbi.packed import ENDS, packed_as, refuse_packed
 
@@ -40,24 +41,37 @@ def naming(name: str) -> Iterator[None]:
 _UNPACKS = {"gzip": "zcat", "zstd": "zstdcat", "xz": "xzcat", "bzip2": "bzcat", "lzma": "lzcat", "zip": "unzip -p"}
 
 
-def refuse_packed_side(path: str, begin: bytes, meta: Optional[str]) -> None:
-    """Raises a ValueError where a side begins with these bytes, and is compressed: with the command that reads it, by
-    this metadata, or by that beside it."""
-    unpack = _UNPACKS.get(packed_as(begin) or "")
-    if unpack is None:
+def refuse_packed_side(options: argparse.Namespace, begin: bytes) -> None:
+    """Raises a ValueError where a side begins with these bytes, and is compressed: with the command that reads it, if
+    there is one."""
+    path, form = options.side, packed_as(begin)
+    name = next((path[:-len(end)] for end in ENDS if path.endswith(end)), path)
+    extract = "" if name.endswith(".json") else _extract(options, name)
+    if form not in _UNPACKS or extract is None:
         refuse_packed(path, begin)
         return
-    name = next((path[:-len(end)] for end in ENDS if path.endswith(end)), path)
-    extract = "" if name.endswith(".json") else "ldvbi extract --meta %s | " % shlex.quote(meta or name + ".json")
     raise ValueError("%s: it is compressed (%s): %s %s | %sldvbi-side -" % (
-        path, packed_as(begin), unpack, shlex.quote(path), extract))
+        path, form, _UNPACKS[form], shlex.quote(path), extract))
 
 
-def refuse_no_document(begin: bytes, meta: Optional[str]) -> None:
+def refuse_no_document(options: argparse.Namespace, begin: bytes) -> None:
     """Raises a ValueError where standard input begins with these bytes, and isn't text, as a TBC file."""
     if begin.strip() and not begin.lstrip().startswith(b"{"):
-        raise ValueError("%s is no document; make one of a TBC file: ldvbi extract --meta %s | ldvbi-side -" % (
-            STANDARD_INPUT, shlex.quote(meta or "side.tbc.json")))
+        extract = _extract(options, "side.tbc") or "ldvbi extract --meta side.tbc.json | "
+        raise ValueError("%s is no document; make one of a TBC file: %sldvbi-side -" % (STANDARD_INPUT, extract))
+
+
+def _extract(options, name):
+    """What makes a document of the TBC file with this name in a pipe, by the options of the side; None if its metadata
+    is a database, which `ldvbi` doesn't read."""
+    given = [("--system", options.system), ("--black", options.black), ("--white", options.white)]
+    if options.meta or None in dict(given).values():
+        meta = options.meta or name + ".json"
+        if meta.endswith(".db") or not os.path.exists(meta) and os.path.exists(name + ".db"):
+            return None
+        given.insert(0, ("--meta", meta))
+    return "ldvbi extract %s | " % " ".join(
+        "%s %s" % (option, shlex.quote(str(value))) for option, value in given if value is not None)
 
 
 def refuse_folder(path: str) -> None:

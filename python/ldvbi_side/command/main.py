@@ -70,9 +70,9 @@ def _refuse_begin(options, begin):
     """Raises a ValueError where a side that begins with these bytes is compressed, or is standard input and no text."""
     if options.side == "-":
         refuse_packed(STANDARD_INPUT, begin)
-        refuse_no_document(begin, options.meta)
+        refuse_no_document(options, begin)
     elif options.is_alone:
-        refuse_packed_side(options.side, begin, options.meta)
+        refuse_packed_side(options, begin)
     else:
         refuse_packed(options.side, begin)
 
