@@ -15,7 +15,7 @@ from ldvbi_side.command.map import head_rows, map_rows
 from ldvbi_side.command.summary import MOST_LINES, summary
 from ldvbi_side.command.tables import bad_line_rows, field_rows
 from ldvbi_side.draw.plot import plot_command, tbc_name
-from ldvbi_side.answer.entries import Best, FewWords, Missing, Swapped, Tried
+from ldvbi_side.answer.entries import Best, FewWords, Swapped, Tried
 from ldvbi_side.answer.lines import SIZES
 from ldvbi_side.seek import seek, text_of, wanted_of, why_not
 
@@ -87,7 +87,8 @@ class Seeking(unittest.TestCase):
                     self.assertEqual(re.sub(r"^field (\d+), frame ", r"\1 ", said), wanted)
 
     def test_what_is_lost_at_the_beginning(self):
-        known = made("11..20", typed)._replace(missing=[Missing(1, 10, 10, "lost", 0, 1)])
+        lost = made("1..11 14..30", typed).missing[0]._replace(first=1, last=10, after=0, before=1)
+        known = made("11..20", typed)._replace(missing=[lost])
         self.assertEqual(why_not(known, wanted_of("5")), "lost before field 1")
 
 
