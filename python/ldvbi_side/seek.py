@@ -93,16 +93,24 @@ def why_not(answer: Answer, wanted: Wanted) -> str:
         return "the side counts %s, not %s" % (UNITS[str(answer.unit)], asked)
     if any(one >= limit for one, limit in zip(wanted.numbers[1:], (60, 60, RATES[answer.system]))):
         return "no clock shows it"
-    least, greatest = (_part(end, wanted) for end in answer.numbers[1:])
-    if not least <= wanted.numbers <= greatest:
-        return _beyond("numbers", wanted.numbers < least, [(number, field) for number, field, _ in answer.showings],
-                       answer.numbers.least if wanted.numbers < least else answer.numbers.greatest)
     stretches = sorted(answer.missing + answer.left_out, key=lambda one: one.after)
+    whys = [_why_missing(answer, one) for one in stretches
+            if _part(one.first, wanted) <= wanted.numbers <= _part(one.last, wanted)]
+    if whys:
+        return ", ".join(dict.fromkeys(whys))
+    least, greatest = (_part(end, wanted) for end in answer.numbers[1:])
+    if least <= wanted.numbers <= greatest:
+        return _NOWHERE
+    return _beyond("numbers", wanted.numbers < least, [(number, field) for number, field, _ in answer.showings],
+                   answer.numbers.least if wanted.numbers < least else answer.numbers.greatest)
+
+
+def _why_missing(answer, one):
+    """Why numbers aren't there, and where; at the beginning of a side no number is before them."""
     may_skip = (answer.unit, answer.system) == ("time", "NTSC")
     undecided = "lost, unread or skipped by the disc itself" if may_skip else "lost or unread"
-    whys = ["%s after field %d" % (_WHYS.get(one.why, undecided), one.after) for one in stretches
-            if _part(one.first, wanted) <= wanted.numbers <= _part(one.last, wanted)]
-    return ", ".join(dict.fromkeys(whys)) or _NOWHERE
+    place = "after field %d" % one.after if one.after else "before field %d" % one.before
+    return "%s %s" % (_WHYS.get(one.why, undecided), place)
 
 
 def _part(number, wanted):

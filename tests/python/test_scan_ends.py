@@ -13,6 +13,7 @@ from unittest import mock
 from command_runs import DEADLINE
 from ldvbi_side.command import processes
 from ldvbi_side.command.folders import Found, sides_in
+from ldvbi_side.command.outputs import _part_by
 from ldvbi_side.command.processes import Ended, SideBySide
 from ldvbi_side.command.progress import Progress, SidesProgress, heard_by
 from ldvbi_side.command.scan import scan
@@ -55,6 +56,12 @@ def leaves(*_):
     os._exit(3)
 
 
+def leaves_a_copy(*task):
+    """Ends its process with a part of the copy of a database, which is a folder."""
+    os.mkdir(_part_by(task[-1], os.getpid()))
+    leaves()
+
+
 class Failing(Scans):
     def test_faults_that_nobody_thought_of(self):
         """What a scan that reads sides by one of these functions prints of a folder."""
@@ -67,6 +74,13 @@ class Failing(Scans):
                     contextlib.redirect_stdout(io.StringIO()) as printed:
                 self.assertEqual(scan(["--csv", self.folder], read), 2)
             self.assertEqual(printed.getvalue().split("\n")[1:], [row, ""])
+
+    def test_a_copy_that_is_left(self):
+        """By a process that ends at once."""
+        self.add("1.tbc")
+        with contextlib.redirect_stdout(io.StringIO()):
+            self.assertEqual(scan(["--into", self.named("copies"), self.named("1.tbc")], leaves_a_copy), 2)
+        self.assertEqual(os.listdir(self.named("copies")), [])
 
 
 class Ends(Scans):

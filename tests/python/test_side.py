@@ -83,6 +83,11 @@ class Seeking(unittest.TestCase):
                     said = text_of(found) if found else why_not(known, asked_for)
                     self.assertEqual(re.sub(r"^field (\d+), frame ", r"\1 ", said), wanted)
 
+    def test_what_is_lost_at_the_beginning(self):
+        lost = made("1..11 14..30", typed).missing[0]._replace(first=1, last=10, after=0, before=1)
+        known = made("11..20", typed)._replace(missing=[lost])
+        self.assertEqual(why_not(known, wanted_of("5")), "lost before field 1")
+
 
 # A side, and its map: of each kind the number, the field, the frame and how it is known there
 MAPS = (
