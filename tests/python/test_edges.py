@@ -1,0 +1,191 @@
+"""What stands at an edge, as a class of cases and not as one of them: names of each length about the longest, marks that
+fall together, sides of both kinds in one scan, white space of each style, faults of each call of the library, and what
+is doubtful or lost in the first fields and in the last ones."""
+
+import contextlib
+import ctypes
+import io
+import itertools
+import json
+import os
+import re
+import unittest
+from unittest import mock
+
+import ldvbi
+from cases import InFolder, reason
+from compact import made
+from discs import side
+from ldvbi import judging, library, near, seeking, sides, stream
+from ldvbi_side.command import outputs
+from ldvbi_side.command.outputs import drop_part, whole_file, whole_path
+from ldvbi_side.command.progress import Progress
+from ldvbi_side.command.scan import scan
+from ldvbi_side.draw import bars, drawing
+from ldvbi_side.draw.axis import Axis
+from ldvbi_side.draw.marks import Mark
+from scanned import Scans
+from streams import NTSC, PROGRAM
+from test_into import WORDS, with_words
+
+LONGEST = 255  # bytes of a name
+
+
+class LongNames(InFolder):
+    def test_each_length(self):
+        """A part has the name of its file as long as both fit, and else as much of it as fits: no two files of a folder
+        have one part."""
+        beside = len(".ldvbi-.12345678-%d.part" % os.getpid())
+        own = rb"\.[0-9a-f]{8}-%d\.part" % os.getpid()
+        for letter in ("a", "ü", os.fsdecode(b"\xff"), "\U0001f4bf"):
+            parts, size = set(), len(os.fsencode(letter))
+            for length in range(LONGEST - 60, LONGEST + 1):
+                name = "b" * (length % size) + letter * (length // size)
+                part = os.fsencode(os.path.basename(outputs._part_of(self.named(name))))
+                fits = length + beside <= LONGEST
+                kept = re.escape(os.fsencode(name)) if fits else b".{%d}" % (LONGEST - beside - 9) + rb"\.[0-9a-f]{8}"
+                with self.subTest((letter, length)):
+                    self.assertRegex(part, re.compile(rb"^\.ldvbi-" + kept + own + b"$", re.DOTALL))
+                    self.assertEqual(len(part), min(length + beside, LONGEST))
+                parts.add(part)
+            self.assertEqual(len(parts), 61)
+
+    def test_each_is_written(self):
+        for length in range(LONGEST - 40, LONGEST + 1):
+            name = "n" * length
+            with whole_file(self.named(name)) as file:
+                file.write("whole")
+            with whole_path(self.named(name), []) as part, open(part, "wb") as file:
+                file.write(b"path")
+            self.assertEqual((self.names(), self.read(name)), ([name], b"path"))
+            with self.assertRaises(KeyboardInterrupt), mock.patch("os.unlink"), whole_file(self.named(name)):
+                raise KeyboardInterrupt
+            drop_part(self.named(name), os.getpid())
+            self.assertEqual(self.names(), [name])
+            os.unlink(self.named(name))
+
+
+# Marks by their first and last field, of 960 that have a pixel each, of which a mark has two at least: what is drawn of
+# them, by the first and the last field, how many more there are in it, and up to which field these go
+JOINED = (
+    ("1-1 2-2 3-3", "1-3 2 3"), ("1-1 2-2 3-3 4-4 6-6", "1-4 3 4, 6-6"), ("1-1 3-3 5-5", "1-1, 3-3, 5-5"),
+    ("1-9 10-19 20-29", "1-9, 10-19, 20-29"), ("1-100 5-6 20-30", "1-100 2 30"), ("1-100 5-90 20-30", "1-100 2 90"),
+    ("1-100 5-6 100-200", "1-200 2 200"), ("1-100 5-6 101-101", "1-100 1 6, 101-101"),
+    ("1-10 9-20 19-30 40-50 41-42", "1-30 2 30, 40-50 1 42"), ("959-959 960-960", "959-960 1 960"), ("7-7 7-7", "7-7 1 7"))
+
+
+class JoinedMarks(unittest.TestCase):
+    def test_rows(self):
+        for marks, wanted in JOINED:
+            ones = [tuple(map(int, mark.split("-"))) for mark in marks.split()]
+            wanted = [re.findall(r"\d+", one) for one in wanted.split(", ")]
+            of_lane = list(drawing._joined(Axis(960), [Mark(*one, "m") for one in ones]))
+            of_bar = list(bars._joined(Axis(960), [(*one, "m") for one in ones]))
+            with self.subTest(marks):
+                self.assertEqual([mark for _, _, mark in of_lane], [
+                    (int(first), int(last), "m; and %s more up to field %s" % tuple(more) if more else "m")
+                    for first, last, *more in wanted])
+                self.assertEqual([mark for _, _, mark in of_bar], [
+                    (int(first), int(last), "m; and %s more" % more[0] if more else "m")
+                    for first, last, *more in wanted])
+                for begin, end, (first, last, _) in of_lane + of_bar:
+                    ends = [max(150 + b, 151 + min(a, 959)) for a, b in ones if first <= a and b <= last]
+                    self.assertEqual((begin, end), (149 + min(first, 959), max(ends)))
+
+
+def steps(path, _page, _may_end, _is_named):
+    """Reads ten fields of a side, and no more."""
+    with Progress(10) as progress:
+        list(progress.over(range(10)))
+    raise ValueError("%s has ten fields" % path)
+
+
+class Together(Scans):
+    def test_sides_of_both_kinds_in_one_scan(self):
+        """What part of a scan a side is goes by its fields, whether it is a TBC file or a document: of 200 fields and
+        of 600 these are about a quarter and three quarters. It is done when it has been judged."""
+        self.add("1.tbc", "1..100")
+        self.add("long.tbc", "1..300")
+        self.write("2.vbi.json", self.run_command("extract", "LEVELS", "long.tbc", command=[PROGRAM])[1])
+        texts = []
+        with mock.patch("ldvbi_side.command.progress.PAUSE", 0), \
+                mock.patch("ldvbi_side.command.progress._is_terminal", lambda: True), \
+                mock.patch("ldvbi_side.command.progress._show_line", texts.append), \
+                contextlib.redirect_stdout(io.StringIO()):
+            scan(["-j", "1", self.named("1.tbc"), self.named("2.vbi.json")], steps)
+        shown = [tuple(map(int, re.findall(r"\d+", text)[:3:2])) for text in texts if text]
+        self.assertEqual([done for done, _ in shown], sorted(done for done, _ in shown))
+        first, second = ([part for done, part in shown if done == count] for count in (0, 1))
+        self.assertEqual((first[0], shown[-1]), (0, (2, 100)))
+        for quarter in (first[-1], second[0]):
+            self.assertTrue(17 <= quarter <= 33, shown)
+        self.assertTrue(max(first) < second[0] < 100 > second[-1] > 90, shown)
+
+
+# How the first member of an object may be written: what stands before its name, before and behind its colon, and before
+# what comes next
+STYLES = list(itertools.product(("", " ", "\n", "\r\n\t", "\n\n    "), ("", " ", "\t"), ("", " ", "\t ", "\n"),
+                                ("", "  ", "\r\n")))
+
+
+class WhiteSpace(unittest.TestCase):
+    def test_each_style(self):
+        """What is new is written like the first member: behind a comma as it is, where that is on a line of its own,
+        and else as behind the colon."""
+        for before, colon, gap, end in STYLES:
+            colon += ":" + gap
+            comma = "," + (before if "\n" in before else gap)
+            words = "[%d,{0}%d,{0}%d]".format(gap) % WORDS
+            head, known = '{%s"a"%s' % (before, colon), '{%s"b" : 1%s}' % (before, end)
+            for old, new in (
+                    (head + "1" + end + "}", head + '1%s"vbi"%s{"vbiData"%s%s}%s}' % (comma, colon, colon, words, end)),
+                    (head + '1, "vbi":{%s}}' % end, head + '1, "vbi":{"vbiData"%s%s%s}}' % (colon, words, end)),
+                    ('{"vbi" :\t%s1%s}}' % (head, end),
+                     '{"vbi" :\t%s1%s"vbiData"%s%s%s}}' % (head, comma, colon, words, end)),
+                    ('{"vbi":%s%s,"vbiData":null}}' % (head, known),
+                     '{"vbi":%s%s,"vbiData":%s}}' % (head, known, words)),
+                    ('{"vbi":{"vbiData":[%s0%s,%s-1,1.5%s]}}' % (before, colon[:-1 - len(gap)], gap, end),
+                     '{"vbi":{"vbiData":[%s%d%s,%s%d,%d%s]}}' % (before, WORDS[0], colon[:-1 - len(gap)], gap, *WORDS[1:],
+                                                                end))):
+                with self.subTest(old):
+                    self.assertEqual(with_words(old), new)
+                    json.loads(new)
+
+
+def calls_but(name):
+    """What finds a call of the library by its name; the one with this name fails where it is to write something."""
+    def found(asked):
+        works = library.later_call(asked)
+        return works if asked != "ldvbi_" + name else lambda *given: 99 if any(
+            len(one) for one in given if isinstance(one, ctypes.Array)) else works(*given)
+    return found
+
+
+class Faults(unittest.TestCase):
+    """A fault of a call of the library, which none has, is raised."""
+
+    def test_each_call(self):
+        one = made("1..3 -/#79999/- B", side)
+        packed = b"".join(ldvbi.PACKED_FIELD.pack(*sum(map(tuple, field), ())) for field in one.readings)
+        samples, field = bytes(ldvbi.line_bytes("NTSC")), bytes(ldvbi.field_bytes("NTSC"))
+
+        def fields(**more):
+            return ldvbi.Stream(field, *NTSC, recover=True, **more)
+
+        for module, name, call, *words in (
+                (judging, "judge", ldvbi.judge, packed, "PAL"), (judging, "judge_field", ldvbi.judge_field, packed, 1, "PAL"),
+                (judging, "complete_times", ldvbi.complete_times, packed, "PAL"),
+                (judging, "find_pace", ldvbi.find_pace, packed, "PAL"),
+                (judging, "judge_chapters", ldvbi.judge_chapters, packed),
+                (judging, "judge_stops", ldvbi.judge_stops, packed), (judging, "judge_ends", ldvbi.judge_ends, packed),
+                (sides, "judge", ldvbi.judge_side, packed, "PAL", "pictures", "video"),
+                (judging, "find_pace", ldvbi.judge_side, packed, "PAL"),
+                (sides, "judge_ends", ldvbi.judge_side, packed, "PAL"),
+                (sides, "judge_side", ldvbi.judge_side, packed, "PAL"),
+                (near, "nearest", ldvbi.nearest, samples, *NTSC),
+                (seeking, "seek", lambda: ldvbi.seek(fields(), 1)),
+                (stream, "recover_fields", lambda: list(fields())),
+                (stream, "recover_fields_without", lambda: list(fields(dropouts=[(0, 17, 3, 4)]))),
+                (stream, "recovered_record", lambda: list(fields().records()))):
+            with self.subTest((name, call)), mock.patch.object(module, "later_call", calls_but(name)):
+                self.assertEqual(reason(call, *words), "the library's status is 99")
