@@ -1,6 +1,6 @@
-"""What stands at an edge, as a class of cases and not as one of them: names of each length about the longest, marks that
-fall together, sides of both kinds in one scan, white space of each style, faults of each call of the library, and what
-is doubtful or lost in the first fields and in the last ones."""
+"""What stands at an edge, as a class of cases and not as one of them: names of each length about the longest, marks
+that fall together, sides of both kinds in one scan, white space of each style, and faults of each call of the
+library."""
 
 import contextlib
 import ctypes
@@ -71,7 +71,8 @@ JOINED = (
     ("1-1 2-2 3-3", "1-3 2 3"), ("1-1 2-2 3-3 4-4 6-6", "1-4 3 4, 6-6"), ("1-1 3-3 5-5", "1-1, 3-3, 5-5"),
     ("1-9 10-19 20-29", "1-9, 10-19, 20-29"), ("1-100 5-6 20-30", "1-100 2 30"), ("1-100 5-90 20-30", "1-100 2 90"),
     ("1-100 5-6 100-200", "1-200 2 200"), ("1-100 5-6 101-101", "1-100 1 6, 101-101"),
-    ("1-10 9-20 19-30 40-50 41-42", "1-30 2 30, 40-50 1 42"), ("959-959 960-960", "959-960 1 960"), ("7-7 7-7", "7-7 1 7"))
+    ("1-10 9-20 19-30 40-50 41-42", "1-30 2 30, 40-50 1 42"), ("959-959 960-960", "959-960 1 960"),
+    ("7-7 7-7", "7-7 1 7"))
 
 
 class JoinedMarks(unittest.TestCase):
@@ -144,9 +145,8 @@ class WhiteSpace(unittest.TestCase):
                      '{"vbi" :\t%s1%s"vbiData"%s%s%s}}' % (head, comma, colon, words, end)),
                     ('{"vbi":%s%s,"vbiData":null}}' % (head, known),
                      '{"vbi":%s%s,"vbiData":%s}}' % (head, known, words)),
-                    ('{"vbi":{"vbiData":[%s0%s,%s-1,1.5%s]}}' % (before, colon[:-1 - len(gap)], gap, end),
-                     '{"vbi":{"vbiData":[%s%d%s,%s%d,%d%s]}}' % (before, WORDS[0], colon[:-1 - len(gap)], gap, *WORDS[1:],
-                                                                end))):
+                    *((form % numbers, form % WORDS) for numbers in ((0, -1, 15),) for form in (
+                        '{"vbi":{"vbiData":[%s%%d%s,%s%%d,%%d%s]}}' % (before, gap, before, end),))):
                 with self.subTest(old):
                     self.assertEqual(with_words(old), new)
                     json.loads(new)
@@ -173,7 +173,8 @@ class Faults(unittest.TestCase):
             return ldvbi.Stream(field, *NTSC, recover=True, **more)
 
         for module, name, call, *words in (
-                (judging, "judge", ldvbi.judge, packed, "PAL"), (judging, "judge_field", ldvbi.judge_field, packed, 1, "PAL"),
+                (judging, "judge", ldvbi.judge, packed, "PAL"),
+                (judging, "judge_field", ldvbi.judge_field, packed, 1, "PAL"),
                 (judging, "complete_times", ldvbi.complete_times, packed, "PAL"),
                 (judging, "find_pace", ldvbi.find_pace, packed, "PAL"),
                 (judging, "judge_chapters", ldvbi.judge_chapters, packed),
