@@ -1,6 +1,6 @@
 """What stands at an edge, as a class of cases and not as one of them: names of each length about the longest, marks
-that fall together, sides of both kinds in one scan, white space of each style, and faults of each call of the
-library."""
+that fall together, sides of both kinds in one scan, white space of each style, faults of each call of the library,
+and of each rule what the first and the last fields show."""
 
 import contextlib
 import ctypes
@@ -14,7 +14,7 @@ from unittest import mock
 
 import ldvbi
 from cases import InFolder, reason
-from compact import made
+from compact import check, made
 from discs import side
 from ldvbi import judging, library, near, seeking, sides, stream
 from ldvbi_side.command import outputs
@@ -190,3 +190,41 @@ class Faults(unittest.TestCase):
                 (stream, "recovered_record", lambda: list(fields().records()))):
             with self.subTest((name, call)), mock.patch.object(module, "later_call", calls_but(name)):
                 self.assertEqual(reason(call, *words), "the library's status is 99")
+
+
+# Pictures 1 to 30, each in two fields, of which the first one has the number; chapters 2 and 3, of ten pictures each
+THIRTY, TWO = "1..30", "1..20 2:20/2=-/c2/c2 22:40/2=-/c3/c3"
+
+
+class FirstAndLast(unittest.TestCase):
+    """What each rule says of the first field that it can be said of, and of the last."""
+
+    def test_each_rule(self):
+        check(self, """
+    a number at the end | {0} 1=-/#999/#999 59=-/#999/#999 | aside 1, 1, 59, 59 | no missing unread
+        | doubtful 1/17 999 alone, 1/18 999 alone, 59/17 999 alone, 59/18 999 alone
+    beside the end | {0} 3=-/#999/#999 57=-/#999/#999 | missing 2 unread, 29 unread | no unread
+        | doubtful 3/17 999 neighbours, 3/18 999 neighbours, 57/17 999 neighbours, 57/18 999 neighbours
+    before all others | -/#999/#999x3 5..30 | aside 1, 1, 2, 2, 3, 3 | numbers 26 5 to 30
+    behind all others | 1..26 -/#999/#999x3 | aside 53, 53, 54, 54, 55, 55 | numbers 26 1 to 26
+    lines that differ | {0} 1.18=#7 59.18=#7 | doubtful 1/18 7 lines, 59/18 7 lines | conflicts 1 1|7 1, 59 30|7 30
+    no clock | t0..29 1.16=s0.25 59.18=@9:99 | doubtful 1/16 None clock, 59/18 None clock
+    minutes | t0..29 1.18=@0:59 59.18=@0:59 | doubtful 1/18 0:59 alone, 59/18 0:59 alone
+    a chapter | {1} 2=-/c9/c9 40=-/c9/c9 | chapters 2@4-20, 3@22-38
+        | doubtful 2/17 9 chapter, 2/18 9 chapter, 40/17 9 chapter, 40/18 9 chapter
+    another chapter on the last field | {0} 60=-/c1/c1 | chapters 0@2-58, 1@60
+    on all but the first | {0} 4:60/2=-/c1/c1 | chapters 0@2, 1@4-60
+    stops | {0} 1=S/-/#1 59=S/-/#30 60=S/S/- | stops 1@1, 30@59, 30@60 | no stray
+    a stop that isn't sure | {0} 1.16=S* 60.16=S* | stray 1/16 picture stop unsure, 60/16 picture stop unsure | no stops
+    a code beside a number | {0} 1=-/88FFFF/#1 59=-/80EEEE/#30 | stray 1/17 lead-in place, 59/17 lead-out place
+        | no leadIn leadOut
+    on another line | {0} 1.16=88FFFF 60.16=80EEEE | stray 1/16 lead-in line, 60/16 lead-out line | no leadIn leadOut
+    of the other format | {0} 2.17=M 60.17=M | stray 2/17 clv format, 60/17 clv format
+    lead-in and lead-out | L {0} O | leadIn 1 1 | leadOut 62 1 | said yes
+    no number | {0} 1=? 59=? | numbers 28 2 to 29 | no missing unread doubtful
+    no number beside the end | {0} 3=? 57=? | missing 2 unread, 29 unread | unread 2@3, 29@57
+    a field lost between three numbers and the others | {0} -6 -53 | lost 5-6 1 number, 52-53 1 number | no breaks
+    a still | 1x5 2..29 30x5 | stills 1@1-9, 30@67-75 | no breaks lost missing
+    swapped | {0} ~3 ~57 | swapped 2@3, 29@57 | no lost breaks missing
+    shown again | 1..4 3..30 29..30 | repeated 3-4@9-11 after 5, 29-30@65-67 after 61
+    """.format(THIRTY, TWO))
