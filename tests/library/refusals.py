@@ -73,7 +73,7 @@ def test_lengths(system):
     field = line * LINES[system]
     for name in ("read_fields", "recover_fields", "recover_fields_without"):
         for length, count in ((field, 0), (field, 2), (field, MOST_BYTES), (0, 1), (0, MOST_BYTES // field + 1),
-                              (field - 1, 0)):
+                              (field - 1, 0), (0, 1 << 62), (0, 1 << 63)):  # by which the product may be 0
             has_status(name, asked, length, BAD_LENGTH, (count, ))
         expect(call(name)(*asked, *(None, 0) * (3 if name.endswith("_without") else 2)) == DONE, name, "of no field")
     for length in (28 * line + 1, 29 * line, MOST_BYTES):
@@ -159,11 +159,16 @@ def test_judged(asked, lengths, status):
         found.add(call("find_pace")(*asked[:2], *read, *seen, before[2]))
     if status == BAD_LENGTH:
         found.add(call("judge_chapters")(*read, *seen, *numbers))
+        found.add(call("complete_times")(PAL, *read, *seen, at(CLOSED, READINGS * number_count), number_count))
     for name in ("judge_stops", "judge_ends") if count != seen_count else ():
         expect(call(name)(*read, *seen) == BAD_LENGTH, name, lengths)
     is_kept = SEEN.get(80) == b"\xAA" * 80 and NUMBERS.get(32) == b"\xAA" * 32 and ANSWER.get(NEAR) == b"\x55" * NEAR
     expect(found == {status} and is_kept, asked, lengths, found)
 
+
+# Lengths of three arrays of which some are as long as a size can be, or half or an eighth of that
+LONG = [tuple(MOST_BYTES >> shift if one else other for one in places) for shift in (0, 1, 3) for other in (0, 3)
+        for places in ((0, 0, 1), (0, 1, 0), (1, 0, 0), (0, 1, 1), (1, 0, 1), (1, 1, 0))]
 
 # The same of a whole side, with the lengths of its three arrays. The pace has to be given.
 WHOLE = {
@@ -233,8 +238,9 @@ def main():
     for status, rows in WHOLE.items():
         for asked, lengths in map(str.split, rows.split(", ")):
             test_whole(tuple(map(int, asked)), tuple(map(int, lengths)), status)
-    for lengths in ((3, MOST_BYTES, 3), (MOST_BYTES, 3, 3), (3, 3, MOST_BYTES), (MOST_BYTES, MOST_BYTES, 0)):
+    for lengths in LONG:
         test_whole((PAL, TIMES, FILM), lengths, BAD_LENGTH)
+        test_judged((PAL, TIMES, FILM), lengths, BAD_LENGTH)
     for bad in (0, 4, *CUT_OFF):
         test_numbers(bad)
     test_words()

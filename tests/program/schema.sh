@@ -1,6 +1,6 @@
 #!/bin/sh
-# Validates documents of every kind that the built program writes by share/schema/ldvbi.schema.json, and what is made of
-# them by tables of what may stand at each place.
+# Validates documents of every kind that the built program writes by share/schema/ldvbi.schema.json, or with recovered
+# words by ldvbi-recovered.schema.json, and what is made of them by tables of what may stand at each place.
 # usage: sh tests/program/schema.sh PROGRAM
 # runs: everywhere
 # fails where: share/schema/ldvbi.schema.json|s/hold/held/
@@ -10,6 +10,7 @@
 . "$(dirname "$0")/../helpers.sh"
 
 schema=$top/share/schema/ldvbi.schema.json
+schema_of_recovered=$top/share/schema/ldvbi-recovered.schema.json
 # Looks at each column that a cause can name, and at the greatest number of fields, and prints what is wrong of these.
 cat > bounds.py << 'END'
 import json
@@ -80,12 +81,31 @@ check 'the least and the greatest columns' cmp found columns
 does "$(with_jsonschema)" "$here/validate.py" "$schema" documents/*.json
 check 'documents of every kind are valid' [ "$status $(grep -c '^valid ' out)" = '0 7' ]
 
+# The same with recovered words: those of worn lines
+mkdir recovered
+while read -r system discs word from columns; do
+    worn="$word @$from-$((from + 4))L"
+    printf '%s\n' "$word|$word @$from-$((from + 1))L|-" "L$columns H10|$worn|$worn" "$worn|-|L$columns H10" |
+        signal $discs 1 | samples_of $discs > worn.tbc
+    output_of extract --recover $(eval echo "\$$system") worn.tbc > recovered/$system.json
+done << 'END'
+ntsc NTSC 82CFFF 170 900
+pal PAL 8AE012 220 1125
+END
+jq -c '[.fields[].vbiPass]' recovered/*.json | sort -u > found
+check 'words of worn lines are recovered' [ "$(cat found)" = '[[1,2,0],[0,3,3],[3,0,0]]' ]
+does "$(with_jsonschema)" "$here/validate.py" "$schema_of_recovered" recovered/*.json
+check 'documents with recovered words are valid' [ "$status $(grep -c '^valid ' out)" = '0 2' ]
+
 # What may stand at each place of a document is valid there, and all else is refused: of a document of one record each,
 # with a word on some of its lines
-# places SYSTEM OTHER WIDTH HEIGHT BYTES LINE LINE LINE: the table. BYTES are a whole field; a LINE is word or none.
+# places VERSION SYSTEM OTHER WIDTH HEIGHT BYTES LINE LINE LINE: the table. BYTES are a whole field; a LINE is word, none
+# or recovered. In version 3 this alone has its nearest word.
 places() {
+    version=$1
+    shift
     cat << END
-.version 2..2
+.version $version..$version
 .videoParameters.system $1 !$2
 .videoParameters.fieldWidth $3..$3
 .videoParameters.fieldHeight $4..$4
@@ -101,6 +121,14 @@ END
         case $1 in
             word) data='8388608..16777215 !0' cause='word !blank !"word "' pass=1..2 ;;
             none) data=0..0 cause='blank unfinished "change 0" "hold 100" !word !Blank !change' pass=0..0 ;;
+            recovered) data='8388608..16777215 !0' cause='word unfinished "change 0" "hold 100" !blank !hold' pass=3..3 ;;
+        esac
+        case $version$1 in
+            3recovered)
+                echo ".fields[].vbiNear[$line].word 0..0 8388608..16777215"
+                echo ".fields[].vbiNear[$line].distance .fields[].vbiNear[$line].rival 0.."
+                ;;
+            3*) echo ".fields[].vbiNear[$line] null" ;;
         esac
         echo ".fields[].vbi.vbiData[$line] $data"
         echo ".fields[].vbiCause[$line] $cause"
@@ -109,20 +137,35 @@ END
     done
 }
 while read -r document record count words; do
-    jq -c ".fields |= .[$record:$record + 1] | .cutField = {seqNo: 7, bytes: 9}" documents/$document.json > one.json
+    jq -c ".fields |= .[$record:$record + 1] | .cutField = {seqNo: 7, bytes: 9}" $document.json > one.json
     case $document in
-        ntsc) system='NTSC PAL 910 263 478660' ;;
-        pal) system='PAL NTSC 1135 313 710510' ;;
+        */ntsc) system='NTSC PAL 910 263 478660' ;;
+        */pal) system='PAL NTSC 1135 313 710510' ;;
     esac
-    places $system $words > places
-    does "$(with_jsonschema)" "$here/validate_parts.py" "$schema" places one.json
+    case $document in
+        documents/*)
+            places 2 $system $words > places
+            does "$(with_jsonschema)" "$here/validate_parts.py" "$schema" places one.json
+            ;;
+        *)
+            { places 3 $system $words; echo '.fields[].vbiNear 3 items'; } > places
+            does "$(with_jsonschema)" "$here/validate_parts.py" "$schema_of_recovered" places one.json
+            ;;
+    esac
     cat out >> err
-    check "each place of a record of $document with $words" [ "$status $(cat out)" = "0 27 places, $count documents" ]
+    check "each place of a record of $document with $words" \
+        [ "$status $(cat out)" = "0 ${count%/*} places, ${count#*/} documents" ]
 done << 'END'
-ntsc 0 291 word word none
-ntsc 4 294 none none word
-pal 0 291 word word none
-pal 3 294 none none word
+documents/ntsc 0 27/291 word word none
+documents/ntsc 4 27/294 none none word
+documents/pal 0 27/291 word word none
+documents/pal 3 27/294 none none word
+recovered/ntsc 0 0/0 word word none
+recovered/ntsc 1 0/0 none recovered recovered
+recovered/ntsc 2 0/0 recovered none none
+recovered/pal 0 0/0 word word none
+recovered/pal 1 0/0 none recovered recovered
+recovered/pal 2 0/0 recovered none none
 END
 
 # Each column that a line has, and no other; as many fields as a document can have

@@ -156,8 +156,9 @@ def _joined(axis, marks):
         else:
             joined.append([begin, end, [mark]])
     for begin, end, ones in joined:
-        more = "; and %d more up to field %d" % (len(ones) - 1, ones[-1].last) if len(ones) > 1 else ""
-        yield begin, end, Mark(ones[0].first, max(one.last for one in ones), ones[0].text + more)
+        lasts = [one.last for one in ones]
+        more = "; and %d more up to field %d" % (len(ones) - 1, max(lasts[1:])) if len(ones) > 1 else ""
+        yield begin, end, Mark(ones[0].first, max(lasts), ones[0].text + more)
 
 
 def _draw_fields_axis(svg, axis, count, top):
