@@ -31,10 +31,13 @@ _ldvbi_side() {
             options='--help'
             ;;
         scan)
-            options='--help --jobs --open-end --csv --json --html --again'
+            options='--help --jobs --meta --system --black --white --no-recover --strict --open-end --csv --json'
+            options="$options "'--html --again'
             case $before in
+                --system) answers='NTSC PAL' ;;
+                --meta) compopt -o default; return ;;
                 --html) compopt -o dirnames; return ;;
-                -j | --jobs) return ;;
+                -j | --jobs | --black | --white) return ;;
             esac
             ;;
         *)

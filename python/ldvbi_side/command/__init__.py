@@ -1,7 +1,7 @@
 """The command `ldvbi-side`: its options, and what each of them writes of the judge's answer. Read in this order:
 
-statuses, parser, faults, summary, tables, map, outputs, join, compare, progress, into, folders, processes, rows, scan,
-parsers, main
+statuses, parser, faults, summary, tables, map, outputs, join, compare, progress, into, folders, processes, rows,
+parsers, scan, main
 
 `statuses` has the exit statuses, `parser` what reads words, and `faults` the words of what goes wrong. `summary`,
 `tables`, `map`, `join` and `compare` make the texts of `--summary`, of `--csv` and `--bad-lines`, of `--map` and of the

@@ -19,16 +19,16 @@ from ..outside import (NAME, bytes_of_document, drop_standard_output, flush, flu
 from ..seek import seek, text_of
 from ..answer.entries import Answer
 from ..side import Side, side_of_document, side_of_stream, stream_of_tbc
-from .faults import SETTINGS, STANDARD_INPUT, fault_text, naming, no_metadata, refuse_folder
+from .faults import OF_TBC, SETTINGS, STANDARD_INPUT, fault_text, naming, no_metadata, refuse_folder
+from .folders import Task
 from .into import Into
 from .map import COLUMNS as MAP_COLUMNS, head_rows, map_rows
 from .outputs import refuse_inputs, whole_file
-from .parsers import parser_of_compare, parser_of_index, parser_of_side
+from .parsers import parser_of_compare, parser_of_index, parser_of_side, words_of
 from .progress import Progress
 from .statuses import FAULT, OF_SIDE, of_many
 from .summary import summary
 from .tables import BAD_LINE_COLUMNS, FIELD_COLUMNS, bad_line_rows, field_rows
-
 
 
 def _settings(options):
@@ -40,7 +40,7 @@ def _refuse_settings(options, names, sources):
     """Raises a ValueError where system or levels are given, and none of the sources with these names is a TBC file."""
     is_given = any(value is not None for value in _settings(options))
     if is_given and all(isinstance(source, Side) for source in sources):
-        raise ValueError("%s: a document has its system and levels; they are options of a TBC file" % names[0])
+        raise ValueError("%s: %s" % (names[0], OF_TBC))
 
 
 def _name_of(options):
@@ -160,7 +160,7 @@ def _write_files(side, options, is_tbc):
     if options.svg:
         from ..draw.drawing import drawing_of
         with whole_file(options.svg) as file:
-            file.write(drawing_of(side, os.path.basename(options.side)))
+            file.write(drawing_of(side, options.title))
     if options.map:
         with whole_file(options.map) as file:
             answer = side.analysis.answer
@@ -170,8 +170,8 @@ def _write_files(side, options, is_tbc):
         from ..draw.plotting import plotter
         with whole_file(options.html) as file:
             lines = summary(side.analysis.answer, _plot_command(side, options))
-            file.write(page_of(side, os.path.basename(options.side), lines,
-                               plotter(side, options.side) if is_tbc else None))
+            file.write(page_of(side, options.title, lines, plotter(side, options.side) if is_tbc else None,
+                               None if options.side == "-" else options.side, options.words))
 
 
 def _plot_command(side, options):
@@ -211,6 +211,7 @@ def _options(words):
         parser.error("--recovered is of --document or --into, and not with --no-recover")
     is_open = options.into or None in _settings(options)
     options.waits = True  # if the side is a pipe
+    options.title, options.words = os.path.basename(options.side), words_of(options)
     options.is_beside = not options.meta and is_open and options.side.endswith(".tbc")
     if options.is_beside:
         options.meta = beside(options.side)
@@ -271,11 +272,10 @@ def _scan(words):
     return scan(words, answer_of)
 
 
-def answer_of(path: str, page: Optional[str], may_end: bool, is_named: bool) -> Answer:
-    """The answer for a side, which is read with what lies beside it, and may end without lead-out or not; its page is
-    written where one is named. A side that nobody named is a file."""
-    options = _options([*(["--html", page] if page else []), *["--open-end"] * may_end, "--", path])
-    options.waits = is_named
+def answer_of(task: Task) -> Answer:
+    """The answer for a side of a scan, whose page is written where one is named. A side that nobody named is a file."""
+    options = _options([*task.words, *(["--html", task.page] if task.page else []), "--", task.path])
+    options.waits, options.title = task.is_named, task.name
     source, metadata = _source(options)
     side = _loaded(source, metadata, options)
     _write_files(side, options, not isinstance(source, Side))

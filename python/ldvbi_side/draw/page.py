@@ -3,12 +3,12 @@ answer behind a fold, and its bad lines drawn, where the TBC file is there."""
 
 import html
 import json
-from typing import Any, Callable, Dict, Iterable, Optional
+from typing import Any, Callable, Iterable, Optional, Sequence
 
 from ldvbi.codes import LINES
-from ..answer.as_json import entries, entry
-from ..answer.entries import Answer, BadLine
-from ..answer.whole import NO, OPEN, YES, counted, counted_by, lost_fields_text
+from ..answer.entries import BadLine
+from ..answer.said import said_of
+from ..answer.whole import NO, OPEN, YES
 from ..outside import shown
 from ..side import Side
 from .bands import SHOWN
@@ -41,12 +41,14 @@ LISTS = {
 _COLUMNS = {"completed": ("field",), "confirmed": ("field",), "showings": ("number", "first", "last")}
 
 
-def page_of(side: Side, title: str, summary: Iterable[str], plot: Optional[Callable[[BadLine], str]] = None) -> str:
+def page_of(side: Side, title: str, summary: Iterable[str], plot: Optional[Callable[[BadLine], str]] = None,
+            path: Optional[str] = None, words: Sequence[str] = ()) -> str:
     """The text of the page. `summary` are the lines of the side's summary. `plot` draws one of the answer's bad lines
-    as an SVG; it is None where the TBC file isn't there."""
+    as an SVG; it is None where the TBC file isn't there. `path` is the side's file, None of standard input, and `words`
+    are the options by which it was read."""
     answer, plain = side.analysis.answer, side.answer
     facts = [line.partition(": ") for line in summary][1:]
-    parts = [_head(title, answer), "<h1>%s</h1>" % escaped(title), _verdict(answer),
+    parts = [_head(title, said_of(answer, path, words)), "<h1>%s</h1>" % escaped(title), _verdict(answer),
              '<div class="wide">%s</div>' % drawing_of(side, title),
              "<dl>%s</dl>" % "".join("<dt>%s</dt><dd>%s</dd>" % (escaped(name), escaped(text))
                                      for name, _, text in facts)]
@@ -63,27 +65,10 @@ def escaped(value: Any) -> str:
     return html.escape(shown(str(value)))
 
 
-def said_of(answer: Answer) -> Dict[str, Any]:
-    """What a page says of itself: of the answer what a row for its side has, as plain data."""
-    return {"version": answer.version, "whole": answer.whole, "reasons": entries(answer.reasons),
-            "system": answer.system, "format": answer.format, "unit": answer.unit, "fields": answer.fields,
-            "numbers": entry(answer.numbers), "openEnd": answer.open_end,
-            "last": answer.showings[-1].number if answer.showings else None,
-            "leadIn": sum(one.count_ for one in answer.lead_in), "leadOut": sum(one.count_ for one in answer.lead_out),
-            "lost": _lost_text(answer), "counts": {why: counted_by(answer, why) for why in ("lost", "unread")}}
-
-
-def _head(title, answer):
+def _head(title, said):
     return ('<!DOCTYPE html>\n<html lang="en"><head><meta charset="utf-8"><title>%s</title>\n'
             '<meta name="viewport" content="width=device-width, initial-scale=1">\n<meta name="%s" content="%s">\n'
-            "<style>%s</style></head><body>" % (escaped(title), MARK, escaped(json.dumps(said_of(answer))), STYLE))
-
-
-def _lost_text(answer):
-    """How many numbers and fields are lost for sure."""
-    count = counted_by(answer, "lost")
-    texts = [counted(count, answer.unit) if count else "", lost_fields_text(answer)]
-    return ", ".join(filter(None, texts)) or "none"
+            "<style>%s</style></head><body>" % (escaped(title), MARK, escaped(json.dumps(said)), STYLE))
 
 
 def _verdict(answer):
