@@ -9,7 +9,7 @@ set -eu
 missing=
 # A command, and behind a colon the packages that have it, where these have another name
 for pair in "${CC:-cc}:gcc libc6-dev" "${CXX:-c++}:g++" nm:binutils python3 jq prove:perl pkg-config cmake git less \
-    mandoc mypy parallel pv zsh ${1:+rustc cargo rustfmt cargo-clippy:rust-clippy}; do
+    chromium mandoc mypy parallel pv zsh ${1:+rustc cargo rustfmt cargo-clippy:rust-clippy}; do
     command -v "${pair%%:*}" > /dev/null || missing="$missing ${pair#*:}"
 done
 # The system's Python, whose packages are Debian's, runs a command of docs/RECIPES.md, and the wheel is tried by it; its

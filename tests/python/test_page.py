@@ -161,11 +161,13 @@ class Indexes(InFolder):
         read = Page(index_of(self.named("index.html"), names))
         self.assertEqual(read.texts["h1"], ["3 sides, whole: 1 yes, 1 no, 1 can't tell"])
         self.assertEqual(read.texts["a"], ["other", "none", "one & two.tbc"])
-        self.assertEqual(read.texts["th"], ["side", "whole", "fields", "numbers", "lost", "why"])
+        self.assertEqual(read.texts["th"], ["side", "whole", "fields", "numbers", "lost", "try", "why"])
         self.assertEqual([known["href"] for tag, known in read.tags if tag == "a"],
                          ["other%20%231.html", "none%20%231.html", "one%20%26%20two.tbc%20%231.html"])
-        self.assertEqual([read.texts["td"][begin:begin + 5] for begin in (1, 7, 13)], [
-            ["no", "12", "6, 7 to 14", "2 pictures, 4 fields",
+        self.assertEqual([read.texts["td"][begin:begin + 6] for begin in (1, 8, 15)], [
+            ["no", "12", "6, 7 to 14", "2 pictures, 4 fields", "",
              "4 fields lost; 2 pictures lost; begins at 7, ends at 14"],
-            ["can't tell", "0", "none", "none", "no picture number and no time"],
-            ["yes", "6", "3, 1 to 3", "none", ""]])
+            ["can't tell", "0", "none", "none", "", "no picture number and no time"],
+            ["yes", "6", "3, 1 to 3", "none", "", ""]])
+        self.assertEqual([known["class"] for tag, known in read.tags if tag == "td" and "class" in known],
+                         ["no", "open", "yes"])

@@ -108,6 +108,38 @@ class Tables(Scans, Calls):
                 self.assertIn('<td>%s</td><td class="fault"' % base, index)
 
 
+class Indexes(Scans, Calls):
+    def listed(self):
+        """The names of an index, each with its link, how whole its side is, and the end of its row."""
+        found = re.findall('<tr><td>(.*?)</td><td class="[a-z]*" data-key="[0-4]">(.*?)</td>.*<td>(.*)</td></tr>',
+                           self.text("pages/index.html"))
+        return [(re.sub(self.folder, "..", re.sub('<a href="(.*)">(.*)</a>', r"\2@\1", name)), whole,
+                 why.replace(self.folder, "..")) for name, whole, why in found]
+
+    def test_sides_of_two_scans(self):
+        """What a folder lacks that is scanned is gone, and what another one has stays; two of one name have paths."""
+        for name in ("nas/clv/1.tbc", "nas/cav/1.tbc", "more/cav/1.tbc", "more/lost.tbc"):
+            self.add(name, "1..11 14..30 O" if "lost" in name else "1..30 O")
+        self.write("nas/odd.vbi.json", "{")
+        self.write("more/odd.vbi.json", "[")
+        self.scan("--html pages nas")
+        self.assertEqual([(name, whole) for name, whole, _ in self.listed()], [
+            ("odd.vbi.json", "fault"), ("cav/1.tbc@cav-1.html", "yes"), ("clv/1.tbc@clv-1.html", "yes")])
+        os.unlink(self.named("nas/clv/1.tbc"))
+        os.unlink(self.named("more/odd.vbi.json"))
+        self.scan("--html pages more")
+        self.assertEqual([(name, whole) for name, whole, _ in self.listed()], [
+            ("lost.tbc@lost.html", "no"), ("odd.vbi.json", "fault"), ("../more/cav/1.tbc@cav-1-2.html", "yes"),
+            ("../nas/cav/1.tbc@cav-1.html", "yes"), ("clv/1.tbc@clv-1.html", "gone")])
+        self.assertEqual(self.listed()[-1][-1], "../nas/clv/1.tbc isn&#x27;t there any longer; whole: yes")
+        self.assertIn("<h1>5 sides, whole: 2 yes, 1 no, 0 can&#x27;t tell, 1 fault, 1 gone</h1>",
+                      self.text("pages/index.html"))
+        self.assertIn("<h1>cav/1.tbc</h1>", self.text("pages/cav-1-2.html"))
+        os.unlink(self.named("nas/odd.vbi.json"))  # which has no page
+        self.scan("--html pages more")
+        self.assertEqual([whole for _, whole, _ in self.listed()], ["no", "yes", "yes", "gone"])
+
+
 class Statuses(Scans, Calls):
     def setUp(self):
         super().setUp()

@@ -13,7 +13,7 @@ from ldvbi.regular import regular
 from ..answer.analysis import VERSION
 from ..answer.whole import NO, OPEN, YES, counted
 from .page import CLASSES, MARK, STYLE, escaped
-from .sorting import SCRIPT, SORTING_STYLE
+from .sorting import SCRIPT, looks_of
 
 FIRST, PART = 2048, 65536  # characters of a page that are read at once: at first, for most heads are short, and at most
 MOST_PARTS = 64  # in which the head of a page has an end
@@ -161,7 +161,7 @@ def index_of(path: str, pages: Iterable[str], faults: Sequence[Fault] = (), name
             '<input type="search"/></label> <output></output></p>\n'
             '<div class="wide"><table><thead><tr>%s</tr></thead>\n<tbody>%s</tbody></table></div>\n'
             "<script>%s</script></body></html>\n" % (
-                FAULTS, escaped(json.dumps(faults)), STYLE, SORTING_STYLE, _counts_text(rows),
+                FAULTS, escaped(json.dumps(faults)), STYLE, looks_of(COLUMNS), _counts_text(rows),
                 "".join('<th scope="col">%s</th>' % name for name in COLUMNS), "\n".join(map(_text_of, rows)), SCRIPT))
 
 
@@ -170,7 +170,7 @@ def _row_of(name, link, said, is_gone):
     span = "%(count)d, %(least)s to %(greatest)s" % numbers if numbers["count"] else "none"
     reasons = "; ".join(one["text"] for one in said["reasons"])
     if is_gone:
-        reasons = "; ".join(filter(None, ["%s isn't there any longer" % said["side"], "whole: " + said["whole"], reasons]))
+        reasons = "%s isn't there any longer; whole: %s%s" % (said["side"], said["whole"], reasons and "; " + reasons)
     return Row(name, link, GONE if is_gone else said["whole"], (said["fields"], span, said["lost"], said["try"] or ""),
                (said["fields"], numbers["count"], lost, said["try"] or ""), reasons)
 
