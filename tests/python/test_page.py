@@ -84,7 +84,8 @@ class Pages(unittest.TestCase):
         self.assertLessEqual({"numbers lost, undecided or unread: 2", "unread, and their fields: 1"},
                              set(read.texts["summary"]))
         self.assertIn("%(count)d, from %(least)d to %(greatest)d" % one.answer["numbers"], read.texts["dd"])
-        for text, kind, whole in (("1..3", "yes", "yes"), ("7..9", "no", "no<ul><li>begins at 7, ends at 9</li></ul>"),
+        for text, kind, whole in (("1..3", "yes", "yes"), ("7..9", "no", "no<ul><li>12 fields lost</li><li>"
+                                                             "6 pictures lost</li><li>begins at 7, ends at 9</li></ul>"),
                                   ("", "open", "can&#x27;t tell<ul><li>no picture number and no time</li></ul>")):
             self.assertIn('<div class="%s">whole: %s</div>' % (kind, whole), page(side(rows(text))))
 
@@ -165,8 +166,8 @@ class Indexes(InFolder):
         self.assertEqual([known["href"] for tag, known in read.tags if tag == "a"],
                          ["other%20%231.html", "none%20%231.html", "one%20%26%20two.tbc%20%231.html"])
         self.assertEqual([read.texts["td"][begin:begin + 6] for begin in (1, 8, 15)], [
-            ["no", "12", "6, 7 to 14", "2 pictures, 4 fields", "",
-             "4 fields lost; 2 pictures lost; begins at 7, ends at 14"],
+            ["no", "12", "6, 7 to 14", "8 pictures, 16 fields", "",
+             "16 fields lost; 8 pictures lost; begins at 7, ends at 14"],
             ["can't tell", "0", "none", "none", "", "no picture number and no time"],
             ["yes", "6", "3, 1 to 3", "none", "", ""]])
         self.assertEqual([known["class"] for tag, known in read.tags if tag == "td" and "class" in known],
