@@ -33,6 +33,8 @@ MARKS = (
     ("missing", {}, "lost", 13, 13, "lost: 5" + PLACE + "no field is there for it"),
     ("missing", {"why": "undecided"}, "undecided", 13, 13,
      "undecided: 5" + PLACE + "lost or unread, or skipped by the disc itself"),
+    ("missing", {"after": 0}, "lost", 13, 13, "lost: 5, before field 13: no field is there for it"),
+    ("lost", {"after": 0}, "lost fields", 10, 10, "lost: 1 field before field 10, by the numbers"),
     ("missing", {"last": 7, "count_": 3}, "lost", 13, 13, "lost: 5 to 7" + PLACE + "no field is there for it"),
     ("lost", {}, "lost fields", 10, 10, "lost: 1 field" + LOST + "by the numbers"),
     ("lost", {"by": "both", "fields": 3}, "lost fields", 10, 10,
