@@ -13,7 +13,8 @@ from compact import rows
 from discs import side
 from ldvbi_side.command.summary import summary
 from ldvbi_side.draw.index import index_of
-from ldvbi_side.draw.page import LISTS, page_of
+from ldvbi_side.draw.folds import LISTS
+from ldvbi_side.draw.page import page_of
 from ldvbi_side.draw.plotting import plotter
 from streams import NTSC, PROGRAM, TOP, line_with, worn_line, write_stream
 

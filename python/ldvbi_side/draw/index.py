@@ -12,8 +12,9 @@ from urllib.parse import quote
 from ldvbi.regular import regular
 from ..answer.analysis import VERSION
 from ..answer.whole import NO, OPEN, YES, counted
-from .page import CLASSES, MARK, STYLE, escaped
+from .page import CLASSES, MARK, STYLE
 from .sorting import SCRIPT, looks_of
+from .svg import escaped
 
 FIRST, PART = 2048, 65536  # characters of a page that are read at once: at first, for most heads are short, and at most
 MOST_PARTS = 64  # in which the head of a page has an end
