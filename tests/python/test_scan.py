@@ -136,6 +136,9 @@ class Indexes(Scans, Calls):
                       self.text("pages/index.html"))
         self.assertIn("<h1>cav/1.tbc</h1>", self.text("pages/cav-1-2.html"))
         os.unlink(self.named("nas/odd.vbi.json"))  # which has no page
+        # a page of another version isn't listed, nor is an index
+        self.write("pages/other.html", self.text("pages/cav-1.html").replace("{&quot;version&quot;: 3", "{&quot;version"
+                                                                           "&quot;: 2").replace("nas/cav", "nas/x"))
         self.scan("--html pages more")
         self.assertEqual([whole for _, whole, _ in self.listed()], ["no", "yes", "yes", "gone"])
 
@@ -151,6 +154,7 @@ class Statuses(Scans, Calls):
         self.add("pages/index.html")
         self.refused(IN_PLACE % "pages/index.html", "scan --html pages pages/index.html")
         self.refused("side.tbc/pages/deep: Not a directory", "scan side.tbc --html side.tbc/pages/deep")
+        self.refused("absent: No such file or directory", "scan side.tbc --meta absent")
 
     def test_the_script(self):
         """The processes of a scan read in the file by which the command was started; what is noted has its side."""

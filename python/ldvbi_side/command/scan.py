@@ -47,6 +47,8 @@ def scan(words: List[str], read: Read) -> int:
     if not sides:
         raise ValueError("no .tbc and no .vbi.json in %s" % ", ".join(options.paths))
     _refuse_settings(options, sides)
+    if options.meta:
+        os.stat(options.meta)  # else each side would have a fault
     folder = _Folder(options.html) if options.html else None
     tasks, index = _tasks(options, sides, folder), folder.index if folder else None
     _refuse_no_file(index)
@@ -94,13 +96,14 @@ class _Folder:
 
     def write_index(self, tasks: Sequence[Task], rows: Sequence[Dict[str, Any]]) -> None:
         """Writes the index of these sides, and of others whose pages are there."""
-        from ..draw.index import Fault, faults_in, index_of
+        from ..draw.index import Fault, faults_in, index_of, is_page
         read = {os.path.realpath(task.path) for task in tasks}
         others = [os.path.join(self.path, name) for name, side in self.known.items() if side and side not in read]
         faults = [Fault(os.path.realpath(task.path), task.name, row["fault"]) for task, row in zip(tasks, rows)
                   if row["fault"] is not None]
         faults += [one for one in faults_in(self.index) if one.side not in read and os.path.exists(one.side)]
-        text = index_of(self.index, [*(row["page"] for row in rows if row["page"]), *others], faults, True)
+        pages = [row["page"] for row in rows if row["page"]]
+        text = index_of(self.index, [*pages, *filter(is_page, others)], faults, True)
         with whole_file(self.index) as file:
             file.write(text)
 

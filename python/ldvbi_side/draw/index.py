@@ -117,6 +117,15 @@ def head_of(page: str) -> Tuple[str, Dict[str, Any]]:
     return head.title, head.said
 
 
+def is_page(page: str) -> bool:
+    """Whether this is a page of a side, of this form."""
+    try:
+        head_of(page)
+    except (OSError, ValueError):
+        return False
+    return True
+
+
 def sides_of(folder: str) -> Dict[str, Optional[str]]:
     """The names of what may be pages in a folder, each with the real path of its side, or None where that isn't known,
     as of what is no page."""
