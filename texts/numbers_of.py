@@ -110,7 +110,7 @@ def package() -> Dict[str, Any]:
     from ldvbi import near
     from ldvbi_side import levels
     from ldvbi_side.command import summary
-    from ldvbi_side.draw import page
+    from ldvbi_side.draw import folds, page
     from ldvbi_side.answer import analysis, ends, gaps, lines, missing, parts, whole
     from ldvbi_side.judge import believed, chain, clock, numbers as judged, order, paces, places, readings
     numbers = {"price.%d" % fields: paces.price(fields) for fields in (1, 2, 20, 20000)}
@@ -122,7 +122,7 @@ def package() -> Dict[str, Any]:
     return {
         **numbers, "minute.pal": pal, "minute.least": least, "minute.most": most, "version": analysis.VERSION,
         "summary.lines": summary.MOST_LINES, "summary.listed": summary.MOST_LISTED, "page.plots": page.MOST_PLOTS,
-        "still": chain.STILL, "pairs": chain.PAIRS, "long": chain.LONG, "dense": chain.DENSE, "carried": judged.CARRIED,
+        "page.rows": folds.MOST_ROWS, "still": chain.STILL, "pairs": chain.PAIRS, "long": chain.LONG, "dense": chain.DENSE, "carried": judged.CARRIED,
         "chapter.all": paces.ChapterPace.ALL, "chapter.many": paces.ChapterPace.MANY,
         "chapter.share": parts.LEAST_SHARE, "missing.far": missing.FAR, "unseen": gaps.UNSEEN,
         "clock.places": clock.LEAST_PLACES, "clock.spacing": clock.SPACINGS[0], "clock.dropping": clock.SPACINGS[1],

@@ -52,8 +52,12 @@ class Comparison:
     def _compare_missing(self):
         """Which numbers are missing and why; of those that are undecided, how many there are of each."""
         answer, truth = self.answer, self.truth
+        least = min(truth.read, default=0)
         missing = {why: self._numbers_in(one for one in answer["missing"] if one["why"] == why)
                    for why in ("unread", "lost", "undecided")}
+        for number in sorted(number for number in missing["lost"] & set(truth.side.numbers) if number < least):
+            self.tell("not lost", number)
+        missing = {why: {number for number in ones if number >= least} for why, ones in missing.items()}
         undecided = missing["undecided"]
         self.counts["undecided"] = len(undecided)
         for why in ("unread", "lost"):
@@ -95,6 +99,8 @@ class Comparison:
                 continue  # two discs look like a loss, too
             if truth.side.dark.intersection(range(one["after"] + 1, one["before"])):
                 continue  # and so does a search in the dark
+            if one["before"] == answer["showings"][0][1]:
+                continue  # before the first number no loss is one of the capture's own
             inside = [after for after in truth.lost if one["after"] <= after < one["before"]]
             if one["by"] == "undecided" or one["by"] == "parity" and inside:
                 continue

@@ -151,12 +151,16 @@ class Sound:
         return 1 in passes or len(passes) == 2
 
     def _look_at_places(self):
-        """Nothing is lost before the first number or behind the last one, or between two sides, but that minute 0 may
-        lack fields after lead-in. A still has no other number in between. No number is due where both lines say
+        """Nothing is lost behind the last number, or between two sides, but that minute 0 may lack fields after lead-in.
+        Before the first number no more is than the disc has there. A still has no other number in between. No number is due where both lines say
         another one in pass 1."""
         for one in self.answer["lost"]:
             is_minute = self.unit == "minute" and one["after"] in self.ends
-            if not self.numbered or not is_minute and self.numbered[0] > one["after"] or not (
+            if self.numbered and one["before"] == self.numbered[0]:
+                each = 2.5 if self.answer["pace"] == "film" else 2 * (self.minute if self.unit == "minute" else 1)
+                if each * self.believed[one["before"]] < one["fields"] + one["before"] - one["after"] - 1:
+                    self.faults.append("%(fields)d fields are lost before field %(before)d" % one)
+            elif not self.numbered or not is_minute and self.numbered[0] > one["after"] or not (
                     one["after"] < one["before"] <= self.numbered[-1]):
                 self.faults.append("lost beside the numbers, behind field %d" % one["after"])
             if any(one["after"] < field < one["before"] for field in self.ends):

@@ -187,8 +187,8 @@ class Reasons:
     def __init__(self, truth):
         self.truth, self.side = truth, truth.side
         self.no = {
-            "lost": self._lost(), "jumps": self._jumps(),
-            "missing": self._or_clock("lost" in truth.missing.values()), "begins": self._begins(),
+            "lost": self._or_before(self._lost()), "jumps": self._jumps(),
+            "missing": self._or_before(self._or_clock("lost" in truth.missing.values())), "begins": self._begins(),
             "joined": self._joined(), "format": self._format(), "metadata": False, "cut": False,
             "swapped": bool(truth.swaps), "speed": self._speed()}
         self.open = {"numbers": not truth.read, "line": False, "doubtful": self._doubtful(), "judged": False,
@@ -202,6 +202,10 @@ class Reasons:
         captured, on_disc = set(self.side.numbers), set(self.side.on_disc)
         return any(number not in captured and (number in on_disc or number < min(on_disc))
                    for number in range(first, min(self.truth.read, default=0)))
+
+    def _or_before(self, is_so):
+        """What a side lacks at its beginning is lost, too, if its first number is the least one."""
+        return is_so or (is_so if self._begins() is False else None)
 
     def _or_clock(self, is_so):
         """In a short stretch a number that the clock leaves out is undecided."""

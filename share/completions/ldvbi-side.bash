@@ -24,10 +24,13 @@ _ldvbi_side() {
             esac
             ;;
         scan)
-            options='--help --jobs --open-end --csv --json --html --into --again'
+            options='--help --jobs --meta --system --black --white --no-recover --strict --open-end --csv --json'
+            options="$options "'--html --into --again'
             case $before in
+                --system) answers='NTSC PAL' ;;
+                --meta) compopt -o default; return ;;
                 --html | --into) compopt -o dirnames; return ;;
-                -j | --jobs) return ;;
+                -j | --jobs | --black | --white) return ;;
             esac
             ;;
         *)

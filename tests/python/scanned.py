@@ -8,28 +8,31 @@ from command_runs import Commands
 from compact import cells_of, words_of
 from ldvbi import System
 from ldvbi.document import RECORD, head_of, tail_of
-from streams import NTSC, write_stream
+from streams import NTSC, PAL, write_stream
 
 # White is less than the middle of the metadata's levels.
 DARK = ("NTSC", 16384, 30000)
 # A folder with a side of every kind, in the order of the table: the side's name, its fields, of which a document and
 # what is packed has none, and its row behind the name: whole, lost, unread, format, from, to, last, lead-in, lead-out,
-# fields, and how `why` begins; - is nothing
-TWELVE = """
-    a/broken.vbi.json | - | fault | - | - | - | - | - | - | - | - | - | not JSON:
-    a/cut.tbc | 1..30 O | no | 0 | 0 | cav | 1 | 30 | 30 | 0 | 1 | 61 | field 62 is cut
-    a/database.tbc | 1..30 O | yes | 0 | 0 | cav | 1 | 30 | 30 | 0 | 1 | 61 | -
-    a/joined.tbc | Lx2 1..30 Ox2 Lx2 1..25 Ox2 | no | 0 | 0 | cav | 1 | 30 | 25 | 4 | 4 | 118 | lead-in again in
-    a/levels.tbc | 1..30 | can't tell | 0 | 0 | neither | - | - | - | 0 | 0 | 60 | no picture number and no time
-    a/lost.tbc | 1..11 14..30 O | no | 2 | 0 | cav | 1 | 30 | 30 | 0 | 1 | 57 | 4 fields lost; 2 pictures lost
-    b/minutes.vbi.json | - | yes | 0 | 0 | clv | 0:00 | 0:02 | 0:02 | 0 | 1 | 9001 | -
-    b/missing.tbc | 1..30 | fault | - | - | - | - | - | - | - | - | - | no missing.tbc.json or missing.tbc.db beside it
-    b/no codes.tbc | Bx60 | can't tell | 0 | 0 | neither | - | - | - | 0 | 0 | 60 | no picture number and no time
-    b/packed.tbc | - | fault | - | - | - | - | - | - | - | - | - | it is compressed (gzip): unpack it first
-    b/unread.tbc | 1..30 23=B O | yes | 0 | 1 | cav | 1 | 30 | 30 | 0 | 1 | 61 | -
-    b/whole.tbc | 1..30 O | yes | 0 | 0 | cav | 1 | 30 | 30 | 0 | 1 | 61 | -
+# fields, try, and how `why` begins; - is nothing. The metadata has NTSC and white 51200.
+SIDES = """
+    a/broken.vbi.json | - | fault | - | - | - | - | - | - | - | - | - | - | not JSON:
+    a/cut.tbc | 1..30 O | no | 0 | 0 | cav | 1 | 30 | 30 | 0 | 1 | 61 | - | field 62 is cut
+    a/database.tbc | 1..30 O | yes | 0 | 0 | cav | 1 | 30 | 30 | 0 | 1 | 61 | - | -
+    a/joined.tbc | Lx2 1..30 Ox2 Lx2 1..25 Ox2 | no | 0 | 0 | cav | 1 | 30 | 25 | 4 | 4 | 118 | - | lead-in again in
+    a/levels.tbc | 1..30 | can't tell | 0 | 0 | neither | - | - | - | 0 | 0 | 60 | --white 30000
+        | no picture number and no time
+    a/lost.tbc | 1..11 14..30 O | no | 2 | 0 | cav | 1 | 30 | 30 | 0 | 1 | 57 | - | 4 fields lost; 2 pictures lost
+    b/minutes.vbi.json | - | yes | 0 | 0 | clv | 0:00 | 0:02 | 0:02 | 0 | 1 | 9001 | - | -
+    b/missing.tbc | 1..30 | fault | - | - | - | - | - | - | - | - | - | -
+        | no missing.tbc.json or missing.tbc.db beside it
+    b/no codes.tbc | Bx60 | can't tell | 0 | 0 | neither | - | - | - | 0 | 0 | 60 | - | no picture number and no time
+    b/packed.tbc | - | fault | - | - | - | - | - | - | - | - | - | - | it is compressed (gzip): unpack it first
+    b/system.tbc | 1..30 O | no | 0 | 0 | neither | - | - | - | 0 | 0 | 90 | --system PAL --black 16384 --white 51200 | field 91 is cut
+    b/unread.tbc | 1..30 23=B O | yes | 0 | 1 | cav | 1 | 30 | 30 | 0 | 1 | 61 | - | -
+    b/whole.tbc | 1..30 O | yes | 0 | 0 | cav | 1 | 30 | 30 | 0 | 1 | 61 | - | -
 """
-ROWS = {name: row for name, _, *row in cells_of(TWELVE)}
+ROWS = {name: row for name, _, *row in cells_of(SIDES)}
 
 
 class Scans(Commands):
@@ -39,9 +42,9 @@ class Scans(Commands):
         write_stream(self.named(name), setup, words_of(fields) if isinstance(fields, str) else fields, rest)
         self.metadata(name + ".json")
 
-    def add_twelve(self):
-        more = {"a/cut.tbc": {"rest": 12345}, "a/levels.tbc": {"setup": DARK}}
-        for name, fields, *_ in cells_of(TWELVE):
+    def add_each(self):
+        more = {"a/cut.tbc": {"rest": 12345}, "a/levels.tbc": {"setup": DARK}, "b/system.tbc": {"setup": PAL}}
+        for name, fields, *_ in cells_of(SIDES):
             if fields != "-":
                 self.add(name, fields, **more.get(name, {}))
         words = [(0x87FFFF, 0xF0DD00 + field // 3000) for field in range(9000)] + [(0x80EEEE, 0x80EEEE)]

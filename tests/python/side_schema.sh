@@ -127,6 +127,8 @@ del(.sides[2].page)
 del(.sides[2].leadOut)
 .sides[0].leadIn = 0
 .sides[2].fields = null
+.sides[2].try = 1
+.sides[0].try = "--white 51000"
 .sides[2].reasons = "x"
 .sides[2].fault = "x"
 .sides[0].fields = 0

@@ -83,11 +83,11 @@ class Cav(unittest.TestCase):
 
     def test_parity(self):
         """Frames begin with the first field that begins one. What was lost by numbers and parity is known by both; of
-        more than one field it isn't known where. At the ends, and before the first number or behind the last, what is
-        lost makes no side less whole; a clock may have left out a number."""
+        more than one field it isn't known where. At the ends, and before the first number or behind the last, parity
+        shows no loss; a clock may have left out a number."""
         check(self, """
     by turns | PAL/0 1..30 | no lost | frameBegin 1
-    from a second field on | PAL/1 1..30 -1 S/-/- | no lost | frameBegin 2
+    from a second field on | PAL/1 1..30 -1 S/-/- | lost 0-2 1 number | frameBegin 2
     a field | PAL/40 1..30 -40 | lost 39-40 1 both || three fields | PAL/41 1..30 -41:43 | lost 39-42 3 both
     and in these once more | PAL/41,42 1..30 -41:43 | lost 39-42 3 both
     without parity | 1..30 -41:43 | lost 39-42 3 number
@@ -110,9 +110,9 @@ class Clv(unittest.TestCase):
         check(self, """
     whole | Lx2 t0..59 Ox2 | format clv | unit time | pace video | numbers 60 0:00:00.00 to 0:00:02.09
         | no missing unread lost breaks doubtful conflicts stray completed leftOut | @5 0:00:00.01
-    the rate of PAL | t1495..1504 | @9 0:00:59.24 | @11 0:01:00.00 | no missing
-    the rate of NTSC | NTSC t1795..1804 | @9 0:00:59.29 | @11 0:01:00.00 | no missing
-    hours | t179995..180004 | numbers 10 1:59:59.20 to 2:00:00.04 | no missing breaks
+    the rate of PAL | t1495..1504 | @9 0:00:59.24 | @11 0:01:00.00 | missing 0:00:00.01-0:00:59.19 lost
+    the rate of NTSC | NTSC t1795..1804 | @9 0:00:59.29 | @11 0:01:00.00 | missing 0:00:00.01-0:00:59.24 lost
+    hours | t179995..180004 | numbers 10 1:59:59.20 to 2:00:00.04 | no breaks | lost 0-1 359988 number
     with the minute behind | s0.7/-/- -/@0:09/- | numbers 1 0:09:00.07 to 0:09:00.07
     with the minute before | -/@0:09/- s0.7/-/- | numbers 1 0:09:00.07 to 0:09:00.07
     with both of them | -/@0:08/- s0.7/-/- -/@0:09/- | numbers 1 0:09:00.07 to 0:09:00.07
@@ -129,7 +129,7 @@ class Clv(unittest.TestCase):
                     minute = "@0:%d" % (number // turn)
                     time = "s%d.%d/M/%s" % (number // rate % 60, number % rate, "-" if number == lacking else minute)
                     pairs.append(order.format(time, "-/M/" + minute))
-                check(self, "{0} {3} | {0} {1} | completed {3} | no missing doubtful | numbers 20 0:00:59.{2} to "
+                check(self, "{0} {3} | {0} {1} | completed {3} | no unread doubtful | numbers 20 0:00:59.{2} to "
                       "0:01:00.09".format(system, " ".join(pairs), rate - 10, field))
 
     def test_damage(self):
@@ -137,9 +137,9 @@ class Clv(unittest.TestCase):
         check(self, """
     weighs as much as its weaker part, at the end and one picture too early | t0..19 39.16=s0.20* 39.17=@0:00
         | doubtful 39/16 00.20 alone.. | numbers 19 0:00:00.00 to 0:00:00.18
-    a wrong minute | t1490..1509 15.18=@0:08 | no missing | completed 15 | doubtful 15/18 0:08 neighbours
+    a wrong minute | t1490..1509 15.18=@0:08 | count 20 | completed 15 | doubtful 15/18 0:08 neighbours
         | @15 0:00:59.22
-    wrong seconds | t1490..1509 15.16=s19.22 | missing 0:00:59.22 unread | doubtful 15/16 19.22 neighbours
+    wrong seconds | t1490..1509 15.16=s19.22 | missing .., 0:00:59.22 unread | doubtful 15/16 19.22 neighbours
         | unread 0:00:59.22@15=19.22
     no clock shows them | t0..19 5.16=s0.25 7.18=@0:60 | doubtful 5/16 None clock, 7/18 None clock
         | missing 0:00:00.02 unread
@@ -159,7 +159,7 @@ class Clv(unittest.TestCase):
 
     def test_minutes_alone(self):
         check(self, """
-    minutes | m58x100 m59x3000 m60x3000 m61x50 | unit minute | pace minute | no missing breaks repeated
+    minutes | m58x100 m59x3000 m60x3000 m61x50 | unit minute | pace minute | no breaks repeated
         | showings 0:58@1-100, 0:59@101-3100, 1:00@3101-6100, 1:01@6101-6150
     of NTSC | NTSC m0x3596 m1x3597 m2x3596 | count 3 | no missing breaks
     ten without a word, for which there are fields | NTSC m0x9 Bx35960 m10x9 | no breaks doubtful
@@ -167,7 +167,7 @@ class Clv(unittest.TestCase):
     of PAL | m0x9 Bx30000 m10x9 | no breaks doubtful | missing 0:01-0:09 unread
     a wrong one, and lines that differ | m4x40 10=n24 20=-/@0:04/@0:44 | showings 0:04@1-40
         | doubtful 10/17 0:24 neighbours, 10/18 0:24 neighbours, 20/18 0:44 lines | conflicts 20 0:04|0:44 0:04
-    one that isn't there | m4x3000 m6x3000 | missing 0:05 lost
+    one that isn't there | m4x3000 m6x3000 | missing 0:00-0:03 lost, 0:05 lost
     """)
 
     def test_the_clock(self):
@@ -176,7 +176,7 @@ class Clv(unittest.TestCase):
         check(self, """
     one in 1001 | NTSC t0..3999!400%1001 | no missing lost | whys clock
         | leftOut 0:00:13.10, 0:00:46.21, 0:01:20.02, 0:01:53.13
-    two a minute | NTSC t12602..17999!0,1%1800 t18000..18001 t18002..19999!0,1%1800 | no missing
+    two a minute | NTSC t12602..17999!0,1%1800 t18000..18001 t18002..19999!0,1%1800 | missing x1
         | leftOut 0:08:00.00-0:08:00.01, 0:09:00.00-0:09:00.01, 0:11:00.00-0:11:00.01
     damage beside them | NTSC t0..1999!1800,1801 3599=?/?/? | missing 0:00:59.29 unread | leftOut 0:01:00.00-0:01:00.01
     half of it is lost | NTSC t0..8007!400%1001 -4001:12000 | lost 3999-4001 8008 number | leftOut x4 | missing x1
@@ -188,7 +188,7 @@ class Clv(unittest.TestCase):
     less than 4000 numbers don't say | NTSC t0..3998!400 | missing 0:00:13.10 undecided
     as many do | NTSC t0..3999!400 | missing 0:00:13.10 lost
     two gaps, one of which is lost | NTSC t6500..6999!400%1001 t7001..7999!400%1001
-        | missing 0:03:53.10 undecided, 0:04:06.27 undecided
+        | missing .., 0:03:53.10 undecided, 0:04:06.27 undecided
     beside a stretch that decides | NTSC t0..5004!400%1001 t6500..6999!400%1001 t7001..7999!400%1001
         | missing .., 0:03:53.10 lost | missing x2 | leftOut .., 0:04:06.27 | leftOut x6
     a stretch ends at a jump of 1000 numbers | NTSC t0..3100!500,1500,2500 t4101..4200!4150
@@ -196,7 +196,7 @@ class Clv(unittest.TestCase):
     not at one of 999 | NTSC t0..3100!500,1500,2500 t4100..4200!4150 | missing .., 0:02:18.10 lost
     three places | NTSC t0..3399!400%1001 | whys clock || two are not | NTSC t0..2399!400%1001 | whys undecided
     nor are three of many that are due | NTSC t0..7999!1000,2001,3002 | missing x3 | whys lost
-    at a tenth minute | NTSC t17000..21001!18000,18001 | missing 0:10:00.00-0:10:00.01 lost
+    at a tenth minute | NTSC t17000..21001!18000,18001 | missing .., 0:10:00.00-0:10:00.01 lost
     three at once | NTSC t0..4002!500,501,502 | missing 0:00:16.20-0:00:16.22 lost
     two elsewhere | NTSC t0..4001!900,901 | missing 0:00:30.00-0:00:30.01 lost
     PAL has none | t0..4003!400%1001 | missing x4 | no leftOut

@@ -1,14 +1,17 @@
 """What a drawing marks and says, of answers by hand and of sides whose words are known; and where it has what it shows:
 a side of 64 fields on 960 pixels from 150 on has 15 for each."""
 
+import re
 import unittest
 import xml.etree.ElementTree as xml
+from unittest import mock
 
 from compact import made
 from discs import side, typed
 from ldvbi import Kind
 from ldvbi.readings import Cut
 from ldvbi_side.answer.entries import Doubt, Extent, Lost, Missing, Neighbour, Repeated, Speed, Swapped
+from ldvbi_side.draw import bands, curve
 from ldvbi_side.draw.curve import Scale, ticks
 from ldvbi_side.draw.drawing import drawing_of
 from ldvbi_side.draw.marks import Mark, marks_of
@@ -33,6 +36,8 @@ MARKS = (
     ("missing", {}, "lost", 13, 13, "lost: 5" + PLACE + "no field is there for it"),
     ("missing", {"why": "undecided"}, "undecided", 13, 13,
      "undecided: 5" + PLACE + "lost or unread, or skipped by the disc itself"),
+    ("missing", {"after": 0}, "lost", 13, 13, "lost: 5, before field 13: no field is there for it"),
+    ("lost", {"after": 0}, "lost fields", 10, 10, "lost: 1 field before field 10, by the numbers"),
     ("missing", {"last": 7, "count_": 3}, "lost", 13, 13, "lost: 5 to 7" + PLACE + "no field is there for it"),
     ("lost", {}, "lost fields", 10, 10, "lost: 1 field" + LOST + "by the numbers"),
     ("lost", {"by": "both", "fields": 3}, "lost fields", 10, 10,
@@ -289,11 +294,50 @@ empty: 630 368 no picture number and no time
 ONE_LINE = "NTSC 1..9600 1:19200/2.18=- 2:19200/2=B "
 # Each minute stands on all its fields: 48 fields, 20 pixels each, and the last minute stays to the end.
 SIDES = ((FAULTS, FAULTY), (TIMES, CLOCKS), (ONE_LINE + "9601=-/?/#4801", MANY), ("NTSC S/S*/- ~/?/!", EACH_CAUSE),
+         ("1..32 33.16=?", "line-16: 1-32 150-630 blank 28; 33-33 630-645 noise 28; 34-64 645-1110 blank 28"),
+         ("t0..31 33.16=?", "line-16: 1-32 150-630 word 28; 33-33 630-645 change 28; 34-64 645-1110 word 28"),
          ("NTSC m59x20 m60x28", "number-label: 140 432 0:59; 140 312 1:00\nrun: 1-48 4 160 428 1100 308"))
 
 
 def places_of(text):
     return [(name, " ".join(place_of(part))) for name, part in parts_of(text) if name]
+
+
+class Many(unittest.TestCase):
+    """Sides of which much falls together."""
+
+    def test_line_16(self):
+        """What it shows of 20 fields to a pixel, of which one has noise, is no more than that, and is said in words."""
+        text = "NTSC 1..9600 1:19200/2.18=- 2:19200/2=B 9601.16=?"
+        self.assertIn("; 9601-9620 630-631 noise 1; 9601-9620 630-631 blank 27;",
+                      "; ".join(place for name, place in places_of(text) if name == "line-16"))
+        said = [text for name, text in drawn(text) if name == "line-16"]
+        self.assertEqual(said[1:3], ["line 16, fields 9601 to 9620: noise in 5 % of these fields",
+                                     "line 16, fields 9601 to 9620: blank in 95 % of these fields"])
+        self.assertIn("line 16, field 33: noise, change 170", [text for _, text in drawn("1..32 33.16=?")])
+        self.assertEqual([text for name, text in drawn("1..2001 33.17=?") if "change" in text and name == "line-17"],
+                         ["line 17, fields 31 to 36: change in 17 % of these fields"])
+
+    def test_bands_with_few_boxes(self):
+        """Where there are too many boxes, twice as many fields share a column, and again: at last 10,240 of them."""
+        with mock.patch.object(bands, "MOST_BOXES", 6):
+            found = [place for name, place in places_of(ONE_LINE + "9601=-/?/#4801") if name == "line-17"]
+            self.assertIn(("line-17", "line 17, fields 1 to 10240: change in less than 1 % of these fields"),
+                          drawn(ONE_LINE + "9601=-/?/#4801"))
+        self.assertEqual(found, ["1-10240 150-662 change 4", "1-10240 150-662 word 12", "1-10240 150-662 blank 12",
+                                 "10241-19200 662-1110 word 14", "10241-19200 662-1110 blank 14"])
+
+    def test_rings_and_runs(self):
+        """Of doubtful numbers three pixels from each other one is drawn, and of many those within twelve pixels; of
+        numbers between two that aren't read one in each pixel."""
+        text = ONE_LINE + "9641=-/#100/- 9643=-/#101/- 9781=-/#100/-"
+        for most, wanted in ((3, ["9641 1", "9781 0"]), (2, ["9641 2"])):
+            with mock.patch.object(curve, "MOST_RINGS", most):
+                found = [re.findall(r"in field (\d+), line 17: .*?(?:; and (\d+) more near it)?$", text)[0]
+                         for name, text in drawn(text) if name == "doubt"]
+            self.assertEqual(["%s %s" % (field, more or 0) for field, more in found], wanted)
+        self.assertEqual([place.split(" ")[0] for name, place in places_of(ONE_LINE + "9601=B 9605=B 9609=B")
+                          if name == "run"], ["1-9599", "9603-9603", "9611-19199"])
 
 
 class Places(unittest.TestCase):

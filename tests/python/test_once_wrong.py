@@ -22,11 +22,11 @@ class Read(unittest.TestCase):
         stands, a time where line 16 has another code, or both another number."""
         check(self, """
     behind a skip of 1000 pictures | t1200..1209 u2210..2221 33=s28.16/@0:01/@0:01 | no doubtful
-        | numbers 22 0:00:48.00 to 0:01:28.21 | missing 0:00:48.10-0:01:28.09 lost
-    on one line | t1200..1209 u2210..2221 33=s28.16/@0:01/- | count 10 | no missing
-    of more | t1200..1209 u31360..31371 33=s54.16/@0:20/@0:20 | no doubtful | missing 0:00:48.10-0:20:54.09 lost
+        | numbers 22 0:00:48.00 to 0:01:28.21 | missing .., 0:00:48.10-0:01:28.09 lost
+    on one line | t1200..1209 u2210..2221 33=s28.16/@0:01/- | count 10 | missing x1
+    of more | t1200..1209 u31360..31371 33=s54.16/@0:20/@0:20 | no doubtful | missing .., 0:00:48.10-0:20:54.09 lost
     with two misread seconds | t1200..1209 u2210..2239 25=s28.12/@0:01/@0:01 33=s3.3/-/- 53=s3.3/-/- | aside 33, 53
-        | missing 0:00:48.10-0:01:28.09 lost, ..
+        | lost 0-1 2398 number, 19-21 ..
     pictures | 1..20 9=-/#17/#17* 13=-/#44/#45 17=? | unread 5@9=17, 7@13=44, 9@17
     times, of which no clock shows picture 25 | t1490..1509 15=s19.22/-/@0:00 17=8AE025/-/@0:00 19=?/-/@5:50
         23=?/-/@0:01 | unread 0:00:59.22@15=19.22, 0:00:59.23@17=8AE025, 0:00:59.24@19=5:50, 0:01:00.01@23
@@ -58,10 +58,10 @@ class Lost(unittest.TestCase):
         pictures were there: those behind it, those before it, or one of each. Of film 11 to 13 begin in fields 26, 29
         and 31."""
         check(self, """
-    a field too many in nine damaged pictures | 20..25 Bx19 35..40 | missing 26-34 undecided | no lost unread
+    a field too many in nine damaged pictures | 20..25 Bx19 35..40 | missing 1-19 lost, 26-34 undecided | no unread
     in which something is seen | 20..25 -/?/- B -/?/- B -/?/- B -/?/- B -/?/- B -/?/- B -/?/- B -/?/- B -/?/- B -/?/-
-        35..40 | missing 26-34 unread
-    a picture lost of nine damaged ones | 20..25 Bx16 35..40 | missing 26-34 undecided | lost 11-29 2 number
+        35..40 | missing 1-19 lost, 26-34 unread
+    a picture lost of nine damaged ones | 20..25 Bx16 35..40 | missing 1-19 lost, 26-34 undecided | lost 0-1 38 number, 11-29 2 number
     a wide jump | 1..20 Bx4 321..339 | missing 21-22 undecided, 23-318 lost, 319-320 undecided
     a field between chapters | 1..30 -19 | missing 10 lost || beside a blank one | 1..30 -19 18=B | missing 10 undecided
     passed over twice, and there once | 1..19 Bx2 21..30 5..30!20 | missing 20 unread

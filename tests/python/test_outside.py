@@ -6,6 +6,7 @@ import contextlib
 import io
 import json
 import os
+import re
 import signal
 import stat
 import sys
@@ -20,8 +21,9 @@ from command_runs import IN_PLACE
 from ldvbi_side import outside
 from ldvbi_side.command import outputs
 from ldvbi_side.command.outputs import drop_part, refuse_inputs, whole_file, whole_path
-from ldvbi_side.draw.index import PART, head_of, index_of
-from ldvbi_side.draw.page import MARK, page_of, said_of
+from ldvbi_side.draw.index import PART, Fault, head_of, index_of
+from ldvbi_side.answer.said import said_of
+from ldvbi_side.draw.page import MARK, page_of
 from ldvbi_side.outside import bytes_of_document, legible, printable, shown
 
 # A name with Escape, a line's end, bytes that aren't UTF-8 and characters that are set aside; letters of any kind stay.
@@ -174,7 +176,7 @@ WRONG = {
     "whole": ("perhaps", None, ["yes"]), "fields": (None, True, 1.5), "reasons": (None, ["lost"], [{"text": 1}], 5),
     "numbers": (None, [], {"count": 1, "least": 1}, {"count": "1", "least": 1, "greatest": 1}), "lost": (None,),
     "format": (1,), "counts": ([], {"lost": 1}),
-    "leadIn": (None, True), "leadOut": ("1",)}
+    "leadIn": (None, True), "leadOut": ("1",), "try": (1, []), "side": (1,), "options": (None, 1, [1])}
 META = '<meta name="%s" content="%%s">' % MARK
 
 
@@ -226,10 +228,10 @@ class Pages(InFolder):
         wanted = shown(NAME).replace("&", "&amp;").replace("<", "&lt;").replace(">", "&gt;")
         for part in ("<title>%s</title>", "<h1>%s</h1>", "<dd>%s</dd>"):
             self.assertIn(part % wanted, text)
-        index = index_of(self.named("indexes/all.html"), [page], [(NAME, "a fault of " + NAME)])
+        index = index_of(self.named("indexes/all.html"), [page], [Fault("/x", NAME + "x", "a fault of " + NAME)])
         self.assertIn('<a href="../pages/%%FF%%20%%3C%%1B%%3E.html">%s</a>' % wanted, index)
-        self.assertIn("<tr><td>%s</td><td>fault</td><td></td><td></td><td></td><td>a fault of %s</td></tr>" % (
-            wanted, wanted), index)
+        self.assertRegex(index, "<tr><td>%sx</td><td class=.*>fault</td>.*<td>a fault of %s</td></tr>" % (
+            re.escape(wanted), re.escape(wanted)))
         for one in (text, index):
             self.assertTrue(all(letter.isprintable() for letter in one.replace("\n", "")))
 

@@ -13,7 +13,8 @@ from compact import rows
 from discs import side
 from ldvbi_side.command.summary import summary
 from ldvbi_side.draw.index import index_of
-from ldvbi_side.draw.page import LISTS, page_of
+from ldvbi_side.draw.folds import LISTS
+from ldvbi_side.draw.page import page_of
 from ldvbi_side.draw.plotting import plotter
 from streams import NTSC, PROGRAM, TOP, line_with, worn_line, write_stream
 
@@ -84,7 +85,8 @@ class Pages(unittest.TestCase):
         self.assertLessEqual({"numbers lost, undecided or unread: 2", "unread, and their fields: 1"},
                              set(read.texts["summary"]))
         self.assertIn("%(count)d, from %(least)d to %(greatest)d" % one.answer["numbers"], read.texts["dd"])
-        for text, kind, whole in (("1..3", "yes", "yes"), ("7..9", "no", "no<ul><li>begins at 7, ends at 9</li></ul>"),
+        late = "<li>12 fields lost</li><li>6 pictures lost</li><li>begins at 7, ends at 9</li>"
+        for text, kind, whole in (("1..3", "yes", "yes"), ("7..9", "no", "no<ul>%s</ul>" % late),
                                   ("", "open", "can&#x27;t tell<ul><li>no picture number and no time</li></ul>")):
             self.assertIn('<div class="%s">whole: %s</div>' % (kind, whole), page(side(rows(text))))
 
@@ -116,6 +118,23 @@ class Pages(unittest.TestCase):
         self.assertEqual(read.heads["<b>&later</b>"][0], "<b>&first")
         self.assertNotIn("b", [tag for tag, _ in read.tags])
 
+    def test_long_lists(self):
+        """Before the first 500 rows of a list stand its groups, or the runs of its numbers; and it is said how many
+        rows are left out."""
+        one = side(rows("1..501 4..9 ?/!/?x167 ~/-/?"))
+        read = Page(page(one))
+        self.assertEqual(read.rows["badLines"][:5], [
+            ["18", "change", "168", "1015", "1182"], ["16", "change", "167", "1015", "1181"],
+            ["17", "hold", "167", "1015", "1181"], ["16", "unfinished", "1", "1182", "1182"], []])
+        self.assertEqual(read.rows["showings"][:3],
+                         [["1", "501", "1", "1001", "501"], ["4", "9", "1003", "1013", "6"], []])
+        for name, count in (("badLines", 503), ("showings", 507)):
+            self.assertEqual(len(read.rows[name]) - read.rows[name].index([]) - 1, 500)
+            self.assertIn("The first 500 of %d rows. This page leaves out the others; " % count, read.texts["p"])
+        # each second number isn't read: no run has more than one, and no more than 500 runs are listed
+        read = Page(page(side(rows("1..1300 3:2600/4=B"))))
+        self.assertIn("and 150 more groups", read.texts["p"])
+
     def test_bad_lines_are_drawn_up_to_a_count(self):
         for text, count, last, head in (
                 ("1", 0, [], None), ("?/-/-", 1, [(1, 16)], "drawn"), ("?/?/?x66 ?", 200, [(67, 18)], "drawn"),
@@ -126,6 +145,8 @@ class Pages(unittest.TestCase):
             self.assertEqual(re.findall("<h2>Bad lines, (.*)</h2>", found), [head] if head else [])
             self.assertEqual((len(drawn), drawn[:1], drawn[-1:]), (count, [(1, 16)] if count else [], last))
             self.assertNotIn("<h2>", page(one))
+        found = page(side(rows("?/?/?x67")), lambda bad: "x" * 600000)
+        self.assertEqual(re.findall("<h2>Bad lines, (.*)</h2>", found), ["the first 3 of 201, drawn"])
         with mock.patch("ldvbi_side.draw.plotting._PLACES", ()):  # nothing is drawn without the script
             self.assertIsNone(plotter(side(rows("?/-/-")), "side.tbc"))
 
@@ -161,11 +182,13 @@ class Indexes(InFolder):
         read = Page(index_of(self.named("index.html"), names))
         self.assertEqual(read.texts["h1"], ["3 sides, whole: 1 yes, 1 no, 1 can't tell"])
         self.assertEqual(read.texts["a"], ["other", "none", "one & two.tbc"])
-        self.assertEqual(read.texts["th"], ["side", "whole", "fields", "numbers", "lost", "why"])
+        self.assertEqual(read.texts["th"], ["side", "whole", "fields", "numbers", "lost", "try", "why"])
         self.assertEqual([known["href"] for tag, known in read.tags if tag == "a"],
                          ["other%20%231.html", "none%20%231.html", "one%20%26%20two.tbc%20%231.html"])
-        self.assertEqual([read.texts["td"][begin:begin + 5] for begin in (1, 7, 13)], [
-            ["no", "12", "6, 7 to 14", "2 pictures, 4 fields",
-             "4 fields lost; 2 pictures lost; begins at 7, ends at 14"],
-            ["can't tell", "0", "none", "none", "no picture number and no time"],
-            ["yes", "6", "3, 1 to 3", "none", ""]])
+        self.assertEqual([read.texts["td"][begin:begin + 6] for begin in (1, 8, 15)], [
+            ["no", "12", "6, 7 to 14", "8 pictures, 16 fields", "",
+             "16 fields lost; 8 pictures lost; begins at 7, ends at 14"],
+            ["can't tell", "0", "none", "none", "", "no picture number and no time"],
+            ["yes", "6", "3, 1 to 3", "none", "", ""]])
+        self.assertEqual([known["class"] for tag, known in read.tags if tag == "td" and "class" in known],
+                         ["no", "open", "yes"])

@@ -197,7 +197,7 @@ class Speeds(unittest.TestCase):
         weak = " ".join("-/#%d*/- B" % number for number in range(22, 38, 2))
         check(self, """
     627 is near 624, which is near 621 | 610..618 619 618 619 620x3 621x2 624 627 625x3 626 629 630x2 631..650
-        | no doubtful | missing 622-623 lost, 628 lost | @37 627
+        | no doubtful | missing 1-609 lost, 622-623 lost, 628 lost | @37 627
     183 is near 186 | 150..177 178x3 179x2 182 183 184x2 185x2 183 186x2 189x2 190x4 192..220 | no doubtful | @79 183
     weak numbers | 1..19 {0} 26..45 | no speeds || as far ahead | 1..19 {0} 60..79 | speeds x1
     """.format(weak))

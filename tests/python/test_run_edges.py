@@ -79,7 +79,7 @@ class Closed(Runs):
             self.assertEqual(self.closed([2], name), (2, b"", ""))
         status, text, _ = self.closed([0, 2], "scan --csv absent side.tbc")
         self.assertEqual((status, text.split(b"\n")[1], text.count(b"\n")),
-                         (2, b"absent,fault,,,,,,,,,,No such file or directory", 3))
+                         (2, b"absent,fault,,,,,,,,,,,No such file or directory", 3))
 
     def test_input(self):
         self.assertEqual(self.closed([0], "-"), (2, b"", "ldvbi-side: standard input: Bad file descriptor\n"))

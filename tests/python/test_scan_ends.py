@@ -56,10 +56,10 @@ def leaves(*_):
     os._exit(3)
 
 
-def leaves_a_copy(*task):
+def leaves_a_copy(task):
     """Ends its process with a part of the copy of a database, which is a folder."""
-    os.mkdir(_part_by(task[-1], os.getpid()))
-    leaves()
+    os.mkdir(_part_by(task.copy, os.getpid()))
+    leaves(task)
 
 
 class Failing(Scans):
@@ -67,9 +67,9 @@ class Failing(Scans):
         """What a scan that reads sides by one of these functions prints of a folder."""
         self.add("1.tbc")
         for sides, read, row in (
-                (sides_in, fails, self.named("1.tbc") + ",fault,,,,,,,,,,KeyError: 'a fault of the program'"),
-                (sides_in, leaves, self.named("1.tbc") + ",fault,,,,,,,,,,its process ended with status 3"),
-                (lambda _: [Found("d", "Permission denied")], fails, "d,fault,,,,,,,,,,Permission denied")):
+                (sides_in, fails, self.named("1.tbc") + ",fault,,,,,,,,,,,KeyError: 'a fault of the program'"),
+                (sides_in, leaves, self.named("1.tbc") + ",fault,,,,,,,,,,,its process ended with status 3"),
+                (lambda _: [Found("d", "Permission denied")], fails, "d,fault,,,,,,,,,,,Permission denied")):
             with mock.patch("ldvbi_side.command.scan.sides_in", sides), \
                     contextlib.redirect_stdout(io.StringIO()) as printed:
                 self.assertEqual(scan(["--csv", self.folder], read), 2)
@@ -104,11 +104,11 @@ class Ends(Scans):
         for name in ("1.tbc", "3.tbc"):
             self.add(name)
         process, lines = self.scanning("--csv -j 1 --html pages .", 2, ["2.vbi.json"])
-        self.assertEqual(lines, ["side,whole,lost,unread,format,from,to,last,lead-in,lead-out,fields,why\n",
-                                 "./1.tbc,yes,0,0,cav,1,30,30,0,1,61,\n"])
+        self.assertEqual(lines, ["side,whole,lost,unread,format,from,to,last,lead-in,lead-out,fields,try,why\n",
+                                 "./1.tbc,yes,0,0,cav,1,30,30,0,1,61,,\n"])
         os.kill(until(lambda: children(process.pid))[0], signal.SIGKILL)
-        self.ended(process, 2, b"./2.vbi.json,fault,,,,,,,,,,its process was ended by SIGKILL\n"
-                               b"./3.tbc,yes,0,0,cav,1,30,30,0,1,61,\n")
+        self.ended(process, 2, b"./2.vbi.json,fault,,,,,,,,,,,its process was ended by SIGKILL\n"
+                               b"./3.tbc,yes,0,0,cav,1,30,30,0,1,61,,\n")
         self.assertEqual(len(os.listdir(self.named("pages"))), 3)
 
     def test_while_sides_are_read(self):
@@ -121,7 +121,7 @@ class Ends(Scans):
                 until(lambda: len(children(process.pid)) == 2)
                 stop(process.pid, signal.SIGINT)
                 self.ended(process, 130)
-                self.assertRegex(" ".join(os.listdir(self.named("pages"))), "^1.tbc-[0-9a-f]{8}.html$")
+                self.assertRegex(" ".join(os.listdir(self.named("pages"))), "^1.html$")
 
     def test_at_any_time(self):
         """Also while its processes begin."""
@@ -140,7 +140,7 @@ class Ends(Scans):
                 (lambda one: os.killpg(one, signal.SIGHUP), 129, b""),
                 (lambda one: os.kill(one, signal.SIGTERM), 143, b""),
                 (lambda one: os.kill(children(one)[0], signal.SIGKILL), 2,
-                 b"1.tbc,fault,,,,,,,,,,its process was ended by SIGKILL\n")):
+                 b"1.tbc,fault,,,,,,,,,,,its process was ended by SIGKILL\n")):
             with self.subTest(status):
                 process, _ = self.scanning("--csv --html pages 1.tbc", 1, start_new_session=True)
                 until(lambda: os.path.exists(self.named("pages")) and os.listdir(self.named("pages")))
@@ -177,7 +177,9 @@ def ignores(task, tell):
 
 
 def tidies(task, tell):
-    """A job that signals reach while its process ends, behind a first one or by itself."""
+    """A job that signals reach while its process ends, behind a first one, or by itself, as it took much memory."""
+    processes.MOST_MEMORY = 0
+
     def tidy():
         os.kill(os.getpid(), signal.SIGTERM)
         os.kill(os.getpid(), signal.SIGHUP)
@@ -186,7 +188,27 @@ def tidies(task, tell):
     os.kill(os.getpid(), task)
 
 
+def tells(task, tell):
+    """A job that says in which process it runs, and ends that if it is asked to."""
+    tell(os.getpid())
+    if task:
+        os.kill(os.getpid(), task)
+
+
 class Processes(unittest.TestCase):
+    def test_one_after_the_other(self):
+        """A process that is killed takes the job that it is at with it, and the next one is done by another process."""
+        after = []
+        with SideBySide(tells, [0, 0, signal.SIGKILL, 0, 0], 1, lambda *one: after.append(one)) as messages:
+            found = list(messages)
+        one, other = found[0][1], found[-2][1]
+        self.assertNotEqual(one, other)
+        self.assertEqual(found, [
+            (0, one), (0, Ended(0)), (1, one), (1, Ended(0)), (2, one), (2, Ended(-signal.SIGKILL)),
+            (3, other), (3, Ended(0)), (4, other), (4, Ended(0))])
+        self.assertEqual(after, [(0, one), (0, one), (signal.SIGKILL, one), (0, other), (0, other)])
+        self.assertEqual(children(os.getpid()), [])
+
     def test_one_that_stays(self):
         ended = []
         with mock.patch.object(processes, "GRACE", 0.1), \

@@ -230,6 +230,8 @@ SUMMARIES = (
         stills: 2 (picture 3 in fields 5 to 9, picture 54 in fields 103 to 113)"""),
     ("n0..3x3000 -3501:4500", """whole: no: at least 1000 fields lost
         lost fields: 1000 (at least 1000, between fields 3001 and 5000)"""),
+    ("m9..11x3000", """lost: 9 (minutes 0:00 to 0:08 before field 1)
+        lost fields: 27000 (at least 27000 before field 1)"""),
     ("PAL/1500 n0..2x3000", "lost fields: 1 (1 or more after field 1499)"),
     ("1..30 2:60/2.16=8DC0A1 4=8BA0A1/88FFFB/800DDD 6=83D00F/800DDD/F00E81*", """
         |unknown words: 2 (88FFFB in field 4 line 17, F00E81 in field 6 line 18)

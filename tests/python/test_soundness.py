@@ -76,6 +76,7 @@ ROWS = """
         | lost between two sides, behind field 60 | stills.append(dict(number=2, first=6, last=8))
         | another number in the still from field 6 on | unread.append(dict(number=6, field=14, read=7))
         | due in field 14, which says another number
+    101..130 | lost[0]["fields"] = 203 | 203 fields are lost before field 1
     NTSC 1..29 -21:24 | whole, reasons = "yes", [] | something is lacking, and whole is: yes
     1..29 -21:24 | lost = breaks = missing = reasons = []; whole = "yes" | the library says that the side
     NTSC t0..20 t22..40 | whole, reasons = "yes", [] | a number is undecided, and the side is whole

@@ -112,7 +112,7 @@ class Ends(unittest.TestCase):
         | breaks lost 60-161 0:00 to 0:01, 2900
     it has all | Lx60 n0x3000 n1x3000 n2x3000 Ox60 | said yes
     no lead-in shows where it begins | n0x100 n1x3000 n2x3000 Ox60 | said yes
-    it is another minute | Lx60 n5x100 n6x3000 n7x3000 Ox60 | said no: begins at 0:05, ends at 0:07
+    it is another minute | Lx60 n5x100 n6x3000 n7x3000 Ox60 | said no: at least 15000 fields lost; 5 minutes lost; begins..
     without lead-out | Lx60 n0x3000 n1x3000 n2x9 | said can't tell: no lead-out: the disc may go on behind minute 0:02
     no minute has two neighbours | Lx60 n0x3000 n1x3000 Ox60 | said can't tell: no minute is between two others
     """, may_end=False)
@@ -166,20 +166,25 @@ class Whole(unittest.TestCase):
         is sure to have its fields. The last picture has one field behind its number. What the library says of the
         beginning, tests/library/whole.txt has."""
         check(self, """
-    pictures | 2401..2440 | said no: begins at 2401, ends at 2440
-    times | t3000..3039 | said no: begins at 0:02:00.00, ends at 0:02:01.14
-    minutes | m9x3000 m10x3000 m11 | said no: begins at 0:09, ends at 0:11
-    5 fields behind lead-in | Lx9 ?x5 4..30 | said no: begins at 4, ends at 30
-    5 before times | ?x5 t4..39 | said no: begins at 0:00:00.04, ends at 0:00:01.14
+    pictures | 2401..2440 | said no: 4800 fields lost; 2400 pictures lost; begins at 2401, ends at 2440
+        | missing 1-2400 lost | lost 0-1 4800 number
+    times | t3000..3039 | said no: 5998 fields lost; 2999 times lost; begins at 0:02:00.00, ends at 0:02:01.14
+        | missing 0:00:00.01-0:01:59.24 lost | lost 0-1 5998 number
+    minutes | Lx4 m9x3000 m10x3000 m11 | said no: at least 27000 fields lost; 9 minutes lost; begins at 0:09..
+        | missing 0:00-0:08 lost | lost 4-5 27000 number
+    pictures that five fields may have | ?x5 101..130 | missing 1-3 undecided, 4-97 lost, 98-100 undecided
+    5 fields behind lead-in | Lx9 ?x5 4..30 | said no: 1 field lost; begins at 4, ends at 30; 3 pictures undecided
+        | missing 1-3 undecided | lost 9-15 1 number
+    5 before times | ?x5 t4..39 | said no: 1 field lost; begins at 0:00:00.04, ends at 0:00:01.14; 3 times undecided
     6 before times | ?x6 t4..39 | said yes || 4 before film | NTSC ?x4 f3..39 | said yes
-    3 before film | NTSC ?x3 f3..39 | said no: begins at 3, ends at 39
+    3 before film | NTSC ?x3 f3..39 | said no: 2 fields lost; begins at 3, ends at 39; 2 pictures undecided
     6 of a clock | NTSC ?x6 t4..39 | said yes || 5 | NTSC ?x5 t4..39 | said can't tell: no number in fields 1 to 5
     2 of a clock | NTSC ?x2 t4..39 | said can't tell: no number in fields 1 to 2
-    1 of a clock | NTSC ? t4..39 | said no: begins at 0:00:00.04, ends at 0:00:01.09
+    1 of a clock | NTSC ? t4..39 | said no: 5 fields lost; begins at 0:00:00.04, ends at 0:00:01.09; 3 times undecided
     a minute of a clock | NTSC ?x3592 m1x3600 m2x3600 m3 | said can't tell: no number in fields 1 to 3592
-    a field less | NTSC ?x3591 m1x3600 m2x3600 m3 | said no: begins at 0:01, ends at 0:03
+    a field less | NTSC ?x3591 m1x3600 m2x3600 m3 | said no: at least 1 field lost; begins at 0:01..
     a minute | ?x3000 m1x3000 m2x3000 m3 | said can't tell: no number in fields 1 to 3000
-    one less | ?x2999 m1x3000 m2x3000 m3 | said no: begins at 0:01, ends at 0:03
+    one less | ?x2999 m1x3000 m2x3000 m3 | said no: at least 1 field lost; begins at 0:01..
     back to the least number | ?x40 11..30 5..40 | said no: 1 jump (back)
     over a hundred fields | ?x101 21..40 | said can't tell: no number in fields 1 to 101
     behind lead-in | Lx9 ?x101 21..40 | said can't tell: no number in fields 10 to 110

@@ -18,10 +18,11 @@ from ..judge.readings import Codes, Fields, codes_of
 from .as_json import as_json
 from .confirmed import with_confirmed
 from .doubts import Doubts, doubts_in, read_in
-from .entries import Answer, Extent, Speed, Swapped, Unread
+from .ends import begin_of
+from .entries import Answer, Extent, Lost, Speed, Swapped, Unread
 from .gaps import Gaps, gaps_of
 from .lines import bad_lines_of, levels_of, rates_of
-from .missing import lost_fields, missing_of, own_breaks, repeated_of
+from .missing import lost_fields, missing_before, missing_of, own_breaks, repeated_of
 from .parts import chapters_of, ends_of, status_of, stops_of, users_of
 from .whole import reasons_of, whole_of
 
@@ -55,6 +56,7 @@ def analysed(fields: Fields) -> Analysis:
         bad_lines=bad, lines=rates, levels=levels_of(rates, bad, fields), metadata_fields=fields.expected,
         open_end=fields.may_end, **_of_numbers(places, gaps, doubts), **_of_losses(places, gaps, codes),
         **_of_parts(codes, places, doubts, begin))
+    answer = _with_lost_before(answer, places, gaps, codes)
     reasons = reasons_of(answer, gaps, numbers.unit, fields.is_strict, fields.may_end)
     return Analysis(answer._replace(whole=whole_of(reasons), reasons=reasons), _breaks(places, own_breaks(places)))
 
@@ -92,6 +94,16 @@ def _of_losses(places: Places, gaps: Gaps, codes: Codes) -> Dict[str, Any]:
         "lost": lost_fields(places, gaps, (fields.first or ())[:len(fields.words)]),
         "speeds": [Speed(one.first, one.last, one.line.name()) for one in numbers.speeds],
         "swapped": [Swapped(begin, places.number_at(field)) for begin, field in pairs_of(numbers.swapped).items()]}
+
+
+def _with_lost_before(answer: Answer, places: Places, gaps: Gaps, codes: Codes) -> Answer:
+    """The answer with what the side lacks before its first number, if that is the least one."""
+    begin = begin_of(answer, gaps.judged, places.numbers.unit)
+    if not begin or begin.fields <= 0 or answer.showings[0].first != begin.before or (
+            begin.lacks != answer.numbers.least):
+        return answer
+    return answer._replace(missing=missing_before(places, codes, begin) + answer.missing,
+                           lost=[Lost(begin.after, begin.before, begin.fields, "number")] + answer.lost)
 
 
 def _of_parts(codes: Codes, places: Places, doubts: Doubts, begin: int) -> Dict[str, Any]:

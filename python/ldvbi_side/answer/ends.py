@@ -15,10 +15,14 @@ LEFT_OUT = 2  # numbers that the clock of an NTSC disc leaves out in a minute, a
 
 
 class Begin(NamedTuple):
-    """How a side begins whose first number isn't the disc's: the number before which it lacks fields, or else the first
-    and the last of the fields there, where that can't be told."""
+    """How a side begins whose first number isn't the disc's: the number before which it lacks fields, how many these
+    are by the numbers (by minutes alone at least), and between which two fields, of which the first is 0 at the start
+    of the side; or else the first and the last of the fields there, where that can't be told."""
     lacks: Any = None
     unread: Optional[Tuple[int, int]] = None
+    fields: int = 0
+    after: int = 0
+    before: int = 0
 
 
 def begin_of(answer: Answer, judged: Optional[JudgedSide], unit: Unit, is_strict: bool = False) -> Optional[Begin]:
@@ -42,7 +46,9 @@ def begin_of(answer: Answer, judged: Optional[JudgedSide], unit: Unit, is_strict
         is_late = is_short and _fields_there(answer, field) < _fields_before(number, answer)[0]
         is_open = is_short or bool(judged.reasons & Reason.begin_unseen)
     if is_late or is_strict and not is_first:
-        return Begin(number)
+        there = _fields_there(answer, field)
+        lost = _fields_before(number, answer)[answer.unit != "minute"] - there if is_late else 0
+        return Begin(number, None, lost, field - 1 - there, field)
     return Begin(unread=(field - _fields_there(answer, field), field - 1)) if is_open else None
 
 
@@ -67,11 +73,16 @@ def is_end_seen(answer: Answer) -> bool:
     return any(one.last > last for one in answer.lead_out + answer.lead_in)
 
 
+def first_of(unit: Optional[str], rate: int) -> int:
+    """The last number with which a disc may begin, as a count."""
+    return ordinal_of(FIRST[unit][-1], rate)
+
+
 def _fields_before(number, answer):
     """How many fields a disc has before this number, from the last one on with which it may begin, at least and at
     most: on NTSC the clock may leave out times."""
     rate, unit = RATES[answer.system], answer.unit
-    count = ordinal_of(number, rate) - ordinal_of(FIRST[unit][-1], rate)
+    count = ordinal_of(number, rate) - first_of(unit, rate)
     if unit == "picture":
         fields = 5 * count // 2 if answer.pace == "film" else 2 * count
         return fields, fields

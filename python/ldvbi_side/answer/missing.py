@@ -10,6 +10,7 @@ from ..judge.order import pairs_of
 from ..judge.paces import RATES, Unit
 from ..judge.places import Break, Places, Showing
 from ..judge.readings import Codes
+from .ends import Begin, first_of, ordinal_of
 from .entries import Lost, Missing, Repeated
 from .gaps import Gaps
 
@@ -39,6 +40,25 @@ def missing_of(places: Places, gaps: Gaps, codes: Codes) -> Tuple[List[Missing],
                 stretches.append([first, last, why, ends])
     missing, left_out = ([_stretch(one, places.numbers.unit) for one in ones] for ones in found.values())
     return missing, left_out
+
+
+def missing_before(places: Places, codes: Codes, begin: Begin) -> List[Missing]:
+    """The numbers before the least one that aren't there since the side lacks fields before it, as `missing_of` has
+    those that are passed over."""
+    unit = places.numbers.unit
+    first, number = first_of(unit.name, unit.rate), ordinal_of(begin.lacks, unit.rate)
+    one = Break("lost", begin.after, begin.before, first - 1, number, begin.fields)
+    passed = Passed(first, number - 1, *_fate(one, places.numbers, codes.fields))
+    return [_stretch((*part, (begin.after, begin.before)), unit) for part in _in_order(passed)]
+
+
+def _in_order(passed):
+    """The parts of numbers that are passed over, each with its reason, of which those at the ends are undecided."""
+    whys = PassedOver([(why, [(first, last) for other, first, last in passed.parts() if other == why])
+                       for why in ("undecided", "lost")])
+    begins = [begin for begin in whys.begins if begin <= passed.last]
+    return [(begin, last, whys.why(begin)) for begin, last in zip(
+        begins, [begin - 1 for begin in begins[1:]] + [passed.last])]
 
 
 class _Losses:

@@ -10,6 +10,7 @@ from ldvbi.packed import ENDS, packed_as, refuse_packed
 
 STANDARD_INPUT, STANDARD_OUTPUT = "standard input", "standard output"
 SETTINGS = "give --meta, or --system, --black and --white"
+OF_TBC = "a document has its system and levels; they are options of a TBC file"
 
 
 def fault_text(error: Exception) -> str:

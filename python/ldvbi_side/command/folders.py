@@ -1,13 +1,14 @@
-"""Which files of folders are sides, and how the pages of sides are named."""
+"""Which files of folders are sides, what there is to do for each, and how the pages of sides are named."""
 
-import hashlib
+import itertools
 import os
-from typing import Dict, Iterable, List, NamedTuple, Optional
+from typing import Dict, Iterable, List, Mapping, NamedTuple, Optional, Sequence, Tuple
 
 TBC, DOCUMENT = ".tbc", ".vbi.json"
 MOST_OF_NAME = 200  # bytes; a name with all that comes to it may have 255
 # A compressed TBC file is a side that can't be read.
 _PACKED = tuple(TBC + end for end in (".gz", ".zst", ".flac"))
+_OTHERS = {"index.html"}  # which is no side's
 
 
 class Found(NamedTuple):
@@ -16,6 +17,17 @@ class Found(NamedTuple):
     path: str
     fault: Optional[str] = None
     is_named: bool = False
+
+
+class Task(NamedTuple):
+    """A side to read: its file, and its name; the page that is written of it, and the copy of its metadata, or None;
+    whether the file was named, and may be a pipe; and the options by which it is read, as words."""
+    path: str
+    name: str
+    page: Optional[str]
+    copy: Optional[str]
+    is_named: bool
+    words: Sequence[str]
 
 
 def sides_in(paths: Iterable[str]) -> List[Found]:
@@ -49,14 +61,33 @@ def _is_side(name, beside):
     return False
 
 
-def page_name(path: str) -> str:
-    """The name of a side's page: that of its file, and eight digits that are made of its folder, so that two sides of
-    one name have two pages. Of a long name it has the beginning, and the digits are made of all of it, too."""
-    name, whole = os.path.basename(path), os.path.realpath(os.path.dirname(path))
-    begin = os.fsdecode(os.fsencode(name)[:MOST_OF_NAME])
-    if begin != name:
-        whole = os.path.join(whole, name)
-    return "%s-%s.html" % (begin, hashlib.sha256(os.fsencode(whole)).hexdigest()[:8])
+def name_below(path: str, folders: Iterable[str]) -> str:
+    """What a side is called: its path below the outermost of these folders, or else the name of its file."""
+    begins = [begin for begin in (os.path.join(folder, "") for folder in folders) if path.startswith(begin)]
+    return os.path.relpath(path, min(begins, key=len)) if begins else os.path.basename(path)
+
+
+def page_names(sides: Iterable[Tuple[str, str]], known: Mapping[str, Optional[str]]) -> List[str]:
+    """The names of the pages of sides, which are given as pairs of a real path and a name. A side keeps the page that
+    it has. `known` are the pages that are there already, each with the real path of its side, or None for one of which
+    that isn't known. A new one is named after its side, with a number after that if there is such a page."""
+    own = {side: name for name, side in sorted(known.items(), reverse=True) if side}
+    taken, names = set(map(str.casefold, known)) | _OTHERS, []
+    for side, name in sides:
+        page = own.get(side) or next(page for page in _candidates(name) if page.casefold() not in taken)
+        taken.add(page.casefold())
+        names.append(page)
+    return names
+
+
+def _candidates(name):
+    """How a side's page may be called."""
+    end = next((end for end in (DOCUMENT, *_PACKED, TBC) if name.endswith(end)), "")
+    name = name[:len(name) - len(end)].replace(os.sep, "-")
+    begin = os.fsdecode(os.fsencode(name)[:MOST_OF_NAME]) or "side"
+    yield begin + ".html"
+    for number in itertools.count(2):
+        yield "%s-%d.html" % (begin, number)
 
 
 def files_of(path: str) -> List[str]:

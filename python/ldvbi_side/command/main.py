@@ -18,18 +18,18 @@ from ..outside import (NAME, bytes_of_document, drop_standard_output, flush, flu
 from ..seek import seek, text_of, why_not
 from ..answer.entries import Answer
 from ..side import Side, side_of_document, side_of_stream, stream_of_tbc
-from .faults import (SETTINGS, STANDARD_INPUT, fault_text, naming, no_metadata, refuse_folder, refuse_no_document,
-                     refuse_packed_side)
+from .faults import (OF_TBC, SETTINGS, STANDARD_INPUT, fault_text, naming, no_metadata, refuse_folder,
+                     refuse_no_document, refuse_packed_side)
+from .folders import Task
 from .into import Into
 from .map import COLUMNS as MAP_COLUMNS, head_rows, map_rows
 from .outputs import refuse_inputs, whole_file
-from .parser import settings_in
+from .parser import settings_in, words_of
 from .parsers import parser_of_side
 from .progress import Progress
 from .statuses import FAULT, OF_SIDE, of_many
 from .summary import summary
 from .tables import BAD_LINE_COLUMNS, FIELD_COLUMNS, bad_line_rows, field_rows
-
 
 
 def _settings(options):
@@ -40,7 +40,7 @@ def _settings(options):
 def _refuse_settings(options, name, is_tbc):
     """Raises a ValueError where system or levels are given, and the side with this name is a document."""
     if not is_tbc and any(value is not None for value in _settings(options)):
-        raise ValueError("%s: a document has its system and levels; they are options of a TBC file" % name)
+        raise ValueError("%s: %s" % (name, OF_TBC))
 
 
 def _name_of(options):
@@ -174,7 +174,7 @@ def _write_files(side, options, is_tbc, into):
     if options.svg:
         from ..draw.drawing import drawing_of
         with whole_file(options.svg) as file:
-            file.write(drawing_of(side, os.path.basename(options.side)))
+            file.write(drawing_of(side, options.title))
     if options.map:
         with whole_file(options.map) as file:
             answer = side.analysis.answer
@@ -187,8 +187,9 @@ def _write_files(side, options, is_tbc, into):
         from ..draw.page import page_of
         from ..draw.plotting import plotter
         with whole_file(options.html) as file:
-            file.write(page_of(side, os.path.basename(options.side), summary(side.analysis.answer),
-                               plotter(side, options.side) if is_tbc else None))
+            file.write(page_of(side, options.title, summary(side.analysis.answer),
+                               plotter(side, options.side) if is_tbc else None,
+                               None if options.side == "-" else options.side, options.words))
 
 
 def _files(options):
@@ -237,6 +238,7 @@ def _options(words, settings=None):
     is_open = options.into or None in _settings(options)
     options.waits = True  # if the side is a pipe
     options.is_alone = settings is None  # not one of several
+    options.title, options.words = os.path.basename(options.side), words_of(options)
     options.is_beside = not options.meta and is_open and options.side.endswith(".tbc")
     if options.is_beside:
         options.meta = beside(options.side)
@@ -267,16 +269,17 @@ def _scan(words):
     return scan(words, answer_of)
 
 
-def answer_of(path: str, page: Optional[str], may_end: bool, is_named: bool, copy: Optional[str] = None) -> Answer:
-    """The answer for a side, which is read with what lies beside it, and may end without lead-out or not; its page, and
-    a copy of its metadata, are written where they are named. A side that nobody named is a file."""
-    named = [word for option, name in (("--html", page), ("--into", copy)) if name for word in (option, name)]
-    options = _options([*named, *["--open-end"] * may_end, "--", path])
-    options.waits = is_named
+def answer_of(task: Task) -> Answer:
+    """The answer for a side of a scan, whose page is written where one is named, and a copy of its metadata. A side that
+    nobody named is a file."""
+    named = [word for option, name in (("--html", task.page), ("--into", task.copy)) if name
+             for word in (option, name)]
+    options = _options([*task.words, *named, "--", task.path])
+    options.waits, options.title, options.is_alone = task.is_named, task.name, False
     into = _into(options)
     source, metadata = _source(options, into)
     if into:
-        into.prepare(path, source, metadata)
+        into.prepare(task.path, source, metadata)
     side = _loaded(source, metadata, options)
     _write_files(side, options, not isinstance(source, Side), into)
     return side.analysis.answer

@@ -1,8 +1,9 @@
 """What reads the words of each command, and the options by which a side is read, which several commands have."""
 
 import argparse
+import os
 import sys
-from typing import IO, Any, Optional, Sequence
+from typing import IO, Any, List, Optional, Sequence
 
 from ldvbi import System, __version__
 from ldvbi.library import library_text
@@ -57,3 +58,11 @@ def settings_in(options: argparse.Namespace) -> argparse.Namespace:
     """Those of the options that `add_settings` adds."""
     names = ("meta", "system", "black", "white", "no_recover", "strict", "open_end")
     return argparse.Namespace(**{name: getattr(options, name) for name in names})
+
+
+def words_of(options: argparse.Namespace) -> List[str]:
+    """The same as words that ask for them."""
+    given = {**vars(options), "meta": os.path.realpath(options.meta) if options.meta else None}
+    with_value, without = ("meta", "system", "black", "white"), ("no-recover", "strict", "open-end")
+    return [*("--%s=%s" % (name, given[name]) for name in with_value if given[name] is not None),
+            *("--" + name for name in without if given[name.replace("-", "_")])]

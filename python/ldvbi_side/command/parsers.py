@@ -1,6 +1,7 @@
 """What reads the command line, with the texts of the help, of which the manual page and the completions are made."""
 
 import argparse
+import os
 from typing import Dict
 
 from ..seek import wanted_of
@@ -14,6 +15,11 @@ mean together: which numbers, times and chapters are believed, and which are los
 file is taken for a document if its name ends with .json or its text begins as a document does. The words `join SIDE
 SIDE..` compare and join captures of one side, and `scan PATH..` prints a table of the sides in folders. """ \
     + statuses_text()
+SCAN = """Prints a table with a row for each side in these files and folders, which are gone through whole: its .tbc
+files, with their metadata beside them, and its .vbi.json documents without a .tbc beside them. A side that can't be
+read has a row with its fault, and the others go on. Options by which a side is read count for each of them, but a
+document has its own system and levels. """ + statuses_text("scan")
+MOST_JOBS = 4  # sides that are read at a time, where the command line doesn't say
 
 
 def _wanted(text):
@@ -66,8 +72,33 @@ def parser_of_side(program: str) -> argparse.ArgumentParser:
     return parser
 
 
+def _jobs(text):
+    if not text.isdecimal() or int(text) < 1:
+        raise argparse.ArgumentTypeError("no number from 1 on: %r" % text)
+    return int(text)
+
+
+def parser_of_scan(program: str) -> argparse.ArgumentParser:
+    """What reads the words behind `scan`."""
+    parser = Parser(prog=program + " scan", description=SCAN)
+    parser.add_argument("paths", nargs="+", metavar="PATH", help="a TBC file, a document, or a folder")
+    parser.add_argument("-j", "--jobs", metavar="N", type=_jobs, default=min(os.cpu_count() or 1, MOST_JOBS),
+                        help="read so many sides at a time (as many as there are processors, at most %d; 1 is best "
+                        "for one spinning disk)" % MOST_JOBS)
+    add_settings(parser, "each TBC file")
+    output = parser.add_mutually_exclusive_group()
+    output.add_argument("--csv", action="store_true", help="print the table as CSV")
+    output.add_argument("--json", action="store_true", help="print the table as JSON, at the end")
+    parser.add_argument("--html", metavar="FOLDER", help="write a page for each side into this folder, and index.html, "
+                        "which links all pages there. A side whose page is newer than its files, and was written with "
+                        "the same options, isn't read again")
+    parser.add_argument("--into", metavar="FOLDER", help="write into this folder a copy of the metadata beside each "
+                        "TBC file, with its believed words, in folders as those of the sides; each side is read again")
+    parser.add_argument("--again", action="store_true", help="read each side, and write its page anew")
+    return parser
+
+
 def parsers(program: str) -> Dict[str, argparse.ArgumentParser]:
     """What reads the words behind each command, and behind none; the manual page and the completions are made of it."""
-    from .join import parser_of_join  # each of these two loads much that no other command needs
-    from .scan import parser_of_scan
-    return {"": parser_of_side(program), "join": parser_of_join(program), "scan": parser_of_scan()}
+    from .join import parser_of_join  # which loads much that no other command needs
+    return {"": parser_of_side(program), "join": parser_of_join(program), "scan": parser_of_scan(program)}

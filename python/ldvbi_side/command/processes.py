@@ -1,7 +1,9 @@
-"""Jobs side by side, each in a process of its own: one that crashes, or is killed, takes no other with it."""
+"""Jobs side by side, in processes of their own: one that crashes, or is killed, takes no other with it but the job that
+it is at."""
 
 import contextlib
 import multiprocessing
+import resource
 import signal
 from multiprocessing import resource_tracker
 from multiprocessing.connection import Connection, wait
@@ -9,70 +11,107 @@ from types import TracebackType
 from typing import Any, Callable, Dict, Iterator, List, NamedTuple, Optional, Sequence, Tuple, Type
 
 GRACE = 5  # seconds in which a process that is to end may remove what it began to write
+# A process that once took more ends with its job, so that the system has the memory again: to start another one takes
+# a seventh of a second, which a job of that size has many times.
+MOST_MEMORY = 256 << 10  # in KB
 
 Job = Callable[[Any, Callable[[Any], None]], None]
 After = Callable[[Any, int], None]
 
 
 class Ended(NamedTuple):
-    """The last message of a job. `status` is that of its process, or the signal that ended it as a negative number."""
+    """The last message of a job. `status` is 0, or that of its process if it ended too: the signal that ended it as a
+    negative number."""
     status: int
 
 
+class _Worker:
+    """A process, and the job that it is at, by its index, or None."""
+
+    def __init__(self, process: Any) -> None:
+        self.process = process
+        self.index: Optional[int] = None
+
+
 class SideBySide:
-    """Runs a job once for each task, at most `most` at a time, in a `with` block, at whose end none runs any longer.
-    The job gets its task and a function that sends a message to this process. Job, tasks and messages have to be what
-    `pickle` takes. A loop yields each message with its task's index, and `Ended` behind those of a task. When a process
-    has ended, however that was, `after` is called here with its task and its number."""
+    """Runs a job once for each task, at most `most` at a time, in a `with` block, at whose end none runs any longer. A
+    process does many jobs, one after the other. The job gets its task and a function that sends a message to this
+    process. Job, tasks and messages have to be what `pickle` takes. A loop yields each message with its task's index,
+    and `Ended` after those of a task. When a job has ended, or its process has, however that was, `after` is called
+    here with its task and the number of the process."""
 
     def __init__(self, job: Job, tasks: Sequence[Any], most: int, after: After) -> None:
         self._job, self._after = job, after
-        self._tasks, self._started = tasks, 0
+        self._tasks, self._begun = tasks, 0
         self._most = most
-        self._running: Dict[Connection, Tuple[int, Any]] = {}
+        self._workers: Dict[Connection, _Worker] = {}
 
     def __enter__(self) -> "SideBySide":
         return self
 
     def __exit__(self, kind: Optional[Type[BaseException]], error: Optional[BaseException],
                  trace: Optional[TracebackType]) -> None:
-        left = self._running.values()
-        for _, process in left:
-            process.terminate()
-        for index, process in left:
-            process.join(GRACE)
-            if process.is_alive():
-                process.kill()
-                process.join()
-            self._after(self._tasks[index], process.pid)
+        left = self._workers.values()
+        for worker in left:
+            worker.process.terminate()
+        for worker in left:
+            worker.process.join(GRACE)
+            if worker.process.is_alive():
+                worker.process.kill()
+                worker.process.join()
+            self._end(worker)
 
     def __iter__(self) -> Iterator[Tuple[int, Any]]:
-        while self._started < len(self._tasks) or self._running:
-            while self._started < len(self._tasks) and len(self._running) < self._most:
-                self._start(self._started)
-                self._started += 1
-            ready: List[Any] = wait(list(self._running))
+        while self._begun < len(self._tasks) or any(worker.index is not None for worker in self._workers.values()):
+            self._hand_out()
+            ready: List[Any] = wait(list(self._workers))
             for connection in ready:
-                index, process = self._running[connection]
-                try:
-                    message = connection.recv()
-                except (EOFError, OSError):  # it has ended, perhaps within a message
-                    process.join()
-                    del self._running[connection]
-                    connection.close()
-                    self._after(self._tasks[index], process.pid)
-                    message = Ended(process.exitcode)
-                yield index, message
+                yield from self._heard(connection)
 
-    def _start(self, index):
-        # A new process, as it is no copy of this one, has none of its threads and locks.
+    def _hand_out(self):
+        """Gives tasks to processes that have none, of which some may have to be started."""
+        while self._begun < len(self._tasks):
+            idle = next((one for one, worker in self._workers.items() if worker.index is None), None)
+            if idle is None and len(self._workers) >= self._most:
+                return
+            connection = idle or self._started()
+            self._workers[connection].index = self._begun
+            with contextlib.suppress(OSError):  # it has ended: that is heard
+                connection.send(self._tasks[self._begun])
+            self._begun += 1
+
+    def _heard(self, connection):
+        """What a process has to say."""
+        worker = self._workers[connection]
+        try:
+            is_end, message = connection.recv()
+        except (EOFError, OSError):  # it has ended, perhaps within a message
+            worker.process.join()
+            del self._workers[connection]
+            connection.close()
+            index = self._end(worker)
+            if index is not None:
+                yield index, Ended(worker.process.exitcode)
+            return
+        yield (self._end(worker), Ended(0)) if is_end else (worker.index, message)
+
+    def _end(self, worker):
+        """Takes a process from its job, if it has one. The answer is the index of that."""
+        index, worker.index = worker.index, None
+        if index is not None:
+            self._after(self._tasks[index], worker.process.pid)
+        return index
+
+    def _started(self):
+        """The connection to a new process. As it is no copy of this one, it has none of its threads and locks."""
         context = multiprocessing.get_context("spawn")
-        ours, theirs = context.Pipe(duplex=False)
+        ours, theirs = context.Pipe()
         with _without_interrupts():
-            process = context.Process(target=_run, args=(self._job, self._tasks[index], theirs), daemon=True)
+            process = context.Process(target=_run, args=(self._job, theirs), daemon=True)
             process.start()
-            self._running[ours] = index, process
+            self._workers[ours] = _Worker(process)
         theirs.close()
+        return ours
 
 
 @contextlib.contextmanager
@@ -87,8 +126,8 @@ def _without_interrupts():
         signal.pthread_sigmask(signal.SIG_SETMASK, before)
 
 
-def _run(job, task, connection):
-    """Runs the job in its process. One that ends, by itself or by a signal, has no use for signals that ask for that:
+def _run(job, connection):
+    """Does jobs in their process. One that ends, by itself or by a signal, has no use for signals that ask for that:
     one that came later would break into what has to be done before."""
     stopping = [number for number in (signal.SIGTERM, signal.SIGHUP)
                 if signal.getsignal(number) != signal.SIG_IGN]  # as SIGHUP is behind nohup
@@ -102,6 +141,10 @@ def _run(job, task, connection):
         raise SystemExit(1)
 
     heed(leave)
-    with contextlib.suppress(BrokenPipeError):  # nobody listens any longer
-        job(task, connection.send)
+    with contextlib.suppress(EOFError, BrokenPipeError, ConnectionResetError):  # nobody listens any longer
+        while True:
+            job(connection.recv(), lambda message: connection.send((False, message)))
+            if resource.getrusage(resource.RUSAGE_SELF).ru_maxrss > MOST_MEMORY:
+                break
+            connection.send((True, None))
     heed(signal.SIG_IGN)

@@ -10,9 +10,10 @@ from ..outside import legible, printable
 VERSION = 2  # of the form of the JSON
 # The columns, and the members of a row
 COLUMNS = {"side": "side", "whole": "whole", "lost": "lost", "unread": "unread", "format": "format", "from": "from",
-           "to": "to", "last": "last", "lead-in": "leadIn", "lead-out": "leadOut", "fields": "fields", "why": "reasons"}
+           "to": "to", "last": "last", "lead-in": "leadIn", "lead-out": "leadOut", "fields": "fields", "try": "try",
+           "why": "reasons"}
 FAULT = "fault"  # in the column `whole`, of a side that wasn't read
-_WIDTHS = (10, 6, 6, 7, 10, 10, 10, 7, 8, 7)  # of the columns between the first and the last
+_WIDTHS = (10, 6, 6, 7, 10, 10, 10, 7, 8, 7, 13)  # of the columns between the first and the last
 Row = Dict[str, Any]
 
 
@@ -21,7 +22,7 @@ def row_of(path: str, said: Dict[str, Any], page: Optional[str]) -> Row:
     numbers, counts = said["numbers"], said["counts"]
     return {"side": path, "whole": said["whole"], "lost": counts["lost"], "unread": counts["unread"],
             "format": said["format"], "from": numbers["least"], "to": numbers["greatest"], "last": said["last"],
-            "leadIn": said["leadIn"], "leadOut": said["leadOut"], "fields": said["fields"],
+            "leadIn": said["leadIn"], "leadOut": said["leadOut"], "fields": said["fields"], "try": said["try"],
             "reasons": [one["text"] for one in said["reasons"]], "fault": None, "page": page}
 
 

@@ -4,7 +4,7 @@ order of the disc or the side."""
 from typing import Any, Callable, Collection, Iterator, Optional, TypeVar
 
 from ldvbi.codes import LINES, name_of
-from ..draw.marks import OUT_OF_PLACE, SKIPPED, fields_text
+from ..draw.marks import OUT_OF_PLACE, SKIPPED, fields_text, place_text
 from ..answer.entries import Answer
 from ..answer.whole import UNITS, counted, other_file
 from ..levels import options_of
@@ -101,9 +101,10 @@ def _number_lines(answer):
 
 def _lost_text(one, unit):
     """Lost fields with their place. Those of a minute may be lost anywhere in it, and be more."""
-    if unit == "minute" and one.fields is not None:
+    least = "at least " if unit == "minute" and one.fields is not None else ""
+    if least and one.after and one.before > one.after + 1:
         return "at least %d, between fields %d and %d" % (one.fields, one.after + 1, one.before - 1)
-    return "%s after field %d" % (one.fields or "1 or more", one.after)
+    return "%s%s %s" % (least, one.fields or "1 or more", place_text(one.after, one.before))
 
 
 def _order_text(answer):
@@ -118,8 +119,8 @@ def _order_text(answer):
 
 def _missing_text(answer, why):
     ones = [one for one in answer.missing if one.why == why]
-    return listed(sum(one.count_ for one in ones), ones, lambda one: "%s after field %d" % (
-        named(answer.unit, one.first, one.last), one.after))
+    return listed(sum(one.count_ for one in ones), ones, lambda one: "%s %s" % (
+        named(answer.unit, one.first, one.last), place_text(one.after, one.before)))
 
 
 def _doubt_lines(answer):

@@ -1,8 +1,10 @@
-"""The bands of a drawing: what each field shows on lines 16, 17 and 18, in colour."""
+"""The bands of a drawing: what each field shows on lines 16, 17 and 18, in colour. Line 16 of many discs has no codes:
+what it shows where it isn't blank is noise then, and no damage."""
 
 from collections import Counter
 
 from ldvbi.codes import LINES
+from ..answer.entries import Answer
 from ..judge.readings import Fields
 from .axis import Axis
 from .marks import fields_text
@@ -13,39 +15,62 @@ SHOWN = {
     "change": "#dc2626",
     "hold": "#9333ea",
     "unfinished": "#ea580c",
+    "noise": "#a8a29e",
     "recovered": "#0891b2",
     "read only after smoothing": "#eab308",
     "word": "#86bf91",
     "blank": "#e2e8f0",
 }
 _OF_PASSES = {2: "read only after smoothing", 3: "recovered"}
+_NO_DAMAGE = frozenset(["recovered", "read only after smoothing", "word", "blank"])
 HEIGHT, STEP = 28, 34  # of a band, and from band to band, in pixels
-LEAST_SHARE = 4  # pixels of a band for what is neither a word of pass 1 nor blank
+LEAST_SHARE = 4  # pixels of a band for what is neither a word of pass 1, nor blank, nor noise
+MOST_BOXES = 2000  # of a band: of noise more fields share a column
+FEW = 20  # fields to a word of line 16, at least, where that has no codes
+_PLAIN = ("word", "blank", "noise")
 
 
-def draw_legend(svg: Svg, x: int, y: int, is_recovered: bool) -> None:
-    """The colours with their names, from left to right, that of recovered words where there are some. All of them stand
-    within what a page 900 pixels wide shows of the drawing."""
+def is_noise(answer: Answer) -> bool:
+    """Whether line 16 shows noise, and no damaged codes: hardly any field has one there, as on a CAV disc."""
+    line = answer.lines[16]
+    return answer.format != "clv" and line.bad() > 0 and FEW * line.words() < answer.fields
+
+
+def draw_legend(svg: Svg, x: int, y: int, answer: Answer) -> None:
+    """The colours with their names, from left to right, those of recovered words and of noise where there are some.
+    All of them stand within what a page 900 pixels wide shows of the drawing."""
+    is_there = {"recovered": any(rates.near for rates in answer.lines.values()), "noise": is_noise(answer)}
     for name, fill in SHOWN.items():
-        if name == "recovered" and not is_recovered:
+        if not is_there.get(name, True):
             continue
         svg.box(x, y - 11, 14, 14, fill)
         svg.text(x + 20, y + 1, name)
         x += 7 * len(name) + 34
 
 
-def draw_bands(svg: Svg, fields: Fields, axis: Axis, top: int) -> None:
+def draw_bands(svg: Svg, fields: Fields, axis: Axis, top: int, has_noise: bool = False) -> None:
     """The three bands. Where fields share a column of pixels, each cause has its share of the band's height, and what
-    stands out has a few pixels at least."""
+    stands out has a few pixels at least. Line 16 may have noise in place of damage."""
     for band, line in enumerate(LINES):
         y = top + STEP * band
         svg.text(axis.left - 10, y + HEIGHT / 2 + 5, "line %d" % line, text_anchor="end")
         causes = [causes[band] for causes in fields.causes]
         shown = [_OF_PASSES.get(passes[band]) or cause.partition(" ")[0]
                  for cause, passes in zip(causes, fields.passes)]
-        for begin, end, shares in _columns(shown, axis.step):
+        if has_noise and line == LINES[0]:
+            shown = [name if name in _NO_DAMAGE else "noise" for name in shown]
+        for begin, end, shares in _few_columns(shown, axis.step):
             cause = causes[begin - 1] if begin == end else None
             _draw_column(svg, line, (axis.pixel(begin), axis.pixel(end + 1), y), (begin, end), shares, cause)
+
+
+def _few_columns(shown, step):
+    """The stretches of fields of which a drawing isn't too large: at first one for each column of pixels."""
+    while True:
+        found = list(_columns(shown, step))
+        if sum(len(shares) for _, _, shares in found) <= MOST_BOXES:
+            return found
+        step *= 2
 
 
 def _columns(shown, step):
@@ -68,19 +93,25 @@ def _draw_column(svg, line, place, fields, shares, cause):
     where = "line %d, %s: " % (line, fields_text(*fields))
     for name, fill in SHOWN.items():
         if name in heights:
-            title = where + (name if len(shares) == 1 else "in part " + name)
+            title = where + (name if len(shares) == 1 else _share_text(name, shares))
             if cause and cause != "word":
-                title = where + ("recovered, " if name == "recovered" else "") + cause
+                title = where + ("%s, " % name if name in ("recovered", "noise") else "") + cause
             svg.box(x, y, max(right - x, 1), heights[name], fill, title, class_="line-%d" % line, data_shown=name,
                     data_fields="%d-%d" % fields, shape_rendering="crispEdges")
             y += heights[name]
+
+
+def _share_text(name, shares):
+    """In which part of the fields of a column a line shows something."""
+    share = 100 * shares[name] / sum(shares.values())
+    return "%s in %s of these fields" % (name, "%.0f %%" % share if share >= 1 else "less than 1 %")
 
 
 def _heights(shares):
     """The height of each share of a band."""
     total = sum(shares.values())
     heights = {name: HEIGHT * count / total for name, count in shares.items()}
-    raised = {name: max(height, LEAST_SHARE) for name, height in heights.items() if name not in ("word", "blank")}
+    raised = {name: max(height, LEAST_SHARE) for name, height in heights.items() if name not in _PLAIN}
     rest = sum(height for name, height in heights.items() if name not in raised)
     if rest:
         factor = (HEIGHT - sum(raised.values())) / rest

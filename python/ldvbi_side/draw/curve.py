@@ -1,7 +1,8 @@
 """The curve of a drawing: a side's believed numbers over its fields, with the numbers that were set aside beside it."""
 
 import itertools
-from typing import Any, Iterable, Iterator, List, Optional, Tuple
+from collections import Counter
+from typing import Any, Dict, Iterable, Iterator, List, Optional, Set, Tuple
 
 from ldvbi import Kind
 from ..answer.entries import Answer, Doubt, Extent
@@ -12,6 +13,7 @@ from .svg import Svg
 RATES = {"NTSC": 30, "PAL": 25}  # numbers of a second
 AXES = {"picture": "picture number", "time": "time", "minute": "time"}
 DOUBTFUL_COLOUR = "#be185d"
+MOST_RINGS = 1000  # from here on one stands for those around it
 
 
 class Scale:
@@ -85,16 +87,23 @@ def draw_curve(svg: Svg, axis: Axis, scale: Scale, answer: Answer) -> None:
     pixels; where that is too short to be seen, a dot."""
     starts = {one.before for one in answer.breaks}
     run: List[Tuple[int, int, int, Any]] = []
+    drawn: Set[Tuple[int, ...]] = set()
     for number, first, last in answer.showings:
         count = scale.count_of(number)
         if run and (first in starts or count - run[-1][0] not in (0, 1)):
-            _draw_run(svg, axis, scale, run)
+            _draw_run(svg, axis, scale, run, drawn)
             run = []
         run.append((count, first, last, number))
-    _draw_run(svg, axis, scale, run)
+    _draw_run(svg, axis, scale, run, drawn)
 
 
-def _draw_run(svg, axis, scale, run):
+def _draw_run(svg, axis, scale, run, drawn):
+    """Draws a run, if it isn't within the same pixels as one that is drawn."""
+    pixels = tuple(int(end) for count, field in ((run[0][0], run[0][1]), (run[-1][0], run[-1][2]))
+                   for end in (axis.x(field + 0.5), scale.y(count)))
+    if pixels in drawn:
+        return
+    drawn.add(pixels)
     points, pixel = [], None
     for place, (count, first, last, _) in enumerate(run):
         ends = [first] if last - first < 2 else [first, last]  # a minute stands on many fields
@@ -114,20 +123,23 @@ def _draw_run(svg, axis, scale, run):
 
 def draw_doubts(svg: Svg, axis: Axis, scale: Scale, answer: Answer) -> None:
     """The numbers that were set aside, as rings off the curve, or as triangles on the edge where they are beyond it.
-    Those that would cover each other are one."""
-    drawn = set()
-    for one in answer.doubtful:
-        place = scale.place_of(one)
-        if place is not None:
-            (y, beyond), x = place, axis.x(one.field + 0.5)
-            key = (round(x / 3), round(y / 3))
-            if key not in drawn:
-                drawn.add(key)
-                _draw_doubt(svg, x, y, beyond, one)
+    Those that would cover each other are one, and so are more of them where there are many."""
+    placed = [(axis.x(one.field + 0.5), *place, one) for one in answer.doubtful
+              for place in [scale.place_of(one)] if place is not None]
+    near = 3 if len(placed) <= MOST_RINGS else 12
+    drawn: Dict[Tuple[int, int], Tuple[float, float, int, Doubt]] = {}
+    more: Counter = Counter()
+    for one in placed:
+        key = (round(one[0] / near), round(one[1] / near))
+        drawn.setdefault(key, one)
+        more[key] += 1
+    for key, one in drawn.items():
+        _draw_doubt(svg, *one, more[key] - 1)
 
 
-def _draw_doubt(svg, x, y, beyond, one):
-    marked = {"title": doubt_text(one), "class_": "doubt", "data_field": one.field}
+def _draw_doubt(svg, x, y, beyond, one, more):
+    title = doubt_text(one) + ("; and %d more near it" % more if more else "")
+    marked = {"title": title, "class_": "doubt", "data_field": one.field}
     if beyond:
         svg.path("M%.1f %.1fl-5 %dh10z" % (x, y - 5 * beyond, 9 * beyond), fill=DOUBTFUL_COLOUR, **marked)
     else:

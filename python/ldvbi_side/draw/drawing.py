@@ -29,7 +29,7 @@ def drawing_of(side: Side, title: str) -> str:
     svg = Svg(LEFT + WIDTH + RIGHT, axis_top + 56)
     axis = Axis(answer.fields)
     _draw_head(svg, answer, title)
-    bands.draw_bands(svg, fields, axis, BANDS_TOP)
+    bands.draw_bands(svg, fields, axis, BANDS_TOP, bands.is_noise(answer))
     _draw_disc(svg, axis, answer)
     _draw_stops(svg, axis, answer)
     if answer.unit and answer.numbers.count_:
@@ -58,7 +58,7 @@ def _draw_head(svg, answer, title):
     if count:
         parts.append("%s, %s to %s" % (counted(count, answer.unit), least, greatest))
     svg.text(LEFT, SYSTEM_Y, ", ".join(parts), class_="system")
-    bands.draw_legend(svg, LEFT, BANDS_LEGEND_Y, any(rates.near for rates in answer.lines.values()))
+    bands.draw_legend(svg, LEFT, BANDS_LEGEND_Y, answer)
     svg.box(LEFT, LEGEND_Y - 11, 14, 14, END_COLOUR)
     svg.text(LEFT + 20, LEGEND_Y + 1, "lead-in, lead-out")
     curve.draw_ring(svg, LEFT + 167, LEGEND_Y - 4)

@@ -1,4 +1,4 @@
-"""A page that links the pages of many sides, with what each says of itself."""
+"""A page that links the pages of many sides, with what each says of itself. Its rows can be sorted and filtered."""
 
 import contextlib
 import html
@@ -6,28 +6,54 @@ import json
 import os
 from collections import Counter
 from html.parser import HTMLParser
-from typing import Any, Dict, Iterable, Sequence, Tuple
+from typing import Any, Dict, Iterable, List, NamedTuple, Optional, Sequence, Tuple
 from urllib.parse import quote
 
 from ldvbi.regular import regular
 from ..answer.analysis import VERSION
 from ..answer.whole import NO, OPEN, YES, counted
-from .page import MARK, STYLE, escaped
+from .page import CLASSES, MARK, STYLE
+from .sorting import SCRIPT, looks_of
+from .svg import escaped
 
 FIRST, PART = 2048, 65536  # characters of a page that are read at once: at first, for most heads are short, and at most
 MOST_PARTS = 64  # in which the head of a page has an end
+FAULTS = "ldvbi-faults"  # what an index says of sides without a page, for the next one
+FAULT, GONE = "fault", "gone"  # of a side that wasn't read, and of a page whose side isn't there any longer
+ORDER = (NO, FAULT, OPEN, YES, GONE)  # of the rows
+COLUMNS = ("side", "whole", "fields", "numbers", "lost", "try", "why")
 
+
+class Fault(NamedTuple):
+    """A side without a page: the real path of its file, its name, and why it wasn't read."""
+    side: str
+    name: str
+    text: str
+
+
+class Row(NamedTuple):
+    """What the index says of a side: its name, the link to its page or None, one of ORDER, the other cells, and what
+    these are sorted by."""
+    name: str
+    link: Optional[str]
+    whole: str
+    cells: Sequence[Any] = ("", "", "", "")
+    keys: Sequence[Any] = (-1, -1, -1, "")
+    why: str = ""
+
+
+# ---- Pages that are there
 
 class _Head(HTMLParser):
-    """Finds the title and the mark of a page."""
+    """Finds the title of a page, and what it says under this name."""
 
-    def __init__(self):
+    def __init__(self, name):
         super().__init__()
-        self.title, self.said, self.is_read, self._is_title = "", None, False, False
+        self.title, self.said, self.is_read, self._is_title, self._name = "", None, False, False, name
 
     def handle_starttag(self, tag, attrs):
         known = dict(attrs)
-        if tag == "meta" and known.get("name") == MARK:
+        if tag == "meta" and known.get("name") == self._name:
             self.said = _parsed(known.get("content") or "")
         self.is_read = self.is_read or tag == "body"
         # a drawing on the page has titles, too
@@ -41,16 +67,27 @@ class _Head(HTMLParser):
 
 
 def _parsed(text):
-    """What a page says of itself, or None where it is no page of a side."""
+    """What a page says of itself, or None where it is none of ours."""
     try:
-        said = json.loads(text, parse_constant=_no_number)
+        return json.loads(text, parse_constant=_no_number)
     except (ValueError, RecursionError):
         return None
-    return said if isinstance(said, dict) else None
 
 
 def _no_number(name):
     raise ValueError(name)
+
+
+def _head_in(page, name):
+    """The head of a page. Of its body, which may be long, little is read."""
+    head, size = _Head(name), FIRST
+    with open(page, encoding="utf-8", errors="replace", opener=regular) as file, contextlib.suppress(AssertionError):
+        for _ in range(MOST_PARTS):  # of what isn't HTML the parser asserts that it is
+            part, size = file.read(size), min(2 * size, PART)
+            if head.is_read or not part:
+                break
+            head.feed(part)
+    return head
 
 
 def _is_said(said):
@@ -58,25 +95,20 @@ def _is_said(said):
     try:
         numbers, counts = said["numbers"], said["counts"]
         known = [numbers["count"], said["fields"], counts["lost"], counts["unread"], said["leadIn"], said["leadOut"]]
-        texts = [said["format"], said["lost"], *(one["text"] for one in said["reasons"])]
-        return (said["whole"] in (NO, OPEN, YES) and {"least", "greatest"} <= numbers.keys()
-                and {"last", "openEnd"} <= said.keys()
-                and all(type(one) is int for one in known) and all(isinstance(one, str) for one in texts))
+        texts = [said["format"], said["lost"], *said["options"], *(one["text"] for one in said["reasons"])]
+        perhaps = [said["try"], said["side"]]
+        return (said["whole"] in (NO, OPEN, YES) and {"least", "greatest"} <= numbers.keys() and "last" in said
+                and all(type(one) is int for one in known) and all(isinstance(one, str) for one in texts)
+                and all(one is None or isinstance(one, str) for one in perhaps))
     except (AttributeError, KeyError, TypeError):
         return False
 
 
 def head_of(page: str) -> Tuple[str, Dict[str, Any]]:
-    """The title of a page, and what it says of itself. Of its body, which may be long, little is read. A ValueError
-    where it is no page of a side, or has another form."""
-    head, size = _Head(), FIRST
-    with open(page, encoding="utf-8", errors="replace", opener=regular) as file, contextlib.suppress(AssertionError):
-        for _ in range(MOST_PARTS):  # of what isn't HTML the parser asserts that it is
-            part, size = file.read(size), min(2 * size, PART)
-            if head.is_read or not part:
-                break
-            head.feed(part)
-    if head.said is None:
+    """The title of a page, and what it says of itself. A ValueError where it is no page of a side, or has another
+    form."""
+    head = _head_in(page, MARK)
+    if not isinstance(head.said, dict):
         raise ValueError("%s is no page that --html wrote" % page)
     if head.said.get("version") != VERSION:
         raise ValueError("%s is a page of another version: write it again" % page)
@@ -85,38 +117,87 @@ def head_of(page: str) -> Tuple[str, Dict[str, Any]]:
     return head.title, head.said
 
 
-def index_of(path: str, pages: Iterable[str], faults: Sequence[Tuple[str, str]] = ()) -> str:
-    """The text of an index that is written to `path`: a row for each of these pages, those that aren't whole first, and
-    then those of which that can't be told. Before them stand the sides that have a fault instead of a page, as pairs of
-    a title and a text."""
-    rows = []
-    for page in pages:
-        title, said = head_of(page)
+def is_page(page: str) -> bool:
+    """Whether this is a page of a side, of this form."""
+    try:
+        head_of(page)
+    except (OSError, ValueError):
+        return False
+    return True
+
+
+def sides_of(folder: str) -> Dict[str, Optional[str]]:
+    """The names of what may be pages in a folder, each with the real path of its side, or None where that isn't known,
+    as of what is no page."""
+    return {name: _side_of(os.path.join(folder, name)) for name in os.listdir(folder) if name.endswith(".html")}
+
+
+def _side_of(page):
+    try:
+        said = _head_in(page, MARK).said
+    except (OSError, ValueError):
+        return None
+    side = said.get("side") if isinstance(said, dict) else None
+    return side if isinstance(side, str) else None
+
+
+def faults_in(index: str) -> List[Fault]:
+    """The sides without a page of which an index says why, if it is there."""
+    try:
+        said = _head_in(index, FAULTS).said
+    except (OSError, ValueError):
+        return []
+    return [Fault(*one) for one in said if isinstance(one, list) and list(map(type, one)) == [str] * 3
+            ] if isinstance(said, list) else []
+
+
+# ---- The index
+
+def index_of(path: str, pages: Iterable[str], faults: Sequence[Fault] = (), names_gone: bool = False) -> str:
+    """The text of an index that is written to `path`: a row for each of these pages, and for each of these sides
+    without one, in the order of ORDER. With `names_gone` it says of which pages the side isn't there any longer."""
+    found = [(page, *head_of(page)) for page in pages]
+    names = Counter([title for _, title, _ in found] + [fault.name for fault in faults])
+    rows = [Row(fault.side if names[fault.name] > 1 else fault.name, None, FAULT, why=fault.text) for fault in faults]
+    for page, title, said in found:
         link = quote(os.fsencode(os.path.relpath(page, os.path.dirname(os.path.abspath(path)))))
-        rows.append((said, link, title))
-    rows.sort(key=lambda row: (NO, OPEN, YES).index(row[0]["whole"]))
-    counts = Counter(said["whole"] for said, _, _ in rows)
-    columns = "".join("<th>%s</th>" % name for name in ("side", "whole", "fields", "numbers", "lost", "why"))
-    whole = "%s, whole: %s" % (counted(len(rows) + len(faults), "side"), ", ".join(
-        "%d %s" % (counts[one], html.escape(one)) for one in (YES, NO, OPEN)))
-    if faults:
-        whole += ", %s" % counted(len(faults), "fault")
+        name = said["side"] if names[title] > 1 and said["side"] else title
+        is_gone = names_gone and said["side"] is not None and not os.path.exists(said["side"])
+        rows.append(_row_of(name, link, said, is_gone))
+    rows.sort(key=lambda row: (ORDER.index(row.whole), row.name.split("/")))
     return ('<!DOCTYPE html>\n<html lang="en"><head><meta charset="utf-8"><title>LaserDisc sides</title>\n'
-            '<meta name="viewport" content="width=device-width, initial-scale=1">\n<style>%s</style></head><body>\n'
-            '<h1>%s</h1>\n<div class="wide"><table><thead><tr>%s</tr></thead>\n<tbody>%s</tbody></table>'
-            "</div></body></html>\n" % (STYLE, whole, columns, "\n".join([*map(_fault_row, faults), *map(_row, rows)])))
+            '<meta name="viewport" content="width=device-width, initial-scale=1">\n<meta name="%s" content="%s">\n'
+            '<style>%s%s</style></head><body>\n<h1>%s</h1>\n<p id="filter" hidden="hidden"><label>Rows with '
+            '<input type="search"/></label> <output></output></p>\n'
+            '<div class="wide"><table><thead><tr>%s</tr></thead>\n<tbody>%s</tbody></table></div>\n'
+            "<script>%s</script></body></html>\n" % (
+                FAULTS, escaped(json.dumps(faults)), STYLE, looks_of(COLUMNS), _counts_text(rows),
+                "".join('<th scope="col">%s</th>' % name for name in COLUMNS), "\n".join(map(_text_of, rows)), SCRIPT))
 
 
-def _fault_row(fault):
-    title, text = map(escaped, fault)
-    return "<tr><td>%s</td><td>fault</td><td></td><td></td><td></td><td>%s</td></tr>" % (title, text)
-
-
-def _row(row):
-    said, link, title = row
-    numbers = said["numbers"]
+def _row_of(name, link, said, is_gone):
+    numbers, lost = said["numbers"], said["counts"]["lost"]
     span = "%(count)d, %(least)s to %(greatest)s" % numbers if numbers["count"] else "none"
     reasons = "; ".join(one["text"] for one in said["reasons"])
-    cells = (said["whole"], said["fields"], span, said["lost"], reasons)
-    return '<tr><td><a href="%s">%s</a></td>%s</tr>' % (
-        escaped(link), escaped(title), "".join("<td>%s</td>" % escaped(cell) for cell in cells))
+    if is_gone:
+        reasons = "%s isn't there any longer; whole: %s%s" % (said["side"], said["whole"], reasons and "; " + reasons)
+    return Row(name, link, GONE if is_gone else said["whole"], (said["fields"], span, said["lost"], said["try"] or ""),
+               (said["fields"], numbers["count"], lost, said["try"] or ""), reasons)
+
+
+def _counts_text(rows):
+    """How many sides there are of each kind."""
+    counts = Counter(row.whole for row in rows)
+    text = "%s, whole: %s" % (counted(len(rows), "side"), ", ".join(
+        "%d %s" % (counts[one], html.escape(one)) for one in (YES, NO, OPEN)))
+    text += ", " + counted(counts[FAULT], "fault") if counts[FAULT] else ""
+    return text + (", %d gone" % counts[GONE] if counts[GONE] else "")
+
+
+def _text_of(row):
+    name = escaped(row.name)
+    link = '<a href="%s">%s</a>' % (escaped(row.link), name) if row.link else name
+    others = "".join('<td data-key="%s">%s</td>' % (escaped(key), escaped(cell))
+                     for cell, key in zip(row.cells, row.keys))
+    return '<tr><td>%s</td><td class="%s" data-key="%d">%s</td>%s<td>%s</td></tr>' % (
+        link, CLASSES.get(row.whole, row.whole), ORDER.index(row.whole), escaped(row.whole), others, escaped(row.why))

@@ -66,6 +66,11 @@ def span(first: Any, last: Any) -> str:
     return str(first) if first == last else "%s to %s" % (first, last)
 
 
+def place_text(after: int, before: int) -> str:
+    """Where something is missing: behind a field, or before one at the beginning of a side, which has none before."""
+    return "after field %d" % after if after else "before field %d" % before
+
+
 def fields_text(first: int, last: int) -> str:
     return ("field " if first == last else "fields ") + span(first, last)
 
@@ -115,15 +120,18 @@ def doubt_text(one: Doubt) -> str:
 def _missing(one):
     is_there = one.why == "unread"
     first, last = (one.after + 1, one.before - 1) if is_there else (one.before, one.before)
-    return Mark(first, max(first, last), "%s: %s, after field %d, before field %d: %s" % (
-        one.why, span(one.first, one.last), one.after, one.before, _MISSING[one.why]))
+    place = "after field %d, " % one.after if one.after else ""
+    return Mark(first, max(first, last), "%s: %s, %sbefore field %d: %s" % (
+        one.why, span(one.first, one.last), place, one.before, _MISSING[one.why]))
 
 
 def _lost(one, unit):
     """Lost fields, where the numbers go on. Those of a minute may be lost anywhere in it, and be more."""
     count = "one or more fields" if one.fields is None else "%d field%s" % (one.fields, "s" * (one.fields > 1))
     after, before = one.after, one.before
-    if unit == "minute":
+    if not after:
+        return Mark(before, before, "lost: %s before field %d, %s" % (count, before, _LOST[one.by]))
+    if unit == "minute" and before > after + 1:
         first, last = after + 1, before - 1
         return Mark(first, last, "lost: at least %s between fields %d and %d, by the minute's length" % (
             count, first, last))

@@ -1,21 +1,20 @@
 """A side as one page of HTML that needs nothing else: whether it is whole, the summary, the drawing, every list of the
-answer behind a fold, and its bad lines drawn, where the TBC file is there."""
+answer behind a fold, and its first bad lines drawn, where the TBC file is there."""
 
-import html
 import json
-from typing import Any, Callable, Dict, Iterable, Optional
+from typing import Callable, Iterable, Optional, Sequence
 
 from ldvbi.codes import LINES
-from ..answer.as_json import entries, entry
-from ..answer.entries import Answer, BadLine
-from ..answer.whole import NO, OPEN, YES, counted, counted_by, lost_fields_text
-from ..outside import shown
+from ..answer.entries import BadLine
+from ..answer.said import said_of
+from ..answer.whole import NO, OPEN, YES
 from ..side import Side
 from .bands import SHOWN
 from .drawing import drawing_of
-from .marks import OUT_OF_PLACE, SKIPPED
+from .folds import folds_of
+from .svg import escaped
 
-MOST_PLOTS = 200
+MOST_PLOTS, MOST_PLOTTED = 200, 1500000  # bad lines, and characters of their drawings
 CLASSES = {YES: "yes", NO: "no", OPEN: "open"}
 # What a page says of itself to the index, in its head
 MARK = "ldvbi-side"
@@ -26,64 +25,28 @@ th{border-bottom:1px solid #64748b}.yes,.no,.open{padding:8px 16px;border-left:6
 dd{margin:0 0 6px 16px;overflow-wrap:anywhere}
 summary{cursor:pointer;padding:4px 0}details svg{max-width:100%;height:auto}
 """ + ".recovered{color:%s}" % SHOWN["recovered"]
-# The lists of the answer, and how a page names them
-LISTS = {
-    "missing": "numbers lost, undecided or unread", "lost": "lost fields", "unread": "unread, and their fields",
-    "leftOut": SKIPPED, "breaks": "breaks", "stills": "stills", "repeated": "shown again",
-    "swapped": "swapped fields", "speeds": "other speeds", "doubtful": "doubtful, set aside",
-    "conflicts": "lines 17 and 18 differ", "chapterConflicts": "chapters of lines 17 and 18 differ",
-    "secondRows": "second rows of numbers", "chapters": "chapters", "stops": "picture stops", "leadIn": "lead-in",
-    "leadOut": "lead-out", "stray": OUT_OF_PLACE, "unknown": "unknown words", "programmeStatus": "programme status",
-    "users": "users' codes", "badLines": "bad lines", "completed": "fields whose minute is another field's",
-    "confirmed": "fields whose due number is the nearest word of their lines",
-    "showings": "numbers as they come by",
-}
-_COLUMNS = {"completed": ("field",), "confirmed": ("field",), "showings": ("number", "first", "last")}
 
 
-def page_of(side: Side, title: str, summary: Iterable[str], plot: Optional[Callable[[BadLine], str]] = None) -> str:
+def page_of(side: Side, title: str, summary: Iterable[str], plot: Optional[Callable[[BadLine], str]] = None,
+            path: Optional[str] = None, words: Sequence[str] = ()) -> str:
     """The text of the page. `summary` are the lines of the side's summary. `plot` draws one of the answer's bad lines
-    as an SVG; it is None where the TBC file isn't there."""
+    as an SVG; it is None where the TBC file isn't there. `path` is the side's file, None of standard input, and `words`
+    are the options by which it was read."""
     answer, plain = side.analysis.answer, side.answer
     facts = [line.partition(": ") for line in summary][1:]
-    parts = [_head(title, answer), "<h1>%s</h1>" % escaped(title), _verdict(answer),
+    parts = [_head(title, said_of(answer, path, words)), "<h1>%s</h1>" % escaped(title), _verdict(answer),
              '<div class="wide">%s</div>' % drawing_of(side, title),
              "<dl>%s</dl>" % "".join("<dt>%s</dt><dd>%s</dd>" % (escaped(name), escaped(text))
                                      for name, _, text in facts)]
-    parts += [_fold(name, plain[name]) for name in LISTS]
-    # a list that a later answer has is on the page, too
-    parts += [_fold(name, ones) for name, ones in plain.items()
-              if isinstance(ones, list) and name not in LISTS and name != "reasons"]
+    parts += folds_of(answer, plain)
     parts += _plots(side, plot)
     return "\n".join(parts + ["</body></html>", ""])
 
 
-def escaped(value: Any) -> str:
-    """A value as text of HTML."""
-    return html.escape(shown(str(value)))
-
-
-def said_of(answer: Answer) -> Dict[str, Any]:
-    """What a page says of itself: of the answer what a row for its side has, as plain data."""
-    return {"version": answer.version, "whole": answer.whole, "reasons": entries(answer.reasons),
-            "system": answer.system, "format": answer.format, "unit": answer.unit, "fields": answer.fields,
-            "numbers": entry(answer.numbers), "openEnd": answer.open_end,
-            "last": answer.showings[-1].number if answer.showings else None,
-            "leadIn": sum(one.count_ for one in answer.lead_in), "leadOut": sum(one.count_ for one in answer.lead_out),
-            "lost": _lost_text(answer), "counts": {why: counted_by(answer, why) for why in ("lost", "unread")}}
-
-
-def _head(title, answer):
+def _head(title, said):
     return ('<!DOCTYPE html>\n<html lang="en"><head><meta charset="utf-8"><title>%s</title>\n'
             '<meta name="viewport" content="width=device-width, initial-scale=1">\n<meta name="%s" content="%s">\n'
-            "<style>%s</style></head><body>" % (escaped(title), MARK, escaped(json.dumps(said_of(answer))), STYLE))
-
-
-def _lost_text(answer):
-    """How many numbers and fields are lost for sure."""
-    count = counted_by(answer, "lost")
-    texts = [counted(count, answer.unit) if count else "", lost_fields_text(answer)]
-    return ", ".join(filter(None, texts)) or "none"
+            "<style>%s</style></head><body>" % (escaped(title), MARK, escaped(json.dumps(said)), STYLE))
 
 
 def _verdict(answer):
@@ -92,45 +55,20 @@ def _verdict(answer):
         CLASSES[answer.whole], escaped(answer.whole), "<ul>%s</ul>" % reasons if reasons else "")
 
 
-def _fold(name, ones):
-    """A list of the answer in full, behind its name and how many rows it has."""
-    title = "%s: %d" % (LISTS.get(name, name), len(ones))
-    if not ones:
-        return "<p>%s</p>" % escaped(title)
-    columns = _COLUMNS.get(name) or list(ones[0])
-    head = "".join("<th>%s</th>" % escaped(column) for column in columns)
-    rows = "\n".join("<tr>%s</tr>" % "".join("<td>%s</td>" % _cell(cell) for cell in _cells(one)) for one in ones)
-    return ('<details id="%s"><summary>%s</summary><div class="wide"><table><thead><tr>%s</tr></thead>\n<tbody>%s'
-            "</tbody></table></div></details>" % (escaped(name), escaped(title), head, rows))
-
-
-def _cells(one):
-    if isinstance(one, dict):
-        return one.values()
-    return one if isinstance(one, list) else [one]
-
-
-def _cell(value):
-    """A value in a cell: nothing for null, a number beside its field, the items of a list."""
-    if value is None:
-        return ""
-    if isinstance(value, dict):
-        return escaped("%(number)s in field %(field)d" % value)
-    if isinstance(value, bool):
-        return "yes" if value else "no"
-    return escaped(", ".join(map(str, value)) if isinstance(value, list) else value)
-
-
 def _plots(side, plot):
     """The first bad lines, drawn, each behind a fold that says its cause and its word, if that was recovered."""
     bad = side.analysis.answer.bad_lines
     if plot is None or not bad:
         return []
-    more = len(bad) - MOST_PLOTS
-    shown = "the first %d of %d, drawn" % (MOST_PLOTS, len(bad)) if more > 0 else "drawn"
-    folds = ["<details><summary>field %d, line %d: %s" % one[:3]
-             + _recovered(side.readings[one.field - 1][one.line - LINES[0]])
-             + "</summary>\n" + plot(one) + "</details>" for one in bad[:MOST_PLOTS]]
+    folds, left = [], MOST_PLOTTED
+    for one in bad[:MOST_PLOTS]:
+        folds.append("<details><summary>field %d, line %d: %s" % one[:3]
+                     + _recovered(side.readings[one.field - 1][one.line - LINES[0]])
+                     + "</summary>\n" + plot(one) + "</details>")
+        left -= len(folds[-1])
+        if left < 0:
+            break
+    shown = "the first %d of %d, drawn" % (len(folds), len(bad)) if len(folds) < len(bad) else "drawn"
     return ["<h2>Bad lines, %s</h2>" % shown] + folds
 
 

@@ -1,5 +1,6 @@
 """The parts of an SVG: texts, boxes, lines and paths, each with a title that a browser shows under the pointer."""
 
+import html
 from typing import Any, List, Optional
 from xml.sax import saxutils
 
@@ -11,6 +12,11 @@ CHARACTER = 0.65
 
 def escape(text: str) -> str:
     return saxutils.escape(shown(text))
+
+
+def escaped(value: Any) -> str:
+    """A value as text of HTML, in an attribute, too."""
+    return html.escape(shown(str(value)))
 
 
 def text_width(text: str, size: float) -> float:

@@ -7,7 +7,8 @@ from ..answer.as_json import entries
 from ..join.entries import Joined
 from ..join.plain import as_json
 from .bars import bars_of
-from .page import STYLE, escaped
+from .page import STYLE
+from .svg import escaped
 
 # The lists of the answer that the page has, and how it names them
 LISTS = {
