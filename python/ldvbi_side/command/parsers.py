@@ -10,9 +10,8 @@ from .summary import MOST_LINES
 
 DESCRIPTION = """Reads a side from a TBC file, or from a document that `ldvbi extract` wrote, and says what its words
 mean together: which numbers, times and chapters are believed, and which are lost, unread, shown again or doubtful. A
-file is taken for a document if its name ends with .json or its text begins as a document does. The words `join SIDE
-SIDE..` compare and join captures of one side, and `scan PATH..` prints a table of the sides in folders. """ \
-    + statuses_text()
+file is taken for a document if its name ends with .json or its text begins as a document does. `join SIDE SIDE..`
+compares and joins captures of one side, and `scan PATH..` prints a table of the sides in folders. """ + statuses_text()
 
 
 def _wanted(text):
