@@ -67,6 +67,7 @@ class Taken(unittest.TestCase):
                 ("1..20 21x4 22..40", "1..10", 21, ["a", 47, 24, "read"]),
                 ("1..30 11..40 31=-/#16*/-", "1..20", 16, ["a", 71, 36, "read"]),
                 ("1..20", "1..30 11..40 31=-/#16*/-", 16, ["a", 31, 16, "read"]),
+                ("1..30 11..40 33.16=?", "1..10", 16, ["a", 71, 36, "read"]),  # fewer bad lines nearby
                 ("1..30 11..40 31=-/#16*/-", "1..10", 17, ["a", 33, 17, "read"])):
             self.assertEqual(taken(together(one, other), number), wanted, (one, other))
         self.assertEqual({one.source for one in together("1..40", "1..40", "1..40").taken}, {"a"})
@@ -184,8 +185,7 @@ class Standing(unittest.TestCase):
 
     def test_what_is_better_is_taken(self):
         found = together(ONE, OTHER)
-        sources = {row.number: row.source for row in found.taken}
-        self.assertEqual([sources[one.first] for one in found.better], [one.capture for one in found.better])
+        self.assertEqual([taken(found, one.first)[0] for one in found.better], [one.capture for one in found.better])
         self.assertEqual(list(joined_text(found))[3:7], [
             "better in a: 4 (pictures 5 to 6, picture 8, picture 30)",
             "b: has 39, 3 of them alone, lacks 1 (picture 31 in a), whole: no",

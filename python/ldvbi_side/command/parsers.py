@@ -12,9 +12,8 @@ from .summary import MOST_LINES
 
 DESCRIPTION = """Reads a side from a TBC file, or from a document that `ldvbi extract` wrote, and says what its words
 mean together: which numbers, times and chapters are believed, and which are lost, unread, shown again or doubtful. A
-file is taken for a document if its name ends with .json or its text begins as a document does. The words `join SIDE
-SIDE..` compare and join captures of one side, and `scan PATH..` prints a table of the sides in folders. """ \
-    + statuses_text()
+file is taken for a document if its name ends with .json or its text begins as a document does. `join SIDE SIDE..`
+compares and joins captures of one side, and `scan PATH..` prints a table of the sides in folders. """ + statuses_text()
 SCAN = """Prints a table with a row for each side in these files and folders, which are gone through whole: its .tbc
 files, with their metadata beside them, and its .vbi.json documents without a .tbc beside them. A side that can't be
 read has a row with its fault, and the others go on. Options by which a side is read count for each of them, but a
