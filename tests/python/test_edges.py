@@ -223,7 +223,8 @@ class FirstAndLast(unittest.TestCase):
     lead-in and lead-out | L {0} O | leadIn 1 1 | leadOut 62 1 | said yes
     no number | {0} 1=? 59=? | numbers 28 2 to 29 | no missing unread doubtful
     no number beside the end | {0} 3=? 57=? | missing 2 unread, 29 unread | unread 2@3, 29@57
-    a field lost between three numbers and the others | {0} -6 -53 | lost 5-6 1 number, 52-53 1 number | no breaks
+    a field lost between three numbers and the others | {0} -6 -53 | lost 5-6 1 number, 52-53 1 number
+        | breaks lost 5-6 3 to 4, 1, lost 52-53 27 to 28, 1
     a still | 1x5 2..29 30x5 | stills 1@1-9, 30@67-75 | no breaks lost missing
     swapped | {0} ~3 ~57 | swapped 2@3, 29@57 | no lost breaks missing
     shown again | 1..4 3..30 29..30 | repeated 3-4@9-11 after 5, 29-30@65-67 after 61
