@@ -9,6 +9,7 @@ from types import TracebackType
 from typing import Any, Callable, Dict, Iterator, List, NamedTuple, Optional, Sequence, Tuple, Type
 
 GRACE = 5  # seconds in which a process that is to end may remove what it began to write
+_ENDING = (signal.SIGTERM, signal.SIGHUP)  # what ends the process of a job
 
 Job = Callable[[Any, Callable[[Any], None]], None]
 After = Callable[[Any, int], None]
@@ -68,7 +69,7 @@ class SideBySide:
         # A new process, as it is no copy of this one, has none of its threads and locks.
         context = multiprocessing.get_context("spawn")
         ours, theirs = context.Pipe(duplex=False)
-        with _without_interrupts():
+        with _without_signals():
             process = context.Process(target=_run, args=(self._job, self._tasks[index], theirs), daemon=True)
             process.start()
             self._running[ours] = index, process
@@ -76,11 +77,12 @@ class SideBySide:
 
 
 @contextlib.contextmanager
-def _without_interrupts():
-    """Holds Ctrl-C back. A process that is started meanwhile inherits that, for good: Ctrl-C reaches all processes of a
+def _without_signals():
+    """Holds signals back that ask for the end: a process whose start they broke off would get no job, and say so. One
+    that is started meanwhile inherits that. It goes on to hold Ctrl-C back, for good: that reaches all processes of a
     terminal, and this one ends the others."""
     resource_tracker.ensure_running()  # it would let Ctrl-C through when it starts
-    before = signal.pthread_sigmask(signal.SIG_BLOCK, {signal.SIGINT})
+    before = signal.pthread_sigmask(signal.SIG_BLOCK, {signal.SIGINT, *_ENDING})
     try:
         yield
     finally:
@@ -90,8 +92,7 @@ def _without_interrupts():
 def _run(job, task, connection):
     """Runs the job in its process. One that ends, by itself or by a signal, has no use for signals that ask for that:
     one that came later would break into what has to be done before."""
-    stopping = [number for number in (signal.SIGTERM, signal.SIGHUP)
-                if signal.getsignal(number) != signal.SIG_IGN]  # as SIGHUP is behind nohup
+    stopping = [number for number in _ENDING if signal.getsignal(number) != signal.SIG_IGN]  # as SIGHUP is behind nohup
 
     def heed(handler):
         for number in stopping:
@@ -102,6 +103,7 @@ def _run(job, task, connection):
         raise SystemExit(1)
 
     heed(leave)
+    signal.pthread_sigmask(signal.SIG_UNBLOCK, _ENDING)
     with contextlib.suppress(BrokenPipeError):  # nobody listens any longer
         job(task, connection.send)
     heed(signal.SIG_IGN)
