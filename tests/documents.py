@@ -8,6 +8,7 @@ paths   the files and folders that documents name are there, of the repository o
 names   the functions, definitions and types that documents name are in the source; in the tables of PROMISES.md also
         clauses and fields, of the functions and records in their row
 faults  the fault texts and causes of FORMATS.md are those of the source, and those of the manual page are among them
+numbers numbers in the comments of ldvbi.h and of the Python module, which have no mark, are those of the source
 
 usage: python3 tests/documents.py [CHECK..]     (at the top of the repository)
 """
@@ -18,7 +19,7 @@ import re
 import sys
 
 # The least that each check has to look at. A check that finds less no longer understands the documents.
-LEAST = {"links": 70, "paths": 170, "names": 1300, "faults": 28}
+LEAST = {"links": 70, "paths": 170, "names": 1300, "faults": 28, "numbers": 25}
 # The links to the net, of which nothing else is looked at
 NET = ["https://github.com/happycube/ld-decode"]
 # Where a path that a document names may begin
@@ -43,7 +44,10 @@ ALTERED = {
     "faults": [("docs/FORMATS.md", "`field width differs`", "`field width differ`"),
                ("docs/FORMATS.md", "`no system given`", "`unknown system`"),
                ("docs/FORMATS.md", "else `hold` and that", "else `held` and that"),
-               ("docs/FORMATS.md", "#####...######", "#####....#####")]}
+               ("docs/FORMATS.md", "#####...######", "#####....#####")],
+    "numbers": [("include/ldvbi.h", "1 to 28 times", "1 to 27 times"),
+                ("python/ldvbi/judging.py", "and 10 or more", "and 11 or more"),
+                ("include/ldvbi.h", "  10                       12", "  10                       13")]}
 altered = {}  # of a path the two texts
 
 
@@ -222,7 +226,47 @@ def fault_texts():
         yield f"FORMATS.md draws the damaged rows {gaps}, and a glitch has up to {most} columns"
 
 
-CHECKS = {"links": links, "paths": paths, "names": names, "faults": fault_texts}
+# ---- numbers
+
+HEADER, JUDGING, NEAR = "include/ldvbi.h", "python/ldvbi/judging.py", "python/ldvbi/near.py"
+BELIEFS, RULE = "crates/vbi_side/specs/Beliefs.antt", "tests/library/rule.py"
+TWO = r"Margins\((\d+), (\d+)\)"
+# Where numbers stand in the source, and sentences with the same ones, in which # stands for each in turn, or for one
+NUMBERS = (
+    (BELIEFS, r"^enough = (\d+)$", {
+        HEADER: ("weigh # or more", "there weigh less than #, a believed"), JUDGING: ("and # or more behind it",)}),
+    (BELIEFS, r"^field_most = (\d+)$", {
+        HEADER: ("of the weight, and # of it or more",), JUDGING: ("and # of it or more",)}),
+    (BELIEFS, r"^reach = (\d+)$", {JUDGING: ("by the # fields before it and the # behind it",)}),
+    ("crates/vbi_side/specs/Votes.antt", r"^vote_reach = (\d+)$", {
+        JUDGING: ("in the # fields before it and the # behind it that",)}),
+    ("crates/vbi_side/specs/Parts.antt", r"^part_most = (\d+)$", {JUDGING: ("of at most # readings",)}),
+    ("crates/vbi_c/specs/Seeking.antt", r"^looked_most = (\d+)$", {
+        "python/ldvbi/seeking.py": ("at most # fields are read",)}),
+    (NEAR, r"^MOST_LINES = (\d+) ", {HEADER: ("of 1 to # lines", "that 1 to # lines", "be 1 to # times"),
+                                      NEAR: ("of 1 to # lines", "that 1 to # lines")}),
+    (RULE, "^LONE, APART, BOTH = " + TWO, {HEADER: ("one line # #",)}),
+    (RULE, "^LONE, APART, BOTH = .*, " + TWO + "$", {HEADER: ("lines 17 and 18 together # #",)}),
+    (RULE, r"^LONE, APART, BOTH = [^)]*\), " + TWO, {HEADER: ("either, where they don't agree # #",)}),
+)
+
+
+def numbers():
+    """Each number of each place where such a sentence stands."""
+    for source, pattern, sentences in NUMBERS:
+        wanted = [int(one) for one in re.search(pattern, read(source), re.M).groups()]
+        for path, sentence in ((path, one) for path, several in sentences.items() for one in several):
+            text = re.sub(r"\s+(?:\* )*\s*", " ", read(path))
+            places = re.findall(re.escape(sentence).replace(r"\#", r"(\d[\d,]*)"), text)
+            if not places:
+                yield f"{path} doesn't say '{sentence}'"
+            for found in ([one] if isinstance(one, str) else one for one in places):
+                for number, right in zip(found, wanted * (len(found) // len(wanted))):
+                    is_right = int(number.replace(",", "")) == right
+                    yield None if is_right else f"{path} says {number} in '{sentence}', and {source} {right}"
+
+
+CHECKS = {"links": links, "paths": paths, "names": names, "faults": fault_texts, "numbers": numbers}
 
 
 def main():

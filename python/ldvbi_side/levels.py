@@ -14,6 +14,7 @@ FEW = 20  # lines to a word of one that is found, at most
 COLUMNS = {System.NTSC: (150, 837), System.PAL: (190, 1042)}
 FIFTH = 5  # a fifth of a word's samples are lower than its low level by noise and edges, and a fifth higher
 STEP = 1000  # levels are rounded to thousands: noise moves them by more than half of that
+HIGHEST = 65535  # of a sample
 LEAST = 1000  # from low to high: less than that is no code
 
 
@@ -47,7 +48,7 @@ def _trials(stream: Stream, own: Setup, rows: List[bytes]) -> Iterator[Tuple[Lis
         if found is None:
             continue
         for levels in (Levels(own.levels.black, found.white), Levels(found.black, own.levels.white), found):
-            if 0 <= levels.black < levels.white <= 65535:
+            if 0 <= levels.black < levels.white <= HIGHEST:
                 yield of_system, Setup(system, levels)
 
 
@@ -88,7 +89,7 @@ def _span(field: bytes, system: System, line: int) -> Tuple[int, int]:
 
 
 def _rounded(level: float) -> int:
-    return STEP * round(level / STEP)
+    return min(STEP * round(level / STEP), HIGHEST)
 
 
 def _changes(own: Setup, best: Setup, count: int) -> Best:

@@ -203,8 +203,23 @@ PAL|800000|L114 H28 L22 H14$(rest 14)|0
 PAL|800000|L114 H28 L23 H14$(rest 14)|1
 PAL|800000|L114 H44 L14 H14$(rest 14)|0
 PAL|800000|L114 H45 L14 H14$(rest 14)|1
+NTSC|82CFFE|82CFFE @900-909H|1
+NTSC|82CFFF|82CFFF @900-909H|1
+NTSC|82CFFE|82CFFE @909-909H|0
+PAL|8AE012|8AE012 @1120-1134H|1
 END
 drawer=
+
+# Of a file of more than a line, as a whole side is one, the first line is drawn
+for system in NTSC PAL; do
+    lined $system 8AE012
+    plotted $options
+    cp out first.svg
+    { cat line.raw; echo 82CFFF | signal $system 1 | samples_of $system; } > side.tbc
+    mv side.tbc line.raw
+    plotted $options
+    check "the first line of a file of $system" sh -c 'grep -q "^<svg" out && cmp out first.svg'
+done
 
 # A title of one's own, above what is said of the line; a long one loses its middle
 lined NTSC 82CFFF

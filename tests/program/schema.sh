@@ -99,8 +99,8 @@ check 'documents with recovered words are valid' [ "$status $(grep -c '^valid ' 
 
 # What may stand at each place of a document is valid there, and all else is refused: of a document of one record each,
 # with a word on some of its lines
-# places VERSION SYSTEM OTHER WIDTH HEIGHT BYTES LINE LINE LINE: the table. BYTES are a whole field; a LINE is word, none
-# or recovered. In version 3 this alone has its nearest word.
+# places VERSION SYSTEM OTHER WIDTH HEIGHT BYTES LINE LINE LINE: the table. BYTES are a whole field; a LINE is word,
+# none, or recovered, which in version 3 alone has its nearest word.
 places() {
     version=$1
     shift
@@ -121,7 +121,7 @@ END
         case $1 in
             word) data='8388608..16777215 !0' cause='word !blank !"word "' pass=1..2 ;;
             none) data=0..0 cause='blank unfinished "change 0" "hold 100" !word !Blank !change' pass=0..0 ;;
-            recovered) data='8388608..16777215 !0' cause='word unfinished "change 0" "hold 100" !blank !hold' pass=3..3 ;;
+            recovered) data='8388608..16777215 !0' cause='word unfinished "change 0" "hold 100" !blank' pass=3..3 ;;
         esac
         case $version$1 in
             3recovered)
@@ -160,12 +160,12 @@ documents/ntsc 0 27/291 word word none
 documents/ntsc 4 27/294 none none word
 documents/pal 0 27/291 word word none
 documents/pal 3 27/294 none none word
-recovered/ntsc 0 0/0 word word none
-recovered/ntsc 1 0/0 none recovered recovered
-recovered/ntsc 2 0/0 recovered none none
-recovered/pal 0 0/0 word word none
-recovered/pal 1 0/0 none recovered recovered
-recovered/pal 2 0/0 recovered none none
+recovered/ntsc 0 31/322 word word none
+recovered/ntsc 1 37/404 none recovered recovered
+recovered/ntsc 2 34/366 recovered none none
+recovered/pal 0 31/322 word word none
+recovered/pal 1 37/404 none recovered recovered
+recovered/pal 2 34/366 recovered none none
 END
 
 # Each column that a line has, and no other; as many fields as a document can have

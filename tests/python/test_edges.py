@@ -14,6 +14,7 @@ from unittest import mock
 
 import ldvbi
 from cases import InFolder, reason
+from command_runs import Calls
 from compact import check, made
 from discs import side
 from ldvbi import judging, library, near, seeking, sides, stream
@@ -25,7 +26,7 @@ from ldvbi_side.draw import bars, drawing
 from ldvbi_side.draw.axis import Axis
 from ldvbi_side.draw.marks import Mark
 from scanned import Scans
-from streams import NTSC, PROGRAM
+from streams import NTSC, PROGRAM, pictures, write_stream
 from test_into import WORDS, with_words
 
 LONGEST = 255  # bytes of a name
@@ -223,8 +224,31 @@ class FirstAndLast(unittest.TestCase):
     lead-in and lead-out | L {0} O | leadIn 1 1 | leadOut 62 1 | said yes
     no number | {0} 1=? 59=? | numbers 28 2 to 29 | no missing unread doubtful
     no number beside the end | {0} 3=? 57=? | missing 2 unread, 29 unread | unread 2@3, 29@57
-    a field lost between three numbers and the others | {0} -6 -53 | lost 5-6 1 number, 52-53 1 number | no breaks
+    a field lost between three numbers and the others | {0} -6 -53 | lost 5-6 1 number, 52-53 1 number
+        | breaks lost 5-6 3 to 4, 1, lost 52-53 27 to 28, 1
     a still | 1x5 2..29 30x5 | stills 1@1-9, 30@67-75 | no breaks lost missing
     swapped | {0} ~3 ~57 | swapped 2@3, 29@57 | no lost breaks missing
     shown again | 1..4 3..30 29..30 | repeated 3-4@9-11 after 5, 29-30@65-67 after 61
     """.format(THIRTY, TWO))
+
+
+class White(Calls):
+    """White of 65535, the highest sample; the next one is refused."""
+
+    def test_each_way(self):
+        write_stream(self.named("side.tbc"), ("NTSC", 16384, 65535), pictures(12))
+        levels = ["--system", "NTSC", "--black", "16384", "--white", "65535"]
+        document = self.extracted("side.tbc", levels)
+        self.assertEqual([field["vbi"]["vbiData"] for field in json.loads(document)["fields"]], pictures(12))
+        self.write("side.vbi.json", document)
+        said = "ldvbi-side: side.tbc: white16bIre is 65535.25, rounded to 65535\n"
+        for white, note in ((None, ""), (65535, ""), (65535.25, said)):
+            self.metadata("side.tbc.json", **({"white16bIre": white} if white else {}))
+            words = ["side.tbc", *([] if white else levels)]
+            self.assertEqual(self.printed(*words, "--document", said=note), document)
+            self.assertEqual(self.run_command(*words, "--csv")[1], self.printed("side.vbi.json", "--csv"))
+        for white, option in ((65535.5, []), (65536, []), (51200, ["--white", "65536"])):
+            self.metadata("side.tbc.json", white16bIre=white)
+            status, printed, said = self.run_command("side.tbc", "--csv", *option)
+            self.assertEqual((status, printed, said.splitlines()[-1]), (
+                2, b"", "ldvbi-side: side.tbc: white is not from 0 to 65535"))

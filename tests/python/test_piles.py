@@ -200,6 +200,9 @@ class Command(Calls, Captures):
             "5,5.tbc,9,5,together", "12,5.tbc,23,12,together"])
 
 
+HIGHEST = ("NTSC", 16384, 65535)
+
+
 def at_share(setup, share):
     """The setup with a white that is so much of what lies between black and white."""
     system, black, white = setup
@@ -251,7 +254,9 @@ class TriedLevels(InFolder):
                 (("NTSC", 2000, 9000), ("NTSC", 40000, 50000), steep, [0, 120, "--black 2000 --white 9000", 120]),
                 (NTSC, NTSC, lambda word, *setup: steep(0, *setup), none),
                 (NTSC, NTSC, lambda *_: rng.getrandbits(8 * 1820).to_bytes(1820, "little"), none),
-                (NTSC, NTSC, lambda *_: b"\x00\x80" * 910, none)):
+                (NTSC, NTSC, lambda *_: b"\x00\x80" * 910, none),
+                # the highest white that there is
+                (HIGHEST, HIGHEST, steep, None), (HIGHEST, ("NTSC", 1000, 5000), steep, [0, 120, "--white 65535", 120])):
             with self.subTest((drawn, setup, wanted)):
                 self.draw(drawn, line_of)
                 self.assertEqual(self.best(setup) if wanted else self.levels(setup), wanted)

@@ -5,10 +5,17 @@ import os
 import random
 import signal
 import subprocess
+import sys
 import time
+import unittest
+from multiprocessing import resource_tracker, util
+from unittest import mock
 
 from cases import in_database
+from command_runs import DEADLINE
 from compact import words_of
+from ldvbi_side import outside
+from ldvbi_side.command.processes import SideBySide
 from scanned import Scans
 from streams import NTSC, worn_line
 from test_into import FORM
@@ -104,3 +111,31 @@ class Stopped(Scans):
             self.assertTrue(whole_text.startswith(printed))
         else:  # it had ended, or was ending
             self.assertEqual((printed, files), (whole_text, whole_files))
+
+
+def waits(*_):
+    time.sleep(DEADLINE)
+
+
+class Starting(unittest.TestCase):
+    def test_while_a_process_is_started(self):
+        """It is started whole, and ended: one that gets no job says what it lacks."""
+        for number in (signal.SIGINT, signal.SIGTERM, signal.SIGHUP, signal.SIGALRM):
+            self.addCleanup(signal.signal, number, signal.getsignal(number))
+        self.addCleanup(setattr, sys, "unraisablehook", sys.unraisablehook)
+        resource_tracker.ensure_running()
+        for number in (signal.SIGINT, signal.SIGTERM, signal.SIGHUP):
+            ended, starts = [], util.spawnv_passfds
+
+            def stopped(*words, number=number, starts=starts):
+                process = starts(*words)
+                os.kill(os.getpid(), number)
+                sum(range(10))
+                return process
+
+            outside.end_in_order()
+            with self.subTest(number), mock.patch.object(util, "spawnv_passfds", stopped), \
+                    self.assertRaises(outside.Stopped) as raised, \
+                    SideBySide(waits, [1], 1, lambda task, _, ended=ended: ended.append(task)) as messages:
+                next(iter(messages))
+            self.assertEqual((raised.exception.status, ended), (128 + number, [1]))

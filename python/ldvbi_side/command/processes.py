@@ -14,6 +14,7 @@ GRACE = 5  # seconds in which a process that is to end may remove what it began 
 # A process that once took more ends with its job, so that the system has the memory again: to start another one takes
 # a seventh of a second, which a job of that size has many times.
 MOST_MEMORY = 256 << 10  # in KB
+_ENDING = (signal.SIGTERM, signal.SIGHUP)  # what ends a process that does jobs
 
 Job = Callable[[Any, Callable[[Any], None]], None]
 After = Callable[[Any, int], None]
@@ -106,7 +107,7 @@ class SideBySide:
         """The connection to a new process. As it is no copy of this one, it has none of its threads and locks."""
         context = multiprocessing.get_context("spawn")
         ours, theirs = context.Pipe()
-        with _without_interrupts():
+        with _without_signals():
             process = context.Process(target=_run, args=(self._job, theirs), daemon=True)
             process.start()
             self._workers[ours] = _Worker(process)
@@ -115,11 +116,12 @@ class SideBySide:
 
 
 @contextlib.contextmanager
-def _without_interrupts():
-    """Holds Ctrl-C back. A process that is started meanwhile inherits that, for good: Ctrl-C reaches all processes of a
+def _without_signals():
+    """Holds signals back that ask for the end: a process whose start they broke off would get no job, and say so. One
+    that is started meanwhile inherits that. It goes on to hold Ctrl-C back, for good: that reaches all processes of a
     terminal, and this one ends the others."""
     resource_tracker.ensure_running()  # it would let Ctrl-C through when it starts
-    before = signal.pthread_sigmask(signal.SIG_BLOCK, {signal.SIGINT})
+    before = signal.pthread_sigmask(signal.SIG_BLOCK, {signal.SIGINT, *_ENDING})
     try:
         yield
     finally:
@@ -129,8 +131,7 @@ def _without_interrupts():
 def _run(job, connection):
     """Does jobs in their process. One that ends, by itself or by a signal, has no use for signals that ask for that:
     one that came later would break into what has to be done before."""
-    stopping = [number for number in (signal.SIGTERM, signal.SIGHUP)
-                if signal.getsignal(number) != signal.SIG_IGN]  # as SIGHUP is behind nohup
+    stopping = [number for number in _ENDING if signal.getsignal(number) != signal.SIG_IGN]  # as SIGHUP is behind nohup
 
     def heed(handler):
         for number in stopping:
@@ -141,6 +142,7 @@ def _run(job, connection):
         raise SystemExit(1)
 
     heed(leave)
+    signal.pthread_sigmask(signal.SIG_UNBLOCK, _ENDING)
     with contextlib.suppress(EOFError, BrokenPipeError, ConnectionResetError):  # nobody listens any longer
         while True:
             job(connection.recv(), lambda message: connection.send((False, message)))
