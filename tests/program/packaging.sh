@@ -171,6 +171,9 @@ touch -d @1300000000 tree/rust/ldvbi
 made dist
 check 'nothing of it is packed that is older than its source' [ "$(wc -l < tree/dist/SHA256SUMS)" = 2 ]
 
+has_both() {
+    [ "$status $(find tree/dist -name '*.whl' -o -name '*.deb' | wc -l)" = '0 2' ]
+}
 # With the library: by its side, below its architecture, and as `make rust` leaves it; and packed with a wheel
 if [ -e "$built/libldvbi.a" ]; then
     cp "$built/libldvbi.a" tree && cp "$built/libldvbi.so.1" tree && ln -s libldvbi.so.1 tree/libldvbi.so
@@ -186,7 +189,7 @@ if [ -e "$built/libldvbi.a" ]; then
     path=/usr/bin:/bin
     made dist
     packed $release-x86_64-linux.tar.gz files_of_both
-    check 'a wheel and a package beside it' [ "$(find tree/dist -name '*.whl' -o -name '*.deb' | wc -l)" = 2 ]
+    check 'a wheel and a package beside it' has_both
     dpkg-deb -x tree/dist/*.deb debian
     below debian/usr | sed 's,^lib/x86_64-linux-gnu,lib,; s/[.]1[.]gz$/.1/' | sort > found
     printf 'share/%s\n' doc/ldvbi/changelog.Debian.gz doc/ldvbi/copyright lintian/overrides/ldvbi |
@@ -199,11 +202,15 @@ if [ -e "$built/libldvbi.a" ]; then
     mv tree/libldvbi.* tree/rust
     mv tree/ldvbi tree/rust
     installs 'both of make rust' files_of_both rusty_both/usr PREFIX="$work/rusty_both/usr" FROM=rust
+    path=/usr/bin:/bin
+    made dist
+    check 'both of what make rust left' has_both
+    path=$work/tools
     made install-lib PREFIX="$work/static" FROM=rust
     check 'its description names what the archive needs' \
         grep -qx 'Libs.private: -lpthread -ldl' static/lib/pkgconfig/ldvbi.pc
 else
-    leave_out 23
+    leave_out 24
 fi
 rm -rf tree/rust/crate tree/rust/ldvbi tree/rust/libldvbi.*
 
