@@ -5,7 +5,7 @@
 # usage: sh tests/library/built.sh PROGRAM
 # runs: library rust
 # fails where: include/ldvbi.pc.in|s/-lldvbi/-lldvbj/
-# shellcheck disable=SC2016,SC2086,SC2154
+# shellcheck disable=SC2016,SC2086,SC2154,SC2317
 
 # shellcheck source=tests/helpers.sh
 . "$(dirname "$0")/../helpers.sh"

@@ -215,6 +215,9 @@ def test_nothing():
     expect(call("judge_chapters")(None, 0, None, 0, None, 0) == DONE, "chapters of none")
     for name in ("judge_stops", "judge_ends"):
         expect(call(name)(None, 0, None, 0) == DONE, name, "of none")
+    two = NUMBERS.put(struct.pack("<4I", 7, 1, 5, 1))  # of which one is found, however many are said to follow
+    for count in (2, 1 << 61, 1 << 63, MOST_BYTES):
+        expect(call("first_of")(two, count, 5) == 1, "the first of", count)
     for name, words, wanted in (
             ("find_pace", (PAL, TIMES, None, 0, None, 0), video),
             ("find_pace", (NTSC, PICTURES, at(OPEN, 2 * READINGS), 2, seen, 2), video),

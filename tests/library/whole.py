@@ -70,12 +70,13 @@ def side_of(text, gaps):
 
 # ---- The judging
 
-def answered(asked, fields, room):
-    """What is answered, and the gaps that are written into room for so many. What is read stays as it is."""
+def answered(asked, fields, room, said=None):
+    """What is answered, and the gaps that are written into room for so many, or for as many as is said. What is read
+    stays as it is."""
     parts = [b"".join(part) for part in zip(*fields)] or [b""] * 3
     arrays = [(memory.put(part), len(fields)) for memory, part in zip((ALL_SEEN, NUMBERS, ENDS), parts)]
     gaps, side = ROOM.put(BEFORE * GAP.size * room), ANSWER.put(BEFORE * SIDE.size)
-    status = call("judge_side")(*asked, *(word for array in arrays for word in array), gaps, room, side)
+    status = call("judge_side")(*asked, *(word for array in arrays for word in array), gaps, said or room, side)
     expect(status == 0, asked, "refused", status)
     expect([memory.get(len(part)) for memory, part in zip((ALL_SEEN, NUMBERS, ENDS), parts)] == parts, "has changed")
     side = SIDE.unpack(ANSWER.get(SIDE.size))
@@ -93,6 +94,8 @@ def test_side(setting, text, gaps, wanted):
     for room in range(len(gaps) + 2):
         found = answered(asked, fields, room)
         expect(found == (wanted, gaps[:room]), setting, text, room, *found)
+    for said in (2 ** 64 - 1, 2 ** 63, 2 ** 60):
+        expect(answered(asked, fields, len(gaps), said) == (wanted, gaps), setting, text, "room for", said)
 
 
 def test_both(text, wanted):

@@ -84,10 +84,11 @@ check 'documents of every kind are valid' [ "$status $(grep -c '^valid ' out)" =
 # The same with recovered words: those of worn lines
 mkdir recovered
 while read -r system discs word from columns; do
+    [ $system = ntsc ] && options=$ntsc || options=$pal
     worn="$word @$from-$((from + 4))L"
     printf '%s\n' "$word|$word @$from-$((from + 1))L|-" "L$columns H10|$worn|$worn" "$worn|-|L$columns H10" |
         signal $discs 1 | samples_of $discs > worn.tbc
-    output_of extract --recover $(eval echo "\$$system") worn.tbc > recovered/$system.json
+    output_of extract --recover $options worn.tbc > recovered/$system.json
 done << 'END'
 ntsc NTSC 82CFFF 170 900
 pal PAL 8AE012 220 1125

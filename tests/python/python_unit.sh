@@ -19,8 +19,9 @@ export seconds
 # As many files at a time as there are processors, those that take longest first; where the first failure ends the
 # script, no more are begun behind one that fails. What NAME says is then in NAME.err, its status in NAME.status. Of
 # some, which run no line of the package alone, the lines aren't recorded.
-longest='test_simulated test_scan test_cav test_soundness test_joined_sets test_run_edges test_near test_piles test_run
-test_page test_into_run test_join test_once_wrong test_messages test_scan_ends test_classes test_chain test_side'
+longest='test_simulated test_stopped test_hostile test_scan test_cav test_soundness test_joined_sets test_run_edges
+test_near test_piles test_run test_page test_into_run test_join test_once_wrong test_messages test_scan_ends
+test_classes test_chain test_side'
 # shellcheck disable=SC2016,SC2086
 { printf '%s\n' $longest && basename -s .py "$here"/test_*.py; } | awk '!known[$0]++' | (
     cd "$here" && xargs -P "$(nproc)" -n 1 sh -c '
@@ -28,6 +29,7 @@ test_page test_into_run test_join test_once_wrong test_messages test_scan_ends t
     case $2 in
         test_classes | test_joined_sets) COVERAGE_PROCESS_START= ;;
         test_simulated | test_soundness) COVERAGE_PROCESS_START= ;;
+        test_hostile | test_stopped) COVERAGE_PROCESS_START= ;;
     esac
     status=0
     timeout -k 5 "$seconds" python3 -m unittest -v "$2" < /dev/null > "$1/$2.out" 2> "$1/$2.err" || status=$?

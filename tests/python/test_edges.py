@@ -230,6 +230,8 @@ class FirstAndLast(unittest.TestCase):
     swapped | {0} ~3 ~57 | swapped 2@3, 29@57 | no lost breaks missing
     shown again | 1..4 3..30 29..30 | repeated 3-4@9-11 after 5, 29-30@65-67 after 61
     """.format(THIRTY, TWO))
+        self.assertEqual([(one["before"], one["after"]) for one in made("1..30 1.18=#7 59.18=#7")["doubtful"]], [
+            (None, {"number": 2, "field": 3}), ({"number": 29, "field": 57}, None)])
 
 
 class White(Calls):

@@ -75,8 +75,8 @@ class Closed(Runs):
         status, text, _ = self.closed([2], "side.tbc --json --svg side.svg")
         self.assertEqual((status, json.loads(text)["fields"]), (0, 12))
         self.assertTrue(self.read("side.svg").startswith(b"<svg"))
-        for name in ("absent", "--black", "--\udcff", "ü\udcff"):  # also one that is no text
-            self.assertEqual(self.closed([2], name), (2, b"", ""))
+        for words in ("absent", "--black", "side.vbi.json --\udcff", "ü\udcff"):  # also one that is no text
+            self.assertEqual(self.closed([2], words), (2, b"", ""))
         status, text, _ = self.closed([0, 2], "scan --csv absent side.tbc")
         self.assertEqual((status, text.split(b"\n")[1], text.count(b"\n")),
                          (2, b"absent,fault,,,,,,,,,,,No such file or directory", 3))

@@ -21,15 +21,11 @@ from streams import NTSC, worn_line
 from test_into import FORM
 
 RUNS, SEED = int(os.environ.get("STOPPED_RUNS", "60")), 20
-# Runs, each with what it writes: files, or a folder of them
 COMMANDS = (
-    ("sides/side.tbc --json --html page.html --svg side.svg --map side.map", "page.html side.svg side.map"),
-    ("scan --csv -j 2 --html pages sides", "pages"),
-    ("sides/side.tbc --into copy.json", "copy.json"),
-    ("scan -j 4 --html pages --again sides", "pages"),
-    ("sides/side.tbc --meta side.db --into copy.db", "copy.db"),
-    ("sides/side.tbc --document --recovered -o out", "out"),
-    ("join sides/side.tbc sides/other.tbc --html both.html", "both.html"))
+    "sides/side.tbc --json --html page.html --svg side.svg --map side.map", "scan --csv -j 2 --html pages sides",
+    "sides/side.tbc --into copy.json", "scan -j 4 --html pages --again sides",
+    "sides/side.tbc --meta side.db --into copy.db", "sides/side.tbc --document --recovered -o out",
+    "join sides/side.tbc sides/other.tbc --html both.html")
 STATUSES = {signal.SIGINT: 130, signal.SIGTERM: 143}
 FIELDS = 240
 
@@ -77,13 +73,13 @@ class Stopped(Scans):
 
     def test_at_a_random_moment(self):
         chance, wanted = random.Random(SEED), {}
-        for words, _ in COMMANDS:
+        for words in COMMANDS:
             begun = time.monotonic()
             status, printed, said = self.run_command(words)
             self.assertEqual((said, status in (0, 1)), ("", True), words)
             wanted[words] = (status, printed, self.new_files(), time.monotonic() - begun)
         for run in range(RUNS):
-            words, _ = COMMANDS[run % len(COMMANDS)]
+            words = COMMANDS[run % len(COMMANDS)]
             number = chance.choice(list(STATUSES))
             part, to_all = chance.random(), chance.random() < 0.5
             with self.subTest((run, words, number, part, to_all)):
