@@ -29,7 +29,8 @@ USAGE = {
     "scan": ("", "-j 0 side.tbc", "-j x side.tbc", "--csv --json side.tbc", "--again side.tbc")}
 # Those in which a name is empty
 UNNAMED = ("side.vbi.json --html", "side.vbi.json --svg", "side.vbi.json -o", "side.vbi.json --map", "side.tbc --into",
-           "side.tbc --meta", "scan side.vbi.json --html", "join side.vbi.json side.vbi.json --html")
+           "side.tbc --meta", "scan side.vbi.json --html", "scan side.tbc --meta",
+           "join side.vbi.json side.vbi.json --html")
 
 
 class Messages(Calls):
