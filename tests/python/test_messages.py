@@ -34,7 +34,8 @@ USAGE = {
 # Those in which a name is empty
 UNNAMED = ("side.vbi.json --html", "side.vbi.json --svg", "side.vbi.json -o", "side.vbi.json --map", "side.tbc --into",
            "side.vbi.json --chapters", "side.tbc --meta", "scan side.vbi.json --html", "scan side.vbi.json --into",
-           "join side.vbi.json side.vbi.json --html", "join side.vbi.json side.vbi.json --meta")
+           "scan side.tbc --meta", "join side.vbi.json side.vbi.json --html",
+           "join side.vbi.json side.vbi.json --meta")
 
 
 class Messages(Calls):

@@ -141,7 +141,8 @@ class Noise(Calls):
             with self.subTest((kind, noise)):
                 if kind.startswith("cav"):
                     self.assertEqual(shown, wanted)
-                self.assertEqual((list(shown), found["missing"], found["unread"], found["doubtful"]),
+                between = [one for one in found["missing"] if one["before"] != min(wanted)]
+                self.assertEqual((list(shown), between, found["unread"], found["doubtful"]),
                                  (list(wanted), [], [], []))
                 if noise == 0.5:
                     self.assertEqual(json.loads(self.printed(words + " --no-recover"))["showings"], [])

@@ -11,7 +11,10 @@ import lzma
 import os
 import re
 import shutil
+import subprocess
+import sys
 import time
+import unittest
 from unittest import mock
 from urllib.parse import quote
 
@@ -328,6 +331,17 @@ PAGES = (
      "nas-cav-side1.html nas-clv-side1.html b.html c.html d.html"),
     ("a-b.tbc a/b.tbc A/b.tbc a-b-2.tbc", "", "a-b.html a-b-2.html A-b-3.html a-b-2-2.html"),
     ("a.tbc b.tbc .tbc index.tbc", "a.html:/2 b.html:/3 c.html:", "a-2.html a.html b.html index-2.html"))
+
+
+class Modules(unittest.TestCase):
+    def test_what_is_loaded(self):
+        """What makes pages is loaded for those alone, and what joins captures not at all: each process of a scan would
+        load it."""
+        text = "import sys; from ldvbi_side.command import main, scan; print(*sys.modules)"
+        loaded = subprocess.run([sys.executable, "-c", text], check=True, capture_output=True, text=True).stdout.split()
+        self.assertIn("ldvbi_side.command.scan", loaded)
+        self.assertFalse({"ldvbi_side.draw.page", "ldvbi_side.draw.drawing", "ldvbi_side.draw.index", "html.parser",
+                          "ldvbi_side.join.joined"} & set(loaded))
 
 
 class Folders(InFolder):
