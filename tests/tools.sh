@@ -1,8 +1,8 @@
 #!/bin/sh
 # The tools that the tests need besides the toolchain: a C compiler with its sanitizers, a C++ compiler, binutils,
-# python3, jq, and perl's prove; and what the commands in the documents need. With a word, cargo as well, and the crates
-# that the Rust program depends on. Names those that are missing and fails, or installs them from Debian's packages, as
-# root or by sudo.
+# python3, jq, perl's prove, and a browser; and what the commands in the documents need. With a word, cargo as well, and
+# the crates that the Rust program depends on. Names those that are missing and fails, or installs them from Debian's
+# packages, as root or by sudo.
 # usage: sh tests/tools.sh [rust | install]
 set -eu
 
