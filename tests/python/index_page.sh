@@ -26,7 +26,8 @@ document.getElementById("said").textContent = [...rows, document.querySelector("
 </script></body></html>
 END
     { sed 's|</body></html>$||' pages/index.html; cat after; } > pages/after.html
-    bounded chromium --headless=new --no-sandbox --disable-gpu --user-data-dir="$work/browser" --dump-dom \
+    # Chromium keeps what it remembers below HOME.
+    bounded env HOME="$work" chromium --headless=new --no-sandbox --disable-gpu --disable-dev-shm-usage --dump-dom \
         "file://$work/pages/after.html" < empty 2> browser.err | sed -n 's|.*<pre id="said">\(.*\)</pre>.*|\1|p'
 }
 
