@@ -106,6 +106,10 @@ class Names(Hostile):
         self.assertEqual(title.text, wanted)
         os.unlink(self.named("side.svg"))
         self.assertEqual(self.run_words("index", "index.html", "page.html")[::2], (0, ""))
+        if not levels:
+            self.assertEqual(self.run_words("join", "--html", "both.html", "--", "side.vbi.json", name)[::2], (0, ""))
+            self.assertFalse(Page(self.text("both.html")).elements & {"script", "onload"})
+            os.unlink(self.named("both.html"))
         self.assertFalse(Page(self.text("index.html")).elements & {"script", "onload"})
         for one in ("page.html", "index.html"):
             os.unlink(self.named(one))
