@@ -19,6 +19,7 @@ from cases import in_database
 from command_runs import BUFFERED, Calls
 from ldvbi import database
 from ldvbi_side.outside import legible, shown
+from streams import pictures
 from test_into import FORM
 
 SECONDS = 60  # of one run: for what hangs, not for what is slow
@@ -58,9 +59,13 @@ class Hostile(Calls):
             self.assertEqual((printed, self.files()), ("", before))
         else:
             self.assertRegex(said, r"\A(ldvbi-side: [^\n]*\n)*\Z")
+        self.look()
         for name in set(self.files()) - set(before):
             os.unlink(self.named(name))
         return status
+
+    def look(self):
+        """Looks at what a run has written."""
 
 
 class Page(html.parser.HTMLParser):
@@ -106,6 +111,10 @@ class Names(Hostile):
         self.assertEqual(title.text, wanted)
         os.unlink(self.named("side.svg"))
         self.assertEqual(self.run_words("index", "index.html", "page.html")[::2], (0, ""))
+        if not levels:
+            self.assertEqual(self.run_words("join", "--html", "both.html", "--", "side.vbi.json", name)[::2], (0, ""))
+            self.assertFalse(Page(self.text("both.html")).elements & {"script", "onload"})
+            os.unlink(self.named("both.html"))
         self.assertFalse(Page(self.text("index.html")).elements & {"script", "onload"})
         for one in ("page.html", "index.html"):
             os.unlink(self.named(one))
@@ -220,6 +229,7 @@ OTHERS = {
         "capture", "CREATE VIRTUAL TABLE capture USING fts4(system, black_16b_ire, white_16b_ire)"),
     "a column that is made": without("vbi", "CREATE TABLE vbi (field_id, vbi0 AS (field_id), vbi1, vbi2)"),
     "no words": without("vbi", "CREATE TABLE vbi (capture_id, field_id, vbi0, vbi1, vbi2 CHECK (vbi2 = 0.5))"),
+    "words that are texts": without("vbi", "CREATE TABLE vbi (capture_id, field_id, vbi0 TEXT, vbi1, vbi2)"),
     "one word": without("vbi", "CREATE TABLE vbi (capture_id, field_id, vbi0, vbi1, vbi2 UNIQUE ON CONFLICT REPLACE)"),
     "a trigger": (*SOUND, "CREATE TRIGGER one AFTER INSERT ON vbi BEGIN DELETE FROM capture; END"),
     "a trigger without an end": (*SOUND, "CREATE TRIGGER one BEFORE INSERT ON vbi BEGIN "
@@ -232,6 +242,12 @@ OTHERS = {
 
 class Databases(Hostile):
     RUNS = (["--json"], ["--into", "copy.db"])
+
+    def look(self):
+        """A copy has all words."""
+        if "copy.db" in self.names():
+            found, = in_database(self.named("copy.db"), "SELECT vbi0, vbi1, vbi2 FROM vbi ORDER BY field_id")
+            self.assertEqual([list(three) for three in found], pictures(12))
 
     def end(self, what, statuses):
         with mock.patch.object(database, "MOST_STEPS", 20 * database.STEPS), mock.patch.object(database, "WAIT", 0.1):

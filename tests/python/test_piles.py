@@ -256,7 +256,8 @@ class TriedLevels(InFolder):
                 (NTSC, NTSC, lambda *_: rng.getrandbits(8 * 1820).to_bytes(1820, "little"), none),
                 (NTSC, NTSC, lambda *_: b"\x00\x80" * 910, none),
                 # the highest white that there is
-                (HIGHEST, HIGHEST, steep, None), (HIGHEST, ("NTSC", 1000, 5000), steep, [0, 120, "--white 65535", 120])):
+                (HIGHEST, HIGHEST, steep, None),
+                (HIGHEST, ("NTSC", 1000, 5000), steep, [0, 120, "--white 65535", 120])):
             with self.subTest((drawn, setup, wanted)):
                 self.draw(drawn, line_of)
                 self.assertEqual(self.best(setup) if wanted else self.levels(setup), wanted)

@@ -30,6 +30,12 @@ STATUSES = {signal.SIGINT: 130, signal.SIGTERM: 143}
 FIELDS = 240
 
 
+def heed_all():
+    """Has no signal be ignored, as what a shell starts in the background ignores Ctrl-C."""
+    for number in (signal.SIGINT, signal.SIGTERM, signal.SIGHUP):
+        signal.signal(number, signal.SIG_DFL)
+
+
 def is_heeded(process):
     """Whether the process has a function for SIGTERM, or has ended."""
     try:
@@ -88,7 +94,7 @@ class Stopped(Scans):
     def stopped_at(self, words, number, seconds, to_all, wanted):
         """A run that gets this signal so many seconds after it began to heed it, with all of its processes or alone."""
         whole_status, whole_text, whole_files, _ = wanted
-        process = self.started(words, start_new_session=True)
+        process = self.started(words, start_new_session=True, preexec_fn=heed_all)
         while not is_heeded(process):
             time.sleep(0.001)
         time.sleep(seconds)
@@ -119,6 +125,7 @@ class Starting(unittest.TestCase):
         for number in (signal.SIGINT, signal.SIGTERM, signal.SIGHUP, signal.SIGALRM):
             self.addCleanup(signal.signal, number, signal.getsignal(number))
         self.addCleanup(setattr, sys, "unraisablehook", sys.unraisablehook)
+        heed_all()
         resource_tracker.ensure_running()
         for number in (signal.SIGINT, signal.SIGTERM, signal.SIGHUP):
             ended, starts = [], util.spawnv_passfds
