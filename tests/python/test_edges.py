@@ -95,11 +95,11 @@ class JoinedMarks(unittest.TestCase):
                     self.assertEqual((begin, end), (149 + min(first, 959), max(ends)))
 
 
-def steps(path, _page, _may_end, _is_named):
+def steps(task):
     """Reads ten fields of a side, and no more."""
     with Progress(10) as progress:
         list(progress.over(range(10)))
-    raise ValueError("%s has ten fields" % path)
+    raise ValueError("%s has ten fields" % task.path)
 
 
 class Together(Scans):

@@ -18,6 +18,7 @@ from unittest import mock
 from cases import in_database
 from command_runs import BUFFERED, Calls
 from ldvbi import database
+from ldvbi_side.draw.index import index_of
 from ldvbi_side.outside import legible, shown
 from streams import pictures
 from test_into import FORM
@@ -110,12 +111,13 @@ class Names(Hostile):
         title = next(xml.fromstring(self.read("side.svg")).iter("{http://www.w3.org/2000/svg}title"))
         self.assertEqual(title.text, wanted)
         os.unlink(self.named("side.svg"))
-        self.assertEqual(self.run_words("index", "index.html", "page.html")[::2], (0, ""))
+        self.write("index.html", index_of(self.named("index.html"), [self.named("page.html")]))
         if not levels:
             self.assertEqual(self.run_words("join", "--html", "both.html", "--", "side.vbi.json", name)[::2], (0, ""))
             self.assertFalse(Page(self.text("both.html")).elements & {"script", "onload"})
             os.unlink(self.named("both.html"))
-        self.assertFalse(Page(self.text("index.html")).elements & {"script", "onload"})
+        index = self.text("index.html")
+        self.assertEqual((index.count("<script"), Page(index).elements & {"onload"}), (1, set()))  # which is its own
         for one in ("page.html", "index.html"):
             os.unlink(self.named(one))
         if not levels:
@@ -137,8 +139,7 @@ class Names(Hostile):
 
     def test_of_what_is_absent(self):
         for name in (os.fsdecode(name) for name in NAMES if name not in (b"-", b"..", b" ")):
-            for words in (["--"], ["compare", "--", "side.vbi.json"], ["join", "--", "side.vbi.json"],
-                          ["side.tbc", "--meta=" + name, "--"][:2], ["index", "index.html", "--"]):
+            for words in (["--"], ["join", "--", "side.vbi.json"], ["side.tbc", "--meta=" + name, "--"][:2]):
                 self.ends([name], *words, *[name] * (words[-1] != "--meta=" + name))
 
 
@@ -181,7 +182,7 @@ class Texts(Hostile):
 
     def test_documents(self):
         faults, _ = self.all_end("wrong.vbi.json", broken(self.document, random.Random(30), 30),
-                                 "wrong.vbi.json --json", "compare side.vbi.json wrong.vbi.json")
+                                 "wrong.vbi.json --json", "join side.vbi.json wrong.vbi.json")
         self.assertGreater(faults, 180)
 
     def test_metadata(self):
@@ -288,7 +289,7 @@ class Databases(Hostile):
 # What is printed, and what is written to a file
 PRINTED = ("side.tbc --csv", "side.tbc --json", "side.tbc --summary", "side.tbc --seek 3", "side.tbc --document",
            "side.tbc --document --recovered", "side.tbc --bad-lines", "join side.tbc side.vbi.json --json",
-           "join side.tbc side.vbi.json", "compare side.tbc side.vbi.json", "scan --csv side.tbc",
+           "join side.tbc side.vbi.json", "scan --csv side.tbc",
            "scan --json side.tbc", "scan side.tbc", "--version", "scan --help")
 WRITTEN = ("-o", "--html", "--svg", "--map", "--into", "--document -o", "--csv -o")
 
@@ -314,7 +315,6 @@ class Outputs(Hostile):
             self.refused("/dev/full: No space left on device", "side.tbc %s /dev/full" % words)
         self.refused("/dev/full: No space left on device", "join side.tbc side.vbi.json --html /dev/full")
         self.printed("side.tbc --html page.html")
-        self.refused("/dev/full: No space left on device", "index /dev/full page.html")
 
     def test_a_full_disk(self):
         """Of which each file has 64 bytes."""

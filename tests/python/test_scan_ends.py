@@ -178,7 +178,7 @@ def ignores(task, tell):
 
 def tidies(task, tell):
     """A job that signals reach while its process ends, behind a first one, or by itself, as it took much memory."""
-    processes.MOST_MEMORY = 0
+    processes._peak = lambda: 1 << 60
 
     def tidy():
         os.kill(os.getpid(), signal.SIGTERM)

@@ -30,7 +30,7 @@ SOUGHT = (
                          "11:09": "the numbers end at 1:09:01.24, in field 199",
                          "1:10": "the numbers end at 1:09:01.24, in field 199",
                          "69": "the side counts times, not pictures",
-                         "0:01:09.00": "the numbers begin at 1:08:58.00, in field 1"}),
+                         "0:01:09.00": "lost before field 1"}),
     # of a minute the first field counts that wasn't read
     ("t103450..103549 101=?/?/?", {"1:09": "101 51" + AROUND + "no number was read there", "1:09:00.01": "103 52"}),
     ("m69..70x3000", {"1:09": "1 1", "1:10": "3001 1501", "1:11": "the numbers end at 1:10, in field 3001",

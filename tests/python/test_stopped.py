@@ -1,6 +1,7 @@
 """Runs of the command that a signal stops at a random moment, from the one on in which the command heeds signals: the
 status is as documented, nothing is said, and nothing unfinished is left. `STOPPED_RUNS` has how many runs there are."""
 
+import multiprocessing
 import os
 import random
 import signal
@@ -121,7 +122,7 @@ def waits(*_):
 
 class Starting(unittest.TestCase):
     def test_while_a_process_is_started(self):
-        """It is started whole, and ended: one that gets no job says what it lacks."""
+        """It is started whole, and ended before it has a job: one that is broken off says what it lacks."""
         for number in (signal.SIGINT, signal.SIGTERM, signal.SIGHUP, signal.SIGALRM):
             self.addCleanup(signal.signal, number, signal.getsignal(number))
         self.addCleanup(setattr, sys, "unraisablehook", sys.unraisablehook)
@@ -141,4 +142,4 @@ class Starting(unittest.TestCase):
                     self.assertRaises(outside.Stopped) as raised, \
                     SideBySide(waits, [1], 1, lambda task, _, ended=ended: ended.append(task)) as messages:
                 next(iter(messages))
-            self.assertEqual((raised.exception.status, ended), (128 + number, [1]))
+            self.assertEqual((raised.exception.status, ended, multiprocessing.active_children()), (128 + number, [], []))

@@ -143,10 +143,16 @@ def _run(job, connection):
 
     heed(leave)
     signal.pthread_sigmask(signal.SIG_UNBLOCK, _ENDING)
+    most = max(MOST_MEMORY, _peak())  # a process begins with what the one that started it took
     with contextlib.suppress(EOFError, BrokenPipeError, ConnectionResetError):  # nobody listens any longer
         while True:
             job(connection.recv(), lambda message: connection.send((False, message)))
-            if resource.getrusage(resource.RUSAGE_SELF).ru_maxrss > MOST_MEMORY:
+            if _peak() > most:
                 break
             connection.send((True, None))
     heed(signal.SIG_IGN)
+
+
+def _peak():
+    """The most memory that this process took, in KB."""
+    return resource.getrusage(resource.RUSAGE_SELF).ru_maxrss
