@@ -106,7 +106,7 @@ class Stopped(Scans):
             os.killpg(process.pid, signal.SIGKILL)
             raise
         files = self.new_files()
-        self.assertEqual(said, b"")
+        self.assertEqual(said.decode(), "")
         self.assertIn(process.returncode, (STATUSES[number], whole_status, -number))
         for path, data in files.items():
             self.assertEqual(data, whole_files.get(path), path)
