@@ -1,9 +1,9 @@
 #!/bin/sh
-# Compares what was run with the list in git, .ci/ran.txt; of both the lines that PATTERN means. The list has each script
-# and crate that ran, how many checks and wrong bodies of it did, and how many tests. Standard input has a line for each
-# of these: `check SCRIPT: ..`, `wrong body CRATE/..`, `test ..`. Prints each line of the list that is gone (<) or new (>),
-# and then has status 3. The list as it would be then is .ci/ran.new, which `make ran` takes over; what earlier runs found
-# is in it as well, unless the list has changed since.
+# Compares what was run with the list in git, .ci/ran.txt; of both the lines that PATTERN means. The list has each
+# script and crate that ran, how many checks and wrong bodies of it did, and how many tests. Standard input has a line
+# for each of these: `check SCRIPT: ..`, `wrong body CRATE/..`, `test ..`. Prints each line of the list that is gone (<)
+# or new (>), and then has status 3. The list as it would be then is .ci/ran.new, which `make ran` takes over; what
+# earlier runs found is in it as well, unless the list has changed since.
 # usage: sh tests/ran.sh PATTERN < LINES
 set -eu
 LC_ALL=C

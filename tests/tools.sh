@@ -2,9 +2,10 @@
 # The tools that the tests need besides the toolchain, as Debian's packages: names those that are missing and fails, or,
 # with `install`, says what it will install and does so, as root or by sudo, with nothing that is only recommended.
 #
-# `make check` needs a C compiler with its sanitizers, a C++ compiler, binutils, python3, jq, perl's prove, a browser, and
-# what the commands in the documents need. `install` adds cargo and the crates that `make rust` needs. With `test`, which
-# is the gate, or where the proved library is built, come those that only the tests of that library and of the crate use.
+# `make check` needs a C compiler with its sanitizers, a C++ compiler, binutils, python3, jq, perl's prove, a browser,
+# and what the commands in the documents need. `install` adds cargo and the crates that `make rust` needs. With `test`,
+# which is the gate, or where the proved library is built, come those that only the tests of that library and of the
+# crate use.
 # usage: sh tests/tools.sh [install] [test]
 set -eu
 

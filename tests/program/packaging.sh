@@ -221,7 +221,7 @@ check 'no such program is installed' [ $status != 0 ]
 check 'the toolchain is asked for' grep -q '^make: the proved build needs the toolchain of Rattle' err
 
 # One version
-version=$(output_of --version)
+version=$(output_of --version | sed 's/ (plain Rust)$//')
 check 'the version of make is that of the program' grep -qx "VERSION := ${version#ldvbi }" tree/Makefile
 check 'and so is the latest of the change log' \
     [ "ldvbi $(sed -n '/^## /{s/^## \([0-9.]*\).*/\1/p;q;}' tree/CHANGELOG.md)" = "$version" ]

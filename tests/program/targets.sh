@@ -130,8 +130,8 @@ tools install
 check 'setup by sudo, which fails where the packages do' [ "$status $(grep -c '^sudo$' out)" = '1 1' ]
 # Each of these is asked for, and seven crates; then nothing is missing but a module that is.
 tools test
-for tool in cc c++ nm make python3 jq prove pkg-config cmake git ffmpeg mandoc mypy pv zsh debootstrap rustc cargo \
-    rustfmt cargo-clippy; do
+for tool in cc c++ nm make python3 jq prove pkg-config cmake git chromium ffmpeg mandoc mypy pv zsh debootstrap rustc \
+    cargo rustfmt cargo-clippy; do
     before=$(wc -w < err)
     stub alone/$tool 'exit 0'
     tools test

@@ -122,6 +122,7 @@ while read -r text words; do
     check "the help by $words" helped "$text"
 done < rows
 sed -n 's/^VERSION := /ldvbi /p' "$top/Makefile" > version
+[ -z "${DIFFERENCES:-}" ] || sed -i 's/$/ (plain Rust)/' version
 judge_rows << 'END'
 the version|--version|0|version|
 the version in short|-V|0|version|

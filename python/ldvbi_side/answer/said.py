@@ -18,8 +18,8 @@ def said_of(answer: Answer, path: Optional[str] = None, words: Sequence[str] = (
             "numbers": entry(answer.numbers), "last": answer.showings[-1].number if answer.showings else None,
             "leadIn": sum(one.count_ for one in answer.lead_in), "leadOut": sum(one.count_ for one in answer.lead_out),
             "lost": _lost_text(answer), "counts": {why: counted_by(answer, why) for why in ("lost", "unread")},
-            "try": options_of(tried) if tried and tried.best else None, "side": os.path.realpath(path) if path else None,
-            "options": list(words)}
+            "try": options_of(tried) if tried and tried.best else None,
+            "side": os.path.realpath(path) if path else None, "options": list(words)}
 
 
 def _lost_text(answer):

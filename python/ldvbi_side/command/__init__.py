@@ -4,8 +4,8 @@ statuses, parser, faults, summary, tables, map, chapters, outputs, folders, join
 parsers, scan, main
 
 `statuses` has the exit statuses, `parser` what reads words, with the options that commands share, and `faults` the
-words of what goes wrong. `summary`, `tables`, `map`, `chapters` and `join` make the texts of `--summary`, of `--csv` and
-`--bad-lines`, of `--map`, of `--chapters` and of the command `join`; each is a function from a side or an answer to rows
-or lines. `outputs` writes to files, `progress` to the terminal. `into` writes the copy of ld-decode's metadata.
+words of what goes wrong. `summary`, `tables`, `map`, `chapters` and `join` make the texts of `--summary`, of `--csv`
+and `--bad-lines`, of `--map`, of `--chapters` and of the command `join`; each is a function from a side or an answer to
+rows or lines. `outputs` writes to files, `progress` to the terminal. `into` writes the copy of ld-decode's metadata.
 `folders`, `processes` and `rows` are the parts of `scan`. `parsers` has the options, and `main` brings it all
 together."""

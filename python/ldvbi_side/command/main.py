@@ -270,7 +270,7 @@ def _scan(words):
 
 
 def answer_of(task: Task) -> Answer:
-    """The answer for a side of a scan, whose page is written where one is named, and a copy of its metadata. A side that
+    """The answer for a side of a scan, whose page and copy of its metadata are written if they are named. A side that
     nobody named is a file."""
     named = [word for option, name in (("--html", task.page), ("--into", task.copy)) if name
              for word in (option, name)]

@@ -46,8 +46,9 @@ impl Builder {
         Builder(::clap::Command::new(name))
     }
 
-    pub(crate) fn version(self, version: &'static str) -> Self {
-        Builder(self.0.version(version))
+    /// The version is that of this crate, and says that this is not the proved build.
+    pub(crate) fn version(self, _version: &'static str) -> Self {
+        Builder(self.0.version(concat!(env!("CARGO_PKG_VERSION"), " (plain Rust)")))
     }
 
     pub(crate) fn about(self, about: &'static str) -> Self {
