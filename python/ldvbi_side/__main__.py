@@ -4,7 +4,8 @@ import gc
 import sys
 from typing import List, Optional
 
-from .outside import INTERRUPTED, drop_standard_output, end_at_once, end_in_order, heeded, open_streams
+from .outside import (INTERRUPTED, drop_standard_output, end_at_once, end_by_the_system, end_in_order, heeded,
+                      open_streams)
 
 
 def main(words: Optional[List[str]] = None) -> int:
@@ -17,7 +18,11 @@ def main(words: Optional[List[str]] = None) -> int:
         from .command.main import main as command
         if words is None:
             end_in_order()
-        status = command(words)
+        try:
+            status = command(words)
+        finally:
+            if words is None:
+                end_by_the_system()
         gc.freeze()  # as the process ends all is given back, and nobody has to look through it
         return status
     except KeyboardInterrupt as stop:

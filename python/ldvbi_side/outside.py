@@ -67,6 +67,12 @@ def heeded() -> None:
         _lost.clear()
 
 
+def end_by_the_system() -> None:
+    """Has signals that ask for the end do so without a function of ours, now that all is written or removed: as Python
+    ends, it takes away the names that such a function needs."""
+    _heed(signal.SIG_DFL)
+
+
 def _heed(handler):
     for number in _STOPPING:
         if signal.getsignal(number) != signal.SIG_IGN:  # nohup, say, wants it to stay so

@@ -124,6 +124,7 @@ class Signals(unittest.TestCase):
     def setUp(self):
         for number in (signal.SIGINT, signal.SIGTERM, signal.SIGHUP, signal.SIGALRM):
             self.addCleanup(signal.signal, number, signal.getsignal(number))
+            signal.signal(number, signal.SIG_DFL)  # a shell has what runs behind its back ignore SIGINT
         self.addCleanup(setattr, sys, "unraisablehook", sys.unraisablehook)
         self.addCleanup(outside.heeded)
         outside.end_in_order()

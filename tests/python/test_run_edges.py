@@ -94,7 +94,21 @@ class Closed(Runs):
                     self.assertEqual(self.run_command(words, env=environment, **{stream: full}), (2, *wanted))
 
 
+# Runs the command with a signal that comes while Python ends
+ENDING = """import atexit, os, signal, sys
+from ldvbi_side.__main__ import main
+atexit.register(os.kill, os.getpid(), %d)
+sys.argv[1:] = ["side.vbi.json", "--seek", "3"]
+sys.exit(main())"""
+
+
 class Signals(Runs):
+    def test_while_python_ends(self):
+        """All has been written then."""
+        for number in (signal.SIGINT, signal.SIGTERM, signal.SIGHUP):
+            self.assertEqual(self.run_words("-c", ENDING % number, command=[sys.executable]),
+                             (-number, "field 4, frame 2\n", ""))
+
     def test_while_it_waits(self):
         os.mkfifo(self.named("meta.json"))
         before = self.names()
