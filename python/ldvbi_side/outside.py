@@ -69,8 +69,8 @@ def heeded() -> None:
 
 def end_by_the_system() -> None:
     """Has signals that ask for the end do so without a function of ours, now that all is written or removed: as Python
-    ends, it takes away the names that such a function needs."""
-    _heed(signal.SIG_DFL)
+    ends, it takes away the names that such a function needs. Where one has asked for the end, others are ignored."""
+    _heed(signal.SIG_IGN if _stopped else signal.SIG_DFL)
 
 
 def _heed(handler):

@@ -94,9 +94,12 @@ class Closed(Runs):
                     self.assertEqual(self.run_command(words, env=environment, **{stream: full}), (2, *wanted))
 
 
-# Runs the command with a signal that comes while Python ends
+# Runs the command with a signal that comes while Python ends, and perhaps with one that it stops at
 ENDING = """import atexit, os, signal, sys
+import ldvbi_side.command.main
 from ldvbi_side.__main__ import main
+if %d:
+    ldvbi_side.command.main.main = lambda _: (os.kill(os.getpid(), signal.SIGINT), sum(range(10)))
 atexit.register(os.kill, os.getpid(), %d)
 sys.argv[1:] = ["side.vbi.json", "--seek", "3"]
 sys.exit(main())"""
@@ -104,10 +107,10 @@ sys.exit(main())"""
 
 class Signals(Runs):
     def test_while_python_ends(self):
-        """All has been written then."""
+        """All has been written then, or the command was stopped, and the status is that of the first signal."""
         for number in (signal.SIGINT, signal.SIGTERM, signal.SIGHUP):
-            self.assertEqual(self.run_words("-c", ENDING % number, command=[sys.executable]),
-                             (-number, "field 4, frame 2\n", ""))
+            for is_stopped, wanted in ((False, (-number, "field 4, frame 2\n", "")), (True, (130, "", ""))):
+                self.assertEqual(self.run_words("-c", ENDING % (is_stopped, number), command=[sys.executable]), wanted)
 
     def test_while_it_waits(self):
         os.mkfifo(self.named("meta.json"))
