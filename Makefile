@@ -12,12 +12,13 @@
 # the manual pages, completions, schema, contrib's files, the Python module, documents and examples to DIR/share, and
 # the library with its header to DIR/lib (or LIBDIR) and DIR/include where it is built, too; `make install-lib` installs
 # the library alone; DESTDIR goes before all of them; `make uninstall PREFIX=DIR` takes all of it away; `make wheel`
-# packs the Python module with the library for pip, and `make venv` puts it into a virtual environment, .venv; `make deb`
-# makes a package of Debian's of what is installed; `make check PROGRAM=./ldvbi` runs the gate's scripts on the program;
-# `make dist` packs source and what is built, with checksums (docs/RELEASING.md); `make peers` has other programs read what it reads, and needs mame-tools and libzvbi-dev; `make channel`
-# has the library read simulated lines of worn discs, and needs python3-numpy and python3-scipy. With FROM=rust
-# `install`, `install-lib`, `wheel`, `venv` and `deb` take what `make rust` built. The system's loader finds a library that is
-# installed to /usr/local once `ldconfig` was run as root.
+# packs the Python module with the library for pip, and `make venv` puts it into a virtual environment, .venv; `make
+# deb` makes a package of Debian's of what is installed; `make check PROGRAM=./ldvbi` runs the gate's scripts on the
+# program; `make dist` packs source and what is built, with checksums (docs/RELEASING.md); `make peers` has other
+# programs read what it reads, and needs mame-tools and libzvbi-dev; `make channel` has the library read simulated lines
+# of worn discs, and needs python3-numpy and python3-scipy. With FROM=rust `install`, `install-lib`, `wheel`, `venv` and
+# `deb` take what `make rust` built. The system's loader finds a library that is installed to /usr/local once `ldconfig`
+# was run as root.
 
 PREFIX ?= /usr/local
 # Debian's is /usr/lib/x86_64-linux-gnu
@@ -125,7 +126,7 @@ rust-compare:
 	COMPARE_RUNS=$(N) COMPARE_SEED=$(SEED) COMPARE_RUNNER="$(RUNNER)" SCRIPT_SECONDS=86400 \
 	    HARNESS_VERBOSE=1 sh tests/scripts.sh rust/$(if $(TARGET),$(TARGET)/)ldvbi$(if $(findstring windows,$(TARGET)),.exe) rust_compare
 
-# With `test`, whose own are left out else
+# What the gate alone needs is installed by `make setup test`.
 setup:
 	sh tests/tools.sh install $(filter test,$(MAKECMDGOALS))
 

@@ -12,7 +12,7 @@ from ..into.field import AS_READ, BELIEVED, Words
 from ..into.text import Places
 from ..side import RECOVERED, Side
 from .faults import no_metadata
-from .outputs import drop_parts, refuse_inputs, whole_file, whole_path
+from .outputs import make_folder, refuse_inputs, whole_file, whole_path
 from .progress import Progress
 
 
@@ -95,12 +95,7 @@ def copies_in(folder: Optional[str], paths: Sequence[str], sides: Sequence[str])
 def make_folders(copies: Iterable[Optional[str]]) -> None:
     """Makes the folders of these copies, without what earlier processes left of some there."""
     for folder in sorted({os.path.dirname(copy) for copy in copies if copy}):
-        try:
-            os.makedirs(folder, exist_ok=True)
-        except OSError as error:
-            error.filename = folder  # and not one of those that it is in
-            raise
-        drop_parts(folder)
+        make_folder(folder)
 
 
 def _words_of_stream(stream: Stream) -> Iterator[Words]:

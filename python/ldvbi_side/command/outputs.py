@@ -129,6 +129,16 @@ def drop_parts(folder: str) -> None:
             _drop(os.path.join(folder, name))
 
 
+def make_folder(path: str) -> None:
+    """Makes a folder that is to be written to, without what earlier processes left of unfinished files there."""
+    try:
+        os.makedirs(path, exist_ok=True)
+    except OSError as error:
+        error.filename = path  # and not one of those that it is in
+        raise
+    drop_parts(path)
+
+
 def _drop(part):
     """Removes a part, which is a folder if something is written beside it."""
     with contextlib.suppress(OSError):

@@ -10,6 +10,8 @@ from ldvbi.library import library_text
 from ..outside import NAME, printable
 from .statuses import OPEN_END
 
+# The options by which a side is read, those with a value and those without
+_WITH_VALUE, _ALONE = ("meta", "system", "black", "white"), ("no_recover", "strict", "open_end")
 LEVELS = "the sample of %s, from 0 to 65535, in place of the metadata's; black is below white"
 
 
@@ -56,13 +58,11 @@ def add_settings(parser: argparse.ArgumentParser, tbc: str = "a TBC file") -> No
 
 def settings_in(options: argparse.Namespace) -> argparse.Namespace:
     """Those of the options that `add_settings` adds."""
-    names = ("meta", "system", "black", "white", "no_recover", "strict", "open_end")
-    return argparse.Namespace(**{name: getattr(options, name) for name in names})
+    return argparse.Namespace(**{name: getattr(options, name) for name in _WITH_VALUE + _ALONE})
 
 
 def words_of(options: argparse.Namespace) -> List[str]:
     """The same as words that ask for them."""
     given = {**vars(options), "meta": os.path.realpath(options.meta) if options.meta else None}
-    with_value, without = ("meta", "system", "black", "white"), ("no-recover", "strict", "open-end")
-    return [*("--%s=%s" % (name, given[name]) for name in with_value if given[name] is not None),
-            *("--" + name for name in without if given[name.replace("-", "_")])]
+    return [*("--%s=%s" % (name, given[name]) for name in _WITH_VALUE if given[name] is not None),
+            *("--" + name.replace("_", "-") for name in _ALONE if given[name])]

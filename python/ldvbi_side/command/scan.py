@@ -15,7 +15,7 @@ from ..outside import NAME, say
 from .faults import OF_TBC, fault_text
 from .folders import Task, files_of, name_below, page_names, sides_in
 from .into import copies_in, make_folders
-from .outputs import drop_part, drop_parts, refuse_inputs, whole_file
+from .outputs import drop_part, make_folder, refuse_inputs, whole_file
 from .parser import words_of
 from .parsers import parser_of_scan
 from .processes import Ended, SideBySide
@@ -90,12 +90,7 @@ class _Folder:
     def __init__(self, path: str) -> None:
         from ..draw.index import sides_of  # which few scans need
         self.path, self.index = path, os.path.join(path, INDEX)
-        try:
-            os.makedirs(path, exist_ok=True)
-        except OSError as error:
-            error.filename = path  # and not one of those that it is in
-            raise
-        drop_parts(path)
+        make_folder(path)
         self.known: Dict[str, Optional[str]] = sides_of(path)
 
     def write_index(self, tasks: Sequence[Task], rows: Sequence[Dict[str, Any]]) -> None:
