@@ -9,7 +9,7 @@
 # for another machine by `make rust TARGET=..`; `make rust-compare` compares that with what is proved.
 #
 # Once the program is built, these need no toolchain: `make install PREFIX=DIR` copies it and `ldvbi-side` to DIR/bin,
-# the manual pages, completions, schema, contrib's files, the Python module, documents and examples to DIR/share, and
+# the manual pages, completions, schema, the Python module, documents and examples to DIR/share, and
 # the library with its header to DIR/lib (or LIBDIR) and DIR/include where it is built, too; `make install-lib` installs
 # the library alone; DESTDIR goes before all of them; `make uninstall PREFIX=DIR` takes all of it away; `make wheel`
 # packs the Python module with the library for pip, and `make venv` puts it into a virtual environment, .venv; `make
@@ -37,7 +37,7 @@ BASH_COMPLETIONS := $(ROOT)/share/bash-completion/completions
 ZSH_COMPLETIONS := $(ROOT)/share/zsh/site-functions
 SCHEMAS := ldvbi.schema.json ldvbi-join.schema.json ldvbi-recovered.schema.json ldvbi-scan.schema.json \
 	ldvbi-side.schema.json
-SHARED := $(addprefix share/schema/,$(SCHEMAS)) contrib/plot_line.py
+SHARED := $(addprefix share/schema/,$(SCHEMAS))
 DOCUMENTS := $(ROOT)/share/doc/ldvbi
 PYTHON := $(wildcard python/*/*.py python/*/*/*.py)
 # What is installed and packed: what was proved and built here (proved), or what `make rust` leaves in rust/ (rust). If

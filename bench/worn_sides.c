@@ -2,7 +2,7 @@
    holds both against what was recorded: prints a table with a row for each damage, as
    docs/measured/worn_sides.txt has it.
    usage: worn_sides [PICTURES]     so many pictures of each side, or 900 */
-#include "../tests/library/worn.h"
+#include "worn.h"
 
 enum { KINDS = 4 };
 

@@ -1,7 +1,7 @@
 /* Prints the words of lines that come from no TBC file: 720 samples of 8 bits at 13.5 MHz to a line, as frame grabbers,
  * DVDs and captures of emulators have them. Standard input has lines 16, 17 and 18 of each field, one after the other.
- * A field is a line of text: its three words, each - where there is none, and `stop` where the library believes that it
- * has a picture stop. Status 2: the lines can't be read so, and standard error says why.
+ * A field is a line of text: its three words, with - for none, and `stop` if the library believes that the field has a
+ * picture stop. Status 2: the lines can't be read, and standard error says why.
  *
  *     cc -std=c99 -o pixels pixels.c -lldvbi && ./pixels NTSC 16 235 < lines.y8 */
 #include <errno.h>
@@ -10,7 +10,7 @@
 #include <stdlib.h>
 #include <string.h>
 
-/* The 720 samples are those of active video (ITU-R BT.601): so many others stand before them, from the line's begin. */
+/* The 720 samples are active video (ITU-R BT.601). This many others stand before them, from the line's beginning on. */
 enum { PIXELS = 720, NTSC_BEFORE = 122, PAL_BEFORE = 132, LONGEST = 1135 };
 
 /* Samples of 16 bits as the library takes them: the low byte first. */
@@ -20,8 +20,8 @@ static void put(uint8_t *line, size_t column, uint32_t sample) {
 }
 
 /* Samples a line anew, at four times the colour subcarrier: 910 samples of NTSC last as long as 858 at 13.5 MHz, and
- * 1135 of PAL as long as 864. Each new one lies on the straight line between the two pixels around its moment. Where
- * there is no pixel the line is black. A sample of 8 bits times 257 is one of 16. */
+ * 1135 of PAL as long as 864. Each new one lies on the straight line between the two pixels around its moment. The
+ * line is black where there is no pixel. A sample of 8 bits times 257 is one of 16. */
 static void resample(uint32_t system, uint32_t black, const uint8_t *pixels, uint8_t *line) {
     size_t width = ldvbi_line_samples(system), whole = system == LDVBI_NTSC ? 858 : 864;
     size_t before = system == LDVBI_NTSC ? NTSC_BEFORE : PAL_BEFORE;

@@ -1,5 +1,5 @@
-/* A player: searches a picture of a CAV side in a TBC file, or plays on to the next stop, and prints the field, from 1,
- * and the picture that it shows. What was misread is neither found nor shown, since the library judges each number by
+/* A player: finds a picture of a CAV side in a TBC file, or plays on to the next stop, and prints the field, from 1,
+ * and the picture that it shows. Misread numbers are neither found nor shown, since the library judges each number by
  * the fields around it. Status 1: a command found nothing; 2: something can't be read, and standard error says what.
  *     cc -o player player.c -lldvbi && ./player side.tbc NTSC 16384 51200 search 12345 play play */
 #define _DEFAULT_SOURCE
@@ -24,7 +24,7 @@ int main(int count, char **words) {
     require(count > 5, "usage: player FILE NTSC|PAL BLACK WHITE search N|play ..");
     uint32_t system = strcmp(words[2], "NTSC") == 0 ? LDVBI_NTSC : strcmp(words[2], "PAL") == 0 ? LDVBI_PAL : 0;
     uint32_t black = parse_number(words[3]), white = parse_number(words[4]);
-    check(ldvbi_recover_fields(system, black, white, NULL, 0, NULL, 0)); /* of no field: the numbers alone */
+    check(ldvbi_recover_fields(system, black, white, NULL, 0, NULL, 0)); /* no fields: tests the numbers */
     int file = open(words[1], O_RDONLY);
     size_t bytes = ldvbi_field_bytes(system), fields = (size_t)lseek(file, 0, SEEK_END) / bytes;
     void *side = mmap(NULL, fields * bytes, PROT_READ, MAP_SHARED, file, 0);
@@ -33,11 +33,11 @@ int main(int count, char **words) {
     LdvbiNumber *shown = calloc(fields, sizeof *shown);
     uint32_t *stops = calloc(fields, sizeof *stops);
     require(side != MAP_FAILED && read && seen && shown && stops, "no field of the file can be mapped");
-    madvise(side, fields * bytes, MADV_RANDOM); /* few pages of a field are read, and none shall be read ahead */
+    madvise(side, fields * bytes, MADV_RANDOM); /* few pages of a field are read: read none ahead */
     check(ldvbi_recover_fields(system, black, white, side, fields * bytes, read, fields));
     check(ldvbi_judge(system, LDVBI_PICTURES, LDVBI_FIND_PACE, read, fields, seen, fields, shown, fields));
     check(ldvbi_judge_stops(read, fields, stops, fields));
-    for (size_t i = fields - 1; i > 0; i--) /* where all fields of a picture have its stop, the first one counts */
+    for (size_t i = fields - 1; i > 0; i--) /* if all fields of a picture have its stop, the first one counts */
         if (stops[i - 1] == LDVBI_BELIEVED
                 && (shown[i].state == LDVBI_NOTHING || shown[i].number == shown[i - 1].number))
             stops[i] = LDVBI_NOTHING;

@@ -1,5 +1,5 @@
-// A player: searches a picture of a CAV side in a TBC file, or plays on to the next stop, and prints the field, from 1,
-// and the picture that it shows. What was misread is neither found nor shown, since the library judges each number by
+// A player: finds a picture of a CAV side in a TBC file, or plays on to the next stop, and prints the field, from 1,
+// and the picture that it shows. Misread numbers are neither found nor shown, since the library judges each number by
 // the fields around it. Status 1: a command found nothing; 2: something can't be read, and standard error says what.
 //     c++ -std=c++17 -o player player.cpp -lldvbi && ./player side.tbc NTSC 16384 51200 search 12345 play play
 #include <fcntl.h>
@@ -25,12 +25,12 @@ int main(int count, char **words) try {
     const std::string path = words[1], name = words[2];
     const std::uint32_t system = name == "NTSC" ? LDVBI_NTSC : name == "PAL" ? LDVBI_PAL : 0;
     const std::uint32_t black = parse_number(words[3]), white = parse_number(words[4]);
-    check(ldvbi_recover_fields(system, black, white, nullptr, 0, nullptr, 0)); // of no field: the numbers alone
+    check(ldvbi_recover_fields(system, black, white, nullptr, 0, nullptr, 0)); // no fields: tests the numbers
     const int file = open(path.c_str(), O_RDONLY);
     const std::size_t bytes = ldvbi_field_bytes(system), fields = std::size_t(lseek(file, 0, SEEK_END)) / bytes;
     void *side = mmap(nullptr, fields * bytes, PROT_READ, MAP_SHARED, file, 0);
     require(side != MAP_FAILED, "no field of " + path + " can be mapped");
-    madvise(side, fields * bytes, MADV_RANDOM); // few pages of a field are read, and none shall be read ahead
+    madvise(side, fields * bytes, MADV_RANDOM); // few pages of a field are read: read none ahead
     std::vector<LdvbiFieldReadings> read(fields);
     std::vector<LdvbiSightings> seen(fields);
     std::vector<LdvbiNumber> shown(fields);
@@ -39,7 +39,7 @@ int main(int count, char **words) try {
     check(ldvbi_judge(system, LDVBI_PICTURES, LDVBI_FIND_PACE, read.data(), fields, seen.data(), fields, shown.data(),
                       fields));
     check(ldvbi_judge_stops(read.data(), fields, stops.data(), fields));
-    for (std::size_t i = fields - 1; i > 0; i--) // where all fields of a picture have its stop, the first one counts
+    for (std::size_t i = fields - 1; i > 0; i--) // if all fields of a picture have its stop, the first one counts
         if (stops[i - 1] == LDVBI_BELIEVED
                 && (shown[i].state == LDVBI_NOTHING || shown[i].number == shown[i - 1].number))
             stops[i] = LDVBI_NOTHING;

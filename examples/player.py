@@ -1,6 +1,6 @@
 #!/usr/bin/env python3
-"""A player: searches a picture of a CAV side in a TBC file, or plays on to the next stop, and prints the field, from 1,
-and the picture that it shows. What was misread is neither found nor shown, since the library judges each number by the
+"""A player: finds a picture of a CAV side in a TBC file, or plays on to the next stop, and prints the field, from 1,
+and the picture that it shows. Misread numbers are neither found nor shown, since the library judges each number by the
 fields around it. Status 1: a command found nothing; 2: something can't be read, and standard error says what.
 
     PYTHONPATH=python python3 examples/player.py side.tbc NTSC 16384 51200 search 12345 play play
@@ -13,7 +13,7 @@ import ldvbi
 
 
 def stops_of(pictures, readings):
-    """The fields with a stop. Where all fields of a picture have its stop, the first one counts."""
+    """The fields with a stop. If all fields of a picture have its stop, the first one counts."""
     stops = [stop == ldvbi.State.believed for stop in ldvbi.judge_stops(readings)]
     return [place for place, stop in enumerate(stops) if stop and not (
         place and stops[place - 1] and pictures[place].number in (None, pictures[place - 1].number))]

@@ -1,5 +1,5 @@
 /* Prints the picture whose number a line shows: the bytes of one NTSC line on standard input, 1,820 of them. It prints
- * nothing where the line shows no word, or a word that says something else. Status 1: there are fewer bytes.
+ * nothing if the line shows no word, or a word that says something else. Status 1: there are fewer bytes.
  *
  *     cc -std=c99 -o say say.c -lldvbi
  *     ./say < line.raw */

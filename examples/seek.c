@@ -1,11 +1,11 @@
-/* Finds a picture or a chapter in a TBC file and prints the number of its first field, from 1: a picture of a CAV disc
- * by its number, one of a CLV disc by its time, as 0:59:29.07 for picture 7 of its second, and a chapter by the word
- * `chapter` and its number. Status 0: found; 1: not found; 2: what was asked for can't be read, and standard error says
- * why; 3: found by the lines alone, since nothing of the whole side is believed, as on a side of a few fields, and
- * standard error says so. It also says where the file ends inside a field.
+/* Finds a picture or a chapter in a TBC file and prints the number of its first field, from 1. A picture of a CAV disc
+ * is given by its number, one of a CLV disc by its time, as 0:59:29.07 for picture 7 of its second, and a chapter by
+ * the word `chapter` and its number. Status 0: found; 1: not found; 2: what was asked for can't be read, and standard
+ * error says why; 3: found by the lines alone, since nothing on the whole side is believed, as on a side of a few
+ * fields, and standard error says so. If the file ends inside a field, standard error says where.
  *
- * The library recovers the words of worn lines, and judges the numbers of all fields: a field is found where its number
- * or chapter is believed, or where the believed numbers around it leave no other, and never by a number that was
+ * The library recovers the words of worn lines, and judges the numbers of all fields. A field is found if its number or
+ * chapter is believed, or if the believed numbers around it leave no other. It is never found by a number that was
  * misread.
  *
  *     cc -o seek seek.c -lldvbi && ./seek side.tbc NTSC 16384 51200 12345
@@ -32,7 +32,7 @@ static int parse_number(const char **text, unsigned long most, uint32_t *number)
     char *end;
     if (**text < '0' || '9' < **text) return 0; /* strtoul would take a sign or a space */
     unsigned long value = strtoul(*text, &end, 10);
-    if (value > most) return 0; /* ULONG_MAX where it is too large for strtoul */
+    if (value > most) return 0; /* ULONG_MAX if it is too large for strtoul */
     *number = (uint32_t)value;
     *text = end;
     return 1;
@@ -47,7 +47,7 @@ static int parse_system(const char *text, uint32_t *system) {
     return *system != 0;
 }
 
-/* What is looked for: a picture's number, a chapter, or the hours and minutes of a time, with its seconds and
+/* What is sought: a picture's number, a chapter, or the hours and minutes of a time, with its seconds and
  * picture. */
 typedef struct {
     LdvbiCode number, seconds;
@@ -62,7 +62,7 @@ static int parse_time(const char *text, Wanted *wanted) {
            parse_number(&text, 99, &wanted->seconds.second) && *text == '\0';
 }
 
-/* Of a word, or of `chapter` and its number. */
+/* What a word, or `chapter` and its number, asks for. */
 static int parse_wanted(char **words, Wanted *wanted) {
     static const Wanted picture = {{LDVBI_PICTURE, 0, 0}, {LDVBI_OTHER, 0, 0}};
     static const Wanted chapter = {{LDVBI_CHAPTER, 0, 0}, {LDVBI_OTHER, 0, 0}};
@@ -82,7 +82,7 @@ static int find_code(const LdvbiReading *line, uint32_t kind, LdvbiCode *code) {
     return line->cause == LDVBI_WORD && ldvbi_classify(line->word, code) == LDVBI_DONE && code->kind == kind;
 }
 
-/* The number on lines 17 and 18: what the words of this kind say. Where the two differ, one was misread: then none. */
+/* The number on lines 17 and 18: what the words of this kind say; none if they differ, since one was misread. */
 static int find_number(const LdvbiFieldReadings *field, uint32_t kind, LdvbiCode *number) {
     LdvbiCode other;
     int is_first = find_code(&field->lines[1], kind, number);
@@ -99,8 +99,8 @@ static int shows(const LdvbiFieldReadings *field, const Wanted *wanted) {
     return find_code(&field->lines[0], LDVBI_CLV_PICTURE, &code) && is_same(&code, &wanted->seconds);
 }
 
-/* The number by which the library judges what is wanted: a time is one of pictures from the disc's beginning, and has
- * none where its minutes or its picture are beyond those of a disc. */
+/* The number by which the library judges what is wanted. A time is counted in pictures from the disc's beginning; it
+ * has no number if its minutes or its picture are beyond those of a disc. */
 static int judged_number(uint32_t system, const Wanted *wanted, uint32_t *number) {
     uint32_t rate = system == LDVBI_NTSC ? 30 : 25;
     *number = wanted->number.first;
@@ -118,7 +118,7 @@ typedef struct {
 } Side;
 
 /* Asks the system to fetch the pages with lines 16 to 18 of these fields, and doesn't wait for them. From a disk this
- * is several times as fast as one page after the other, when each is read. */
+ * is several times as fast as fetching each page when it is read. */
 static void fetch(const Side *side, size_t from, size_t to) {
     size_t page = (size_t)sysconf(_SC_PAGESIZE), line = ldvbi_line_bytes(side->system);
     for (size_t i = from; i < to; i++) {
@@ -147,7 +147,7 @@ static int fail(const char *path) {
     return 0;
 }
 
-/* Maps the whole fields of a file, and names one that is cut at its end. A file without one has no mapping. */
+/* Maps the whole fields of a file, and names a field that is cut at its end. Without a whole one nothing is mapped. */
 static int map_side(const char *path, Side *side) {
     size_t field = ldvbi_field_bytes(side->system), cut;
     int file = open(path, O_RDONLY);
@@ -162,7 +162,7 @@ static int map_side(const char *path, Side *side) {
     if (side->fields > 0) {
         side->bytes = (uint8_t *)mmap(NULL, side->size, PROT_READ, MAP_SHARED, file, 0);
         if (side->bytes == MAP_FAILED) return fail(path);
-        /* Few pages of a field are wanted, so the system shall not read ahead by itself. */
+        /* Few pages of a field are wanted, so the system should not read ahead by itself. */
         madvise(side->bytes, side->size, MADV_RANDOM);
     }
     close(file);
@@ -172,9 +172,9 @@ static int map_side(const char *path, Side *side) {
     return 1;
 }
 
-/* ---- The search. Fields are counted from 0; where none is found, it is the number of all fields. */
+/* ---- The search. Fields are counted from 0; if none is found, the answer is the count of all fields. */
 
-/* What is read and judged of each field, 52 bytes a field: 6 MB for half an hour. */
+/* What is read and judged: 52 bytes a field, 6 MB for half an hour. */
 typedef struct {
     LdvbiFieldReadings *readings;
     LdvbiSightings *seen;
@@ -195,8 +195,8 @@ static void release(Room *room) {
     free(room->numbers);
 }
 
-/* Judges numbers of this kind: pictures and times at the pace that is found, that of video, or that of film, whose
- * pictures last two and three fields by turns. Says whether any is believed. */
+/* Judges numbers of this kind: pictures and times at the pace that is found, which is that of video or that of film,
+ * whose pictures last two and three fields by turns. Says whether any is believed. */
 static uint32_t judge(const Side *side, uint32_t kind, const Room *room, int *is_any_believed) {
     uint32_t counted = kind == LDVBI_PICTURE ? LDVBI_PICTURES : LDVBI_TIMES;
     uint32_t status = kind == LDVBI_CHAPTER
@@ -217,9 +217,9 @@ static size_t first_shown(const Side *side, const Wanted *wanted, const Room *ro
     return field;
 }
 
-/* The first field whose number is believed or due, and is the one that is wanted. A side of which no chapter is
- * believed, or no number, neither as a picture's nor as a time, is too short to be judged, or has too few: of that, and
- * of that alone, what the lines say is taken as it is, and `is_raw` is 1. */
+/* The first field of which the wanted number is believed or due. If no chapter is believed on the side, or no number,
+ * whether as a picture or as a time, the side is too short to be judged, or has too few of them. For such a side, and
+ * only for such a one, what the lines say is taken as it is, and `is_raw` is 1. */
 static uint32_t find(const Side *side, const Wanted *wanted, const Room *room, size_t *found, int *is_raw) {
     int is_judged, is_other_disc = 0;
     uint32_t kind = wanted->number.kind, number, status = read_side(side, room->readings);

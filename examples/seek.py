@@ -1,13 +1,13 @@
 #!/usr/bin/env python3
-"""Finds a picture or a chapter in a TBC file and prints the number of its first field, from 1: a picture of a CAV disc
-by its number, one of a CLV disc by its time, as 0:59:29.07 for picture 7 of its second, and a chapter by the word
-`chapter` and its number. Status 0: found; 1: not found; 2: what was asked for can't be read, and standard error says
-why; 3: found by the lines alone. It also says where the file ends inside a field.
+"""Finds a picture or a chapter in a TBC file and prints the number of its first field, from 1. A picture of a CAV disc
+is given by its number, one of a CLV disc by its time, as 0:59:29.07 for picture 7 of its second, and a chapter by the
+word `chapter` and its number. Status 0: found; 1: not found; 2: what was asked for can't be read, and standard error
+says why; 3: found by the lines alone. If the file ends inside a field, standard error says where.
 
-Words of worn lines are recovered where no other word is near. A field is found by the number or chapter that the fields
-around it support, or by the number that they leave for it where it shows none: what was misread isn't found. Where no
-number of the whole side is supported so, as on a side of a few fields, or no chapter, the lines alone are believed, and
-standard error says that.
+Words of worn lines are recovered if no other word is near. A field is found by the number or chapter that the fields
+around it support, or by the number that they leave for it: misread numbers aren't found. If no number, or no chapter,
+of the whole side is supported in this way, as on a side of a few fields, the lines alone are believed, and standard
+error says that.
 
     PYTHONPATH=python python3 examples/seek.py side.tbc NTSC 16384 51200 12345
     PYTHONPATH=python python3 examples/seek.py side.tbc NTSC 16384 51200 chapter 3
@@ -50,8 +50,8 @@ def wanted_codes(text, is_chapter):
 # ---- By the fields around
 
 def judged_number(number, seconds, system):
-    """The number that is judged for these codes: of a time the pictures from the disc's beginning, or None where no
-    clock shows it."""
+    """The number that is judged for these codes. For a time it is the count of pictures from the disc's beginning; None
+    if no clock shows this time."""
     if seconds is None:
         return number.first
     if number.second >= 60 or seconds.second >= RATES[system]:
@@ -62,7 +62,7 @@ def judged_number(number, seconds, system):
 # ---- By a field's lines alone
 
 def number_of(field, kind):
-    """What lines 17 and 18 say of this kind. Where the two differ, one was misread: then None."""
+    """What lines 17 and 18 say of this kind; None if they differ, since one was misread."""
     codes = {ldvbi.classify(line.word) for line in field[1:] if line.word}
     numbers = [code for code in codes if code.kind == kind]
     return numbers[0] if len(numbers) == 1 else None
@@ -75,7 +75,7 @@ def shows(field, number, seconds):
 
 
 def believed_numbers(side, kind):
-    """What is judged of each field, or None where no number of the whole side is believed."""
+    """What is judged of each field, or None if no number of the whole side is believed."""
     if kind == ldvbi.Kind.chapter:
         numbers = ldvbi.judge_chapters(side)
     else:
@@ -116,7 +116,7 @@ def main():
 
 
 if __name__ == "__main__":
-    signal.signal(signal.SIGPIPE, signal.SIG_DFL)  # so that it ends quietly where nobody reads on
+    signal.signal(signal.SIGPIPE, signal.SIG_DFL)  # so that it ends quietly if nobody reads on
     try:
         sys.exit(main())
     except (OSError, ValueError) as error:

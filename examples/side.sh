@@ -1,9 +1,9 @@
 #!/bin/sh
 # Draws a capture of a short CAV side on which things went wrong: side.tbc, and side.tbc.json as ld-decode writes it, in
-# the folder where this is run. Of pictures 1 to 52 it has 10 to 13 skipped, 21 standing still, and 30 misread as 79999
-# on line 17, and not read on line 18; ten of its fields have damaged lines. There are stops on lines 16 and 17, and
-# three chapters.
-# usage: sh examples/side.sh [PROGRAM]     (`ldvbi` on the PATH, where no program is named)
+# the current folder. Of its pictures 1 to 52, 10 to 13 are skipped, 21 stands still, and 30 is misread as 79999 on line
+# 17 and not read on line 18; ten of its fields have damaged lines. There are stops on lines 16 and 17, and three
+# chapters.
+# usage: sh examples/side.sh [PROGRAM]     (without PROGRAM: `ldvbi` on the PATH)
 set -eu
 
 program=${1:-ldvbi}
@@ -29,7 +29,7 @@ ends() {
     ends 80EEEE
 } | "$program" draw --system NTSC --black 16384 --white 51200 > side.tbc
 
-# dropout FIELD LINE COLUMN COUNT: so many columns of a line, as low as a sample can be
+# dropout FIELD LINE COLUMN COUNT: makes COUNT columns of a line as low as a sample can be
 dropout() {
     dd if=/dev/zero of=side.tbc bs=2 seek=$(((($1 - 1) * 263 + $2 - 1) * 910 + $3)) count="$4" conv=notrunc \
         2> /dev/null

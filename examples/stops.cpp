@@ -1,10 +1,10 @@
-// Lists the picture stops of a TBC stream on standard input, field by field, as a player would meet them. Of a file
-// lines 16 to 18 are read, and no others. Status 2: the stream can't be read so, and standard error says why. It also
-// says where the stream ends inside a field.
+// Lists the picture stops of a TBC stream on standard input, field by field, as a player would meet them. Only lines 16
+// to 18 of a file are read. Status 2: the stream can't be read, and standard error says why. If the stream ends inside
+// a field, standard error says where.
 //
 // The library recovers the words of worn lines. A stop is one that it believes by the lines of its field. A picture's
-// number is one that it believes by the fields around it, or that is due between such fields, so the list is printed
-// when the stream has ended; it keeps 52 bytes of each field until then. Who wants no numbers reads on in stops.c.
+// number is one that it believes by the fields around it, or that is due between such fields. So the list is printed
+// when the stream has ended, and 52 bytes of each field are kept until then. If you need no numbers, see stops.c.
 //
 //     c++ -std=c++17 -o stops stops.cpp -lldvbi && ./stops NTSC 16384 51200 < side.tbc
 #include <algorithm>
@@ -47,13 +47,13 @@ public:
     Reader(std::uint32_t system, std::uint32_t black, std::uint32_t white)
         : system_(system), black_(black), white_(white) {
         if (ldvbi_abi() != LDVBI_ABI) throw std::runtime_error("the library has another interface");
-        check(ldvbi_recover_fields(system, black, white, nullptr, 0, nullptr, 0)); // of no field: the numbers alone
+        check(ldvbi_recover_fields(system, black, white, nullptr, 0, nullptr, 0)); // no fields: tests the numbers
     }
 
     std::size_t field_bytes() const { return ldvbi_field_bytes(system_); }
 
-    // Fetches a field of standard input, which begins at byte `at` of a file: of that lines 16 to 18 alone. What is no
-    // file, as a pipe, can only be read whole. Returns how many bytes of the field there are.
+    // Fetches a field of standard input. If that is a file, the field begins at its byte `at`, and only lines 16 to 18
+    // are read; a pipe can only be read whole. Returns how many bytes of the field there are.
     std::size_t fetch(off_t at, std::vector<std::uint8_t> &field) const {
         struct stat about;
         if (fstat(STDIN_FILENO, &about) != 0) fail(errno);
@@ -98,7 +98,7 @@ bool has_stop(const LdvbiFieldReadings &field) {
     return stop == LDVBI_BELIEVED;
 }
 
-// A picture's number stands on lines 17 and 18. Where the two differ, one was misread.
+// A picture's number stands on lines 17 and 18. If the two differ, one was misread.
 std::optional<std::uint32_t> find_picture(const LdvbiFieldReadings &field) {
     const auto first = find_code(field.lines[1], LDVBI_PICTURE), second = find_code(field.lines[2], LDVBI_PICTURE);
     if (first && second && first->first != second->first) return std::nullopt;
@@ -107,8 +107,8 @@ std::optional<std::uint32_t> find_picture(const LdvbiFieldReadings &field) {
     return std::nullopt;
 }
 
-// The picture of each field, as far as it is known. A stream of which no number is believed is too short to be judged,
-// or has too few: of that, and of that alone, what the lines say is taken as it is.
+// The picture of each field, as far as it is known. A stream on which no number is believed is too short to be judged,
+// or has too few numbers. For such a stream, and only for such a one, what the lines say is taken as it is.
 std::vector<std::optional<std::uint32_t>> find_pictures(std::uint32_t system,
                                                         const std::vector<LdvbiFieldReadings> &fields) {
     std::vector<LdvbiSightings> seen(fields.size());
@@ -125,7 +125,7 @@ std::vector<std::optional<std::uint32_t>> find_pictures(std::uint32_t system,
     return pictures;
 }
 
-// Prints the fields with a stop, from 1, and how many they are.
+// Prints the fields with a stop, from 1, and how many there are.
 void print_stops(std::uint32_t system, const std::vector<LdvbiFieldReadings> &fields) {
     const auto pictures = find_pictures(system, fields);
     std::size_t stops = 0;
@@ -147,7 +147,7 @@ int main(int count, char **words) try {
     const Reader reader(system, parse_number("black", words[2]), parse_number("white", words[3]));
     std::vector<std::uint8_t> field(reader.field_bytes());
     std::vector<LdvbiFieldReadings> fields;
-    const off_t begin = lseek(STDIN_FILENO, 0, SEEK_CUR); // of a file
+    const off_t begin = lseek(STDIN_FILENO, 0, SEEK_CUR); // if it is a file
     std::size_t length;
     while ((length = reader.fetch(begin + static_cast<off_t>(fields.size() * field.size()), field)) == field.size())
         fields.push_back(reader.read(field));

@@ -1,5 +1,5 @@
-/* Says whether a TBC file has a whole side, or why it hasn't, and where its numbers and fields don't go on together:
- * of each gap what it is, how many fields, and the two between which it lies, from 1, with their numbers: pictures,
+/* Says whether a TBC file has a whole side, or why it hasn't, and where its numbers and fields don't go on together.
+ * For each gap it prints the kind, how many fields, and the two fields around it, from 1, with their numbers: pictures,
  * or times as pictures from the disc's beginning. With the word `cut` the capture may end before the disc does.
  * Status 0: it is whole; 1: it isn't; 4: it can't be told; 2: something can't be read, and standard error says what.
  *
@@ -33,7 +33,7 @@ static uint32_t parse_number(const char *text) {
     return (uint32_t)strtoul(text, NULL, 10);
 }
 
-/* Prints the answer, and the gaps that there was room for. Returns the program's status. */
+/* Prints the answer and the gaps that there was room for. Returns the program's status. */
 static int print(const LdvbiSide *found, const LdvbiGap *gaps) {
     int is_whole = found->verdict == LDVBI_WHOLE, is_told = found->verdict != LDVBI_CANNOT_TELL;
     printf("whole: %s", is_whole ? "yes" : is_told ? "no" : "can't tell");
@@ -53,7 +53,7 @@ int main(int count, char **words) {
     require(count == 5 || may_end, "usage: whole FILE NTSC|PAL BLACK WHITE [cut]");
     uint32_t system = strcmp(words[2], "NTSC") == 0 ? LDVBI_NTSC : strcmp(words[2], "PAL") == 0 ? LDVBI_PAL : 0;
     uint32_t black = parse_number(words[3]), white = parse_number(words[4]), pace;
-    check(ldvbi_recover_fields(system, black, white, NULL, 0, NULL, 0)); /* of no field: the numbers alone */
+    check(ldvbi_recover_fields(system, black, white, NULL, 0, NULL, 0)); /* no fields: tests the numbers */
     int file = open(words[1], O_RDONLY);
     size_t bytes = ldvbi_field_bytes(system), fields = (size_t)lseek(file, 0, SEEK_END) / bytes;
     void *side = mmap(NULL, fields * bytes, PROT_READ, MAP_SHARED, file, 0);
@@ -62,7 +62,7 @@ int main(int count, char **words) {
     LdvbiNumber *numbers = (LdvbiNumber *)calloc(fields, sizeof *numbers);
     uint32_t *ends = (uint32_t *)calloc(fields, sizeof *ends);
     require(side != MAP_FAILED && read && seen && numbers && ends, "no field of the file can be mapped");
-    madvise(side, fields * bytes, MADV_RANDOM); /* few pages of a field are read, and none shall be read ahead */
+    madvise(side, fields * bytes, MADV_RANDOM); /* few pages of a field are read: read none ahead */
     check(ldvbi_recover_fields(system, black, white, side, fields * bytes, read, fields));
     check(ldvbi_judge_ends(read, fields, ends, fields));
     LdvbiGap gaps[ROOM];

@@ -18,21 +18,21 @@
  *     while (field < count && stops[field] != LDVBI_BELIEVED) field++;
  *     printf("the player stops in field %zu\n", field + 1);
  *
- * Where nothing is found, `field` is `count`. Without the advice the system reads ahead: ten pages and more for each
- * one that is wanted. The programs in examples/ test what the system answers, too. In docs/ LIBRARY.md says how to
- * link, which line has which code, and how frames, lines of other sample rates and mapped files are read; PROMISES.md
- * what is proved. Both folders are installed in share/doc/ldvbi.
+ * If nothing is found, `field` is `count`. Without the call of madvise the system reads ahead: ten pages or more for
+ * each one that is wanted. The programs in examples/ also test what the system answers. In docs/, LIBRARY.md says how
+ * to link, which line has which code, and how to read frames, lines of other sample rates and mapped files; PROMISES.md
+ * says what is proved. Both folders are installed in share/doc/ldvbi.
  *
  * Samples have 16 bits, the low byte first, as in ld-decode's TBC files: line after line, field after field. Black and
  * white are samples too: black16bIre and white16bIre of the .tbc.json. A sample above the middle of the two is high.
  *
- * Numbers are uint32_t, and all of their 32 bits are tested: 257 is not taken for system 1. C cuts a wider number to
- * 32 bits before the call, so test such a number first. No call tests the following, which the caller has to ensure:
+ * Numbers are uint32_t, and all of their 32 bits are tested: 257 is not taken for system 1. C cuts a wider number to 32
+ * bits before the call, so test such a number first. No call tests the following. The caller has to ensure it:
  *   - Each pointer points to as many bytes or values as the length or count beside it says, or to one value of its
- *     type. It may be null where that length or count is 0, as that of an empty std::vector, and nowhere else.
+ *     type. It may be null only if that length or count is 0, as that of an empty std::vector.
  *   - Pointers to structs are aligned as their types are. Pointers to samples needn't be.
- *   - What a call writes overlaps nothing else that it is given, and may hold anything before. During the call no other
- *     thread touches what it writes, and none writes what it reads.
+ *   - The memory that a call writes overlaps nothing else that the call is given. What it held before doesn't matter.
+ *     During the call no other thread touches the memory that it writes, and none writes the memory that it reads.
  * No call allocates, takes a lock, prints, calls back, throws, or keeps a pointer or anything else for a later call. So
  * any thread may call at any time, and so may a signal handler. */
 #ifndef LDVBI_H
@@ -45,8 +45,8 @@
 extern "C" {
 #endif
 
-/* LDVBI_POINTER: this argument, counted from 1, is never null. LDVBI_RESULT: the status is to be looked at. Define
- * LDVBI_NO_ATTRIBUTES before the header to leave both out. */
+/* LDVBI_POINTER: this argument, counted from 1, must not be null. LDVBI_RESULT: the caller has to look at the status.
+ * To leave both out, define LDVBI_NO_ATTRIBUTES before you include the header. */
 #if defined(__GNUC__) && !defined(LDVBI_NO_ATTRIBUTES)
 #define LDVBI_POINTER(number) __attribute__((nonnull(number)))
 #define LDVBI_RESULT __attribute__((warn_unused_result))
@@ -63,57 +63,58 @@ enum LdvbiSystem {
     /* to here */
 };
 
-/* The samples and the bytes of a line, the lines and the bytes of a field; 0 for any other number of a system. */
+/* The samples and the bytes of a line, and the lines and the bytes of a field. Any other number of a system has 0. */
 size_t ldvbi_line_samples(uint32_t system);
 size_t ldvbi_line_bytes(uint32_t system);
 size_t ldvbi_lines(uint32_t system);
 size_t ldvbi_field_bytes(uint32_t system);
 
-/* ---- Versions: that of this header. As a number it has a million for each major, a thousand for each minor. */
+/* ---- The version of this header */
 #define LDVBI_VERSION_MAJOR 0
 #define LDVBI_VERSION_MINOR 2
 #define LDVBI_VERSION_PATCH 0
 #define LDVBI_VERSION (LDVBI_VERSION_MAJOR * 1000000 + LDVBI_VERSION_MINOR * 1000 + LDVBI_VERSION_PATCH)
 #define LDVBI_VERSION_TEXT "0.2.0"
 
-/* The interface that this header declares. An addition, as of a call, a status or a kind, keeps the number and the
- * library's name libldvbi.so.1; a change or a removal raises both. So a program that was built with this header runs
- * with each library of this interface of the same version or a later one. It has to expect statuses, causes, kinds and
- * formats that it doesn't know. A check: if (ldvbi_abi() != LDVBI_ABI || ldvbi_version() < LDVBI_VERSION) .. */
+/* The interface that this header declares. If something is added, such as a call, a status or a kind, this number and
+ * the library's name libldvbi.so.1 stay. If something is changed or removed, both are raised. So a program that was
+ * built with this header runs with each library that has this interface and the same version or a later one. It has to
+ * expect statuses, causes, kinds and formats that it doesn't know. To check the library that is linked: if (ldvbi_abi()
+ * != LDVBI_ABI || ldvbi_version() < LDVBI_VERSION) .. */
 #define LDVBI_ABI 1
 
 uint32_t ldvbi_abi(void);     /* the interface of the library that is linked */
 uint32_t ldvbi_version(void); /* its version, as a number */
 
-/* ---- Statuses, in the order in which they are tested, but that LDVBI_BAD_ERASED comes last: a call has those of
- * the arguments that it takes. After any other than LDVBI_DONE, all that the call could have written is as it was. */
+/* ---- Statuses. They are tested in this order, except that LDVBI_BAD_ERASED comes last. A call returns only those that
+ * are about its arguments. After any status but LDVBI_DONE, all that the call could have written is as it was. */
 enum LdvbiStatus {
     LDVBI_DONE = 0,
     LDVBI_BAD_SYSTEM = 1, /* the system is neither LDVBI_NTSC nor LDVBI_PAL */
     LDVBI_BAD_LEVELS = 2, /* black is not below white, or one of them is above 65535 */
-    LDVBI_BAD_LENGTH = 3, /* not the bytes of the call's lines or fields in this system; arrays of different lengths */
-    LDVBI_BAD_WORD = 4,   /* a number is no code word: not from 0x800000 to 0xFFFFFF, nor 0 where 0 stands for none */
-    LDVBI_BAD_COUNTED = 5, /* neither LDVBI_PICTURES nor LDVBI_TIMES */
-    LDVBI_BAD_PACE = 6,    /* none of LDVBI_VIDEO, LDVBI_FILM and LDVBI_FIND_PACE */
-    LDVBI_BAD_ERASED = 7,  /* a list of LdvbiErased isn't sorted, or has an entry that isn't as it says there */
-    LDVBI_BAD_LINE = 8,    /* the line is none of 16, 17 and 18; tested before a list */
-    LDVBI_BAD_KNOWN = 9    /* whether dropouts are known is neither 0 nor 1; tested before a list */
+    LDVBI_BAD_LENGTH = 3, /* not the length of the call's lines or fields in this system, or arrays differ in length */
+    LDVBI_BAD_WORD = 4,   /* a word is not from 0x800000 to 0xFFFFFF (0 is allowed where it stands for no word) */
+    LDVBI_BAD_COUNTED = 5, /* `counted` is neither LDVBI_PICTURES nor LDVBI_TIMES */
+    LDVBI_BAD_PACE = 6,    /* `pace` is none of LDVBI_VIDEO, LDVBI_FILM and LDVBI_FIND_PACE */
+    LDVBI_BAD_ERASED = 7,  /* a list of LdvbiErased isn't sorted, or an entry isn't as that struct says */
+    LDVBI_BAD_LINE = 8,    /* `line` is none of 16, 17 and 18; tested before a list */
+    LDVBI_BAD_KNOWN = 9    /* `known` is neither 0 nor 1; tested before a list */
 };
 
-/* ---- Reading: a line shows a word, or the first of these causes for which it shows none. Column c is hopeless where
- * samples 0 to c rule a word out, whatever follows. */
+/* ---- Reading. A line shows a word, or the first of the causes below for which it shows none. Column c is hopeless if
+ * samples 0 to c rule out a word, whatever follows. */
 enum LdvbiCause {
     LDVBI_WORD = 0,
     LDVBI_BLANK = 1,      /* no sample is high */
     LDVBI_UNFINISHED = 2, /* no column is hopeless: a longer line could still show a word */
-    LDVBI_CHANGE = 3,     /* at the first hopeless column the level changes, or it is column 0 */
-    LDVBI_HOLD = 4        /* at the first hopeless column the level is that of the column before */
+    LDVBI_CHANGE = 3,     /* the level changes at the first hopeless column, or this is column 0 */
+    LDVBI_HOLD = 4        /* the level at the first hopeless column is that of the column before */
 };
 
 typedef struct LdvbiReading {
     uint8_t cause;   /* of enum LdvbiCause */
-    uint8_t pass;    /* 1: its levels show the word; 2: smoothed ones do, less surely; 3: it is recovered; 0: no word */
-    uint16_t column; /* of LDVBI_CHANGE and LDVBI_HOLD the first hopeless column, counted from 0; else 0 */
+    uint8_t pass;    /* 1: the line's levels show the word; 2: smoothed ones do, less surely; 3: recovered; 0: none */
+    uint16_t column; /* for LDVBI_CHANGE and LDVBI_HOLD the first hopeless column, counted from 0; else 0 */
     uint32_t word;   /* of LDVBI_WORD the word, from 0x800000 to 0xFFFFFF; else 0 */
 } LdvbiReading;
 
@@ -125,7 +126,7 @@ typedef struct LdvbiFieldReadings {
 LDVBI_RESULT LDVBI_POINTER(6) uint32_t ldvbi_read_line(uint32_t system, uint32_t black, uint32_t white,
     const void *samples, size_t length, LdvbiReading *reading);
 
-/* Reads lines 16, 17 and 18 that lie one after the other, as one pread fetches them: from byte 15 *
+/* Reads lines 16, 17 and 18, which lie one after the other, as one pread fetches them from byte 15 *
  * ldvbi_line_bytes(system) of their field on. `length` has to be 3 * ldvbi_line_bytes(system). */
 LDVBI_RESULT LDVBI_POINTER(6) uint32_t ldvbi_read_rows(uint32_t system, uint32_t black, uint32_t white,
     const void *samples, size_t length, LdvbiFieldReadings *readings);
@@ -134,66 +135,70 @@ LDVBI_RESULT LDVBI_POINTER(6) uint32_t ldvbi_read_rows(uint32_t system, uint32_t
 LDVBI_RESULT LDVBI_POINTER(6) uint32_t ldvbi_read_field(uint32_t system, uint32_t black, uint32_t white,
     const void *samples, size_t length, LdvbiFieldReadings *readings);
 
-/* The same for `count` fields, one after the other, as in a TBC file that is mapped. `length` has to be count times
- * ldvbi_field_bytes(system). Only two or three pages of each field are read, if the system reads none ahead
- * (MADV_RANDOM); examples/seek.c has it fetch these in time, which takes a quarter of the time. */
+/* The same for `count` fields, one after the other, as in a mapped TBC file. `length` has to be count *
+ * ldvbi_field_bytes(system). If the system reads nothing ahead (MADV_RANDOM), only two or three pages of each field are
+ * read. examples/seek.c has the system fetch them in advance, which takes a quarter of the time. */
 LDVBI_RESULT uint32_t ldvbi_read_fields(uint32_t system, uint32_t black, uint32_t white, const void *samples,
     size_t length, LdvbiFieldReadings *readings, size_t count);
 
-/* ---- The nearest word: what worn lines still bear
+/* ---- The nearest word: what can still be read of worn lines
  *
- * A word can be drawn from each column on that leaves room for it: 224 columns of NTSC, 285 of PAL. Of all these rows,
- * and of that of no word, which is black, the nearest one has the least distance from some lines: the sum, over their
- * samples, of how far each is from the row's, but at most (white - black). That is one column with the other level, in
- * one line.
+ * A word can be drawn from each column that leaves room for it: from 224 columns on NTSC, from 285 on PAL. Each drawn
+ * word is a row of samples, and no word is a row too, which is black. How far a row is from some lines is a sum over
+ * their samples: how far each is from the row's, but at most (white - black), which is one column with the other level
+ * in one line. The nearest of all rows has the least distance.
  *
- * This is proved: no row of any word, nor that of none, is nearer to the lines than the answered one, and no row of
+ * This is proved: no row, of any word or of none, is nearer to the lines than the one that is answered, and no row of
  * another word, or of none, is nearer than `rival`. So if another word was recorded, the samples are off by `rival` or
- * more in sum. Where two words are as near, rival is distance, and either may be answered.
+ * more in sum. If two words are equally near, `rival` is `distance`, and either may be answered.
  *
- * Nothing is promised of real samples: where a dropout turns a cell over, another word is nearest. Video, captions and
- * sines have a nearest word too, but of most the margin, which is rival - distance, is small. A sine of 0.5 MHz looks
- * like a word, but goes on beyond it: there `longer` is far below `distance`. */
+ * Nothing is promised of real samples: if a dropout turns a cell over, another word is nearest. Video, captions and
+ * sines have a nearest word too, but for most of them the margin (rival - distance) is small. A sine of 0.5 MHz looks
+ * like a word but goes on beyond it: there `longer` is far below `distance`. */
 typedef struct LdvbiNear {
     uint32_t word;     /* the nearest word, from 0x800000 to 0xFFFFFF; 0: no word is nearer than the row of none */
-    uint32_t start;    /* the column, counted from 0, from which on the word is drawn; 0 where there is none */
-    uint64_t distance; /* of this row */
+    uint32_t start;    /* the column, counted from 0, at which the drawn word begins; 0 if there is no word */
+    uint64_t distance; /* how far its row is from the lines */
     uint64_t rival;    /* the least distance of a row of another word, or of none */
-    uint64_t longer;   /* the least distance of this row with one more cell before or behind the 24 of the word; the
-                          same as `distance` where there is no word */
+    uint64_t longer;   /* the least distance of this row with one more cell before or after the 24 of the word; the
+                          same as `distance` if there is no word */
 } LdvbiNear;
 
-/* Finds the nearest word of 1 to 28 lines that all have one word or none, such as lines 17 and 18 of a field. They lie
- * one after the other: `length` has to be 1 to 28 times ldvbi_line_bytes(system). */
+/* Finds the nearest word of 1 to 28 lines that all have the same word or none, such as lines 17 and 18 of a field. They
+ * lie one after the other: `length` has to be 1 to 28 times ldvbi_line_bytes(system). */
 LDVBI_RESULT LDVBI_POINTER(6) uint32_t ldvbi_nearest(uint32_t system, uint32_t black, uint32_t white,
     const void *samples, size_t length, LdvbiNear *near);
 
-/* Reads lines 16, 17 and 18 as ldvbi_read_rows does, and recovers the words of worn ones, as pass 3: a line without a
- * word that isn't blank has the nearest code that may stand on it, where no word is nearer by more than 10 columns,
- * else its nearest word. The margin over the other codes, or over other words, has to be so many columns at least, of
- * (white - black) each:
+/* Reads lines 16, 17 and 18 as ldvbi_read_rows does, and recovers the words of worn lines, as pass 3. A line that shows
+ * no word and isn't blank gets the nearest code that may stand on it if no word is nearer by more than 10 columns; else
+ * it gets its nearest word. The margin over the other codes, or over the other words, has to be at least this many
+ * columns, of (white - black) each:
  *
  *                                           a code that may stand on the line   any other word
  *     one line                                               6                        8
  *     lines 17 and 18 together                               8                        9
- *     either, where they don't agree                        10                       12
+ *     either, if they don't agree                           10                       12
  *
- * If neither shows a word that stays and neither is blank, they are taken together where they agree: where the nearest
- * word or code of each is the same, or the common one is at most 30 columns farther from the two than that of each is
- * from its own line; and where each bears it: the common one is nearer to both, by 20 columns, than that of one line
- * to this line and no word to the other. The margin of both together also has to be a 36th of how much nearer the word
- * is than none, for a code, or a 48th, for any other word. Nothing is recovered where the row with one cell more
- * (`longer`), or with one or two cells black at an end, is nearer by more than 4 columns in each line, or that with
- * twelve cells black at an end isn't farther, by a quarter of how much farther none is; nor of two lines together
- * where the longer one is so of each.
+ * Lines 17 and 18 are taken together if neither shows a word that stays, neither is blank, they agree, and each bears
+ * the common word or code. They agree if each has the same nearest word or code, or if the common one is at most
+ * 30 columns farther from the two lines than the nearest one of each is from its own line. Each bears it if the common
+ * one is nearer to both lines together, by 20 columns, than the nearest one of either line is to that line and no word
+ * to the other. The margin of both together also has to be a part of how much nearer the word is than none: at least
+ * 4/144 for a code, and 3/144 for any other word.
  *
- * All that is asked first of the levelled lines: the mean of six cells is taken off, and the rest made to swing from
- * black to white, if it swings by 3 to 16 tenths of that, and of two lines neither more than twice as much as the
- * other. Then of the lines as they are. A word of pass 2 stays only where its line alone says it so, or where a row of
- * it whose cells have 98 to 102 hundredths of their length is nearer than that of any other word by 8 columns.
+ * Nothing is recovered if the row with one more cell (`longer`), or with one or two cells black at an end, is nearer by
+ * more than 4 columns in each line; nor if the row with twelve cells black at an end isn't farther by a quarter of how
+ * much farther none is. Two lines aren't taken together if, for each by itself, the row with one more cell is nearer by
+ * more than 4 columns.
  *
- * This is proved: the answer is that of this rule, a word of pass 1 stays as it is, and a blank line stays blank. That
- * a recovered word is the recorded one is not: it is measured on simulated lines. */
+ * All this is asked first of the levelled lines, then of the lines as they are. To level a line, the mean of six cells
+ * is taken off, and the rest is made to swing from black to white. This is done if the rest swings by 3 to 16 tenths of
+ * that, and if of two lines neither swings more than twice as much as the other. A word of pass 2 stays only if its
+ * line by itself says it in this way, or if a row of it whose cells have 98 to 102 hundredths of their length is nearer
+ * than that of any other word by 8 columns.
+ *
+ * This is proved: the answer is that of this rule, a word of pass 1 stays as it is, and a blank line stays blank. It
+ * isn't proved that a recovered word is the recorded one: this is measured on simulated lines. */
 LDVBI_RESULT LDVBI_POINTER(6) uint32_t ldvbi_recover_rows(uint32_t system, uint32_t black, uint32_t white,
     const void *samples, size_t length, LdvbiFieldReadings *readings);
 
@@ -201,17 +206,17 @@ LDVBI_RESULT LDVBI_POINTER(6) uint32_t ldvbi_recover_rows(uint32_t system, uint3
 LDVBI_RESULT uint32_t ldvbi_recover_fields(uint32_t system, uint32_t black, uint32_t white, const void *samples,
     size_t length, LdvbiFieldReadings *readings, size_t count);
 
-/* Columns of a line that are erased, as those of a dropout: they count for no nearest word. */
+/* Columns of a line that are erased, such as those of a dropout. They count for no nearest word. */
 typedef struct LdvbiErased {
     uint32_t field; /* of the fields in the call's bytes, counted from 0 */
     uint32_t line;  /* 16, 17 or 18 */
     uint32_t first; /* the first erased column, counted from 0 */
-    uint32_t last;  /* the last one, not before the first; those beyond the line count for nothing */
+    uint32_t last;  /* the last one, not before the first; columns beyond the line count for nothing */
 } LdvbiErased;
 
-/* The same as the two above without the columns that are erased. The list is sorted by field, then line, then first
- * column, and its entries may overlap. An empty one erases nothing. LDVBI_BAD_ERASED comes last: where all else is
- * right. This is proved: just the columns of a line that an entry names count for no nearest word of it. */
+/* The same as the two calls above, without the columns that are erased. The list is sorted by field, then line, then
+ * first column. Its entries may overlap. An empty list erases nothing. LDVBI_BAD_ERASED is returned only if all else is
+ * right. This is proved: just the columns of a line that an entry names count for no nearest word of this line. */
 LDVBI_RESULT LDVBI_POINTER(8) uint32_t ldvbi_recover_rows_without(uint32_t system, uint32_t black, uint32_t white,
     const void *samples, size_t length, const LdvbiErased *erased, size_t erased_count, LdvbiFieldReadings *readings);
 LDVBI_RESULT uint32_t ldvbi_recover_fields_without(uint32_t system, uint32_t black, uint32_t white,
@@ -222,25 +227,26 @@ LDVBI_RESULT uint32_t ldvbi_recover_fields_without(uint32_t system, uint32_t bla
  * JSON without a newline. In the document a comma and a newline stand between two records. */
 typedef struct LdvbiRecord {
     uint32_t length;   /* the bytes of the record */
-    uint8_t text[448]; /* them, which are ASCII, and zeros behind them */
+    uint8_t text[448]; /* the record in ASCII, then zeros */
 } LdvbiRecord;
 
-/* Writes the record of a field by its lines 16, 17 and 18, as ldvbi_recover_rows_without takes them. `number` is that
- * of the field, from 1 on in the document; none is refused. What it says of how near a nearest word is counts no erased
- * column. This is proved: without erased columns the text is the one that `ldvbi extract --recover` writes of the
- * field; with them it has the words and causes of ldvbi_recover_rows_without. */
+/* Writes the record of a field from its lines 16, 17 and 18, as ldvbi_recover_rows_without takes them. `number` is the
+ * number of the field, which in the document is counted from 1; any number is taken. The distances of nearest words in
+ * the record leave out erased columns. This is proved: without erased columns the text is the one that `ldvbi extract
+ * --recover` writes for the field; with them it has the words and causes of ldvbi_recover_rows_without. */
 LDVBI_RESULT LDVBI_POINTER(9) uint32_t ldvbi_recovered_record(uint32_t system, uint32_t black, uint32_t white,
     uint32_t number, const void *samples, size_t length, const LdvbiErased *erased, size_t erased_count,
     LdvbiRecord *record);
 
-/* Finds the word that 1 to 28 lines say together, which all have one word, or none: `word` gets 0 where they say none.
- * They are of one number, `line`: 16, 17 or 18. They lie one after the other, as ldvbi_nearest takes them, and may be
- * of several fields or captures. `erased` lists columns that count for nothing: `field` is the place of the line among
- * these, counted from 0, and `line` is that number.
+/* Finds the word that 1 to 28 lines say together. They all have the same word or none, and `word` gets 0 if they say
+ * none. They have the same number, `line`: 16, 17 or 18. They lie one after the other, as ldvbi_nearest takes them, and
+ * may be of several fields or captures. `erased` lists columns that count for nothing. In its entries `field` is the
+ * place of the line among these lines, counted from 0, and `line` is their number.
  *
- * The rule is that of ldvbi_recover_rows for two lines, but for the margins: where dropouts are known (`known` is 1), a
- * code that may stand on the line has to be ahead by 6 columns, else (`known` is 0) by 10; any other word by 10. Asked
- * first are the levelled lines, if each swings so much, and none more than twice as much as another.
+ * The rule is that of ldvbi_recover_rows for two lines, with other margins. A code that may stand on the line has to be
+ * ahead by 6 columns if dropouts are known (`known` is 1), else (`known` is 0) by 10; any other word by 10. The
+ * levelled lines are asked first if each of them swings as much as said there, and none more than twice as much as
+ * another.
  *
  * This is proved: the answer is that of this rule, and just the columns that an entry names count for nothing. */
 LDVBI_RESULT LDVBI_POINTER(10) uint32_t ldvbi_recover_pile(uint32_t system, uint32_t black, uint32_t white,
@@ -266,13 +272,13 @@ enum LdvbiKind {
 };
 
 typedef struct LdvbiCode {
-    uint32_t kind, first, second; /* of enum LdvbiKind, and its numbers; one that this kind doesn't have is 0 */
+    uint32_t kind, first, second; /* of enum LdvbiKind, then its numbers; a number that this kind doesn't have is 0 */
 } LdvbiCode;
 
-/* What a word says. 0 is no word. */
+/* Finds what a word says. 0 is no word. */
 LDVBI_RESULT LDVBI_POINTER(2) uint32_t ldvbi_classify(uint32_t word, LdvbiCode *code);
 
-/* Which discs a field's codes speak of. */
+/* The discs that a field's codes belong to */
 enum LdvbiFormat {
     LDVBI_NEITHER = 0,
     LDVBI_CAV = 1, /* picture numbers or picture stops, and no code of a CLV disc */
@@ -280,35 +286,37 @@ enum LdvbiFormat {
     LDVBI_BOTH = 3 /* codes of both: one of them was misread */
 };
 
-/* The format of a field whose lines 16, 17 and 18 have these words, each 0 where there is none. */
+/* Finds the format of a field whose lines 16, 17 and 18 have these words. 0 stands for no word. */
 LDVBI_RESULT LDVBI_POINTER(4) uint32_t ldvbi_format(uint32_t first, uint32_t second, uint32_t third, uint32_t *format);
 
 /* ---- Judging: which number of its disc each field shows
  *
  * A misread line shows a number like any other, so the fields around it decide whether the number is believed. They
- * support it where theirs fit it at the disc's pace, as picture 101 two fields later fits picture 100. A word of pass 1
- * weighs 2, one of pass 2 or 3 weighs 1. A number is believed only where the words that support it, in the field itself
- * and in the LDVBI_REACH fields before and behind it, weigh 10 or more, and more than those for any other number of it.
+ * support it if their numbers fit it at the disc's pace, as picture 101 two fields later fits picture 100. A word of
+ * pass 1 weighs 2, one of pass 2 or 3 weighs 1. A number is believed only if the words that support it, in the field
+ * itself and in the LDVBI_REACH fields before and after it, weigh 10 or more, and more than those for any other number
+ * of the field.
  *
  * This is proved: if the disc ran on at the pace that is judged by, from LDVBI_REACH fields before a field to as many
- * behind it, and the misread words of lines 17 and 18 there weigh less than 10, a believed number is the one that was
- * recorded. Of times line 16 counts too, and twice, since both lines' numbers stand on it. Where the field has no
- * number on the disc, a believed one fits one that was recorded and read near it. If the player stood still at a
- * picture of video, the same holds as long as those words weigh less than 6, and the pace is that of video.
+ * after it, and the misread words of lines 17 and 18 there weigh less than 10, a believed number is the one that was
+ * recorded. For times, line 16 counts too, and twice, since both lines' numbers rest on it. If the field has no number
+ * on the disc, a believed one fits one that was recorded and read near it. If the player stood still at a picture of
+ * video, the same holds as long as those words weigh less than 6 and the pace is that of video.
  *
- * A number is due in a field of which none is believed if those of two believed fields, one before it and one after
- * it, count to it: both lie whole pictures away, and at most LDVBI_REACH fields. Each believed number between the two
- * has to fit it; of video it may be a field off if the two are at most 8 fields apart. None is due if the field shows
- * a code that stands in place of a number, or one number on both lines in pass 1. This is proved too: if the believed
- * numbers within LDVBI_REACH fields are right, the field has the one that is due if the disc is regular: if numbers of
- * the disc before and after the field, both within LDVBI_REACH fields, count to one number in it, it has that one.
+ * If no number of a field is believed, one may be due in it: the number that two believed fields, one before it and one
+ * after it, count to. Both lie a whole number of pictures away, and at most LDVBI_REACH fields. Each believed number
+ * between the two has to fit it; on video it may be a field off if the two are at most 8 fields apart. None is due if
+ * the field shows a code that stands in place of a number, or one number on both lines in pass 1. This is proved too:
+ * if the believed numbers within LDVBI_REACH fields are right, and the disc is regular, the field has the number that
+ * is due. The disc is regular here if this holds: when numbers of the disc before and after the field, both within
+ * LDVBI_REACH fields, count to one number in it, it has that number.
  *
- * Nothing is promised where the player jumped, the capture lost a field, or the clock of an NTSC CLV disc leaves out
- * a number, within LDVBI_REACH fields, nor where film stands still, nor at a pace that is not the disc's, though
- * errors are rare there too. Lost fields are judged by ldvbi_judge_side; minutes without their seconds by
+ * Nothing is promised if, within LDVBI_REACH fields, the player jumped, the capture lost a field, or the clock of an
+ * NTSC CLV disc leaves out a number. Nor is anything promised if film stands still, or at a pace that isn't the disc's.
+ * Errors are rare there too. ldvbi_judge_side judges lost fields; minutes without their seconds are judged by
  * `ldvbi-side` alone. */
 
-enum { LDVBI_REACH = 24 }; /* so many fields before a field, and as many behind it, are looked at */
+enum { LDVBI_REACH = 24 }; /* how many fields before a field, and how many after it, are looked at */
 
 enum LdvbiCounted {
     LDVBI_PICTURES = 1, /* the picture numbers of a CAV disc */
@@ -317,12 +325,12 @@ enum LdvbiCounted {
 
 enum LdvbiPace {
     LDVBI_VIDEO = 1,    /* a picture lasts two fields */
-    LDVBI_FILM = 2,     /* a picture lasts two and three fields by turns, as film does on NTSC */
-    LDVBI_FIND_PACE = 3 /* of film where over a tenth more numbers of NTSC pictures are believed by it, else of video */
+    LDVBI_FILM = 2,     /* pictures last two and three fields by turns, as those of film do on NTSC */
+    LDVBI_FIND_PACE = 3 /* film's if over a tenth more numbers of NTSC pictures are believed by it, else video's */
 };
 
 typedef struct LdvbiSighting {
-    uint32_t number; /* that a line shows */
+    uint32_t number; /* the number that a line shows */
     uint32_t weight; /* 2: in pass 1; 1: in pass 2 or 3; 0: the line shows no number, and `number` is 0 */
 } LdvbiSighting;
 
@@ -334,8 +342,8 @@ typedef struct LdvbiSightings {
 enum LdvbiState {
     LDVBI_NOTHING = 0,  /* the field shows no number, and none is due; the number is 0 */
     LDVBI_BELIEVED = 1, /* the field shows the number, and it is believed */
-    LDVBI_DOUBTFUL = 2, /* the field shows the number (of two, that of line 17); none is believed of it, none is due */
-    LDVBI_DUE = 3       /* none is believed of the field, and those before and behind count to this one, shown or not */
+    LDVBI_DOUBTFUL = 2, /* the field shows the number (if two, that of line 17); none is believed of it, none is due */
+    LDVBI_DUE = 3       /* none of the field is believed, and those before and after count to this one, shown or not */
 };
 
 typedef struct LdvbiNumber {
@@ -343,186 +351,189 @@ typedef struct LdvbiNumber {
     uint32_t state; /* of enum LdvbiState */
 } LdvbiNumber;
 
-/* Judges the numbers of `count` fields that follow each other. `numbers` gets the answers. `seen` is room for the call,
- * and gets what each field shows. Both have `count` values. If a capture goes on, judge it again with its new fields:
- * at one pace these may change what is believed of the last LDVBI_REACH fields, and what is due in twice as many.
- * Before those all answers stay. With LDVBI_FIND_PACE the pace may turn, and with it any answer. */
+/* Judges the numbers of `count` fields that follow each other. `numbers` gets the answers. `seen` is room for the call
+ * to work in, and gets what each field shows. Both have `count` values. If a capture goes on, judge it again with its
+ * new fields. If the pace is given, these may change what is believed of the last LDVBI_REACH fields, and what is due
+ * in twice as many; all answers before those stay. With LDVBI_FIND_PACE the pace may change, and with it any answer. */
 LDVBI_RESULT uint32_t ldvbi_judge(uint32_t system, uint32_t counted, uint32_t pace, const LdvbiFieldReadings *readings,
     size_t count, LdvbiSightings *seen, size_t seen_count, LdvbiNumber *numbers, size_t number_count);
 
-/* Completes times whose minute wasn't read: of a field of which line 16 shows second and picture, and neither line 17
- * nor 18 a time, by the times that were read in the LDVBI_VOTE_REACH fields before it and behind it. Of these each one
- * that goes on with its second and picture, whatever the minute, votes for a number of this field, with the weight that
- * it has. The number that has more than half of the weight, and 4 of it or more (two lines of pass 1), is elected.
+/* Completes times whose minute wasn't read. Line 16 of such a field shows second and picture, and neither line 17 nor
+ * line 18 shows a time. The times that were read in the LDVBI_VOTE_REACH fields before it and after it vote: each one
+ * that goes on with the second and picture of the field, whatever the minute, votes for a number of the field with its
+ * own weight. The number that has more than half of the weight, and 4 of it or more (two lines of pass 1), is elected.
  * `completed` gets the readings, and on line 17 of such a field the hours and minutes of that number, in the pass of
- * line 16; lines 16 and 18 stay. `seen` gets what the readings show, as of ldvbi_judge with LDVBI_TIMES. All arrays
- * have `count` values. Give `completed` in place of `readings` where times are judged; judge chapters and ends by the
- * readings themselves, as line 17 may have been one.
+ * line 16; lines 16 and 18 stay. `seen` gets what the readings show, as from ldvbi_judge with LDVBI_TIMES. All arrays
+ * have `count` values. To judge times, give `completed` in place of `readings`. Judge chapters and ends by the readings
+ * themselves, since line 17 may have shown one.
  *
- * This is proved: if the disc ran on within these fields, and of the votes less weight was read wrongly than rightly,
- * or less than 4, a field gets no other time than the one on the disc. It gets that one if less was read wrongly than
- * rightly, and 4 or more rightly, line 16 has the disc's second and picture, and the hour has one digit. */
+ * This is proved: if the disc ran on within these fields, and the votes that were read wrongly weigh less than those
+ * that were read rightly, or less than 4, a field gets no other time than the one on the disc. It gets that one if the
+ * wrong ones weigh less than the right ones, the right ones weigh at least 4, line 16 has the disc's second and
+ * picture, and the hour has one digit. */
 enum { LDVBI_VOTE_REACH = 240 };
 LDVBI_RESULT uint32_t ldvbi_complete_times(uint32_t system, const LdvbiFieldReadings *readings, size_t count,
     LdvbiSightings *seen, size_t seen_count, LdvbiFieldReadings *completed, size_t completed_count);
 
-/* The pace that ldvbi_judge takes for these readings with LDVBI_FIND_PACE: LDVBI_VIDEO or LDVBI_FILM. `seen` gets the
- * same as there. To judge a capture that goes on by one pace, find it where enough is read. */
+/* Finds the pace that ldvbi_judge takes for these readings with LDVBI_FIND_PACE: LDVBI_VIDEO or LDVBI_FILM. `seen` gets
+ * the same as there. To judge a capture that goes on by one pace, find the pace when enough has been read. */
 LDVBI_RESULT LDVBI_POINTER(7) uint32_t ldvbi_find_pace(uint32_t system, uint32_t counted,
     const LdvbiFieldReadings *readings, size_t count, LdvbiSightings *seen, size_t seen_count, uint32_t *pace);
 
-enum { LDVBI_PART = 97 }; /* the answer of a field depends on itself and 2 * LDVBI_REACH on either side */
+enum { LDVBI_PART = 97 }; /* the answer for a field depends on it and on 2 * LDVBI_REACH fields on either side */
 
-/* Judges the field `field`, counted from 0, of at most LDVBI_PART that follow each other, for a player that jumps about
- * and has no room to give. This is proved: if the readings have 2 * LDVBI_REACH fields before it, or begin with the
- * side, and as many behind it, or end with the side, `number` is what ldvbi_judge answers of it in the whole side at
- * the same pace. `pace` is LDVBI_VIDEO or LDVBI_FILM, as ldvbi_find_pace answers of the side: a few fields have none of
- * their own. LDVBI_BAD_LENGTH is also for a `field` that isn't below `count`. */
+/* Judges the field `field`, counted from 0, of at most LDVBI_PART fields that follow each other. It is for a player
+ * that jumps about and has no room to give. This is proved: if the readings have 2 * LDVBI_REACH fields before it, or
+ * begin with the side, and have as many after it, or end with the side, `number` is what ldvbi_judge answers for it in
+ * the whole side at the same pace. `pace` is LDVBI_VIDEO or LDVBI_FILM, as ldvbi_find_pace answers for the side: a few
+ * fields have no pace of their own. LDVBI_BAD_LENGTH is returned also if `field` isn't below `count`. */
 LDVBI_RESULT LDVBI_POINTER(7) uint32_t ldvbi_judge_field(uint32_t system, uint32_t counted, uint32_t pace,
     const LdvbiFieldReadings *readings, size_t count, size_t field, LdvbiNumber *number);
 
 /* ---- Seeking a number, and where it was found */
 typedef struct LdvbiSought {
-    size_t field;       /* counted from 0; as many as the side has if none was found */
-    LdvbiNumber number; /* what is answered of this field: the number, LDVBI_BELIEVED or LDVBI_DUE; else 0 */
-    uint32_t pace;      /* that at which it is answered, LDVBI_VIDEO or LDVBI_FILM; else 0 */
-    uint32_t looked;    /* how many fields were read, LDVBI_LOOKED at most */
+    size_t field;       /* counted from 0; the count of the side's fields if none was found */
+    LdvbiNumber number; /* the answer for this field: the number, and LDVBI_BELIEVED or LDVBI_DUE; else 0 */
+    uint32_t pace;      /* the pace of this answer, LDVBI_VIDEO or LDVBI_FILM; else 0 */
+    uint32_t looked;    /* how many fields were read, at most LDVBI_LOOKED */
 } LdvbiSought;
 enum { LDVBI_LOOKED = 1000 };
 
-/* Seeks a number in the `length` bytes of a side, as a mapped file: by halving, so few fields are read. `pace` is as
- * for ldvbi_judge. With LDVBI_FIND_PACE the call takes a pace by the few fields that it judges, and names it in
- * `sought`: it needn't be the one that ldvbi_find_pace answers of the side. A cut last field is left out.
+/* Seeks a number in the `length` bytes of a side, such as a mapped file. It does so by halving, so few fields are read.
+ * `pace` is as for ldvbi_judge. With LDVBI_FIND_PACE the call finds a pace by the few fields that it judges, and names
+ * it in `sought`. It needn't be the one that ldvbi_find_pace answers for the side. A cut last field is left out.
  *
  * This is proved: the field that is answered has the number as ldvbi_judge answers it, at this pace, by what
- * ldvbi_recover_fields reads of all fields, and the field before it hasn't. The first field with a number is found on a
- * side of at most a million fields where the numbers lead to it: along a sixteenth of the side or more 12 fields from
- * each one on tell a number together, elsewhere none do, and lower numbers are told before the field, higher ones behind
- * it. That a side is so isn't proved: those were that were tried where a player runs on, with any lead-in and lead-out,
- * and each line is read. A number may be missed elsewhere: to be sure that one isn't there, judge the whole side. */
+ * ldvbi_recover_fields reads of all fields, and the field before it hasn't. The first field with a number is found if
+ * the side has at most a million fields and its numbers lead there. They do if three things hold: along a sixteenth of
+ * the side or more, any 12 fields in a row tell a number together; elsewhere none do; lower numbers are told before
+ * the field, higher ones after it. It isn't proved that a side is like this. The sides that were tried are, if the
+ * player runs on, with any lead-in and lead-out, and each line is read. Otherwise a number may be missed: to be sure
+ * that it isn't there, judge the whole side. */
 LDVBI_RESULT LDVBI_POINTER(9) uint32_t ldvbi_seek(uint32_t system, uint32_t black, uint32_t white, uint32_t counted,
     uint32_t pace, const void *bytes, size_t length, uint32_t number, LdvbiSought *sought);
 
 /* ---- Judging chapters
  *
- * A chapter is believed only where the codes that say it, in the field itself and in the LDVBI_REACH fields before and
- * behind it, weigh 10 or more, and more than those that say any other chapter of the field. Those that speak against it
- * have to weigh less than 10: codes of later chapters before the field or in it, and of earlier ones behind or in it.
+ * A chapter is believed only if the codes that say it, in the field itself and in the LDVBI_REACH fields before and
+ * after it, weigh 10 or more, and more than those that say any other chapter of the field. The codes that speak against
+ * it have to weigh less than 10: those of later chapters before the field or in it, and those of earlier chapters after
+ * it or in it.
  *
  * This is proved, whatever the disc and the player do: if the chapter codes within LDVBI_REACH fields of a field that
  * aren't what the disc has there weigh less than 10, a believed chapter is one that the disc has within these fields.
- * And where the codes of one chapter weigh 10 or more within LDVBI_REACH fields before a field, and 10 or more within
- * as many behind it, no other chapter is believed of it.
+ * And if the codes of one chapter weigh 10 or more within LDVBI_REACH fields before a field, and 10 or more within as
+ * many after it, no other chapter is believed of that field.
  *
- * So a chapter can seem longer by a few fields, where codes near its ends are misread as its. Where a player goes back
- * to an earlier chapter, none may be believed for LDVBI_REACH fields before and behind. */
+ * So a chapter can seem longer by a few fields if codes near its ends are misread as its own. If a player goes back to
+ * an earlier chapter, it may be that no chapter is believed for LDVBI_REACH fields before and after. */
 
 /* Judges the chapters of fields as ldvbi_judge does their numbers. `chapters` gets the answers: the number is the
- * chapter, and the state is never LDVBI_DUE. Most fields have no code of one: these have LDVBI_NOTHING, and are of the
+ * chapter, and the state is never LDVBI_DUE. Most fields have no chapter code. They have LDVBI_NOTHING, and are of the
  * chapter that was believed last. `seen` gets the chapters that lines 17 and 18 show, with `instead` 0. */
 LDVBI_RESULT uint32_t ldvbi_judge_chapters(const LdvbiFieldReadings *readings, size_t count, LdvbiSightings *seen,
     size_t seen_count, LdvbiNumber *chapters, size_t chapter_count);
 
-/* The first field, counted from 0, whose number or chapter is believed or due and is this one; else `count`. */
+/* Returns the first field, counted from 0, of which this number or chapter is believed or due; else `count`. */
 size_t ldvbi_first_of(const LdvbiNumber *numbers, size_t count, uint32_t number);
 
 /* ---- Judging stops
  *
- * A disc has a stop on lines 16 and 17. It is believed where one of the two shows it in pass 1, or where both do, in
- * whatever pass. Other fields have no say, since a stop may stand anywhere on a side.
+ * A disc has a stop on lines 16 and 17. It is believed if one of the two shows it in pass 1, or if both do, in whatever
+ * pass. Other fields have no say, since a stop may stand anywhere on a side.
  *
  * This is proved: if the disc has no stop in a field, and one is believed of it, a word of pass 1 was misread on its
- * lines 16 and 17, or both words were. A stop that the disc has is believed where one line was read right in pass 1, or
+ * lines 16 and 17, or both words were. A stop that the disc has is believed if one line was read right in pass 1, or if
  * both were read right. */
 
-/* Judges the stops of `count` fields, each by itself, so it may be one field alone. `stops` gets of each field
- * LDVBI_BELIEVED; LDVBI_DOUBTFUL where line 16 or 17 shows a stop that isn't believed; or LDVBI_NOTHING. A player stops
- * at the first field behind its own that has LDVBI_BELIEVED. All fields of a picture may have its stop. */
+/* Judges the stops of `count` fields. Each is judged by itself, so it may be one field alone. For each field `stops`
+ * gets LDVBI_BELIEVED; LDVBI_DOUBTFUL if line 16 or 17 shows a stop that isn't believed; else LDVBI_NOTHING. A player
+ * stops at the first field after its own that has LDVBI_BELIEVED. All fields of a picture may have its stop. */
 LDVBI_RESULT uint32_t ldvbi_judge_stops(const LdvbiFieldReadings *readings, size_t count, uint32_t *stops,
     size_t stop_count);
 
 /* ---- Judging a whole side
  *
- * Where the numbers and the fields of a side don't go on together, and whether its capture is whole. Two neighbouring
- * believed numbers go on if they lie as many fields apart as they count to. These are two for each picture or time; of
- * film two and a half, to within a field; and of video with a number on both fields of a picture two, to within a
- * field. All else is a gap.
+ * ldvbi_judge_side finds the places where the numbers and the fields of a side don't go on together, and judges whether
+ * its capture is whole. Two neighbouring believed numbers go on if they lie as many fields apart as they count to: two
+ * for each picture or time; two and a half on film, to within a field; and two, to within a field, on video with a
+ * number on both fields of a picture. All else is a gap.
  *
- * This is proved: `gaps` gets each gap, once and in order, as far as it has room, and `side->tally` counts all of
- * them. For what follows the numbers have to be those of ldvbi_judge at this pace, and the disc has to count on, so
- * that any two of its numbers go on.
+ * This is proved: `gaps` gets each gap, once and in order, as far as it has room, and `side->tally` counts all of them.
+ * What follows holds if the numbers are those of ldvbi_judge at this pace, and the disc counts on: any two of its
+ * numbers go on.
  *
- * If each field of the capture stands later on the disc than the one before it, the capture is LDVBI_WHOLE, `last` is
- * 2 * LDVBI_REACH fields or more after `first`, and the words misread within LDVBI_REACH fields of each of the two
- * weigh less than 10, then no field of video is lost from LDVBI_REACH fields after `first` to as many before `last`,
- * whatever was misread between. If numbers are on both fields of a picture, at most two are lost between a field that
- * near to `first` and one that near to `last`; of film at most four.
+ * If each field of the capture stands later on the disc than the one before it, the capture is LDVBI_WHOLE, `last` is 2
+ * * LDVBI_REACH fields or more after `first`, and the words misread within LDVBI_REACH fields of each of the two weigh
+ * less than 10, then no field of video is lost from LDVBI_REACH fields after `first` to as many before `last`, whatever
+ * was misread between. If numbers are on both fields of a picture, at most two fields are lost between a field that
+ * near to `first` and one that near to `last`; on film at most four.
  *
  * With a number on one field of each picture: if each field stands later on the disc than the one before it, and the
  * numbers at both ends of each LDVBI_LOST gap are right, the capture lacks at least `tally.lost` fields of the disc
- * between `first` and `last`. And in whatever order the fields stand, if the words misread within LDVBI_REACH fields
- * of each end of a gap of video weigh less than 10, the capture isn't one run of the disc from LDVBI_REACH fields
- * before the gap to as many after it.
+ * between `first` and `last`. And in whatever order the fields stand, if the words misread within LDVBI_REACH fields of
+ * each end of a gap of video weigh less than 10, the capture isn't one run of the disc from LDVBI_REACH fields before
+ * the gap to as many after it.
  *
- * Not proved, and not so: that each fault is seen. Lost fields and as many doubled ones leave no gap if no number
- * between is believed. Swapped fields aren't seen if their numbers weren't read, and neither of film nor with numbers
- * on both fields. And a disc whose own numbers leave some out looks as if fields were lost. */
+ * Not each fault is seen. Lost fields and as many doubled ones leave no gap if no number between is believed. Swapped
+ * fields aren't seen if their numbers weren't read, nor on film, nor with numbers on both fields. And a disc whose own
+ * numbers leave some out looks as if fields were lost. */
 enum LdvbiGapKind {
     LDVBI_LOST = 1,   /* fields of the disc are lost */
-    LDVBI_HELD = 2,   /* more fields are there than the numbers count to */
+    LDVBI_HELD = 2,   /* there are more fields than the numbers count to */
     LDVBI_BACK = 3,   /* the numbers go back */
-    LDVBI_STILL = 4,  /* the same number an even count of fields later: the player stood still; never of times */
-    LDVBI_JOINED = 5, /* lead-in or lead-out is believed of a field between: another side begins */
-    LDVBI_OPEN = 6    /* fields are lost, or the disc itself skips: the clock of an NTSC CLV disc leaves out one or two
-                         times, and film that is cut over a number that wasn't read goes on a field off */
+    LDVBI_STILL = 4,  /* the same number an even count of fields later: the player stood still; never for times */
+    LDVBI_JOINED = 5, /* a field between is believed to be lead-in or lead-out: another side begins */
+    LDVBI_OPEN = 6    /* fields are lost or too many, or the disc itself skips: the clock of an NTSC CLV disc leaves out
+                         one or two times, and film that is cut over an unread number goes on a field off */
 };
 
 typedef struct LdvbiGap {
-    size_t after, before; /* the fields with numbers before it and after it, counted from 0 */
-    uint64_t fields;      /* those lost or too many, at least; those of the still; if it is open, how many more or fewer
-                             there are than the numbers count to; else 0 */
+    size_t after, before; /* the fields with the numbers before it and after it, counted from 0 */
+    uint64_t fields;      /* at least how many are lost or too many; how many a still has; for an open gap how many
+                             more or fewer there are than the numbers count to; else 0 */
     uint64_t shown;       /* the fields between that show a number between these two, on both lines in pass 1 */
     uint32_t from, to;    /* the numbers of the two fields */
     uint32_t kind;        /* of enum LdvbiGapKind */
 } LdvbiGap;
 
-typedef struct LdvbiTally { /* a count that is too large is the greatest one that 64 bits hold */
-    size_t gaps;             /* how many there are, whether there was room or not */
-    uint64_t lost, held;     /* the fields lost, and those too many, at least */
+typedef struct LdvbiTally { /* a count that is too large becomes the greatest one that 64 bits hold */
+    size_t gaps;             /* how many there are, whether there was room for them or not */
+    uint64_t lost, held;     /* at least how many fields are lost, and how many are too many */
     uint64_t stood, stills;  /* the fields of stills, and how many stills: each counts once, however many gaps it has */
     size_t still_end;        /* the field after the last still, counted from 0; 0 if there is none */
     uint64_t back, joined;   /* how often the numbers go back, and how often another side begins */
     uint64_t open_gaps;      /* how many gaps are LDVBI_OPEN */
-    uint64_t lost_numbers;   /* numbers that are skipped in gaps with lost fields, but for those that are undecided */
-    uint64_t undecided;      /* those of them that may be there: as many as fields between show, or as half of these
-                                fields are, if that is more; and all that are skipped in open gaps */
+    uint64_t lost_numbers;   /* numbers that are skipped in gaps with lost fields, without those that are undecided */
+    uint64_t undecided;      /* skipped numbers that may be there: in gaps with lost fields as many as the fields
+                                between show, or half as many as these fields, if that is more; in open gaps all */
     uint64_t unread;         /* numbers that are skipped between two that go on: their fields are there */
 } LdvbiTally;
 
-enum LdvbiBoth { /* of video, whether the disc has its numbers on both fields of a picture */
+enum LdvbiBoth { /* whether a disc of video has its numbers on both fields of a picture */
     LDVBI_ON_ONE = 0,
     LDVBI_ON_BOTH = 1,
-    LDVBI_FIND_BOTH = 3 /* it has if a quarter or more of the believed numbers that follow another one stand an odd
+    LDVBI_FIND_BOTH = 3 /* on both if a quarter or more of the believed numbers that follow another one stand an odd
                            count of fields after it */
 };
 
 enum LdvbiVerdict { LDVBI_CANNOT_TELL = 0, LDVBI_WHOLE = 1, LDVBI_NOT_WHOLE = 2 };
 
-enum LdvbiReason { /* any of the first six makes it LDVBI_NOT_WHOLE, else any of the others LDVBI_CANNOT_TELL */
+enum LdvbiReason { /* any of the first six makes the side LDVBI_NOT_WHOLE, else any other one LDVBI_CANNOT_TELL */
     LDVBI_IS_LOST = 1,
     LDVBI_IS_HELD = 2,
     LDVBI_GOES_BACK = 4,
     LDVBI_IS_JOINED = 8,
-    LDVBI_BEGINS_LATE = 16,     /* before the first number, from lead-in or the beginning on, there are fewer fields
-                                   than the numbers before it take */
-    LDVBI_IS_SWAPPED = 32,      /* of video with numbers on one field of a picture: between two numbers that go on a
-                                   field shows one that belongs into a field beside it, and isn't there */
-    LDVBI_IS_OFF = 64,          /* numbers that go on one by one, each to within a field, don't all go on from each
-                                   other; or no gap is open, and the last number, less the stills, not from the first */
-    LDVBI_NO_NUMBERS = 128,     /* none is believed: then this is the only reason */
+    LDVBI_BEGINS_LATE = 16,     /* from lead-in, or from the beginning, to the first number there are fewer fields than
+                                   the numbers before it take */
+    LDVBI_IS_SWAPPED = 32,      /* on video with numbers on one field of a picture: between two numbers that go on, a
+                                   field shows one that belongs in a field beside it and isn't there */
+    LDVBI_IS_OFF = 64,          /* numbers go on one by one, each to within a field, but not all from each other; or no
+                                   gap is open, and the last one, less the stills, doesn't go on from the first */
+    LDVBI_NO_NUMBERS = 128,     /* none is believed; then this is the only reason */
     LDVBI_END_UNSEEN = 256,     /* no lead-out is believed after the last number, and `may_end` is 0 */
     LDVBI_BEGIN_UNSEEN = 512,   /* the first number is above 1, and over 100 fields are before it, counted as above */
-    LDVBI_MANY_DOUBTFUL = 1024, /* of the numbers that were read a tenth or more is LDVBI_DOUBTFUL */
+    LDVBI_MANY_DOUBTFUL = 1024, /* a tenth or more of the numbers that were read are LDVBI_DOUBTFUL */
     LDVBI_IS_OPEN = 2048        /* a gap is LDVBI_OPEN */
 };
 
@@ -534,38 +545,39 @@ typedef struct LdvbiSide {
     uint32_t reasons;   /* the sum of the reasons; 0 only if it is LDVBI_WHOLE */
 } LdvbiSide;
 
-enum LdvbiEnd { /* whether a field is of a side's end */
+enum LdvbiEnd { /* whether a field belongs to an end of the side */
     LDVBI_NO_END = 0,
     LDVBI_IS_LEAD_OUT = 1,
     LDVBI_DOUBTFUL_END = 2,
     LDVBI_IS_LEAD_IN = 3
 };
 
-/* Judges which fields show lead-in or lead-out, each by its own lines 17 and 18. `ends` gets of each field
- * LDVBI_IS_LEAD_OUT, if one of the two lines shows it in pass 1, or if both lines do, in whatever pass; else
- * LDVBI_IS_LEAD_IN, if it is shown so; else LDVBI_DOUBTFUL_END, if a line shows either; or LDVBI_NO_END. */
+/* Judges which fields show lead-in or lead-out, each by its own lines 17 and 18. For each field `ends` gets
+ * LDVBI_IS_LEAD_OUT if one of the two lines shows lead-out in pass 1, or if both lines do, in whatever pass; else
+ * LDVBI_IS_LEAD_IN if they show lead-in so; LDVBI_DOUBTFUL_END if a line shows either; else LDVBI_NO_END. */
 LDVBI_RESULT uint32_t ldvbi_judge_ends(const LdvbiFieldReadings *readings, size_t count, uint32_t *ends,
     size_t end_count);
 
-/* Answers 1 if LDVBI_FIND_BOTH finds that the disc has its numbers on both fields of a picture, else 0. */
+/* Returns 1 if LDVBI_FIND_BOTH finds that the disc has its numbers on both fields of a picture, else 0. */
 uint32_t ldvbi_find_both(const LdvbiNumber *numbers, size_t count);
 
-/* Judges a whole side, by what ldvbi_judge saw and answered of its fields and what ldvbi_judge_ends answered; the
- * three arrays have to be equally long. `pace` is that at which ldvbi_judge judged, LDVBI_VIDEO or LDVBI_FILM, as
- * ldvbi_find_pace answers it; LDVBI_FIND_PACE is LDVBI_BAD_PACE here. `both` is of enum LdvbiBoth, and any other
- * number is as LDVBI_ON_BOTH. `may_end` is not 0 if the capture may end before the disc does. `gaps` gets the first
- * gaps, as many as it has room for; the rest of it stays as it was. */
+/* Judges a whole side by what ldvbi_judge saw in its fields and answered for them, and by what ldvbi_judge_ends
+ * answered. The three arrays have to be equally long. `pace` is the one at which ldvbi_judge judged, LDVBI_VIDEO or
+ * LDVBI_FILM, as ldvbi_find_pace answers it; LDVBI_FIND_PACE is LDVBI_BAD_PACE here. `both` is of enum LdvbiBoth; any
+ * other number counts as LDVBI_ON_BOTH. `may_end` is not 0 if the capture may end before the disc does. `gaps` gets the
+ * first gaps, as many as it has room for; the rest of it stays as it was. */
 LDVBI_RESULT LDVBI_POINTER(14) uint32_t ldvbi_judge_side(uint32_t system, uint32_t counted, uint32_t pace,
     uint32_t both, uint32_t may_end, const LdvbiSightings *seen, size_t seen_count, const LdvbiNumber *numbers,
     size_t number_count, const uint32_t *ends, size_t end_count, LdvbiGap *gaps, size_t gap_room, LdvbiSide *side);
 
-/* ---- Drawing: writes the samples of a line that shows the word, in black and white, or of a blank line for 0.
- * `length` has to be ldvbi_line_bytes(system). */
+/* ---- Drawing. Writes the samples of a line that shows the word in black and white. For 0 the line is blank. `length`
+ * has to be ldvbi_line_bytes(system). */
 LDVBI_RESULT uint32_t ldvbi_draw_line(uint32_t system, uint32_t black, uint32_t white, uint32_t word, void *samples,
     size_t length);
 
-/* ---- Texts: never null, and "unknown" for any other number. Causes are as in the document of `ldvbi extract`, where
- * "change" and "hold" are followed by a space and the column; kinds and formats as in the report of `ldvbi show`. */
+/* ---- Texts. They are never null, and "unknown" for any other number. Causes are as in the document of `ldvbi
+ * extract`, where a space and the column follow "change" and "hold"; kinds and formats are as in the report of `ldvbi
+ * show`. */
 static inline const char *ldvbi_status_text(uint32_t status) {
     static const char *const texts[] = {
         "done", "system is neither NTSC nor PAL", "black is not below white, or one of them is above 65535",

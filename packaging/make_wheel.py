@@ -1,5 +1,5 @@
 #!/usr/bin/env python3
-"""Makes a wheel of the Python module, with the library and contrib/plot_line.py inside: `pip install` of it needs
+"""Makes a wheel of the Python module, with the library inside: `pip install` of it needs
 neither a compiler nor the net. The wheel of the same files is the same byte for byte.
 
     python3 packaging/make_wheel.py libldvbi.so.1 dist        (`make wheel` does so)
@@ -22,7 +22,6 @@ TOP = os.path.dirname(os.path.dirname(os.path.abspath(__file__)))
 # What manylinux allows to be needed, of what a library without C++ and windows could need
 ALLOWED = re.compile(r"(libc\.so\.6|lib(m|rt)\.so\.[16]|lib(dl|pthread|gcc_s)\.so\.\d|ld-linux-[\w-]+\.so\.\d)$")
 OLDEST = (2, 17)  # the oldest C library with a tag on each of the usual processors
-FILES = {"ldvbi_side/contrib/plot_line.py": "contrib/plot_line.py"}
 MANUAL = "share/man/man1/ldvbi-side.1"
 
 
@@ -72,7 +71,7 @@ def description(name, version):
 
 def members(library, name, version, tag):
     """The wheel's files, each with its bytes."""
-    files = dict(FILES)
+    files = {}
     python = os.path.join(TOP, "python")
     for path in glob.glob(os.path.join(python, "*", "**", "*.py"), recursive=True):
         files[os.path.relpath(path, python)] = path

@@ -6,20 +6,24 @@ A check yields a text for what doesn't fit, and None for what does.
 links   what a document links to is there, a heading (`#..`) too; a link to the net is one of NET
 paths   the files and folders that documents name are there, of the repository or of a crate
 names   the functions, definitions and types that documents name are in the source; in the tables of PROMISES.md also
-        clauses and fields, of the functions and records in their row
+        clauses and fields, of the functions and records in their row; ANSWER.md has each member of the answer
 faults  the fault texts and causes of FORMATS.md are those of the source, and those of the manual page are among them
-numbers numbers in the comments of ldvbi.h and of the Python module, which have no mark, are those of the source
+numbers numbers without a mark in the comments of ldvbi.h and of the Python module, and of what is promised, are those
+        of the source; so are minute 60 and the order of bytes
+measured
+        the numbers of MEASURED.md of three digits or more stand in the files that are linked beside them
 
 usage: python3 tests/documents.py [CHECK..]     (at the top of the repository)
 """
 import fnmatch
 import glob
+import json
 import os
 import re
 import sys
 
 # The least that each check has to look at. A check that finds less no longer understands the documents.
-LEAST = {"links": 70, "paths": 170, "names": 1300, "faults": 28, "numbers": 25}
+LEAST = {"links": 70, "paths": 120, "names": 1000, "faults": 28, "numbers": 62, "measured": 20}
 # The links to the net, of which nothing else is looked at
 NET = ["https://github.com/happycube/ld-decode"]
 # Where a path that a document names may begin
@@ -40,14 +44,20 @@ ALTERED = {
               ("README.md", "https://github.com", "https://example.org")],
     "paths": [("CONTRIBUTING.md", "Verdicts.antt", "Verdict.antt")],
     "names": [("docs/DECISIONS.md", "`Progress::add_row`", "`Progress::added_row`"),
-              ("docs/PROMISES.md", "`fetched`, `written`", "`fetched`, `rewritten`")],
+              ("docs/PROMISES.md", "`fetched`, `written`", "`fetched`, `rewritten`"),
+              ("docs/ANSWER.md", ", `confirmed`", "")],
     "faults": [("docs/FORMATS.md", "`field width differs`", "`field width differ`"),
                ("docs/FORMATS.md", "`no system given`", "`unknown system`"),
                ("docs/FORMATS.md", "else `hold` and that", "else `held` and that"),
                ("docs/FORMATS.md", "#####...######", "#####....#####")],
     "numbers": [("include/ldvbi.h", "1 to 28 times", "1 to 27 times"),
+                ("docs/PROMISES.md", "lost from 24 fields", "lost from 23 fields"),
                 ("python/ldvbi/judging.py", "and 10 or more", "and 11 or more"),
-                ("include/ldvbi.h", "  10                       12", "  10                       13")]}
+                ("include/ldvbi.h", "  10                       12", "  10                       13"),
+                ("docs/FORMATS.md", "Minute 60", "Minute 61"), ("docs/FORMATS.md", "low byte", "high byte"),
+                ("include/ldvbi.h", "low byte", "high byte")],
+    "measured": [("docs/MEASURED.md", "judged 893 right", "judged 898 right"),
+                 ("docs/MEASURED.md", "and 9,997 of", "and 9,979 of")]}
 altered = {}  # of a path the two texts
 
 
@@ -187,6 +197,9 @@ def names():
         for name in (name for name in named if re.fullmatch("[a-z_]+", name)):
             where = f"docs/PROMISES.md: {name} isn't in the source, in the row: {' | '.join(row)[:80]}"
             yield None if source.is_near(name, above) else where
+    named = codes(prose("docs/ANSWER.md").partition("\n## The answer\n")[2].partition("\n<!-- ")[0])
+    for name in json.loads(read("share/schema/ldvbi-side.schema.json"))["properties"]:
+        yield None if name in named else f"docs/ANSWER.md doesn't have the member {name} of the answer"
 
 
 # ---- faults
@@ -198,14 +211,19 @@ FAULT = re.compile(r"^(?:impl fmt::Display for|pub\S* enum) (?:App|Draw|Main|Met
 NO_FAULT = ("{}", "{0}", "feeder failed before")
 
 
+def listed_texts(heading):
+    """Returns the texts of more than one word in code font in the lists under this heading of FORMATS.md."""
+    section = read("docs/FORMATS.md").partition(f"\n## {heading}\n")[2].partition("\n## ")[0]
+    listed = "".join(re.findall(r"^- .*\n(?:  .*\n)*", section, re.M))
+    return [text for text in codes(listed) if " " in text]
+
+
 def fault_texts():
-    """Both tables of faults have the source's texts and no others, the first one in the source's order."""
+    """Both lists of faults have the source's texts and no others, the first one in the source's order."""
     texts = [text for path in sorted(glob.glob("crates/*/src/*.rt")) for body in FAULT.findall(read(path))
              for text in re.findall(r'"([^"]+)"', body) if text not in NO_FAULT]
     patterns = [re.sub(r"\\\{\w+\\\}", r"(?:[1-9]\\d*|0)", re.escape(text)) for text in dict.fromkeys(texts)]
-    tables = [re.search(rf"^\| {head} \|.*\n((?:\|.*\n)*)", read("docs/FORMATS.md"), re.M)[1]
-              for head in ("Fault", "Text")]
-    settings, others = ([text for row in rows(table) if row for text in codes(row[0])] for table in tables)
+    settings, others = map(listed_texts, ("Input: metadata", "Messages and exit statuses"))
     shown = re.findall(r"^\.Sq (\w[^:\n]+?) ?\.?$", read("share/man/ldvbi.1").partition(".Sh DIAGNOSTICS")[2], re.M)
     said = settings + others + shown
     places = [[place for place, pattern in enumerate(patterns) if re.fullmatch(pattern, text)] for text in said]
@@ -229,44 +247,91 @@ def fault_texts():
 # ---- numbers
 
 HEADER, JUDGING, NEAR = "include/ldvbi.h", "python/ldvbi/judging.py", "python/ldvbi/near.py"
+PROMISES, README, DECISIONS = "docs/PROMISES.md", "README.md", "docs/DECISIONS.md"
 BELIEFS, RULE = "crates/vbi_side/specs/Beliefs.antt", "tests/library/rule.py"
+SCHEMA = "share/schema/ldvbi-side.schema.json"
 TWO = r"Margins\((\d+), (\d+)\)"
-# Where numbers stand in the source, and sentences with the same ones, in which # stands for each in turn, or for one
+# Where numbers stand in the source, and sentences with the same ones, in which # stands for each in turn, or for one;
+# of the order of bytes it stands for a word
 NUMBERS = (
     (BELIEFS, r"^enough = (\d+)$", {
-        HEADER: ("weigh # or more", "there weigh less than #, a believed"), JUDGING: ("and # or more behind it",)}),
+        HEADER: ("weigh # or more", "there weigh less than #, a believed"), JUDGING: ("and # or more after it",),
+        PROMISES: ("on either side weighs # or more", "fields weigh less than #; of", "that say it weigh # or more",
+                   "against it less than #:", "less than #, a believed chapter", "of one weigh # or more"),
+        README: ("misread there weigh less than #.", "near either number weigh less than #.")}),
     (BELIEFS, r"^field_most = (\d+)$", {
-        HEADER: ("of the weight, and # of it or more",), JUDGING: ("and # of it or more",)}),
-    (BELIEFS, r"^reach = (\d+)$", {JUDGING: ("by the # fields before it and the # behind it",)}),
+        HEADER: ("of the weight, and # of it or more",), JUDGING: ("and # of it or more",),
+        PROMISES: ("half of their weight, and # or more",)}),
+    (BELIEFS, r"^reach = (\d+)$", {
+        JUDGING: ("by the # fields before it and the # after it",),
+        PROMISES: ("field and the # on either side", "within # fields of a field that", "and read within # fields",
+                   "believed within # fields are right", "within # fields of a jump", "within # fields that say it",
+                   "chapter codes within # fields", "the # fields before, and in the # after",
+                   "a chapter within # fields",
+                   "lost from # fields after the first to # before", "from # fields before the gap to # after it",
+                   "believed of the last #, due"),
+        README: ("pace within # fields", "no field from # after its first believed number to # before")}),
     ("crates/vbi_side/specs/Votes.antt", r"^vote_reach = (\d+)$", {
-        JUDGING: ("in the # fields before it and the # behind it that",)}),
+        JUDGING: ("in the # fields before it and the # after it that",),
+        PROMISES: ("times within # fields that go on", "ran on within # fields, and wrong"),
+        README: ("ran on within # fields, and the misread",)}),
     ("crates/vbi_side/specs/Parts.antt", r"^part_most = (\d+)$", {JUDGING: ("of at most # readings",)}),
     ("crates/vbi_c/specs/Seeking.antt", r"^looked_most = (\d+)$", {
-        "python/ldvbi/seeking.py": ("at most # fields are read",)}),
+        "python/ldvbi/seeking.py": ("at most # fields are read",), PROMISES: ("at most # fields as read",),
+        "docs/LIBRARY.md": ("at most # fields are read",), "docs/RUST.md": ("at most # fields, as",)}),
     (NEAR, r"^MOST_LINES = (\d+) ", {HEADER: ("of 1 to # lines", "that 1 to # lines", "be 1 to # times"),
                                       NEAR: ("of 1 to # lines", "that 1 to # lines")}),
     (RULE, "^LONE, APART, BOTH = " + TWO, {HEADER: ("one line # #",)}),
     (RULE, "^LONE, APART, BOTH = .*, " + TWO + "$", {HEADER: ("lines 17 and 18 together # #",)}),
-    (RULE, r"^LONE, APART, BOTH = [^)]*\), " + TWO, {HEADER: ("either, where they don't agree # #",)}),
+    (RULE, r"^LONE, APART, BOTH = .*, Margins\((\d+), \d+\)$", {DECISIONS: ("Two lines need # columns",)}),
+    (RULE, "^NO_SHARES, BOTH_SHARES = .*, " + TWO + "$", {HEADER: ("at least #/144 for a code, and #/144 for",)}),
+    (RULE, r"^LONE, APART, BOTH = [^)]*\), " + TWO, {HEADER: ("either, if they don't agree # #",)}),
+    ("crates/vbi_side/specs/Lines.antt", r"nat_lt minutes (\d+) ", {
+        "docs/FORMATS.md": ("Minute #, PAL picture",), SCHEMA: ("shows it, as minute #",)}),
+    ("crates/vbi_words/specs/Levels.antt", r"^samples_of \((\w+) ∷ \w+ ∷ bytes\) = \(\1 [+] 256 ", {
+        HEADER: ("the # byte first",), "docs/FORMATS.md": ("samples, # byte first",),
+        "share/man/ldvbi.1": ("samples of 16 bits, # byte first",)}),
 )
 
 
 def numbers():
-    """Each number of each place where such a sentence stands."""
+    """Each number, or word, of each place where such a sentence stands."""
     for source, pattern, sentences in NUMBERS:
-        wanted = [int(one) for one in re.search(pattern, read(source), re.M).groups()]
+        wanted = re.search(pattern, read(source), re.M).groups()
         for path, sentence in ((path, one) for path, several in sentences.items() for one in several):
             text = re.sub(r"\s+(?:\* )*\s*", " ", read(path))
-            places = re.findall(re.escape(sentence).replace(r"\#", r"(\d[\d,]*)"), text)
+            places = re.findall(re.escape(sentence).replace(r"\#", r"(\d[\d,]*|low|high)"), text)
             if not places:
                 yield f"{path} doesn't say '{sentence}'"
             for found in ([one] if isinstance(one, str) else one for one in places):
                 for number, right in zip(found, wanted * (len(found) // len(wanted))):
-                    is_right = int(number.replace(",", "")) == right
+                    is_right = number.replace(",", "") == right
                     yield None if is_right else f"{path} says {number} in '{sentence}', and {source} {right}"
 
 
-CHECKS = {"links": links, "paths": paths, "names": names, "faults": fault_texts, "numbers": numbers}
+# ---- measured
+
+# What MEASURED.md says of how was measured, and the sums that it has of several rows or files
+HOW, SUMS = {"400", "2000", "2350", "12000", "180000"}, {"670", "710", "771", "3270", "25329"}
+
+
+def measured():
+    """Each number of three digits or more in a part of MEASURED.md that links files of what was measured."""
+    for part in re.split(r"\n\n|\n(?=[-|] )", re.sub(r"<!--.*?-->", "", read("docs/MEASURED.md"))):
+        files = ["docs/" + link for link in re.findall(r"\]\((measured/\w+\.txt)\)", part)]
+        known = {number for path in files for number in figures(read(path))} | HOW | SUMS
+        for number in figures(re.sub(r"\]\(.*?\)", "", part)) if files else ():
+            if len(number) > 2:
+                yield None if number in known else f"docs/MEASURED.md says {number}, which none of {files} has"
+
+
+def figures(text):
+    """The whole numbers of a text, without commas."""
+    return [number.replace(",", "") for number in re.findall(r"(?<![\w.])\d+(?:,\d{3})*(?![\w.]*\d)", text)]
+
+
+CHECKS = {"links": links, "paths": paths, "names": names, "faults": fault_texts, "numbers": numbers,
+          "measured": measured}
 
 
 def main():

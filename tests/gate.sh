@@ -17,7 +17,6 @@ memory_of_both=14000000
 
 work=$(mktemp -d)
 proofs=
-# shellcheck disable=SC2317
 leave() {
     # Until `setsid` has run there is no group of their own.
     [ -z "$proofs" ] || kill -- "-$proofs" 2> /dev/null || kill "$proofs" 2> /dev/null || :

@@ -181,10 +181,17 @@ judge() {
 # NAME|WORDS|STATUS|OUT|ERR, whose ERR stands behind `ldvbi: `.
 judge_rows() {
     while IFS='|' read -r row_name words ended wanted_out said; do
-        # shellcheck disable=SC2086
         run $words
         judge "$row_name" "$ended" "$wanted_out" "${said:+ldvbi: $said}"
     done
+}
+
+# judge_line NAME ANSWER: judges a run of `line`, which prints this answer or, where it is a fault, says it
+judge_line() {
+    case $2 in
+        82CFFF | blank) echo "$2" > answer; judge "$1" 0 answer '' ;;
+        *) judge "$1" 1 empty "ldvbi: $2" ;;
+    esac
 }
 
 # finish: ends the script with the plan that TAP wants, and status 0 where all checks are as wanted
@@ -209,28 +216,9 @@ validates() {
     bounded env COVERAGE_PROCESS_START= "$(with_jsonschema)" "$tests/program/validate.py" "$@" < empty
 }
 
-# signal SYSTEM FIELDS < DESCRIPTIONS: lines (FIELDS is 0) or fields (1) as text, see signal.awk
+# signal SYSTEM FIELDS [BLACK WHITE] < DESCRIPTIONS: lines (FIELDS is 0) or fields (1), see described.py
 signal() {
-    awk -v discs="$1" -v fields="$2" -f "$tests/program/signal.awk"
-}
-
-# What makes bytes of that text, low byte first: samples of 16384 and 51200 (NTSC), of 16384 and 54016 (PAL), and of
-# 8224 and 16448
-ntsc_samples() {
-    tr 'zLyH' '\000\100\000\310'
-}
-pal_samples() {
-    tr 'zLyH' '\000\100\000\323'
-}
-text_samples() {
-    tr 'zLyH' '  @@'
-}
-# samples_of SYSTEM: the samples of this system's usual levels
-samples_of() {
-    case $1 in
-        NTSC) ntsc_samples ;;
-        PAL) pal_samples ;;
-    esac
+    python3 "$tests/program/described.py" "$@"
 }
 
 # document_head SYSTEM WIDTH HEIGHT BLACK WHITE: how a document begins

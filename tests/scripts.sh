@@ -5,8 +5,8 @@
 # doesn't say). The status is 1 where one has, and 3 where checks are gone or new.
 #
 # A script says in its line `# runs:` where it is run: everywhere, where a library is built (library) or the proved one
-# (proved), by python.sh (python), or by the whole gate alone (whole); with `rust` on the Rust program, too, or on that
-# alone. `# fails where:` has an alteration that it has to see (trials.sh).
+# (proved), or by the whole gate alone (whole); with `rust` on the Rust program, too, or on that alone. `# fails where:`
+# has an alteration that it has to see (trials.sh).
 #
 # Without a word all are run that the proved program has to pass. With --as-built, what needs a library that isn't built
 # is left out, and so is what the whole gate alone runs; with --rust, those for the Rust program are run, and with names
@@ -24,18 +24,18 @@ fault() {
     exit 1
 }
 
-# tagged WORD..: the scripts with one of these words in their line. Those that take longest come first: of answers/ and
-# python/, and the one that waits for downloads.
+# tagged WORD..: the scripts with one of these words in their line, if any has one. Those that take longest come first:
+# of answers/ and python/, and the one that waits for downloads.
 tagged() {
     for word; do
-        (cd "$here" && grep -rlw --include='*.sh' "^# runs: .*$word" .)
+        (cd "$here" && grep -rlw --include='*.sh' "^# runs: .*$word" .) || [ $? = 1 ]
     done | sed 's,^./\(answers\|program/bare\),./~&,' | LC_ALL=C sort -ru | sed 's|~./||'
 }
 
 # named NAME..: the scripts with these names
 named() {
     for name; do
-        tagged everywhere library proved python whole rust | grep "/$name\.sh\$" || fault "no script has the name $name"
+        tagged everywhere library proved whole rust | grep "/$name\.sh\$" || fault "no script has the name $name"
     done
 }
 
@@ -83,7 +83,6 @@ export RAN
 for path in $scripts; do
     echo "script $(basename "$path" .sh)$on" >> "$RAN"
 done
-# shellcheck disable=SC2086
 (cd "$here" && prove --timer -j "$(nproc)" -e "timeout -k 30 ${SCRIPT_SECONDS:-3600} sh" $scripts :: "$program") \
     < /dev/null || exit 1
 [ -z "$outer" ] || exit 0

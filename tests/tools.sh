@@ -26,9 +26,9 @@ for pair in "${CC:-cc}:gcc libc6-dev" "${CXX:-c++}:g++" nm:binutils make python3
 done
 # It isn't on the PATH of everybody.
 [ -z "$gate" ] || [ -x /usr/sbin/debootstrap ] || missing="$missing debootstrap"
-# The system's Python, whose packages are Debian's, runs a command of docs/RECIPES.md, and the wheel is tried by it; its
-# coverage records which lines run.
-for pair in jsonschema coverage ensurepip:venv ${gate:+setuptools wheel}; do
+# The system's Python, whose packages are Debian's, runs a command of docs/RECIPES.md, and the wheel is tried by it. Its
+# pytest runs the tests of the Python package, on all processors by xdist, and its coverage records which lines run.
+for pair in jsonschema coverage pytest xdist:pytest-xdist hypothesis ensurepip:venv ${gate:+setuptools wheel}; do
     /usr/bin/python3 -c "import ${pair%:*}" 2> /dev/null || missing="$missing python3-${pair#*:}"
 done
 for crate in ${rust:+arrayvec byteorder clap itoa serde-json thiserror} ${gate:+libc}; do
@@ -43,5 +43,4 @@ as_root=
 [ "$(id -u)" = 0 ] || as_root=sudo
 echo "installing these of Debian's packages, and what they depend on:$missing"
 $as_root apt-get update
-# shellcheck disable=SC2086
 $as_root apt-get install -y --no-install-recommends $missing

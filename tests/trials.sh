@@ -4,9 +4,7 @@
 # scripts are tried that are run on it alone. And the gate has to fail where a part of it does, or does less.
 # usage: sh tests/trials.sh PROGRAM
 # runs: whole rust
-# shellcheck disable=SC2317
 
-# shellcheck source=tests/helpers.sh
 . "$(dirname "$0")/helpers.sh"
 
 (cd "$tests" && grep -rl --include='*.sh' '^# runs: ' . | grep -v trials) | sort -r > scripts

@@ -108,7 +108,7 @@ def zsh_option(option: Option) -> str:
     value = ""
     if option.takes != NOTHING:
         action = "(%s)" % " ".join(option.choices) if option.choices else ACTIONS[option.takes]
-        value = ":%s:%s" % (option.value.lower(), action)
+        value = " ".join(":%s:%s" % (name, action) for name in option.value.lower().split())
     said = "[%s]%s" % (zsh_text(option.short), value)
     if len(option.names) == 1:
         return quoted("%s%s%s%s" % (before, option.names[0], "=" if value else "", said))

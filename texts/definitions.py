@@ -1,9 +1,9 @@
 #!/usr/bin/env python3
 """What one has to believe: the definitions of specs/ on which the contracts of SECTIONS rest, as their source has them.
 
-Into docs/PROMISES.md goes for each section how many definitions its contracts rest on, and for that of PRINTED also
-these, each behind those on which it rests itself. In place of a function of RELATIONS stands a relation, of which a law
-says that it is the same. The command prints all, file by file.
+Into docs/PROMISES.md go those of LINE that PRINTED names, and how many two contracts rest on. A definition comes
+after those that it rests on. A function of RELATIONS gives way to a relation that is the same, as a law says. The
+command counts and prints all, file by file.
 
 usage: python3 texts/definitions.py [SECTION..]
 """
@@ -11,14 +11,13 @@ import functools
 import os
 import re
 import sys
-import textwrap
 from typing import Callable, Dict, Iterable, Iterator, List, NamedTuple, Optional, Tuple
 
 import numbers_of
 from program import TOP
 
 Key = Tuple[str, str, str]    # a definition: its crate, its file and its name
-# The sections of the page by their marks, and the contracts that each is for: source files with their functions
+# The sections by their marks, and the contracts that each is for: source files with their functions
 SECTIONS = {mark: [tuple(one.split()) for one in text.split(";")] for mark, text in {
     "line": "vbi_line/src/reading.rt read_bytes_twice",
     "fields": "vbi_field/src/run.rt extract",
@@ -39,7 +38,9 @@ SECTIONS = {mark: [tuple(one.split()) for one in text.split(";")] for mark, text
     "whole": "vbi_side/src/verdict.rt judge_whole; vbi_side/src/ends.rt judge_end; "
              "vbi_side/src/gap_laws.rt cut_found whole_yes nearly_whole lost_sound",
 }.items()}
-PRINTED = "line"
+LINE = "line"
+# Those of this section that the page prints; their comments and names say what the others are
+PRINTED = "Shows Viable FirstHopeless IsOutcome".split()
 # By function, the relation that stands for it, and the law by which they are one
 RELATIONS: Dict[Key, Tuple[Key, str]] = {
     ("vbi_line", "OneReading", "outcome_of"): (("vbi_words", "Outcomes", "IsOutcome"), "one_outcome"),
@@ -207,20 +208,30 @@ def block(keys: List[Key], with_heads: bool) -> str:
     return "\n".join([*lines[:-1], "```", "", ""])
 
 
-def part(mark: str) -> str:
-    """Returns what the page has of a section: how many definitions there are, what prints them, perhaps themselves."""
-    names = ["`%s`" % function for _, *functions in SECTIONS[mark] for function in functions]
-    counted = "%s %s on %d definitions in %d lines: `python3 texts/definitions.py %s`." % (
-        ", ".join(names), "rest" if names[1:] else "rests", len(all_of(mark)),
-        sum(len(definition(key).lines) for key in all_of(mark)), mark)
-    return "\n%s%s\n\n" % (block(all_of(mark), False) if mark == PRINTED else "", textwrap.fill(
-        counted, 120, break_long_words=False, break_on_hyphens=False))
+def rests(mark: str) -> str:
+    """Returns on how many definitions the contracts of a section rest."""
+    names = ", ".join(function for _, *functions in SECTIONS[mark] for function in functions)
+    lines = sum(len(definition(key).lines) for key in all_of(mark))
+    return "%s: %d definitions in %d lines, for %s" % (mark, len(all_of(mark)), lines, names)
+
+
+def printed() -> str:
+    """Returns what the page has: some definitions, how many there are in all, and what prints them."""
+    keys = [key for key in all_of(LINE) if key[2] in PRINTED]
+    if len(keys) != len(PRINTED):
+        raise SystemExit("definitions: of %s there are %d" % (" ".join(PRINTED), len(keys)))
+    return ("\n%s`read_bytes_twice` rests on %d definitions, and `extract` on %d: `python3 texts/definitions.py` prints"
+            " all.\n\n" % (block(keys, False), len(all_of(LINE)), len(all_of("fields"))))
+
+
+PARTS = {LINE: ("specs", printed)}
 
 
 def main() -> None:
     marks = sys.argv[1:] or list(SECTIONS)
     if not set(marks) <= set(SECTIONS):
         raise SystemExit("usage: python3 texts/definitions.py [%s].." % " | ".join(SECTIONS))
+    print(*map(rests, marks), "", sep="\n")
     print(block(ordered((key for mark in marks for key in all_of(mark)), rests_on), True).rstrip())
 
 

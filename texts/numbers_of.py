@@ -66,12 +66,10 @@ def limits() -> Dict[str, int]:
 
 
 def of_tests() -> Dict[str, int]:
-    """In kHz the rates between which all words of good lines are read; the bytes of a row that a map's reader takes;
-    the lines of each file that is written by hand for the plain Rust build."""
+    """In kHz the rates between which all words of good lines are read; the bytes of a row that a map's reader takes."""
     least, most = of_source(RATES, r"^WHOLE, JITTERED = \((\d+), [\d, ]+, (\d+)\), ")
     row, = of_source(READER, r"char row\[(\d+)\]")
-    lines = {"lines." + os.path.basename(path)[:-3]: read(path).count("\n") for path in paths("rust/hand/src/*.rs")}
-    return {"rate.least": least, "rate.most": most, "map.row": row - 1, **lines}
+    return {"rate.least": least, "rate.most": most, "map.row": row - 1}
 
 
 def glitches(size: Dict[str, int]) -> Dict[str, int]:
@@ -80,13 +78,11 @@ def glitches(size: Dict[str, int]) -> Dict[str, int]:
     equal, = of_source(SMOOTH, r"^  pub before : (\d+) ≤ g$")
     lows, = of_source(JITTER, r"^  pub lows : (\d+) ≤ cut\.after$")
     longer, shorter = of_source(JITTER, r"Spells \(half_min system \+ (\d+)\) \(half_max system - (\d+)\)")
-    numbers = {"glitch.most": most, "glitch.too_long": most + 1, "glitch.equal": equal, "glitch.drawn": equal + 1,
-               "spell.lows": lows, "spell.longer": longer, "spell.shorter": shorter}
+    numbers = {"glitch.most": most, "glitch.equal": equal, "glitch.drawn": equal + 1, "spell.lows": lows}
     for system in ("ntsc", "pal"):
         least, greatest = size["half_min." + system], size["half_max." + system]
         numbers["spell.least." + system], numbers["spell.most." + system] = least + longer, greatest - shorter
-        numbers["apart." + system], numbers["turned." + system] = 2 * least - greatest, 2 * least - greatest - 1
-        numbers["double.least." + system], numbers["double.most." + system] = 2 * least, 2 * greatest
+        numbers["apart." + system] = 2 * least - greatest
     return numbers
 
 
@@ -113,7 +109,7 @@ def package() -> Dict[str, Any]:
     from ldvbi_side.draw import folds, page
     from ldvbi_side.answer import analysis, ends, gaps, lines, missing, parts, whole
     from ldvbi_side.judge import believed, chain, clock, numbers as judged, order, paces, places, readings
-    numbers = {"price.%d" % fields: paces.price(fields) for fields in (1, 2, 20, 20000)}
+    numbers = {"price.%d" % fields: paces.price(fields) for fields in (1, 2, 20000)}
     numbers.update(("weight.%d" % one, readings.WEIGHTS[one]) for one in (1, 2, 3))
     numbers.update(("pictures." + system.lower(), rate) for system, rate in paces.RATES.items())
     (least, _, most), pal = paces.MINUTE_FIELDS["NTSC"], paces.MINUTE_FIELDS["PAL"][1]
@@ -122,16 +118,16 @@ def package() -> Dict[str, Any]:
     return {
         **numbers, "minute.pal": pal, "minute.least": least, "minute.most": most, "version": analysis.VERSION,
         "summary.lines": summary.MOST_LINES, "summary.listed": summary.MOST_LISTED, "page.plots": page.MOST_PLOTS,
-        "page.rows": folds.MOST_ROWS, "still": chain.STILL, "pairs": chain.PAIRS, "long": chain.LONG, "dense": chain.DENSE, "carried": judged.CARRIED,
-        "chapter.all": paces.ChapterPace.ALL, "chapter.many": paces.ChapterPace.MANY,
+        "page.rows": folds.MOST_ROWS, "still": chain.STILL, "pairs": chain.PAIRS, "carried": judged.CARRIED,
+        "chapter.all": paces.ChapterPace.ALL,
         "chapter.share": parts.LEAST_SHARE, "missing.far": missing.FAR, "unseen": gaps.UNSEEN,
         "clock.places": clock.LEAST_PLACES, "clock.spacing": clock.SPACINGS[0], "clock.dropping": clock.SPACINGS[1],
-        "clock.off": clock.OFF, "clock.kept": clock.KEPT[0], "clock.of": clock.KEPT[1], "clock.wide": clock.WIDE // 2,
+        "clock.off": clock.OFF, "clock.kept": clock.KEPT[0], "clock.of": clock.KEPT[1],
         "clock.tenth": clock.TENTH_MINUTE // clock.MINUTE, "clock.short": clock.SHORT, "order.least": order.LEAST,
         "order.apart": believed.APART, "order.turn": order.TURN, "order.signs": order.SIGNS,
         "order.turned": order.TURNED, "sparse.least": places.LEAST, "lines.few": lines.FEW,
-        "levels.fields": levels.FIELDS, "levels.few": levels.FEW, "levels.step": levels.STEP,
-        "ends.longest": ends.LONGEST, "begins": len(ends.FIRST["time"]), "format.near": whole.NEAR,
+        "levels.fields": levels.FIELDS, "levels.step": levels.STEP,
+        "ends.longest": ends.LONGEST, "begins": len(ends.FIRST["time"]),
         "doubtful.share": whole.SHARE, "pile.lines": near.MOST_LINES,
         "format.even": readings.codes_of(even).format.upper(),
     }

@@ -5,7 +5,7 @@ import argparse
 import os
 import re
 import sys
-from typing import Dict, List, NamedTuple, Optional, Tuple
+from typing import Dict, List, NamedTuple, Tuple
 
 TOP = os.path.dirname(os.path.dirname(os.path.abspath(__file__)))
 sys.path.insert(0, os.path.join(TOP, "python"))
@@ -138,7 +138,8 @@ def option_of(action: argparse.Action, parser: argparse.ArgumentParser) -> Optio
             others = [one.option_strings[-1] for one in group._group_actions]
             in_group = True
     text = "print help" if action.dest == "help" else action.help or ""
-    value = "" if action.nargs == 0 else str(action.metavar or "NAME")
+    names = action.metavar if isinstance(action.metavar, tuple) else (action.metavar or "NAME",)
+    value = "" if action.nargs == 0 else " ".join(names)
     return Option(tuple(action.option_strings), value, takes_of(action), tuple(action.choices or ()), text,
                   clause(text), tuple(others), in_group)
 

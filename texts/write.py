@@ -1,11 +1,9 @@
 #!/usr/bin/env python3
 """Writes what people read of commands, options, statuses, members and sizes from the source that has them: the
 completions whole; of the manual pages and documents what stands between a comment `from SOURCE: PART` and `to here`,
-and the numbers of documents that stand behind their name.
+and the numbers of documents that stand behind their name."""
 
-usage: python3 texts/write.py [--check [PATH..]]
-    --check writes nothing: it names what would change, of paths that begin so if any is named, with status 1"""
-
+import argparse
 import functools
 import os
 import re
@@ -56,12 +54,15 @@ def written():
 
 
 def main():
-    is_check, folders = sys.argv[1:2] == ["--check"], tuple(sys.argv[2:]) or ""
-    status = 0
+    parser = argparse.ArgumentParser(description=__doc__)
+    parser.add_argument("--check", action="store_true", help="write nothing, and name what would change, with status 1")
+    parser.add_argument("begins", nargs="*", metavar="PATH", help="only of paths that begin so")
+    asked = parser.parse_args()
+    begins, status = tuple(asked.begins) or "", 0
     for path, wanted in written():
-        if wanted == read(path) or not path.startswith(folders):
+        if wanted == read(path) or not path.startswith(begins):
             continue
-        if is_check:
+        if asked.check:
             print("write: %s isn't what its source says: python3 texts/write.py" % path, file=sys.stderr)
             status = 1
         else:

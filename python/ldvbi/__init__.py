@@ -15,20 +15,20 @@
     print(ldvbi.judge_side(side, "NTSC").verdict)
 
 A line, a field or a stream is anything with the buffer protocol that holds samples of 16 bits, the low byte first, as
-ld-decode's TBC files do: a numpy array of uint16, an array of "H"; or the bytes of such samples: bytes, a mapped file,
-a memoryview of these. Items of another kind raise a ValueError, and so do all arguments that can't be right. Nothing is
-read then. `system` is a `System` or its name; `black` and `white` are samples, black16bIre and white16bIre of the
-capture's .tbc.json. The library gets them as they are, and refuses those that are wrong.
+ld-decode's TBC files do. It may be a numpy array of uint16 or an array of "H"; or the bytes of such samples: bytes, a
+mapped file, or a memoryview of these. Items of another kind raise a ValueError, and so do all arguments that can't be
+right. Nothing is read then. `system` is a `System` or its name; `black` and `white` are samples: black16bIre and
+white16bIre of the capture's .tbc.json. The library gets them as they are, and refuses those that are wrong.
 
-The library is loaded when samples are first read. It is the first of these that there is: the file that the
-environment variable LDVBI_LIBRARY names; libldvbi.so.1 in this package (a wheel has it there), in the folder of the
-package, in the one above that, or in lib/ of the folder to which `make install` installed both; what the system's
-loader finds. `classify` and `format_of` need no library. Only CPython and its standard library are needed besides.
+The library is loaded when samples are first read. These places are tried in turn: the file that the environment
+variable LDVBI_LIBRARY names; libldvbi.so.1 in this package (a wheel has it there), in the folder of the package, in the
+one above that, or in lib/ of the folder to which `make install` installed both; what the system's loader finds.
+`classify` and `format_of` need no library. Nothing else is needed but CPython and its standard library.
 
 Read first `classes` (what a word says) and `codes` (on which lines), then `library` and `samples` (the calls of C and
-the memory that they get), `dropouts`, `readings`, `near`, `stream`, `judging`, `sides` and `seeking` (these calls in
-Python), at last `document` and `metadata` (with `scanner` and `database`), the files beside a TBC file. What the words
-of a whole side mean is the business of the package `ldvbi_side`, which stands on this one: nothing here imports it.
+the memory that they get), then `dropouts`, `readings`, `near`, `stream`, `judging`, `sides` and `seeking` (these calls
+in Python), and last `document` and `metadata` (with `scanner` and `database`), which read the files beside a TBC file.
+The package `ldvbi_side` says what the words of a whole side mean. It builds on this package, which doesn't import it.
 """
 
 

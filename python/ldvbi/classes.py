@@ -35,15 +35,15 @@ class Format(enum.IntEnum):
 
 
 class Code(NamedTuple):
-    """A word's kind and the numbers that go with it, in the order in which ldvbi.h has them; else 0."""
+    """A word's kind and its numbers, in the order of ldvbi.h. A number that the kind doesn't have is 0."""
     kind: Kind
     first: int
     second: int
 
 
 class Class(NamedTuple):
-    """A class of words: its kind and text, the names of its numbers, the lines on which it counts, and `cav` or `clv`,
-    where only these discs have it."""
+    """A class of words: its kind and text, the names of its numbers, the lines on which it counts, and `cav` or `clv`
+    if only these discs have it."""
     kind: Kind
     text: str
     numbers: Tuple[str, ...]
@@ -75,7 +75,7 @@ _USUAL_PICTURE = re.compile("00f([0-7][0-9]{4})|.{8}")  # of eight digits each
 
 
 def whole_number(name: str, value: SupportsIndex) -> int:
-    """A whole number, of any type that has some, as an int."""
+    """The value as an int, if it is a whole number of any type."""
     try:
         return operator.index(value)
     except TypeError:
@@ -120,14 +120,14 @@ def _code_of(word, first, second, third, fourth, fifth, sixth):
 
 
 def usual_pictures(words: Collection[int]) -> Dict[int, int]:
-    """The numbers of those of these words whose six digits are F, one below 8 and four below 10, as those of most
-    pictures are. `classify` says the same of each, in ten times the time."""
+    """The picture numbers of those of these words that begin with F and a digit below 8, and go on with four decimal
+    digits, as most pictures do. `classify` says the same of each word, but takes ten times as long."""
     digits = struct.pack(">%dI" % len(words), *words).hex()
     return {word: int(number) for word, number in zip(words, _USUAL_PICTURE.findall(digits)) if number}
 
 
 def format_of(first: SupportsIndex, second: SupportsIndex, third: SupportsIndex) -> Format:
-    """The format of a field whose lines 16, 17 and 18 have these words, each 0 where there is none."""
+    """The format of a field whose lines 16, 17 and 18 have these words. 0 stands for no word."""
     words = [whole_number("word", word) for word in (first, second, third)]
     kinds = {classify(word).kind for word in words if word}
     is_cav, is_clv = bool(kinds & _CAV_KINDS), bool(kinds & _CLV_KINDS)

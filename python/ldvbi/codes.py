@@ -22,7 +22,7 @@ _classify = functools.lru_cache(maxsize=None)(classify)
 
 
 def code_of(word: int) -> Optional[Code]:
-    """The `ldvbi.Code` of a word, or None for 0, which stands for a line without a word."""
+    """The `ldvbi.Code` of a word; None for 0, which stands for a line without a word."""
     return _classify(word) if word else None
 
 
@@ -38,8 +38,8 @@ def _members_of(code):
 
 
 def codes_by_kind(words: Iterable[int]) -> List[Dict[str, Any]]:
-    """Of a field's three words the codes that stand on a line of their kind, each with its lines. Two of one kind are
-    two lines that differ."""
+    """The codes of a field's three words that stand on a line of their kind, each with its lines. If a kind comes
+    twice, two lines differ."""
     found: Dict[Code, Dict[str, Any]] = {}
     for line, word in zip(LINES, words):
         one = code_of(word)
@@ -54,8 +54,8 @@ def name_of(kind: Kind) -> str:
 
 
 def value_of(code: Code) -> Any:
-    """What a code says of its field: a picture number, a chapter, the minutes from the disc's start (None where no
-    clock shows them), or a second with its picture. None for the kinds without a number that counts."""
+    """What a code says of its field: a picture number, a chapter, the minutes from the disc's start (None if no clock
+    shows them), or a second with its picture. None for kinds without a number that counts."""
     kind, first, second = code
     if kind in (Kind.picture, Kind.chapter):
         return first

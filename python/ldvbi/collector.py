@@ -1,4 +1,4 @@
-"""Python's collector of cycles, paused: there are none here, and looking for them would cost half of the time."""
+"""Pauses Python's collector of cycles: there are no cycles here, and looking for them would cost half of the time."""
 
 import contextlib
 import gc

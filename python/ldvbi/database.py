@@ -1,7 +1,7 @@
-"""ld-decode's metadata in SQLite, as newer versions keep it: table `capture` with the columns `system`, `black_16b_ire`
-and `white_16b_ire`, and perhaps with the fields' size and count; a table of the fields, whatever its name is, with the
-columns `field_id` and `is_first_field`; and perhaps a table `drop_outs`. No file of ld-decode's own was at hand to try
-it on."""
+"""ld-decode's metadata in SQLite, as newer versions keep it. A table `capture` has the columns `system`,
+`black_16b_ire` and `white_16b_ire`, and perhaps the fields' size and count. A table of any name has the fields, with
+the columns `field_id` and `is_first_field`. There may be a table `drop_outs`. This hasn't been tried on a file that
+ld-decode itself made: none was at hand."""
 
 import contextlib
 import pathlib
@@ -14,7 +14,7 @@ from .dropouts import Dropout, told_dropouts
 
 # The columns that are read, and the members of the JSON metadata that they stand for
 _COLUMNS = {"system": "system", "black_16b_ire": "black16bIre", "white_16b_ire": "white16bIre"}
-# Those of a dropout, behind that of its field, likewise
+# Those of a dropout, after that of its field, likewise
 _OF_DROPOUT = {"field_line": "fieldLine", "startx": "startx", "endx": "endx"}
 STEPS = 100000  # of SQLite's own machine, after each of which signals are heeded
 MOST_STEPS = 10000 * STEPS  # of one database: a hundred times what one of a million fields takes
@@ -24,23 +24,23 @@ _OPTIONAL = {"field_width": "fieldWidth", "field_height": "fieldHeight",
 
 
 def parameters_of_database(path: str) -> Dict[str, Any]:
-    """The values of a database under the names that the JSON metadata's videoParameters have. A ValueError where it has
-    another form."""
+    """The values of a database, under the names of the JSON metadata's videoParameters. A database of another form
+    raises a ValueError."""
     with opened(path) as database:
         return _parameters(database)
 
 
 def first_of_database(path: str) -> List[Any]:
-    """Of each field, in their order, whether it is the first one of its frame: true, false, or None where that isn't
-    known. There is nothing where no table, or more than one, has the fields."""
+    """Whether each field, in order, is the first one of its frame: true, false, or None if that isn't known. Empty if
+    no table, or more than one, has the fields."""
     with opened(path) as database:
         values = column_of_fields(database, "is_first_field") or []
     return [bool(value) if value in (0, 1) else None for value in values]
 
 
 def dropouts_of_database(path: str) -> List[Dropout]:
-    """The dropouts of lines 16, 17 and 18. There are none where the table `drop_outs` isn't as ld-decode makes it, nor
-    where no table, or more than one, has the fields."""
+    """The dropouts of lines 16, 17 and 18. There are none if the table `drop_outs` isn't as ld-decode makes it, or if
+    no table, or more than one, has the fields."""
     with opened(path) as database:
         columns = ["field_id", *_OF_DROPOUT]
         if not set(columns) <= set(columns_of(database, "drop_outs")):
@@ -57,7 +57,8 @@ def dropouts_of_database(path: str) -> List[Dropout]:
 
 @contextlib.contextmanager
 def opened(path: str) -> Iterator[sqlite3.Connection]:
-    """The database in this file, to read it as it is now. What is wrong with it is a ValueError that names the file."""
+    """The database in this file, to read it as it is now. If something is wrong with it, a ValueError names the
+    file."""
     address = pathlib.Path(path).absolute().as_uri() + "?mode=ro"
     try:
         with contextlib.closing(sqlite3.connect(address, uri=True, timeout=0, isolation_level=None)) as database:
@@ -72,7 +73,7 @@ def opened(path: str) -> Iterator[sqlite3.Connection]:
 
 
 def limit_steps(database: sqlite3.Connection) -> None:
-    """Has SQLite heed signals while it runs, and give up what has no end, as a view of the file may."""
+    """Has SQLite heed signals while it runs, and stop what would never end, as a view in the file may."""
     left = iter(range(MOST_STEPS // STEPS))
     sqlite3.enable_callback_tracebacks(True)  # so that a signal that comes in the next function isn't lost
     database.set_progress_handler(lambda: next(left, None) is None, STEPS)
@@ -98,12 +99,12 @@ def tables_of(database: sqlite3.Connection) -> List[str]:
 
 
 def columns_of(database: sqlite3.Connection, table: str) -> List[str]:
-    """The names of a table's columns; none where there is no such table."""
+    """The names of a table's columns; none if there is no such table."""
     return [row[1] for row in database.execute("PRAGMA table_info(%s)" % quoted(table))]
 
 
 def column_of_fields(database: sqlite3.Connection, column: str) -> Optional[List[Any]]:
-    """The values of a column, in the order of the fields, of the one table that has these; None where no table has
+    """The values of a column, in the order of the fields, from the one table that has the fields; None if no table has
     them, or more than one."""
     tables = [table for table in tables_of(database)
               if {"field_id", "is_first_field"} <= set(columns_of(database, table))]
@@ -114,7 +115,7 @@ def column_of_fields(database: sqlite3.Connection, column: str) -> Optional[List
 
 
 def quoted(name: str) -> str:
-    """A table's name as it stands in a statement."""
+    """A table's name as an SQL statement has it."""
     return '"%s"' % name.replace('"', '""')
 
 
@@ -130,7 +131,7 @@ def _parameters(database):
 
 
 def columns_with(database: sqlite3.Connection, table: str, wanted: Iterable[str]) -> List[str]:
-    """The names of the columns of a table that has to be there, with these columns."""
+    """The names of a table's columns. The table has to be there, with these columns."""
     tables = tables_of(database)
     if table not in tables:
         raise ValueError("no table %s; there are: %s" % (table, _listed(tables)))

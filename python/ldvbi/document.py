@@ -1,7 +1,7 @@
 """The documents of `ldvbi extract`, version 2, and those with recovered words, version 3, as docs/FORMATS.md describes
-them: read, and written from a TBC file, the same bytes as the program's. Each number of a document that is read is
-checked; what isn't as it has to be raises a ValueError that says where. The readings that are written, and the records
-of version 3, are those of the library, which is proved; that the text is the program's is shown by tests alone."""
+them. They are read, and written from a TBC file with the same bytes as the program's. Each number of a document that is
+read is checked; if something is wrong, a ValueError says where. The readings that are written, and the records of
+version 3, come from the library, which is proved. That the text is the program's is only tested."""
 
 import array
 import json
@@ -31,7 +31,7 @@ _RECORD = re.compile(r'\{"seqNo":([^,]*),"vbi":\{"vbiData":\[(%s,%s,%s)\]\},([^]
 _CAUSES_AND_PASSES = re.compile(re.escape(CAUSES).replace("%d", "(%s)" % _NUMBER).replace("%s", "([a-z0-9 ]*)"))
 _LEAST_WORD, _GREATEST_WORD = 0x800000, 0xFFFFFF
 _PIECE = 1 << 17  # characters of records that are taken apart at once
-_FRAME = 400  # characters: more than what stands before the records and behind them
+_FRAME = 400  # characters: more than what stands before the records and after them
 _LONGEST = 1135  # samples of a line
 # Of each cause, by its number, the texts by column
 _CAUSES = [["word"], ["blank"], ["unfinished"], ["change %d" % column for column in range(_LONGEST)],
@@ -39,8 +39,8 @@ _CAUSES = [["word"], ["blank"], ["unfinished"], ["change %d" % column for column
 
 
 class Document(NamedTuple):
-    """What a document has: the readings of the whole fields, the field in which the stream was cut, and the levels that
-    it was read with."""
+    """What a document has: the system, the readings of the whole fields, the field in which the stream was cut, and the
+    levels with which it was read."""
     system: System
     readings: PackedFields
     cut: Optional[Cut]
@@ -50,7 +50,7 @@ class Document(NamedTuple):
 # ---- Read
 
 def is_document(path: Any, begin: bytes) -> bool:
-    """Whether a file with this name, which begins with these bytes, is taken for a document and not for a TBC file."""
+    """Whether a file with this name that begins with these bytes is taken for a document, not for a TBC file."""
     return str(path).endswith(".json") or _BEGIN.match(begin) is not None
 
 
@@ -225,7 +225,7 @@ def _packed_pieces(body, known):
         begin = end + 2
         end = body.find(",\n", begin + _PIECE)
         end = len(body) if end < 0 else end
-        # what stands before each record, its parts, and what stands behind the last
+        # what stands before each record, its parts, and what stands after the last
         parts = _RECORD.split(body[begin:end])
         numbers, words, causes = parts[1::4], parts[2::4], parts[3::4]
         if parts[::4] != ["", *[",\n"] * (len(numbers) - 1), ""]:
@@ -275,7 +275,7 @@ class _KnownCauses(Dict[str, _Lines]):
 
 # ---- Written
 
-# Yields the blocks that it gets, each of so many fields, and may say meanwhile how far they are
+# Yields the blocks that it gets, each with this many fields, and may report how far they are
 Over = Callable[[Iterable[Any], int], Iterable[Any]]
 
 
@@ -285,7 +285,7 @@ def write_document(stream: Stream, file: TextIO, over: Over) -> None:
 
 
 def write_recovered(stream: Stream, file: TextIO, over: Over) -> None:
-    """Writes the document with recovered words of a stream, without its dropouts."""
+    """Writes the document with recovered words of a stream to a text file. The stream's dropouts are left out."""
     _write(3, stream, stream.records(), file, over)
 
 
@@ -308,7 +308,7 @@ def head_of(version: int, system: System, black: int, white: int) -> str:
 
 
 def tail_of(cut: Optional[Cut]) -> str:
-    """What stands behind them."""
+    """What stands after the records."""
     return '\n],"cutField":%s}\n' % ('{"seqNo":%d,"bytes":%d}' % cut if cut else "null")
 
 
@@ -322,7 +322,7 @@ def _blocks_of_records(stream: Stream) -> Iterator[List[str]]:
 
 
 def _records(block: Any, number: int) -> Iterator[str]:
-    """The records of a block of fields, as the library writes their readings, behind so many others."""
+    """The records of a block of fields, as the library writes their readings, after `number` others."""
     for a, b, c, d, e, f, g, h, i, j, k, l in PACKED_FIELD.iter_unpack(block):
         number += 1
         if max(a, e, i) >= len(_CAUSES):

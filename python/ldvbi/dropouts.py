@@ -14,7 +14,7 @@ _WANTED = frozenset(LINES)
 
 
 class Dropout(NamedTuple):
-    """The columns of a line from the first to the last. Fields and columns are counted from 0; columns beyond the line
+    """The columns of a line from `first` to `last`. Fields and columns are counted from 0. Columns beyond the line
     count for nothing."""
     field: int
     line: int
@@ -23,7 +23,7 @@ class Dropout(NamedTuple):
 
 
 class Dropouts:
-    """The dropouts of so many fields. Each is a `Dropout`, or four such numbers; they come in any order, and may
+    """The dropouts of a number of fields. Each is a `Dropout`, or four such numbers. They come in any order, and may
     overlap. A ValueError says what is wrong with one."""
 
     def __init__(self, dropouts: Optional[Iterable[Tuple[int, int, int, int]]], fields: int) -> None:
@@ -34,25 +34,25 @@ class Dropouts:
         return len(self._sorted)
 
     def of(self, begin: int, end: int) -> List[Dropout]:
-        """Those of the fields from `begin` to `end`, which isn't among them."""
+        """The dropouts of the fields from `begin` to before `end`."""
         first, last = (bisect.bisect_left(self._sorted, (field,)) for field in (begin, end))
         return self._sorted[first:last]
 
     def packed(self, begin: int, end: int) -> Tuple[bytes, int]:
-        """The same as the library takes them, with fields counted from `begin`, and how many they are."""
+        """The same as the library takes them, with fields counted from `begin`, and how many there are."""
         found = self.of(begin, end)
         return b"".join([_PACKED_ERASED.pack(one.field - begin, *one[1:]) for one in found]), len(found)
 
 
 def dropouts_of_field(dropouts: Optional[Iterable[Tuple[int, int, int]]]) -> Dropouts:
-    """The dropouts of one field, of each of which its line, its first column and its last are given."""
+    """The dropouts of one field. Each is given by its line, its first column and its last."""
     given = () if dropouts is None else dropouts
     return Dropouts([Dropout(0, *_numbers(one, Dropout._fields[1:])) for one in given], 1)
 
 
 def dropouts_of_lines(dropouts: Iterable[Tuple[int, int, int]], line: int, lines: int) -> Dropouts:
-    """The dropouts of so many lines that have this number, of each of which the place of its line among these, counted
-    from 0, its first column and its last are given."""
+    """The dropouts of lines that all have the number `line`. Each is given by the place of its line among these
+    `lines`, counted from 0, its first column and its last."""
     given = [_numbers(one, ("index", *Dropout._fields[2:])) for one in dropouts]
     beyond = next((place for place, _, _ in given if not 0 <= place < lines), None)
     if beyond is not None:
@@ -61,7 +61,7 @@ def dropouts_of_lines(dropouts: Iterable[Tuple[int, int, int]], line: int, lines
 
 
 def refuse_dropouts(recover: bool, dropouts: Optional[Iterable[Any]]) -> None:
-    """Raises a ValueError where dropouts are given, and no words are recovered."""
+    """Raises a ValueError if dropouts are given but no words are recovered."""
     if dropouts is not None and not recover:
         raise ValueError("dropouts are for recovered words alone: give recover, too")
 
@@ -89,9 +89,9 @@ def _checked(one: Dropout, fields: int) -> Dropout:
 # ---- ld-decode's metadata
 
 def told_dropouts(field: int, told: Any) -> Iterable[Dropout]:
-    """Those of lines 16, 17 and 18 that a field's member `dropOuts` has: lists of lines, counted from 1, of first and
-    of last columns. There are none where these aren't such lists of whole numbers: a dropout that isn't known is as
-    good as one that ld-decode didn't find."""
+    """The dropouts of lines 16, 17 and 18 in a field's member `dropOuts`, which has lists of lines, counted from 1, of
+    first columns and of last columns. There are none if these aren't such lists of whole numbers: a dropout that isn't
+    known is as good as one that ld-decode didn't find."""
     try:
         lines = told["fieldLine"]
         if _WANTED.isdisjoint(lines):  # as of most fields

@@ -1,4 +1,5 @@
-"""The library libldvbi.so: where it is, its calls, its refusals as exceptions. It is loaded when it is first called."""
+"""The library libldvbi.so: where it is, its calls, and its refusals as exceptions. It is loaded when it is first
+called."""
 
 import contextlib
 import ctypes
@@ -33,23 +34,23 @@ class System(enum.IntEnum):
 
 class Counted(enum.IntEnum):
     """Which numbers of a disc are judged: the picture numbers of a CAV disc, or the times of a CLV disc, as pictures
-    from its beginning, 30 (NTSC) or 25 (PAL) to a second."""
+    from its beginning, 30 (NTSC) or 25 (PAL) a second."""
     pictures = 1
     times = 2
 
 
 class Pace(enum.IntEnum):
-    """How long the pictures of a disc last: two fields (video), or two and three fields by turns (film on NTSC).
-    `find` is that of film where pictures of NTSC are counted, and over a tenth more of their numbers are believed by
-    it; else that of video."""
+    """How long the pictures of a disc last: two fields (video), or two and three fields by turns (film on NTSC). `find`
+    takes that of film if pictures of NTSC are counted, and over a tenth more of their numbers are believed by it; else
+    that of video."""
     video = 1
     film = 2
     find = 3
 
 
 class Both(enum.IntEnum):
-    """Whether a disc of video has its numbers on one field of each picture or on both. `find` takes them to be on both
-    if a quarter or more of the believed numbers that follow another one stand an odd count of fields after it."""
+    """Whether a disc of video has its numbers on one field of each picture or on both. `find` takes both if a quarter
+    or more of the believed numbers that follow another one stand an odd count of fields after it."""
     on_one = 0
     on_both = 1
     find = 3
@@ -113,7 +114,7 @@ def _declared(calls, name, types):
 
 @functools.lru_cache(maxsize=None)
 def library() -> ctypes.CDLL:
-    """The library's calls. An OSError in one line where there is no library that fits."""
+    """The library's calls. If there is no library that fits, an OSError says so in one line."""
     file = _library_file()
     try:
         calls = ctypes.CDLL(file)
@@ -130,8 +131,8 @@ def library() -> ctypes.CDLL:
 
 @functools.lru_cache(maxsize=None)
 def later_call(name: str) -> Any:
-    """A call of the library that an older one may lack. An OSError in one line where this one does; it may read samples
-    all the same."""
+    """A call of the library that an older one may lack. If this library lacks it, an OSError says so in one line; the
+    library may still read samples."""
     calls = library()
     purpose, types = _LATER[name]
     try:
@@ -147,7 +148,7 @@ _SAYS_FROM = 2000  # the version from which on a library that is plain Rust says
 
 
 def library_text() -> str:
-    """The library's version, how it was built, and its file. An OSError where there is no library that fits."""
+    """The library's version, how it was built, and its file. If there is no library that fits, an OSError says so."""
     calls = library()
     version = later_call("ldvbi_version")()
     built = "proved" if version >= _SAYS_FROM else "proved or plain Rust"
@@ -169,7 +170,7 @@ def _path_of(name):
 # ---- Arguments and refusals
 
 def number_of(name: str, value: Any) -> int:
-    """A whole number as the library takes it. Anything outside 32 bits becomes 2^32 - 1, which is refused as well."""
+    """A whole number as the library takes it. A number outside 32 bits becomes 2^32 - 1, which is refused as well."""
     number = whole_number(name, value)
     return number if 0 <= number <= MOST else MOST
 
@@ -200,7 +201,7 @@ def pace_number(pace: Any) -> int:
 
 
 def both_of(both: Any) -> Both:
-    """The `Both` of a number or a name, of which the library refuses none."""
+    """The `Both` of a number or a name. The library itself refuses no number."""
     refusal = "numbers are on one field of a picture or on both, or that is to be found"
     number = _member_number(Both, both, refusal)
     if number not in list(Both):
@@ -237,5 +238,5 @@ class Setup(NamedTuple):
 
 
 def setup_of(system: Any, black: Any, white: Any) -> Setup:
-    """The setup of these arguments, which are handed over as they are: the library refuses what is out of range."""
+    """The setup of these arguments. They are handed over as they are: the library refuses what is out of range."""
     return Setup(system_number(system), number_of("black", black), number_of("white", white))

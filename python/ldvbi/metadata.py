@@ -1,7 +1,7 @@
-"""System, black and white of a run, how many fields there are, which of them begin a frame, and where lines 16, 17 and
-18 have dropouts, from ld-decode's metadata, JSON or SQLite. JSON is read as `ldvbi` reads it, but for this: levels with
-decimals are rounded here to the next whole number, a half upwards, and no more than a few fields are held at a time.
-"""
+"""Settings and fields from ld-decode's metadata, JSON or SQLite: the system, black and white of a run, how many fields
+there are, which of them begin a frame, and where lines 16, 17 and 18 have dropouts. JSON is read as `ldvbi` reads it,
+with two differences: levels with decimals are rounded here to the next whole number, a half upwards, and no more than a
+few fields are held at a time."""
 
 import io
 import math
@@ -16,15 +16,15 @@ from .readings import size_of
 from .regular import regular
 from .scanner import NotJson, Scanner
 
-# What is told of each field of a JSON text: its place in the text, in characters, its own text, and its value
+# Gets each field of a JSON text: its place in the text, in characters, its own text, and its value
 OnField = Callable[[int, str, Any], None]
-# What is told of each other member of the text: its name, and of its value the place and the own text
+# Gets each other member of the text: its name, and the place and the own text of its value
 OnMember = Callable[[str, int, str], None]
 
 
 class Metadata(NamedTuple):
-    """What a file has: the videoParameters, how many fields there are, and of each `isFirstField`. Each is None where
-    the file doesn't have it. `dropouts` are those of lines 16, 17 and 18, as `ldvbi.Stream` takes them."""
+    """What a file has: the videoParameters, how many fields there are, and `isFirstField` of each. Each is None if the
+    file doesn't have it. `dropouts` are those of lines 16, 17 and 18, as `ldvbi.Stream` takes them."""
     path: str
     parameters: Optional[Dict[str, Any]]
     fields: Optional[int]
@@ -33,7 +33,7 @@ class Metadata(NamedTuple):
 
 
 class Settings(NamedTuple):
-    """What a TBC file is read with, and what was rounded, as sentences."""
+    """The settings with which a TBC file is read, and what was rounded, as sentences."""
     system: str
     black: int
     white: int
@@ -41,21 +41,22 @@ class Settings(NamedTuple):
 
 
 def beside(path: str) -> Optional[str]:
-    """The metadata that lies beside a TBC file: NAME.tbc.json, else NAME.tbc.db; None where neither does."""
+    """The metadata beside a TBC file: NAME.tbc.json, else NAME.tbc.db; None if neither is there."""
     return next((name for name in (path + ".json", path + ".db") if os.path.exists(name)), None)
 
 
 def is_database(begin: bytes) -> bool:
-    """Whether a file that begins with these bytes, at least 16 where it has so many, is a database."""
+    """Whether a file that begins with these bytes is a database. Give at least 16 bytes, if the file has them."""
     return begin.startswith(b"SQLite format 3\0")
 
 
 @paused()
 def read_metadata(path: str, on_field: Optional[OnField] = None, waits: bool = True,
                   on_member: Optional[OnMember] = None) -> Metadata:
-    """The `Metadata` of a file, which is read once, since it may be a pipe. A database of another form is a ValueError,
-    and so is a compressed file; a text that isn't metadata has none of all this. `on_field` is called with each field
-    of a text as it is read, `on_member` with each other member. If it `waits`, the file may be a pipe."""
+    """The `Metadata` of a file. The file is read once, since it may be a pipe. A database of another form raises a
+    ValueError, and so does a compressed file; a text that isn't metadata has nothing of all this. `on_field` is called
+    with each field of a text as it is read, `on_member` with each other member. Only if it `waits` may the file be a
+    pipe."""
     with open(path, "rb", opener=None if waits else regular) as file:
         begin = file.peek(16)
         refuse_packed(path, begin)
@@ -133,7 +134,7 @@ def _count(parameters):
 
 def settings_of(metadata: Optional[Metadata], system: Optional[str] = None, black: Optional[int] = None,
                 white: Optional[int] = None) -> Settings:
-    """The settings from this metadata, or from none. What is given here replaces the file's member."""
+    """The settings from this metadata, or from none. An argument that is given here replaces the file's member."""
     parameters: Dict[str, Any] = {}
     if metadata is not None:
         if metadata.parameters is None:

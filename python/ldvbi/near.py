@@ -1,4 +1,5 @@
-"""The nearest word of lines: the one whose drawn row their samples are off by least; and what a pile of lines says."""
+"""The nearest word of lines: the one whose drawn row differs least from their samples. And what a pile of lines
+says."""
 
 import ctypes
 import struct
@@ -12,10 +13,11 @@ from .samples import Samples
 
 class Near(NamedTuple):
     """The nearest word of some lines. Distances are sums of samples: white - black is that of one column with the other
-    level, in one line. `word` is None if no word is nearer than the row of none, which is black. `start` is the
-    column, counted from 0, from which on the word is drawn, or 0. `distance` is that of its row, `rival` the least
-    distance of a row of another word, or of none. `longer` is the least distance of this row with one more cell before
-    or behind the 24 of the word: where it is far below `distance`, the signal goes on beyond the word, and is none."""
+    level, in one line. `word` is None if no word is nearer than the row of none, which is black. `start` is the column,
+    counted from 0, at which the drawn word begins, or 0. `distance` is how far its row is from the lines, `rival` the
+    least distance of a row of another word, or of none. `longer` is the least distance of this row with one more cell
+    before or after the 24 of the word. If `longer` is far below `distance`, the signal goes on beyond the word, so it
+    is no word."""
     word: Optional[int]
     start: int
     distance: int
@@ -28,12 +30,12 @@ _PACKED_NEAR = struct.Struct("=IIQQQ")  # LdvbiNear of ldvbi.h
 
 
 def nearest(lines: Any, system: AnySystem, black: int, white: int) -> Near:
-    """The nearest word of 1 to 28 lines that all have one word or none, such as lines 17 and 18 of a field. Their
-    samples lie one line behind the other.
+    """The nearest word of 1 to 28 lines that all have the same word or none, such as lines 17 and 18 of a field. Their
+    samples lie one line after the other.
 
-    No row of any word is nearer to the lines than `distance`, and none of another word nearer than `rival`: if another
-    word was recorded, the samples of the lines are off by `rival` or more in sum. That there is a word is not said:
-    each signal has a nearest one, and that of video or of noise has a rival close by."""
+    No row of any word is nearer to the lines than `distance`, and none of another word is nearer than `rival`: if
+    another word was recorded, the samples of the lines are off by `rival` or more in sum. This doesn't say that there
+    is a word: each signal has a nearest one, and video or noise has a rival close by."""
     call = later_call("ldvbi_nearest")
     setup = setup_of(system, black, white)
     out = ctypes.create_string_buffer(_PACKED_NEAR.size)
@@ -45,10 +47,11 @@ def nearest(lines: Any, system: AnySystem, black: int, white: int) -> Near:
 
 def recover_pile(lines: Any, system: AnySystem, black: int, white: int, line: int,
                  dropouts: Optional[Iterable[Tuple[int, int, int]]] = None) -> Optional[int]:
-    """The word that 1 to 28 lines say together, which all have one word, such as one line of several captures; None
-    where they say none. `line` is the number of all these lines, 16, 17 or 18. Columns of `dropouts` count for nothing:
-    of each the place of its line among these, its first column and its last, counted from 0. They are known, also where
-    there are none of them: a code has to be ahead of any other by 6 columns then, without them by 10."""
+    """The word that 1 to 28 lines say together, which all have the same word, such as one line of several captures;
+    None if they say none. `line` is the number of all these lines, 16, 17 or 18. Columns of `dropouts` count for
+    nothing. Each is given by the place of its line among these, its first column and its last, counted from 0. If
+    `dropouts` are given, even none, they are known: then a code has to be ahead of any other by 6 columns, else by
+    10."""
     call = later_call("ldvbi_recover_pile")
     setup, number = setup_of(system, black, white), number_of("line", line)
     word = ctypes.c_uint32()

@@ -1,4 +1,4 @@
-"""Compressed files, which aren't video, by their first bytes."""
+"""Recognizes compressed files, which aren't video, by their first bytes."""
 
 import re
 from typing import Optional
@@ -13,12 +13,12 @@ ENDS = (".gz", ".zst", ".xz", ".bz2", ".lzma", ".zip", ".flac")
 
 
 def packed_as(begin: bytes) -> Optional[str]:
-    """The form of a compressed file that begins with these bytes, 8 or more; None where it is none."""
+    """The form of a compressed file that begins with these bytes, 8 or more; None if it isn't compressed."""
     return next((name for name, pattern in _BEGINS.items() if pattern.match(begin)), None)
 
 
 def refuse_packed(path: str, begin: bytes) -> None:
-    """Raises a ValueError that names the file where it begins with these bytes, 8 or more, and is compressed."""
+    """Raises a ValueError that names the file if it begins with these bytes, 8 or more, and is compressed."""
     packed = packed_as(begin)
     if packed:
         raise ValueError("%s: it is compressed (%s): unpack it first" % (path, packed))

@@ -1,4 +1,4 @@
-"""What the lines of a field show: a word, or why there is none; the calls of the library that read and draw lines."""
+"""What the lines of a field show: a word, or why there is none. These calls of the library read and draw lines."""
 
 import array
 import ctypes
@@ -12,7 +12,7 @@ from .samples import Samples
 
 # A system may be named; samples are anything with the buffer protocol.
 AnySystem = Union[System, str, int]
-# Of each dropout of a field the line, the first column and the last, counted from 0
+# The line, the first column and the last column of each dropout of a field; columns are counted from 0
 FieldDropouts = Optional[Iterable[Tuple[int, int, int]]]
 
 
@@ -27,8 +27,8 @@ class Cause(enum.IntEnum):
 
 class Reading(NamedTuple):
     """What a line shows. `pass_` is 1 for a word that the line's own levels show, 2 for one that only smoothed levels
-    show, 3 for one that was recovered, 0 for no word. `column` is, of the causes change and hold, the first hopeless
-    column, counted from 0; else 0. `word` is the word, from 0x800000 to 0xFFFFFF, or 0. If this module doesn't know the
+    show, 3 for one that was recovered, 0 for no word. `column` is the first hopeless column, counted from 0, for the
+    causes change and hold; else 0. `word` is the word, from 0x800000 to 0xFFFFFF, or 0. If this module doesn't know the
     cause, which a later library may have, `cause` is its number."""
     cause: Cause
     pass_: int
@@ -50,7 +50,7 @@ class Cut(NamedTuple):
 
 
 class Levels(NamedTuple):
-    """The samples of black and of white that fields were read with."""
+    """The samples of black and of white with which fields were read."""
     black: int
     white: int
 
@@ -59,7 +59,7 @@ PACKED_LINE = struct.Struct("=BBHI")  # LdvbiReading of ldvbi.h
 PACKED_FIELD = struct.Struct("=BBHIBBHIBBHI")  # LdvbiFieldReadings
 _CAUSES = (*Cause, *range(len(Cause), 256))  # those that a later library may add stay numbers
 _CAUSE_NAMES = tuple(cause.name for cause in Cause)
-_FIRST_WITH_COLUMN = int(Cause.change)  # and the only other one behind it is hold
+_FIRST_WITH_COLUMN = int(Cause.change)  # and the only other one after it is hold
 _SIZES = {System.NTSC: (910, 263), System.PAL: (1135, 313)}  # samples of a line, lines of a field
 
 
@@ -88,10 +88,10 @@ def read_line(samples: Any, system: AnySystem, black: int, white: int) -> Readin
 
 def read_rows(samples: Any, system: AnySystem, black: int, white: int, recover: bool = False,
               dropouts: FieldDropouts = None) -> FieldReadings:
-    """The readings of a field's lines 16, 17 and 18 alone, which follow each other, as os.pread fetches them. In their
-    field they are behind 15 others. With `recover` a worn line has its nearest word, of pass 3, where no other is near:
-    ldvbi_recover_rows in ldvbi.h has the rule. Columns of `dropouts` count for no nearest word: of each its line, its
-    first column and its last, counted from 0."""
+    """The readings of a field's lines 16, 17 and 18, given alone and one after the other, as os.pread fetches them. In
+    their field 15 lines are before them. With `recover` a worn line has its nearest word, of pass 3, if no other is
+    near: ldvbi_recover_rows in ldvbi.h has the rule. Columns of `dropouts` count for no nearest word. Each is given by
+    its line, its first column and its last, counted from 0."""
     refuse_dropouts(recover, dropouts)
     read = _recovering("ldvbi_recover_rows", dropouts) if recover else library().ldvbi_read_rows
     setup = setup_of(system, black, white)
@@ -110,7 +110,7 @@ def read_field(samples: Any, system: AnySystem, black: int, white: int, recover:
 
 def _recovering(name: str, dropouts: FieldDropouts, *more: int) -> Callable[..., int]:
     """The call of the library with this name, or, where a field has dropouts, its sibling that leaves these out;
-    `more` comes behind its other arguments."""
+    `more` comes after its other arguments."""
     erased = dropouts_of_field(dropouts)
     call = later_call(name + "_without" if erased else name)
 
@@ -135,15 +135,15 @@ def _read(read: Any, samples: Any, setup: Setup, packed: struct.Struct, owner: s
 
 
 def unpacked(readings: Any) -> Iterator[FieldReadings]:
-    """Fields' readings, as the library writes them, one by one."""
+    """The readings of fields, as the library writes them, one field at a time."""
     for a, b, c, d, e, f, g, h, i, j, k, l in PACKED_FIELD.iter_unpack(readings):
         yield FieldReadings(Reading(_CAUSES[a], b, c, d), Reading(_CAUSES[e], f, g, h), Reading(_CAUSES[i], j, k, l))
 
 
 class PackedFields(Sequence[FieldReadings]):
-    """The readings of fields as the library writes them, in `data`: 24 bytes to a field. It is a sequence of the
-    `FieldReadings` of these fields, each of which is made when it is asked for; `words`, `passes` and `causes` have one
-    part of all of them, by columns, in a tenth of the time."""
+    """The readings of fields as the library writes them, in `data`: 24 bytes a field. It is a sequence of the
+    `FieldReadings` of these fields, each of which is made when it is asked for. `words`, `passes` and `causes` take one
+    part of all fields at once, in a tenth of the time."""
 
     def __init__(self, data: bytes) -> None:
         self.data = data
@@ -224,5 +224,5 @@ def cause_text(reading: Reading) -> str:
 
 
 def unknown_cause(number: int) -> ValueError:
-    """What is raised for a cause of a later library, which no text is known for."""
+    """The exception for a cause of a later library, for which no text is known here."""
     return ValueError("the library's cause %d is not known here" % number)

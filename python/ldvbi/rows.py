@@ -1,5 +1,5 @@
-"""A TBC file, of each field of which lines 16, 17 and 18 are read, and nothing else. A file that is mapped and becomes
-shorter ends the process by a signal; one that is read so is a fault with its name."""
+"""A TBC file of which only lines 16, 17 and 18 of each field are read. If a mapped file becomes shorter, a signal ends
+the process; if a file that is read in this way becomes shorter, that is a fault with its name."""
 
 import ctypes
 import errno
@@ -12,8 +12,7 @@ _ADVISE = getattr(os, "posix_fadvise", None)  # not every system has it
 
 
 class File:
-    """A file, and how many bytes it had when it was opened. Whoever reads from it once it is closed gets a
-    ValueError."""
+    """A file, and how many bytes it had when it was opened. Reading from it after it is closed raises a ValueError."""
     _file: Optional[int] = None
 
     def __init__(self, path: Union[str, "os.PathLike[str]"]) -> None:
@@ -48,7 +47,7 @@ class File:
         return found
 
     def mapped(self) -> mmap.mmap:
-        """All bytes of the file in memory, for a call that wants them."""
+        """All bytes of the file in memory, for a call that needs them."""
         if self._mapped is None:
             self._mapped = mmap.mmap(self._opened(), self.size, access=mmap.ACCESS_READ)
             self._mapped.madvise(mmap.MADV_RANDOM)
@@ -68,8 +67,8 @@ class File:
 
 
 class Window:
-    """Memory for so many fields of a file, as calls of the library want it that take whole fields: what isn't of lines
-    16, 17 and 18 is never written, and takes no room."""
+    """Memory for some fields of a file, for calls of the library that take whole fields. Lines other than 16, 17 and 18
+    are never written, and take no room."""
 
     def __init__(self, file: File, fields: int, line: int, field: int) -> None:
         self._file, self._line, self._field = file, line, field

@@ -1,5 +1,5 @@
-"""The memory of Python's objects that hold samples: anything with the buffer protocol, of 16-bit samples with the low
-byte first, or of raw bytes."""
+"""The memory of Python objects that hold samples: anything with the buffer protocol that has 16-bit samples, the low
+byte first, or raw bytes."""
 
 import ctypes
 import io

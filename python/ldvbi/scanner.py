@@ -1,5 +1,5 @@
-"""JSON texts of any length, read in pieces: no more of one is held than a value of it, or a few short ones, which are
-read by Python's json, and the piece behind it."""
+"""Reads JSON texts of any length in pieces. It holds no more of a text than one value, or a few short ones, which
+Python's json reads, and the piece after that."""
 
 import json
 import math
@@ -38,9 +38,9 @@ class NotJson(ValueError):
 
 
 class Scanner:
-    """A JSON text, from its beginning on. Where an object or a list comes next, `members` or `items` goes through it;
-    each of its values in turn is gone past by `value`. `begin` is then the place of this value in the whole text, and
-    `text` is the value's own. A `NotJson` is raised where the text is seen to be none.
+    """A JSON text, read from its beginning on. If an object or a list comes next, `members` or `items` goes through it,
+    and `value` goes past each of its values in turn. `begin` is then the place of this value in the whole text, and
+    `text` is the value's own text. If the text turns out not to be JSON, a `NotJson` is raised.
 
     The file is a text file that was opened with newline="", so that places are those of its characters."""
 
@@ -53,11 +53,11 @@ class Scanner:
         self.begin, self.text = 0, ""
 
     def comes(self, mark: str) -> bool:
-        """Whether this character comes next, behind white space."""
+        """Whether this character comes next, after white space."""
         return self._next() == mark
 
     def members(self) -> Iterator[str]:
-        """Goes through an object: yields the name of each member where its value comes next."""
+        """Goes through an object: yields the name of each member when its value comes next."""
         for _ in self._parts("{", "}"):
             if not self.comes('"'):
                 raise self._fault("a name")
@@ -66,23 +66,23 @@ class Scanner:
             yield name
 
     def items(self) -> Iterator[None]:
-        """Goes through a list: yields where each of its values comes next."""
+        """Goes through a list: yields when each of its values comes next."""
         return self._parts("[", "]")
 
     def value(self) -> Any:
-        """Goes past a member's or an item's value, which is the answer."""
+        """Goes past the value of a member or an item, and returns it."""
         self._next()
         return self._scanned(",]}")
 
     def values(self) -> Iterator[List[Any]]:
-        """Goes through a list, and yields its values, some at a time: short objects are read together, in two thirds of
+        """Goes through a list, and yields its values, some at a time. Short objects are read together, in two thirds of
         the time. Their places and texts aren't kept."""
         for _ in self.items():
             yield self._several()
             yield [self.value()]
 
     def _several(self) -> List[Any]:
-        """Goes past items that come next, and past a comma behind each. They are the answer: none where the last of
+        """Goes past items that come next, and past a comma after each. They are the answer: none where the last of
         what may be an item is part of another, or where one might be nested too deep."""
         found = _SEVERAL.match(self._held, self._at, self._at + _TOGETHER)
         if not found:
@@ -97,7 +97,7 @@ class Scanner:
         return values
 
     def end(self) -> None:
-        """Sees that nothing but white space comes behind the text's one value."""
+        """Checks that nothing but white space comes after the text's one value."""
         if self._next():
             raise self._fault("the end")
 
@@ -126,7 +126,7 @@ class Scanner:
                 return self._held[self._at:self._at + 1]
 
     def _scanned(self, ends: str) -> Any:
-        """Goes past a value, and past the white space behind it, where one of these characters has to come: else a
+        """Goes past a value, and past the white space after it, where one of these characters has to come: else a
         number might go on there."""
         while True:
             try:

@@ -1,4 +1,4 @@
-"""Where a number is in a side, by few of its fields."""
+"""Finds where a number is in a side, by few of its fields."""
 
 import ctypes
 import struct
@@ -12,7 +12,7 @@ _PACKED_SOUGHT = struct.Struct("@NIIII")  # LdvbiSought
 
 
 class Sought(NamedTuple):
-    """Where a number was found. `field` is counted from 0, `number` is what `judge` answers of it at this `pace`, and
+    """Where a number was found. `field` is counted from 0, `number` is what `judge` answers for it at this `pace`, and
     `looked` is how many fields were read."""
     field: int
     number: Number
@@ -22,12 +22,12 @@ class Sought(NamedTuple):
 
 def seek(stream: Stream, number: int, counted: Union[Counted, str] = Counted.pictures,
          pace: Union[Pace, str] = Pace.find) -> Optional[Sought]:
-    """Where a number is in a stream, of which at most 1,000 fields are read: the field has the number as `judge`
-    answers it by what all fields of the stream show with recovered words, and the field before it hasn't. None where
-    none was found. Where a player runs on, with any lead-in and lead-out, and most lines are read, each number is
-    found; to be sure that one isn't there elsewhere, judge the whole side. `counted` and `pace` are as for `judge`. A
-    pace that is to be found is taken by the few fields that are judged; it needn't be the one that `find_pace` answers
-    of the side."""
+    """Where a number is in a stream, of which at most 1,000 fields are read. The field has the number as `judge`
+    answers it by what all fields of the stream show with recovered words, and the field before it hasn't. None if none
+    was found. On the sides that were tried each number was found if the player runs on, with any lead-in and lead-out,
+    and each line is read. Otherwise one may be missed: to be sure that it isn't there, judge the whole side. `counted`
+    and `pace` are as for `judge`. `Pace.find` finds a pace by the few fields that are judged, which needn't be the one
+    that `find_pace` answers for the side."""
     call = later_call("ldvbi_seek")
     packed = ctypes.create_string_buffer(_PACKED_SOUGHT.size)
     system, black, white, address, length = stream.arguments()

@@ -1,5 +1,5 @@
-"""Where the numbers of a side and its fields don't go on together, and whether its capture is whole: the library's
-judge of sides."""
+"""The library's judge of sides: where the numbers of a side and its fields don't go on together, and whether its
+capture is whole."""
 
 import ctypes
 import enum
@@ -19,7 +19,7 @@ class Verdict(enum.IntEnum):
 
 
 class Reason(enum.IntFlag):
-    """Why a capture isn't whole (the first six), or why that can't be told (the others alone). One that a later
+    """Why a capture isn't whole (the first six), or why that can't be told (if there are only others). One that a later
     library may have keeps its number."""
     is_lost = 1
     is_held = 2
@@ -36,9 +36,9 @@ class Reason(enum.IntFlag):
 
 
 class GapKind(enum.IntEnum):
-    """What lies between two neighbouring numbers that don't go on. `lost`: fields of the disc are lost. `held`: more
-    fields are there than the numbers count to. `back`: the numbers go back. `still`: the player stood still. `joined`:
-    another side begins. `open`: the disc itself may skip there, or fields are lost."""
+    """What lies between two neighbouring numbers that don't go on. `lost`: fields of the disc are lost. `held`: there
+    are more fields than the numbers count to. `back`: the numbers go back. `still`: the player stood still. `joined`:
+    another side begins. `open`: the disc itself may skip there, or fields are lost or too many."""
     lost = 1
     held = 2
     back = 3
@@ -48,10 +48,10 @@ class GapKind(enum.IntEnum):
 
 
 class Gap(NamedTuple):
-    """A gap between two fields with numbers, counted from 0. `fields` are those lost or too many, at least; those of
-    the still; of an open gap how many more or fewer there are than the numbers count to; else 0. `shown` are the fields
-    between that show a number between these two, on both lines in pass 1. `from_` and `to` are the numbers of the two
-    fields. If this module doesn't know the kind, which a later library may have, `kind` is its number."""
+    """A gap between two fields with numbers, counted from 0. `fields` is at least how many are lost or too many; how
+    many a still has; for an open gap how many more or fewer there are than the numbers count to; else 0. `shown` are
+    the fields between that show a number between these two, on both lines in pass 1. `from_` and `to` are the numbers
+    of the two fields. If this module doesn't know the kind, which a later library may have, `kind` is its number."""
     after: int
     before: int
     fields: int
@@ -62,7 +62,7 @@ class Gap(NamedTuple):
 
 
 class Tally(NamedTuple):
-    """What the gaps of a side come to, as LdvbiTally of ldvbi.h has it."""
+    """The counts of a side's gaps, as LdvbiTally of ldvbi.h has them."""
     gaps: int
     lost: int
     held: int
@@ -78,9 +78,9 @@ class Tally(NamedTuple):
 
 
 class JudgedSide(NamedTuple):
-    """What the library says of a whole side. `first` and `last` are the first and the last field with a believed
-    number, `swap` is the first field of the reason `is_swapped`; each counted from 0, and None if there is none.
-    `pace` is the one that it was judged by, `on_both` says whether numbers were taken to be on both fields of a
+    """The library's answer for a whole side. `first` and `last` are the first and the last field with a believed
+    number, and `swap` is the first field of the reason `is_swapped`. Each is counted from 0, and None if there is none.
+    `pace` is the one that the side was judged by, `on_both` says whether numbers were taken to be on both fields of a
     picture, and `numbers` is what `judge` answers at this pace."""
     verdict: Verdict
     reasons: Reason
@@ -104,7 +104,7 @@ def judge_side(readings: Any, system: AnySystem, counted: Union[Counted, str] = 
                pace: Union[Pace, str] = Pace.find, both: Union[Both, str] = Both.find,
                may_end: bool = False) -> JudgedSide:
     """Judges a whole side: which number each field shows, where numbers and fields don't go on together, and whether
-    the capture is whole. `readings`, `system`, `counted` and `pace` are as for `judge`, `both` is a `Both` or its name,
+    the capture is whole. `readings`, `system`, `counted` and `pace` are as for `judge`. `both` is a `Both` or its name,
     and `may_end` says that the capture may end before the disc does.
 
     If a capture of video is `whole`, its fields stand in the disc's order, the disc counts on, and the words misread

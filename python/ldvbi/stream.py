@@ -1,4 +1,4 @@
-"""Streams of fields: TBC files and buffers, each of whose fields is read when it is asked for."""
+"""Streams of fields: TBC files and buffers. Each field is read when it is asked for."""
 
 import ctypes
 import operator
@@ -12,10 +12,10 @@ from .readings import PACKED_FIELD, AnySystem, Cut, FieldReadings, field_bytes, 
 from .rows import File, Window
 from .samples import Samples
 
-BLOCK = 64  # fields to a call of the library; of a file the lines of so many are fetched ahead
+BLOCK = 64  # fields in a call of the library; the lines of this many more are fetched ahead from a file
 
 _PACKED_RECORD = struct.Struct("=I448s")  # LdvbiRecord of ldvbi.h
-# Of each dropout of a stream the field, the line, the first column and the last; all but the line are counted from 0
+# The field, the line, the first column and the last column of each dropout of a stream; all but the line count from 0
 StreamDropouts = Optional[Iterable[Tuple[int, int, int, int]]]
 
 
@@ -24,15 +24,15 @@ class Stream:
     whole fields: it has a length, an index from 0 (or from -1, backwards), slices, which are lists, and a loop over all
     of them. Each field is read when it is asked for. `cut_bytes` is the number of bytes past the last whole field.
 
-    With `recover` a worn line has its nearest word, of pass 3, where no other is near, and a word of pass 2 stays only
-    where it is the nearest one. ldvbi_recover_rows in ldvbi.h has the rule. `dropouts` are columns that count for no
-    nearest word: of each its field, counted as the stream's index, its line, its first column and its last, counted
+    With `recover` a worn line has its nearest word, of pass 3, if no other is near, and a word of pass 2 stays only if
+    it is the nearest one. ldvbi_recover_rows in ldvbi.h has the rule. `dropouts` are columns that count for no nearest
+    word. Each is given by its field, counted as the stream's index, its line, its first column and its last, counted
     from 0.
 
     Only lines 16, 17 and 18 are read from a file, and a loop has the system fetch those of the next fields ahead. If
-    the file is made shorter meanwhile, whoever asks for a field that has gone gets a ValueError that says so; but
-    `seek` maps the file, and a mapped file that is made shorter ends the process by SIGBUS. `close`, or the end of a
-    `with` block, releases the file or buffer. Whoever asks for a field after that gets a ValueError."""
+    the file is made shorter meanwhile, asking for a field that has gone raises a ValueError that says so. But `seek`
+    maps the file, and a mapped file that is made shorter ends the process by SIGBUS. `close`, or the end of a `with`
+    block, releases the file or buffer. After that, asking for a field raises a ValueError."""
 
     def __init__(self, source: Any, system: AnySystem, black: int, white: int, recover: bool = False,
                  dropouts: StreamDropouts = None) -> None:
@@ -103,7 +103,7 @@ class Stream:
 
     @property
     def size(self) -> int:
-        """The bytes of the stream, a cut last field with them."""
+        """The bytes of the stream, including a cut last field."""
         self._refuse_closed()
         return self._bytes
 
@@ -112,7 +112,7 @@ class Stream:
         return self.rows_as(self.system, range(self._count)[index])
 
     def rows_as(self, system: System, field: int) -> bytes:
-        """The same of a whole field, if the stream were one of this system."""
+        """The same for a whole field, if the stream were one of this system."""
         line, size = line_bytes(system), field_bytes(system)
         self._refuse_closed()
         if not 0 <= field < self._bytes // size:
@@ -123,8 +123,8 @@ class Stream:
         return ctypes.string_at(self._memory().address + begin, 3 * line)
 
     def arguments(self) -> Tuple[int, int, int, int, int]:
-        """What the library's calls get of the stream: its system, black and white, its address, and its length. A file
-        is mapped then."""
+        """What the library's calls get of the stream: its system, black and white, its address, and its length. This
+        maps a file."""
         samples = self._memory()
         return self._setup.system, self._setup.black, self._setup.white, samples.address, samples.length
 
@@ -140,8 +140,8 @@ class Stream:
             raise ValueError("the stream is closed")
 
     def packed(self, begin: int, end: int) -> Iterator[Any]:
-        """Yields the readings of the fields from `begin` to `end` in blocks, as the library writes them: of each field
-        three readings of 8 bytes, `struct`'s "=BBHI": cause, pass, column and word."""
+        """Yields the readings of the fields from `begin` to before `end` in blocks, as the library writes them: three
+        readings a field, of 8 bytes each, `struct`'s "=BBHI": cause, pass, column and word."""
         self._refuse_closed()
         if self._file is None:
             for first, last in self._ahead(begin, end):
@@ -153,7 +153,7 @@ class Stream:
                 yield self._packed_block(window.address, first, last)
 
     def _ahead(self, begin: int, end: int) -> Iterator[Tuple[int, int]]:
-        """Yields the first field of each block of these, and the one behind it. Of a file the system fetches the lines
+        """Yields the first field of each block of these, and the one after it. Of a file the system fetches the lines
         of the next block meanwhile."""
         self._fetch(begin, min(begin + BLOCK, end))
         for first in range(begin, end, BLOCK):
@@ -167,8 +167,8 @@ class Stream:
                 self._file.fetch(field * self._size + 15 * self._line, 3 * self._line)
 
     def records(self) -> Iterator[List[str]]:
-        """The records of all fields in the document with recovered words, version 3, as the library writes them, in
-        blocks. The words are recovered without the stream's dropouts, whether `recover` is given or not."""
+        """Yields the records of all fields in the document with recovered words, version 3, as the library writes them,
+        in blocks. The words are recovered with the stream's dropouts left out, whether `recover` is given or not."""
         return self._records(later_call("ldvbi_recovered_record"))
 
     def _records(self, write: Any) -> Iterator[List[str]]:

@@ -9,7 +9,7 @@ from .outside import (INTERRUPTED, drop_standard_output, end_at_once, end_by_the
 
 
 def main(words: Optional[List[str]] = None) -> int:
-    """What these words ask for; without any, as a process has it, those of the command line. The answer is the exit
+    """Does what these words ask for, or, without any, what those of the command line ask for. Returns the exit
     status."""
     if words is None:
         end_at_once()

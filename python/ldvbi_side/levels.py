@@ -1,5 +1,5 @@
-"""Levels and systems that are tried on the lines of a side of which hardly any word is read. Nothing is read anew by
-them: what comes of the trial is said, for somebody to look at."""
+"""Tries levels and systems on some lines of a side on which hardly any word is read. Nothing is read anew by them: the
+result of the trial is only reported, for somebody to look at."""
 
 import struct
 from typing import Iterator, List, NamedTuple, Optional, Tuple
@@ -19,15 +19,15 @@ LEAST = 1000  # from low to high: less than that is no code
 
 
 class Setup(NamedTuple):
-    """By what lines are read."""
+    """The system and levels with which lines are read."""
     system: System
     levels: Levels
 
 
 def tried_on(stream: Stream) -> Tried:
-    """What comes of other levels, and of the other system, on some lines of a stream: how many lines these are, how
-    many of them are read as the side was, by which levels; and `best`, the levels and the system by which most of them
-    are read, as far as these differ from the side's. It is None where hardly any is read by any."""
+    """The result of trying other levels, and the other system, on some lines of a stream: how many lines these are, how
+    many of them are read with the side's levels, and these levels. `best` has the levels and the system by which most
+    of them are read, as far as these differ from the side's. It is None if hardly any is read by any."""
     own = Setup(stream.system, Levels(stream.black, stream.white))
     rows = list(_rows(stream, own.system))
     read = _read(rows, own)
@@ -100,8 +100,8 @@ def _changes(own: Setup, best: Setup, count: int) -> Best:
 
 
 def options_of(tried: Tried) -> str:
-    """The options that name what is another in the best trial, as they are given to the command. Beside another system
-    stand both levels: metadata of the side's own system would be refused."""
+    """The options of the command for what differs in the best trial. If that is the system, both levels are given, too:
+    metadata of the side's own system would be refused."""
     best = tried.best or Best(None, None, None, 0)
     black, white = (tried.black, tried.white) if best.system else (None, None)
     named = (("system", best.system), ("black", black if best.black is None else best.black),

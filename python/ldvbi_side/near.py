@@ -1,4 +1,4 @@
-"""The nearest words of a side's lines, where its samples are at hand."""
+"""The nearest words of a side's lines, if its samples are at hand."""
 
 from typing import NamedTuple, Optional, Set
 
@@ -10,18 +10,18 @@ BEYOND = 4  # columns of a line by which a longer word may be nearer, as for rec
 
 
 class Measured(NamedTuple):
-    """The nearest word of a line, or None, its distance and that of its rival, in hundredths of a column, rounded
-    down: a column with the other level is 100."""
+    """The nearest word of a line, or None, its distance and that of its rival, in hundredths of a column, rounded down.
+    A column with the other level is 100."""
     word: Optional[int]
     distance: int
     rival: int
 
 
 def nearest_in(stream: Stream, field: int, first: int, last: int) -> Near:
-    """The nearest word of a field's lines from the first to the last, such as 17 and 18, which have one word or none.
-    Fields are counted from 1. Each erased column is made half black and half white: it is as far from the rows of all
-    words then, and its distance is taken off again. Where the two levels are an odd number apart, the distances of some
-    rows have one sample more for each of these columns."""
+    """The nearest word of a field's lines from the first to the last, such as 17 and 18, which have the same word or
+    none. Fields are counted from 1. Each erased column is made half black and half white: then it is as far from the
+    rows of all words, and its distance is subtracted again. If white - black is odd, the distances of some rows have
+    one sample more for each of these columns."""
     size = line_bytes(stream.system)
     rows = bytearray(stream.rows(field - 1)[(first - LINES[0]) * size:(last + 1 - LINES[0]) * size])
     half = (stream.white - stream.black) // 2
@@ -33,14 +33,14 @@ def nearest_in(stream: Stream, field: int, first: int, last: int) -> Near:
 
 
 def erased_in(stream: Stream, field: int, first: int, last: int) -> Set[int]:
-    """The columns of these lines, one behind the other, that the stream's dropouts erase."""
+    """The columns of these lines, counted one line after the other, that the stream's dropouts erase."""
     width = line_bytes(stream.system) // 2
     return {(one.line - first) * width + column for one in stream.dropouts.of(field - 1, field)
             if first <= one.line <= last for column in range(one.first, min(one.last + 1, width))}
 
 
 def nearest_word_in(stream: Stream, field: int, first: int, last: int) -> Optional[int]:
-    """The nearest word of these lines, where each other one is farther and the signal doesn't go on beyond it."""
+    """The nearest word of these lines, if each other one is farther and the signal doesn't go on beyond the word."""
     near, column = nearest_in(stream, field, first, last), stream.white - stream.black
     goes_on = near.distance - near.longer > BEYOND * (last + 1 - first) * column
     uncertain = column % 2 * len(erased_in(stream, field, first, last))

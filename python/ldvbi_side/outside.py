@@ -1,6 +1,6 @@
-"""What is outside of the command, and may be otherwise than it expects: standard streams that are closed, signals, and
-names and texts of others that no terminal and no page can show. It imports little, so that signals are heeded before
-the rest of the command is loaded."""
+"""What is outside of the command, and may be otherwise than it expects: closed standard streams, signals, and names and
+texts of others that no terminal and no page can show. It imports little, so that signals are heeded before the rest of
+the command is loaded."""
 
 import io
 import os
@@ -21,7 +21,7 @@ _STOPPING = tuple(getattr(signal, name) for name in ("SIGINT", "SIGTERM", "SIGHU
 # ---- Signals
 
 class Stopped(KeyboardInterrupt):
-    """A signal asked for the end. `status` is that of the process, as a shell has it for one that a signal ended."""
+    """A signal asked for the end. `status` is the status of the process, as a shell has it after a signal."""
 
     def __init__(self, number: int) -> None:
         super().__init__()
@@ -29,7 +29,7 @@ class Stopped(KeyboardInterrupt):
 
 
 def end_at_once() -> None:
-    """Has signals that ask for the end do so as they are, for as long as nothing is written: what is loaded meanwhile
+    """Has signals that ask for the end do so at once, as long as nothing is written: code that is loaded meanwhile
     could take an exception for its own."""
     _heed(lambda number, _: os._exit(128 + number))
 
@@ -41,10 +41,10 @@ _lost: List[Stopped] = []  # the same, while nobody has heeded it
 
 
 def end_in_order() -> None:
-    """Has the first signal that asks for the end raise `Stopped`, which leaves nothing unfinished behind. Those that
-    come after it within a second are ignored, since they could hinder just that; a later one ends the process at once.
+    """Has the first signal that asks for the end raise `Stopped`, which leaves nothing unfinished. Signals that come
+    within a second after it are ignored, since they could hinder just that. A later one ends the process at once.
 
-    Python may be in a function whose exceptions it drops, as a callback of SQLite or of its own import. Then the
+    Python may be in a function whose exceptions it drops, such as a callback of SQLite or of its own import. Then the
     signal is sent once more, until it is heeded."""
     _stopped.clear()
     _lost.clear()
@@ -53,23 +53,24 @@ def end_in_order() -> None:
 
 
 def raise_lost() -> None:
-    """Raises `Stopped` if a signal asked for the end, and the exception was dropped: a fault may be no more than what
-    came of that."""
+    """Raises `Stopped` if a signal asked for the end and the exception was dropped: a fault may only be what came of
+    that."""
     if _lost:
         heeded()
         raise _stopped[0]
 
 
 def heeded() -> None:
-    """Has a signal not be sent again."""
+    """Keeps a signal from being sent again."""
     if _lost:
         signal.setitimer(signal.ITIMER_REAL, 0)
         _lost.clear()
 
 
 def end_by_the_system() -> None:
-    """Has signals that ask for the end do so without a function of ours, now that all is written or removed: as Python
-    ends, it takes away the names that such a function needs. Where one has asked for the end, others are ignored."""
+    """Has signals that ask for the end do so without a function of ours, now that all is written or removed: while
+    Python ends, it takes away the names that such a function needs. If a signal has asked for the end, others are
+    ignored."""
     _heed(signal.SIG_IGN if _stopped else signal.SIG_DFL)
 
 
@@ -108,9 +109,9 @@ def _stop_again(*_: object) -> None:
 # ---- Standard streams
 
 def open_streams() -> None:
-    """Puts something in the place of standard streams that are closed, so that no file that is opened later gets their
-    numbers. What is read from such an input or printed to such an output fails; what is said is lost. A name that is no
-    text is printed as it is."""
+    """Puts something in place of standard streams that are closed, so that no file that is opened later gets their
+    numbers. To read from such an input, or to print to such an output, fails; messages are lost. A name that isn't text
+    is printed as it is."""
     for number, mode in enumerate((os.O_WRONLY, os.O_RDONLY, os.O_WRONLY)):
         try:
             os.fstat(number)
@@ -125,7 +126,7 @@ def open_streams() -> None:
 
 
 def drop_standard_output() -> None:
-    """Lets go of what was printed and isn't written yet, since nobody takes it: nothing is written at the end."""
+    """Drops what was printed and isn't written yet, since nobody takes it. Nothing is written at the end."""
     _drop(sys.stdout)
 
 
@@ -134,7 +135,7 @@ def _drop(stream):
 
 
 def flush() -> None:
-    """Writes what was printed and said so far. An OSError where what was printed can't be written."""
+    """Writes what was printed, and messages, so far. An OSError if what was printed can't be written."""
     try:
         sys.stderr.flush()
     except OSError:
@@ -143,7 +144,7 @@ def flush() -> None:
 
 
 def flush_or_drop() -> None:
-    """Writes what was printed before a fault, where this can be written."""
+    """Writes what was printed before a fault, if that can be written."""
     try:
         flush()
     except OSError:
@@ -151,7 +152,7 @@ def flush_or_drop() -> None:
 
 
 def say(text: str) -> None:
-    """Writes a message to standard error, in one line. Where nobody takes it, the work goes on."""
+    """Writes a message to standard error, in one line. If nobody takes it, the work goes on."""
     try:
         print("%s: %s" % (NAME, legible(text)), file=sys.stderr)
     except OSError:
@@ -161,8 +162,8 @@ def say(text: str) -> None:
 # ---- Names and texts
 
 def bytes_of_document(file: IO[bytes], begin: bytes) -> bytes:
-    """All bytes of a document, which begins with these: a ValueError where there is no end of them. Of what begins as
-    none no more is read."""
+    """All bytes of a document that begins with these. A ValueError if there is no end of them. If it begins as no
+    document does, no more is read."""
     if begin.strip() and not begin.lstrip()[0] in _BEGINS:
         return begin
     data = file.read(MOST_BYTES + 1)
@@ -172,7 +173,7 @@ def bytes_of_document(file: IO[bytes], begin: bytes) -> bytes:
 
 
 def legible(text: str) -> str:
-    """A text for a message: escaped where it would act on a terminal, and without its middle where it is long."""
+    """A text for a message: escaped if it would act on a terminal, and without its middle if it is long."""
     if not text.isprintable():
         text = "".join(one if one.isprintable() else one.encode("unicode_escape").decode("ascii") for one in text)
     end = MOST_SAID // 3
@@ -185,7 +186,7 @@ def printable(text: str) -> str:
 
 
 def shown(text: str) -> str:
-    """A text for a page or a drawing, with a sign in the place of each character that these can't have."""
+    """A text for a page or a drawing, with a sign in place of each character that these can't have."""
     return text if text.isprintable() else "".join(one if _is_shown(ord(one)) else "\ufffd" for one in text)
 
 

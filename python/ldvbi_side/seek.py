@@ -1,4 +1,4 @@
-"""Where a picture, a time, a minute or a chapter begins."""
+"""Finds where a picture, a time, a minute or a chapter begins."""
 
 import re
 from typing import Any, Dict, NamedTuple, Optional, Tuple
@@ -13,14 +13,15 @@ _TIME_FORMS = {2: "%d:%02d", 3: "%d:%02d:%02d", 4: "%d:%02d:%02d.%02d"}
 
 
 class Wanted(NamedTuple):
-    """What is looked for: `kind` is `picture` or `chapter`, with one number, or `time`, with 2 to 4: hours, minutes,
+    """What is sought: `kind` is `picture` or `chapter`, with one number, or `time`, with 2 to 4: hours, minutes,
     seconds, picture of the second."""
     kind: str
     numbers: Tuple[int, ...]
 
 
 def wanted_of(text: str) -> Wanted:
-    """What a text asks for: `123`, `1:09`, `1:09:30`, `1:09:30.12` or `chapter 3`. Another text is a ValueError."""
+    """What a text asks for: `123`, `1:09`, `1:09:30`, `1:09:30.12` or `chapter 3`. Any other text raises a
+    ValueError."""
     match = _WANTED.fullmatch(text)
     if not match:
         raise ValueError("neither a picture number, nor a time h:mm, h:mm:ss or h:mm:ss.pp, nor chapter n: %r" % text)
@@ -30,9 +31,9 @@ def wanted_of(text: str) -> Wanted:
 
 def seek(answer: Answer, wanted: Wanted) -> Optional[Dict[str, Any]]:
     """The first field of what is wanted on a side with this answer, as a dict of `field`, `frame`, `read` and `other`;
-    None where it isn't there. `read` is false where the number wasn't read in that field, but is due there by the
-    numbers around it; `other` is what was read there instead, or None. A number that was set aside is never answered
-    with. Of a part of a time the first field that has any of it counts."""
+    None if it isn't there. `read` is false if the number wasn't read in that field, but is due there by the numbers
+    around it. `other` is what was read there instead, or None. A number that was set aside is never the answer. For a
+    part of a time, the first field that has any of it counts."""
     if wanted.kind == "chapter":
         found = [(one.field, True, None) for one in answer.chapters if one.chapter == wanted.numbers[0]]
     else:

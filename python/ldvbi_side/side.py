@@ -22,15 +22,15 @@ RECOVERED = 3  # the pass of a recovered word
 
 
 class Side:
-    """The whole fields of a side in their order, and the field in which it was cut. `readings` are kept as the library
-    writes them, and each field's are made when they are asked for. `first` says of each field whether
-    it is the first one of its frame, or is None where that isn't known. `expected` is the number of fields that the
-    metadata has, or None; with `is_strict` a side without lead-in or lead-out, or with an unread number, isn't whole,
-    and with `may_end` one without lead-out may be. `samples` is the stream from which words were recovered, or None.
+    """The whole fields of a side in order, and the field in which it was cut. `readings` are kept as the library writes
+    them, and those of each field are made when they are asked for. `first` says of each field whether it is the first
+    one of its frame, or is None if that isn't known. `expected` is the number of fields that the metadata has, or None.
+    With `is_strict`, a side without lead-in or lead-out, or with an unread number, isn't whole. With `may_end`, a side
+    without lead-out may be. `samples` is the stream from which words were recovered, or None.
 
-    `answer` is what the words mean, as docs/ANSWER.md describes it; `pictures`, `times`, `chapters`, `stops` and
+    `answer` says what the words mean, as docs/ANSWER.md describes it; `pictures`, `times`, `chapters`, `stops` and
     `format` are parts of it. `analysis` has the same as an `Answer` of answer/entries.py. `codes` is what each field
-    says, judged by nothing."""
+    says, not judged at all."""
 
     def __init__(self, system: System, readings: Iterable[FieldReadings], cut: Optional[Cut] = None,
                  levels: Optional[Levels] = None, first: Optional[List[bool]] = None,
@@ -68,15 +68,15 @@ class Side:
         return as_json(self.analysis.answer)
 
     def codes(self) -> Iterator[Dict[str, Any]]:
-        """For each field its number, its format, the codes of lines 16, 17 and 18, and those that stand on a line of
-        their kind, each with its lines."""
+        """Yields, for each field, its number, its format, the codes of lines 16, 17 and 18, and those that stand on a
+        line of their kind, each with its lines."""
         for number, readings in self.numbered():
             words = [line.word for line in readings]
             yield {"seqNo": number, "format": format_of(*words).name, "codes": [code(word) for word in words],
                    "byKind": codes_by_kind(words)}
 
     def pictures(self) -> Dict[Any, int]:
-        """The first field of each believed picture number. A seek table of a CAV side."""
+        """The first field of each believed picture number: a seek table of a CAV side."""
         return self._first_fields("picture")
 
     def times(self) -> Dict[Any, int]:
@@ -93,7 +93,7 @@ class Side:
 
     def seek(self, text: str) -> Optional[Dict[str, Any]]:
         """Where `123`, `1:09`, `1:09:30`, `1:09:30.12` or `chapter 3` begins: a dict of its field, its frame and
-        whether the number was read there; None where it isn't there."""
+        whether the number was read there; None if it isn't there."""
         return seek(self.analysis.answer, wanted_of(text))
 
     def format(self) -> str:
@@ -116,8 +116,8 @@ def _firsts(pairs):
 
 
 def stream_of_tbc(path: str, settings: Settings, metadata: Optional[Metadata], recover: bool) -> Stream:
-    """The stream of a TBC file. With `recover` the words of worn lines are recovered, without the dropouts of its
-    metadata; those of another count of fields aren't its own."""
+    """The stream of a TBC file. With `recover` the words of worn lines are recovered, with the dropouts of its metadata
+    left out. If the metadata has another count of fields, its dropouts aren't the file's, and aren't used."""
     dropouts = None
     if recover and metadata and metadata.dropouts:
         with Stream(path, settings.system, settings.black, settings.white) as plain:
@@ -127,9 +127,8 @@ def stream_of_tbc(path: str, settings: Settings, metadata: Optional[Metadata], r
 
 def side_of_stream(stream: Stream, over: Optional[Callable[[Iterable[Any], int], Iterable[Any]]] = None,
                    first: Optional[List[bool]] = None) -> Side:
-    """The side that a stream holds. `over` yields the blocks that it gets, each of so many fields, and may say
-    meanwhile how far they are. A stream that recovers words has to stay open as long as the side is asked for its
-    answer."""
+    """The side that a stream holds. `over` yields the blocks that it gets, each with this many fields, and may report
+    how far they are. A stream that recovers words has to stay open as long as the side is asked for its answer."""
     blocks = stream.packed(0, len(stream))
     readings = PackedFields(b"".join(over(blocks, BLOCK) if over else blocks))
     if stream.recover:
@@ -155,8 +154,8 @@ def _with_causes(readings: PackedFields, stream: Stream) -> PackedFields:
 def side_of_tbc(path: str, system: System, black: int, white: int, first: Optional[List[bool]] = None,
                 recover: bool = True, dropouts: StreamDropouts = None) -> Side:
     """The side that a TBC file holds. Only lines 16, 17 and 18 are read from it. With `recover` the words of worn lines
-    are recovered, without the columns of `dropouts`, as its metadata has them, and the file stays open as long as the
-    side is there."""
+    are recovered, with the columns of `dropouts` left out, as its metadata has them, and the file stays open as long as
+    the side is there."""
     stream = Stream(path, system, black, white, recover, dropouts)
     side = side_of_stream(stream, first=first)
     if not recover:

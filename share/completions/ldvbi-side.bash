@@ -25,7 +25,7 @@ _ldvbi_side() {
             ;;
         scan)
             options='--help --jobs --meta --system --black --white --no-recover --strict --open-end --csv --json'
-            options="$options "'--html --into --again'
+            options="$options "'--html --into --as-read --again'
             case $before in
                 --system) answers='NTSC PAL' ;;
                 --meta) compopt -o default; return ;;
@@ -35,12 +35,12 @@ _ldvbi_side() {
             ;;
         *)
             options='--help --version --meta --system --black --white --no-recover --strict --open-end --csv --json'
-            options="$options "'--bad-lines --seek --summary --document --recovered --output --svg --html --map --chapters'
-            options="$options "'--into --as-read'
+            options="$options "'--bad-lines --seek --summary --document --plot-line --recovered --output --svg --html --map'
+            options="$options "'--chapters --into --as-read'
             case $before in
                 --system) answers='NTSC PAL' ;;
                 --meta | -o | --output | --svg | --html | --map | --chapters | --into) compopt -o default; return ;;
-                --black | --white | --seek) return ;;
+                --black | --white | --seek | --plot-line) return ;;
             esac
             ;;
     esac

@@ -5,13 +5,9 @@
 # usage: sh tests/answers/answers.sh PROGRAM
 # runs: library rust
 # fails where: tests/answers/answers.txt|s/field 29 /field 27 /
-# shellcheck disable=SC2016,SC2086,SC2154,SC2317
 
-# shellcheck source=tests/helpers.sh
 . "$(dirname "$0")/../helpers.sh"
-# shellcheck source=tests/library/library_helpers.sh
 . "$tests/library/library_helpers.sh"
-# shellcheck source=tests/answers/table.sh
 . "$here/table.sh"
 
 with_python

@@ -1,4 +1,4 @@
-# shellcheck shell=sh disable=SC2034,SC2086,SC2154
+# shellcheck shell=sh disable=SC2034
 # What the tests of the table answers.txt share. They read this in after tests/helpers.sh and library_helpers.sh.
 
 # draw_side NAME RATE OPTIONS: prints the side that this row of sides.words means

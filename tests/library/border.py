@@ -2,21 +2,17 @@
 that a look behind them ends Python by a signal. And the count of what was wrong."""
 
 import ctypes
+import functools
 import mmap
 import os
+import re
 import sys
 
 LIBRARY = ctypes.CDLL(os.environ["LDVBI_LIBRARY"])
 _SYSTEM = ctypes.CDLL(None, use_errno=True)
-# What calls take: N is a number of 32 bits, S a size, P a pointer. They answer with a number, some with a size.
-_TYPES = {"N": ctypes.c_uint32, "S": ctypes.c_size_t, "P": ctypes.c_void_p}
-_SIZES = ("line_samples", "line_bytes", "lines", "field_bytes", "first_of")
-_CALLS = dict.fromkeys(("read_line", "read_rows", "read_field", "nearest", "recover_rows"), "NNNPSP")
-_CALLS.update(dict.fromkeys(_SIZES, "N"), first_of="PSN", read_fields="NNNPSPS", recover_fields="NNNPSPS",
-              recover_rows_without="NNNPSPSP", recover_fields_without="NNNPSPSPS", draw_line="NNNNPS", classify="NP",
-              format="NNNP", judge="NNNPSPSPS", judge_field="NNNPSSP", judge_chapters="PSPSPS", judge_stops="PSPS",
-              judge_ends="PSPS", complete_times="NPSPSPS", judge_side="NNNNNPSPSPSPSP", find_both="PS",
-              find_pace="NNPSPSP", seek="NNNNNPSNP", recover_pile="NNNNNPSPSP", recovered_record="NNNNPSPSP")
+with open(os.path.join(os.path.dirname(__file__), "../../include/ldvbi.h"), encoding="ascii") as _header:
+    _HEADER = _header.read()
+_TYPES = {"uint32_t": ctypes.c_uint32, "size_t": ctypes.c_size_t}
 _wrong = []
 
 
@@ -33,11 +29,13 @@ def finish():
     sys.exit(bool(_wrong))
 
 
+@functools.lru_cache(maxsize=None)
 def call(name):
-    """A call of the library."""
+    """A call of the library, as the header declares it."""
     function = getattr(LIBRARY, "ldvbi_" + name)
-    function.argtypes = [_TYPES[one] for one in _CALLS[name]]
-    function.restype = _TYPES["S" if name in _SIZES else "N"]
+    result, taken = re.search(r"(\w+) ldvbi_%s\(([^)]+)\);" % name, _HEADER).groups()
+    function.argtypes = [ctypes.c_void_p if "*" in one else _TYPES[one.split()[0]] for one in taken.split(",")]
+    function.restype = _TYPES[result]
     return function
 
 

@@ -4,10 +4,11 @@ with what stands here, worked out by hand.
 usage: completed.py"""
 
 import re
+import struct
 
-from border import Guarded, call, expect, finish
+from border import expect, finish
 from discs import chapter, minutes, second
-from judged import BEFORE, BLANK, LINE, NUMBER, SEEN
+from judged import BEFORE, BLANK, LINE, answered, compare
 from ldvbi import Counted, Pace, System
 
 # A field is the minute, counted from the disc's beginning, the second and the picture. A - stands for a minute that
@@ -56,10 +57,7 @@ PAL = (
     ("2:23.24= . -:24.0", "2:2"), ("2:23.20= .*239 -:28.15", "240:2"), ("2:23.20= .*241 -:28.16", ""),
     ("-:23.20 .*239 2:28.15=", "0:2"), ("-:23.20 .*241 2:28.16=", ""), ("2:59.0= .*239 -:3.20", "240:3"),
     ("-:59.20 .*41 3:0.16=", "0:2"), ("2:23.24= . -:23.25", ""))  # there is no picture 25 in a second
-MOST = 256
-READ, SEES, DONE, NUMBERS = (Guarded(size * MOST) for size in (3 * LINE.size, SEEN.size, 3 * LINE.size, NUMBER.size))
-CLOSED = Guarded(3 * LINE.size * MOST)
-BAD_SYSTEM, BAD_LENGTH = 1, 3
+READINGS = struct.Struct("%ds" % (3 * LINE.size))
 
 
 def line(word, of_pass=1):
@@ -94,44 +92,19 @@ def with_times(fields, wanted):
 
 
 def test_side(system, text, wanted):
-    """What is completed, whatever the arrays had before. What is seen is what the judge of times sees."""
+    """What is completed. What is seen is what the judge of times sees."""
     fields = fields_of(text)
-    count, read = len(fields), b"".join(fields)
     for before in BEFORE:
-        seen, done, numbers = (memory.put(bytes([before]) * size * count)
-                               for memory, size in ((SEES, SEEN.size), (DONE, 3 * LINE.size), (NUMBERS, NUMBER.size)))
-        asked = READ.put(read), count, seen, count
-        expect(call("complete_times")(system, *asked, done, count) == 0, system, text, "is refused")
-        found, saw = DONE.get(len(read)), SEES.get(SEEN.size * count)
-        expect(READ.get(len(read)) == read, system, text, "has changed what it read")
-        expect(found == b"".join(with_times(fields, wanted)), system, text, "has", [
-            (field, found[size:size + 3 * LINE.size].hex()) for field, size in
-            enumerate(range(0, len(read), 3 * LINE.size)) if found[size:size + 3 * LINE.size] != fields[field]])
-        call("judge")(system, Counted.times, Pace.video, *asked, numbers, count)
-        expect(saw == SEES.get(len(saw)), system, text, "sees something else than the judge")
-
-
-def test_refused():
-    """The system is looked at first, then the lengths. Nothing that is refused is looked at, and nothing is written."""
-    arrays = (CLOSED.end - 48, 2), (CLOSED.end - 40, 2), (CLOSED.end - 48, 2)
-    for system in (0, 3, 257, 258, 65537, 1 << 31, 2 ** 32 - 1):
-        found = call("complete_times")(system, *arrays[0], *arrays[1], *arrays[2])
-        expect(found == BAD_SYSTEM, "system", system, found)
-        found = call("complete_times")(system, *arrays[0], None, 0, None, 0)
-        expect(found == BAD_SYSTEM, "system before length", system, found)
-    for system in System:
-        for lengths in ((2, 1, 2), (2, 2, 1), (2, 3, 2), (2, 2, 3), (0, 1, 1), (2, 0, 0), (1, 2 ** 63, 2 ** 63)):
-            words = (word for length in lengths for word in (CLOSED.end - 24 * min(length, 2), length))
-            found = call("complete_times")(system, *words)
-            expect(found == BAD_LENGTH, "lengths", lengths, found)
-        expect(call("complete_times")(system, None, 0, None, 0, None, 0) == 0, "of no field")
+        done, seen = answered("complete_times", (system, ), fields, before, READINGS)
+        compare((system, text), done, [(one, ) for one in with_times(fields, wanted)])
+        judged = answered("judge", (system, Counted.times, Pace.video), fields, before)
+        expect(seen == judged[1], system, text, "sees something else than the judge")
 
 
 def main():
     for system, rows in ((System.NTSC, (*BOTH_SYSTEMS, *NTSC)), (System.PAL, (*BOTH_SYSTEMS, *PAL))):
         for text, wanted in rows:
             test_side(system, text, wanted)
-    test_refused()
     finish()
 
 

@@ -6,13 +6,9 @@
 # usage: sh tests/library/examples.sh PROGRAM
 # runs: library rust
 # fails where: examples/seek.py|s/else 79999/else 80000/
-# shellcheck disable=SC2086,SC2317
 
-# shellcheck source=tests/helpers.sh
 . "$(dirname "$0")/../helpers.sh"
-# shellcheck source=tests/library/library_helpers.sh
 . "$here/library_helpers.sh"
-# shellcheck source=tests/answers/table.sh
 . "$tests/answers/table.sh"
 
 with_python
@@ -87,11 +83,6 @@ stops|$ntsc|- F00001 F00001;- 800DDD 800DDD;- F00002 F00007;- 800DDD 800DDD;82CF
 ;- F00004 -;82CFFF 801DDD 801DDD;82CFFF F00005 F00005;- 802DDD 802DDD;- - 82CFFF;80EEEE 80EEEE 80EEEE
 marks|$pal|8AE000 87FFFF F0DD00;- 800DDD 800DDD;8AE001 F0DD00 F0DD00;8AE002 F0DD00 F0DD01;8AE003 87FFFF F1DD09
 END
-# Both fields of pictures 3 and 5 have the stop, and line 16 of picture 2 has one in pass 2, since a run in it is black
-tr ' ' '\n' << 'WORDS' | sed 's/@/82CFFF @170-171L/' | signal NTSC 1 | ntsc_samples > once.tbc
--|F00001|F00001 -|800DDD|800DDD @|F00002|F00002 -|800DDD|800DDD 82CFFF|82CFFF|F00003 82CFFF|82CFFF|800DDD
--|F00004|F00004 -|800DDD|800DDD 82CFFF|82CFFF|F00005 82CFFF|82CFFF|800DDD -|F00006|F00006
-WORDS
 # Sides of ten pictures in order, and of twelve parts of five pictures, with a gap between two of these
 seq -f 'F%05g' 10 | sed 's/.*/- & &\n- - -/' | bounded "$program" draw $ntsc - > ten.tbc
 awk 'BEGIN { for (part = 0; part < 12; part++) for (picture = 1; picture <= 5; picture++)
@@ -104,7 +95,7 @@ awk 'BEGIN { for (picture = 1; picture <= 24; picture++) {
     is_stop = picture % 9 == 2
     print (is_stop || picture == 6 ? "82CFFF" worn : "-") "|" (is_stop ? "82CFFF" worn : number) "|" number
     print "-|800DDD" worn "|800DDD" worn
-} }' | signal NTSC 1 | ntsc_samples > worn.tbc
+} }' | signal NTSC 1 > worn.tbc
 run extract $ntsc worn.tbc
 check 'a worn side: no line shows its word' [ "$(jq -c '[.fields[].vbi.vbiData[]] | [length, add]' out)" = '[144,0]' ]
 mkdir folder.tbc
@@ -137,8 +128,6 @@ $seek|1|not found|marks|@ 0:00:00.02|
 $seek|3|field 5|marks|@ 1:09:00.03|no number $few
 $seek|3|field 7|clv|@ 0:1:0.0|no number $few
 $seek|3|field 8|clv|@ chapter 1|no chapter $few
-$seek|1|not found|clv|@ 9:59:59.99|
-$seek|1|not found|cav|@ 79999|
 $seek|1|not found|empty|@ 3|
 $seek|0|field 23|worn|@ 12|
 $seek|0|field 2|worn|@ chapter 0|
@@ -153,11 +142,9 @@ $seek|2||cav|@ chapter 80;@ chapter -1;@ chapter 3x;@ chapter 256;@ chapter 4294
 $seek|2||cav|@ chapter 0:00:00.00|$is_a_picture
 $seek|2||empty|NTSC 51200 16384 3|*
 $seek|2||nowhere;folder;null|@ 3|*
-stops_cpp|0|field 7 picture 3;field 8;2 stops|cav|@|
 $stops|0|0 stops|clv;empty|@|
 $stops|0|field 5 picture 3;field 8;field 9 picture 5;3 stops|stops|@|
 stops_cpp|0|field 1;field 2 picture 3;2 stops|differ|@|
-stops_cpp|0|field 5 picture 3;field 6;field 9 picture 5;field 10;4 stops|once|@|
 $stops|0|field 3 picture 2;field 21 picture 11;field 39 picture 20;3 stops|worn|@|
 stops_cpp|0|0 stops|stops_4_478659|@|$cut 5 has 478659 of 478660 bytes
 $stops|0|field 5 picture 3;1 stops|stops_5_1|@|$cut 6 has 1 of 478660 bytes
@@ -170,7 +157,6 @@ $player|0|search: field 49 picture 22;search: field 21 picture 7;play: field 33 
 $player|0|search: field 1 picture 1;play: field 5 picture 3;play: field 8|stops|@ search 1 play play|
 $player|1|search: field 7 picture 4;play: field 8;play: field 9 picture 5;play: not found|stops\
 |@ search 4 play play play|
-$player|1|play: field 5 picture 3;play: field 9 picture 5;play: not found|once|@ play play play|
 $player|1|play: field 2;play: field 3 picture 2;play: field 5 picture 3;play: not found|both|@ play play play play|
 $player|0|play: field 23 picture 112;play: field 35 picture 118|misread|@ play play|
 $player|0|search: field 23 picture 12;play: field 39 picture 20|worn|@ search 12 play|

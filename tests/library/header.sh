@@ -5,11 +5,8 @@
 # usage: sh tests/library/header.sh PROGRAM
 # runs: library rust
 # fails where: include/ldvbi.h|s/^#define LDVBI_H$/#define LDVBI_H_/
-# shellcheck disable=SC2086,SC2317
 
-# shellcheck source=tests/helpers.sh
 . "$(dirname "$0")/../helpers.sh"
-# shellcheck source=tests/library/library_helpers.sh
 . "$here/library_helpers.sh"
 
 warned='-Wall -Wextra -Wpedantic -Wconversion -Werror'
@@ -21,15 +18,6 @@ compiles() {
     shift 2
     does $compiler $dialect $warned -I"$top/include" -c -o compiled.o "$@"
 }
-# compiles_in_both FILE: the same in C and in C++, by the oldest standard of each
-compiles_in_both() {
-    compiles c c99 -Wno-unused-parameter "$1" && compiles c++ c++98 -Wno-unused-parameter "$1"
-}
-# is_warned_of FILE WORD: whether the compiler for C has a warning of this file, with this word
-is_warned_of() {
-    ! compiles c c99 -Wno-unused-parameter "$1" && grep -q "$2" err
-}
-
 echo '#include <ldvbi.h>' > once.c
 printf '%s\n' '#include <ldvbi.h>' '#include <ldvbi.h>' 'uint32_t NAME(void);' \
     'uint32_t NAME(void) { return ldvbi_abi(); }' > twice.c
@@ -44,11 +32,11 @@ done
 echo 'int main(void) { return 0; }' > main.c
 check 'the header in two parts of a program' does $cc -o program main.c one.o two.o "$built/libldvbi.a"
 
-# The quick start at the head of the header is a program, which finds a picture, and the stop behind it
+# The quick start at the head of the header is a program, which finds a picture, and the stop after it
 {
     printf '#include <%s>\n' fcntl.h ldvbi.h stdio.h stdlib.h sys/mman.h unistd.h
     echo 'int main(void) {'
-    sed -n '1,/^ \* Where nothing/s/^ \*     //p' "$top/include/ldvbi.h"
+    sed -n '1,/^ \* If nothing/s/^ \*     //p' "$top/include/ldvbi.h"
     echo 'return 0; }'
 } > quick.c
 check 'the quick start has at most 16 lines' [ "$(wc -l < quick.c)" -le 24 ]
@@ -63,48 +51,44 @@ check 'the quick start finds a picture and a stop' prints 0 "$found" ./quick
 check 'the first declaration stands before line 60' \
     [ "$(grep -n '^enum\|^[a-z].*);$' "$top/include/ldvbi.h" | head -n 1 | cut -d : -f 1)" -lt 60 ]
 
-# called_as STATEMENT: makes a file in which a call stands as this statement. What it reads can't be written.
-called_as() {
-    taken='const void *samples, void *drawn, LdvbiReading *reading, LdvbiFieldReadings *readings, LdvbiCode *code,
-LdvbiNear *near, uint32_t *format, const LdvbiFieldReadings *read, LdvbiSightings *seen, LdvbiNumber *numbers,
-LdvbiSought *sought, const LdvbiErased *erased, LdvbiRecord *record, const uint32_t *ends, LdvbiGap *gaps,
-LdvbiSide *side'
-    printf '%s\n' '#include <ldvbi.h>' "uint32_t called($taken);" "uint32_t called($taken) { $1; return 0; }" > called.c
-}
-# Calls, and where the last pointer of one mustn't be null, the word null before it
-while read -r pointer call; do
-    called_as "return $call"
-    check "$call has what it needs" compiles_in_both called.c
-    called_as "return $(echo "$call" | sed 's/[a-z][a-z]*, [0-9]\{1,\}/NULL, 0/g')"
-    check "$call may have nothing to read" compiles_in_both called.c
-    called_as "$call"
-    check "$call: a status that nobody looks at is warned of" is_warned_of called.c unused
-    [ $pointer = null ] || continue
-    called_as "return $(echo "$call" | sed 's/[a-z]*)$/NULL)/')"
-    check "$call: a pointer that is null is warned of" is_warned_of called.c null
-done << 'END'
-null ldvbi_read_line(1, 1, 2, samples, 1820, reading)
-null ldvbi_read_rows(1, 1, 2, samples, 5460, readings)
-null ldvbi_read_field(1, 1, 2, samples, 478660, readings)
-- ldvbi_read_fields(1, 1, 2, samples, 478660, readings, 1)
-null ldvbi_nearest(1, 1, 2, samples, 3640, near)
-null ldvbi_recover_rows(1, 1, 2, samples, 5460, readings)
-- ldvbi_recover_fields(1, 1, 2, samples, 478660, readings, 1)
-null ldvbi_recover_rows_without(1, 1, 2, samples, 5460, erased, 4, readings)
-- ldvbi_recover_fields_without(1, 1, 2, samples, 478660, erased, 4, readings, 1)
-null ldvbi_recovered_record(1, 1, 2, 7, samples, 5460, erased, 4, record)
-null ldvbi_recover_pile(1, 1, 2, 16, 1, samples, 3640, erased, 4, format)
-null ldvbi_classify(0xF12345, code)
-null ldvbi_format(0, 0xF12345, 0, format)
-- ldvbi_draw_line(1, 1, 2, 0xF12345, drawn, 1820)
-- ldvbi_judge(1, 1, 1, read, 9, seen, 9, numbers, 9)
-null ldvbi_find_pace(1, 1, read, 9, seen, 9, format)
-null ldvbi_judge_field(1, 1, 1, read, 9, 4, numbers)
-null ldvbi_seek(1, 1, 2, 1, 1, samples, 478660, 7, sought)
-- ldvbi_complete_times(1, read, 9, seen, 9, readings, 9)
-- ldvbi_judge_chapters(read, 9, seen, 9, numbers, 9)
-- ldvbi_judge_stops(read, 9, format, 9)
-- ldvbi_judge_ends(read, 9, format, 9)
-null ldvbi_judge_side(1, 1, 1, 3, 0, seen, 9, numbers, 9, ends, 9, gaps, 9, side)
+# Makes of each call that returns a status one on a line of its own. A pointer with a number of bytes or of items behind
+# it is an array, which may be null if it has none; any other is what is written, and mustn't be null. What a call reads
+# can't be written.
+cat > calls.py << 'END'
+import re, sys
+with open(sys.argv[1]) as header:
+    heads = re.findall(r"\buint32_t (ldvbi_\w+)\(([^)]+)\);", header.read())
+externs, calls = {}, []
+for name, taken in [head for head in heads if "*" in head[1] and head[0] != "ldvbi_find_both"]:
+    taken = re.sub(r"\s+", " ", taken).split(", ")
+    arrays = [one for one, after in zip(taken, taken[1:]) if "*" in one and after.startswith("size_t")]
+    words = []
+    for one in taken:
+        named = re.sub(r"\W+", "_", one.rpartition("*")[0]).strip("_") + "_given" * ("*" in one)
+        if "*" in one:
+            externs[named] = "extern %s*%s;" % (one.rpartition("*")[0], named)
+        is_null = "*" in one and sys.argv[2] == ("array" if one in arrays else "written")
+        words.append("NULL" if is_null else named if "*" in one else "0")
+    calls.append((sys.argv[3] % "{}(%s)".format(name) % ", ".join(words)))
+print("#include <ldvbi.h>", *externs.values(), "uint32_t called(void); uint32_t called(void) {", *calls, "return 0; }",
+      sep="\n")
 END
+# called NULL FORM: makes that file, with null for each array or for what is written, and each call in this form
+called() {
+    bounded python3 calls.py "$top/include/ldvbi.h" "$@" > called.c
+}
+# warned WARNING: of how many calls the compiler for C warns so
+warned() {
+    $cc -std=c99 -Wall -I"$top/include" -c -o compiled.o called.c 2>&1 | grep -c "^called.c:.*$1"
+}
+for null in none array; do
+    called $null 'if (%s) return 1;'
+    check "23 calls, in C, where null is: $null" compiles c c99 called.c
+    check 'the same in C++' compiles c++ c++98 called.c
+done
+check 'there are 23' [ "$(grep -c '^if' called.c)" = 23 ]
+called none '%s;'
+check 'a status that nobody looks at is warned of' [ "$(warned warn_unused_result)" = 23 ]
+called written 'if (%s) return 1;'
+check 'what is written is never null' [ "$(warned 'Wnonnull]')" = "$(grep -c NULL called.c)" ]
 finish

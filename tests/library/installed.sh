@@ -1,62 +1,52 @@
 #!/bin/sh
-# Installs program and library as a new user does, and builds on them by the lines in LIBRARY.md, by pkg-config and by
-# CMake: nothing but these tells the loader where the library is (no LD_LIBRARY_PATH). The same where they are moved,
-# and where they come from rust/, as which the proved files stand here. Then the wheel of the Python module, which is
-# installed without the net and brings the library; by which rule a library's wheel gets its tag; and `pip install` of
-# the source. What is installed where, and what is refused, is tried by tests/program/packaging.sh.
-# Needs libldvbi.a and libldvbi.so.1 at the top of the repository (`make lib`), and Debian's python3-venv and
-# python3-setuptools.
+# Installs program and library as a new user does, and builds on them by pkg-config and by CMake: nothing but these
+# tells the loader where the library is (no LD_LIBRARY_PATH). Then the wheel of the Python module, which brings the
+# library. Of what was proved also by the lines in LIBRARY.md, where it is moved, and in other folders; the same from
+# rust/, as which the proved files stand here; the wheel is installed without the net; by which rule a library's wheel
+# gets its tag; and `pip install` of the source. What is installed where, and what is refused, is tried by
+# tests/program/packaging.sh.
+# Needs libldvbi.a and libldvbi.so.1 beside the program, or at the top of the repository (`make lib`), and of what was
+# proved Debian's python3-venv and python3-setuptools.
 # usage: sh tests/library/installed.sh PROGRAM
-# runs: proved
+# runs: library rust
 # fails where: include/ldvbi-config.cmake.in|s/libldvbi.a/libldvbi.b/
-# shellcheck disable=SC2016,SC2086,SC2317
 
-# shellcheck source=tests/helpers.sh
 . "$(dirname "$0")/../helpers.sh"
-# shellcheck source=tests/library/library_helpers.sh
 . "$here/library_helpers.sh"
 
 unset LD_LIBRARY_PATH LDVBI_LIBRARY PYTHONPATH PKG_CONFIG_PATH
 export PYTHONDONTWRITEBYTECODE=1 PIP_NO_INDEX=1 PIP_DISABLE_PIP_VERSION_CHECK=1
 
-# makes WORD..: `make` without the toolchain, in a folder that has what the repository has
-makes() {
-    does env PATH=/usr/bin:/bin make -s -C user "$@"
-}
-mkdir user
+# A folder that has what the repository has, with what is built where it is
+mkdir user user/rust
 for part in "$top"/*; do
-    case $(basename "$part") in rust | dist) ;; *) ln -s "$part" user ;; esac
+    case $(basename "$part") in rust | dist | ldvbi | libldvbi.*) ;; *) ln -s "$part" user ;; esac
 done
-rm -f user/ldvbi
-ln -s "$program" user/ldvbi
+place=user
+from=proved
+[ "$built" = "$top" ] || place=user/rust from=rust
+cp "$program" $place/ldvbi
+cp "$built/libldvbi.a" "$built/libldvbi.so.1" $place
+ln -s libldvbi.so.1 $place/libldvbi.so
+# makes WORD..: `make` without the toolchain there
+makes() {
+    does env PATH=/usr/bin:/bin make -s -C user FROM=$from "$@"
+}
 program_in_readme
 cp say.c line.raw user
 discs
 cp cav.tbc user
+version=$(header_version)
+processor=$(uname -m)
 says() {
     prints 0 'picture 12345' sh -c "$1 < line.raw"
 }
-
-# The lines of LIBRARY.md, of somebody at home: the library alone, then the commands and Python
-# by_lines PATTERN WANTED COMMAND: whether the two lines of LIBRARY.md from this pattern on, and then this, print that
-by_lines() {
-    sed -n "$1" "$top/docs/LIBRARY.md" > lines.sh
-    [ "$(wc -l < lines.sh)" = 2 ] &&
-        prints 0 "$2" env HOME="$work/home" PATH=/usr/bin:/bin sh -c "cd user && { . ../lines.sh; $3; } | tail -n 1"
-}
-check 'the lines in LIBRARY.md' by_lines '/^make install-lib /,/^```$/{/^```/d;p;}' 'picture 12345' :
-check 'they have installed the library alone' [ ! -e home/.local/bin ]
-lines='/^make install /p;/^export PYTHONPATH=/p'
-check 'after the others an example in Python runs' by_lines "$lines" 'field 7' \
-    'python3 $HOME/.local/share/doc/ldvbi/examples/seek.py cav.tbc NTSC 16384 51200 3'
-check 'and so does the command' by_lines "$lines" 'field 7, frame 4' \
-    'ldvbi-side cav.tbc --system NTSC --black 16384 --white 51200 --seek 3'
 
 # Builds on a place of the library by pkg-config, as LIBRARY.md has it, and by CMake, shared and as an archive
 line=$(sed -n '/^cc say.c /p' "$top/docs/LIBRARY.md")
 mkdir project
 cp say.c project
-cat > project/CMakeLists.txt << 'END_OF_CMAKE'
+cat > project/CMakeLists.txt << 'END'
 cmake_minimum_required(VERSION 3.13)
 project(say C)
 find_package(ldvbi ${WANTED} REQUIRED)
@@ -65,7 +55,7 @@ foreach(library ldvbi static)
   add_executable(say_${library} say.c)
   target_link_libraries(say_${library} PRIVATE ldvbi::${library})
 endforeach()
-END_OF_CMAKE
+END
 # configures FOLDER VERSION: cmake, of a project that wants this version of what is installed there
 configures() {
     rm -rf built
@@ -82,88 +72,112 @@ builds_on() {
     check "$1: CMake" cmake_builds "${3:-${2%/lib*}}"
 }
 check 'make install' makes install PREFIX="$work/usr"
-builds_on installed "$work/usr/lib"
-check 'the one needs the shared library' sh -c 'readelf -d built/say_ldvbi | grep -q "libldvbi[.]so[.]1"'
-check 'the other none' sh -c '! readelf -d built/say_static | grep -q libldvbi'
-cp -r usr moved
-mv usr gone
-builds_on moved "$work/moved/lib"
-mv gone usr
-version=$(header_version)
-while IFS='|' read -r which wanted; do
-    check "$which version is there" configures "$work/usr" "$wanted"
-done << END
-this|$version
-an earlier|0.0.9
-exactly this|$version;EXACT
-END
-while IFS='|' read -r which wanted; do
-    ! configures "$work/usr" "$wanted"
-    check "$which version is not" sh -c "[ $status != 0 ] && head -n 1 err | grep -q '^CMake Error'"
-done << END
-a later|$version.1
-the next minor|0.$((1 + $(echo "$version" | cut -d . -f 2)))
-the next major|1.0
-exactly an earlier|0.0.9;EXACT
-END
-makes install-lib PREFIX="$work/debian" LIBDIR="$work/debian/lib/x86_64-linux-gnu"
-builds_on 'below its architecture' "$work/debian/lib/x86_64-linux-gnu"
-makes install-lib PREFIX="$work/apart" LIBDIR="$work/elsewhere"
-builds_on 'outside the prefix' "$work/elsewhere" "$work/elsewhere/cmake/ldvbi"
-export PKG_CONFIG_PATH="$work/usr/lib/pkgconfig"
-check 'the version for pkg-config' [ "$(pkg-config --modversion ldvbi)" = "$(header_version)" ]
-archive='-Wl,-Bstatic $(pkg-config --static --libs ldvbi) -Wl,-Bdynamic'
-check 'the archive, by pkg-config' does sh -c "$cc -o say say.c \$(pkg-config --cflags ldvbi) $archive"
-check 'it reads the line' says ./say
-check 'it needs no shared library' sh -c '! readelf -d say | grep -q libldvbi'
-
-# An example that is installed, and the commands, by a link as well
-check 'seek is built' does sh -c "$cc -std=c99 -o seek usr/share/doc/ldvbi/examples/seek.c \
-    \$(pkg-config --cflags --libs ldvbi) -Wl,-rpath,$work/usr/lib"
-check 'seek finds a picture' prints 0 'field 7' ./seek cav.tbc $on_cav 3
-unset PKG_CONFIG_PATH
-ln -s "$work/usr/bin/ldvbi-side" linked
-for command in usr/bin/ldvbi-side ./linked; do
-    check "$command reads a TBC file" prints 0 'field 7, frame 4' $command cav.tbc $ntsc --seek 3
+for file in libldvbi.a libldvbi.so.1; do
+    check "the $file that is installed" cmp usr/lib/$file "$built/$file"
 done
-check 'the installed program' prints 0 "ldvbi $version" usr/bin/ldvbi --version
+builds_on installed "$work/usr/lib"
+check 'the installed program' prints 0 "$(output_of --version)" usr/bin/ldvbi --version
+export PKG_CONFIG_PATH="$work/usr/lib/pkgconfig"
+check 'the version for pkg-config' [ "$(pkg-config --modversion ldvbi)" = "$version" ]
+archive='-Wl,-Bstatic $(pkg-config --static --libs ldvbi) -Wl,-Bdynamic'
+check 'the archive, by pkg-config' does sh -c "$cc -o say_static say.c \$(pkg-config --cflags ldvbi) $archive"
+check 'it reads the line' says ./say_static
+for one in built/say_ldvbi:1 built/say_static:0 say_static:0; do
+    check "whether $one needs the shared library" \
+        [ "$(readelf -d ${one%:*} | grep -c 'libldvbi[.]so[.]1')" = ${one#*:} ]
+done
+unset PKG_CONFIG_PATH
 
-# What `make rust` leaves is taken from there
-mkdir user/rust
-cp "$program" user/rust/ldvbi
-cp "$top/libldvbi.a" "$top/libldvbi.so.1" user/rust
-rm user/ldvbi user/libldvbi.*
-check 'make install FROM=rust' makes install FROM=rust PREFIX="$work/rust"
-check 'CMake builds on it' cmake_builds "$work/rust"
-
-# The wheel: its name, its files, their hashes; once more the same, and from rust/
-processor=$(uname -m)
-wheel=ldvbi-$version-py3-none-manylinux_2_17_$processor.whl
-check 'make wheel' does env PATH=/usr/bin:/bin make -s -C "$top" wheel WHEELS="$work/wheels"
-check 'its name has the version, and the tag of a library that needs no C library' [ "$(ls wheels)" = $wheel ]
-check 'make wheel FROM=rust' makes wheel FROM=rust WHEELS="$work/again"
-check 'it is the same' cmp wheels/$wheel again/$wheel
+# The wheel: its name, whose tag has the C library of 2.17, or the latest that the library needs; its files with their
+# modes and hashes, and the library in it
+check 'make wheel' makes wheel WHEELS="$work/wheels"
+needed=$({ echo GLIBC_2.17; readelf -VW "$built/libldvbi.so.1" | grep -o 'GLIBC_2[.][0-9]*'; } | sort -uV | tail -n 1)
+wheel=ldvbi-$version-py3-none-manylinux_$(echo ${needed#GLIBC_} | tr . _)_$processor.whl
+check 'its name has version and tag' [ "$(ls wheels)" = "$wheel" ]
 {
     (cd "$top/python" && find ldvbi ldvbi_side -name '*.py')
-    printf '%s\n' ldvbi_side/contrib/plot_line.py ldvbi/libldvbi.so.1
     echo ldvbi-$version.data/data/share/man/man1/ldvbi-side.1
     printf "ldvbi-$version.dist-info/%s\n" METADATA RECORD WHEEL entry_points.txt
+    echo ldvbi/libldvbi.so.1
 } | sort > files
-cat > listed.py << 'END_OF_PYTHON'
+cat > listed.py << 'END'
 import base64, hashlib, sys, zipfile
+tag = sys.argv[1].split("-", 2)[2][:-len(".whl")]
 with zipfile.ZipFile(sys.argv[1]) as wheel:
-    for name in wheel.namelist():
-        digest = base64.urlsafe_b64encode(hashlib.sha256(wheel.read(name)).digest()).decode().rstrip("=")
-        print(name + (",," if name.endswith("/RECORD") else ",sha256=%s,%d" % (digest, len(wheel.read(name)))))
+    for info in wheel.infolist():
+        data, name = wheel.read(info), info.filename
+        digest = base64.urlsafe_b64encode(hashlib.sha256(data).digest()).decode().rstrip("=")
+        print(name + (",," if name.endswith("/RECORD") else ",sha256=%s,%d" % (digest, len(data))))
+        if info.external_attr >> 16 != (0o100755 if name == "ldvbi/libldvbi.so.1" else 0o100644):
+            print("the mode of", name)
+        if name.endswith("/WHEEL") and "\nTag: %s\n" % tag not in data.decode():
+            print("another tag inside")
     wheel.extractall("wheel")
-END_OF_PYTHON
+END
 does python3 listed.py wheels/$wheel
 sort out > wanted
 check 'it has these files' [ "$(cut -d , -f 1 wanted)" = "$(cat files)" ]
 sort wheel/ldvbi-*.dist-info/RECORD > found
 check 'its record has each file, with its hash' cmp found wanted
+check 'and the library' cmp wheel/ldvbi/libldvbi.so.1 "$built/libldvbi.so.1"
+if [ $from = rust ]; then
+    leave_out 46
+    finish
+fi
 
-# Installed and used
+# The lines of LIBRARY.md, of somebody at home: the library alone, then the commands and Python
+# by_lines PATTERN WANTED COMMAND: whether the two lines of LIBRARY.md from this pattern on, and then this, print that
+by_lines() {
+    sed -n "$1" "$top/docs/LIBRARY.md" > lines.sh
+    [ "$(wc -l < lines.sh)" = 2 ] &&
+        prints 0 "$2" env HOME="$work/home" PATH=/usr/bin:/bin sh -c "cd user && { . ../lines.sh; $3; } | tail -n 1"
+}
+check 'the lines in LIBRARY.md' by_lines '/^make install-lib /,/^```$/{/^```/d;p;}' 'picture 12345' :
+check 'they have installed the library alone' [ ! -e home/.local/bin ]
+lines='/^make install /p;/^export PYTHONPATH=/p'
+check 'after the others an example in Python runs' by_lines "$lines" 'field 7' \
+    'python3 $HOME/.local/share/doc/ldvbi/examples/seek.py cav.tbc NTSC 16384 51200 3'
+check 'and so does the command' by_lines "$lines" 'field 7, frame 4' \
+    'ldvbi-side cav.tbc --system NTSC --black 16384 --white 51200 --seek 3'
+cp -r usr moved
+mv usr gone
+builds_on moved "$work/moved/lib"
+mv gone usr
+while IFS='|' read -r which wanted_version fits; do
+    configures "$work/usr" "$wanted_version"
+    check "$which version: $fits" [ "$status $(head -n 1 err | grep -c '^CMake Error')" = "$fits" ]
+done << END
+this|$version|0 0
+an earlier|0.0.9|0 0
+exactly this|$version;EXACT|0 0
+a later|$version.1|1 1
+the next minor|0.$((1 + $(echo "$version" | cut -d . -f 2)))|1 1
+the next major|1.0|1 1
+exactly an earlier|0.0.9;EXACT|1 1
+END
+makes install-lib PREFIX="$work/debian" LIBDIR="$work/debian/lib/x86_64-linux-gnu"
+builds_on 'below its architecture' "$work/debian/lib/x86_64-linux-gnu"
+makes install-lib PREFIX="$work/apart" LIBDIR="$work/elsewhere"
+builds_on 'outside the prefix' "$work/elsewhere" "$work/elsewhere/cmake/ldvbi"
+
+# An example that is installed, and the commands, by a link as well
+check 'seek is built' does sh -c "export PKG_CONFIG_PATH=$work/usr/lib/pkgconfig; $cc -std=c99 -o seek \
+    usr/share/doc/ldvbi/examples/seek.c \$(pkg-config --cflags --libs ldvbi) -Wl,-rpath,$work/usr/lib"
+check 'seek finds a picture' prints 0 'field 7' ./seek cav.tbc $on_cav 3
+ln -s "$work/usr/bin/ldvbi-side" linked
+for command in usr/bin/ldvbi-side ./linked; do
+    check "$command reads a TBC file" prints 0 'field 7, frame 4' $command cav.tbc $ntsc --seek 3
+done
+
+# What `make rust` leaves is taken from there
+mv user/ldvbi user/libldvbi.* user/rust
+from=rust
+check 'make install FROM=rust' makes install PREFIX="$work/rust"
+check 'CMake builds on it' cmake_builds "$work/rust"
+check 'make wheel FROM=rust' makes wheel WHEELS="$work/again"
+check 'it is the same' cmp wheels/$wheel again/$wheel
+
+# The wheel, installed and used
 check 'a folder for Python' does /usr/bin/python3 -m venv venv
 check 'pip installs the wheel' does venv/bin/pip install -q wheels/$wheel
 check 'its command reads a TBC file' prints 0 'field 7, frame 4' venv/bin/ldvbi-side cav.tbc $ntsc --seek 3
@@ -174,15 +188,6 @@ print(_library_file().split("/python3")[0])'
 does env PATH="$work/venv/bin:/usr/bin:/bin" venv/bin/ldvbi-side cav.tbc --system NTSC --black 0 --white 200 \
     --html page.html
 check 'without the program its page draws bad lines' grep -q '<h2>Bad lines, drawn' page.html
-# Without the program the module reads the line: the same picture of each cause and pass
-plot=$(echo venv/lib/python3*/site-packages)/ldvbi_side/contrib/plot_line.py
-for description in 82CFFF '82CFFF @170-171L' L910 'L900 H10' '82CFFF @170-174L' 'L164 H746'; do
-    echo "$description" | signal NTSC 0 | ntsc_samples > shown.raw
-    does python3 "$top/contrib/plot_line.py" --program "$program" $ntsc shown.raw
-    cp out wanted.svg
-    does env PATH="$work/venv/bin:/usr/bin:/bin" python3 "$plot" $ntsc shown.raw
-    check "the picture of $description by the module" sh -c 'grep -q "^<svg" out && cmp out wanted.svg'
-done
 check 'the manual page comes with it' cmp venv/share/man/man1/ldvbi-side.1 "$top/share/man/ldvbi-side.1"
 check 'pip takes it away' does venv/bin/pip uninstall -q -y ldvbi
 check 'nothing of it is left' [ -z "$(find venv -name '*ldvbi*')" ]
@@ -206,17 +211,17 @@ for later processors alone|linux|-Wl,-z,x86-64-v3 nothing.c
 END
 ln -s "$(python3 -c 'import sys; print(sys.executable)')" tools/python3
 check 'without readelf nothing is known of a library' prints 0 "tagged/ldvbi-$version-py3-none-linux_$processor.whl" \
-    env PATH="$work/tools" python3 "$top/packaging/make_wheel.py" "$top/libldvbi.so.1" tagged
+    env PATH="$work/tools" python3 "$top/packaging/make_wheel.py" "$built/libldvbi.so.1" tagged
 ! does python3 "$top/packaging/make_wheel.py" absent tagged
 check 'no library, no wheel' grep -q '^make_wheel: ' err
 
 # The source, by pip
 mkdir tree tree/crates
-(cd "$top" && cp -r Makefile README.md packaging pyproject.toml python contrib include share "$work/tree")
+(cd "$top" && cp -r Makefile README.md packaging pyproject.toml python include share "$work/tree")
 check 'a folder that sees the system' does /usr/bin/python3 -m venv --system-site-packages --without-pip source
 check 'pip installs the source' does source/bin/python -m pip install -q --no-build-isolation "$work/tree"
 check 'its command reads a TBC file from the source' prints 0 'field 7, frame 4' \
-    env LDVBI_LIBRARY="$top/libldvbi.so.1" source/bin/ldvbi-side cav.tbc $ntsc --seek 3
+    env LDVBI_LIBRARY="$built/libldvbi.so.1" source/bin/ldvbi-side cav.tbc $ntsc --seek 3
 # about FOLDER: what the package that is there says of itself
 about() {
     cat "$1"/ldvbi-*.dist-info/entry_points.txt

@@ -1,10 +1,26 @@
 /* Calls the library for C as its header has it: its version, the layout of the structs, texts, threads, and a file
    that is cut meanwhile. */
-#include "library.h"
+#define _DEFAULT_SOURCE
+#include <ldvbi.h>
 #include <pthread.h>
 #include <setjmp.h>
 #include <signal.h>
+#include <stddef.h>
+#include <stdio.h>
+#include <string.h>
+#include <sys/mman.h>
 #include <unistd.h>
+
+static int wrong;
+
+/* Says what isn't right, and counts it. */
+#define CHECK(test) ((test) ? (void)0 : fails(__LINE__, #test))
+
+static void fails(int line, const char *test)
+{
+    fprintf(stderr, "library.c:%d: %s\n", line, test);
+    wrong++;
+}
 
 /* ---- Versions and numbers */
 
@@ -46,55 +62,36 @@ static void test_numbers_of_sides(void)
     CHECK(LDVBI_ON_ONE == 0 && LDVBI_ON_BOTH == 1 && LDVBI_FIND_BOTH == 3);
 }
 
-/* ---- Layout: structs whose members hold the bytes 1, 2, 3 and so on, where the library has them */
+/* ---- Layout: where members begin, and so how long those before them are */
 
-static void has_bytes(const void *value, size_t size, size_t wanted)
-{
-    CHECK(size == wanted);
-    for (size_t i = 0; i < size; i++)
-        CHECK(((const uint8_t *)value)[i] == i + 1);
-}
+#define AT(type, member, place) CHECK(offsetof(type, member) == (place))
+#define SIZE(type, size) CHECK(sizeof(type) == (size))
 
 static void test_layout(void)
 {
-    enum { FIRST = 0x04030201, SECOND = 0x08070605, THIRD = 0x0C0B0A09, FOURTH = 0x100F0E0D, FIFTH = 0x14131211 };
-    LdvbiReading reading = {.cause = 1, .pass = 2, .column = 0x0403, .word = SECOND};
-    LdvbiCode code = {.kind = FIRST, .first = SECOND, .second = THIRD};
-    LdvbiSighting line_17 = {.number = FIRST, .weight = SECOND}, line_18 = {.number = THIRD, .weight = FOURTH};
-    LdvbiSightings seen = {.line_17 = line_17, .line_18 = line_18, .instead = FIFTH};
-    LdvbiNear near = {.word = FIRST, .start = SECOND, .distance = 0x100F0E0D0C0B0A09, .rival = 0x1817161514131211,
-                      .longer = 0x201F1E1D1C1B1A19};
-    LdvbiNumber number = {.number = THIRD, .state = FOURTH};
-    LdvbiErased erased = {.field = FIRST, .line = SECOND, .first = THIRD, .last = FOURTH};
-    LdvbiSought sought = {.field = 0x0807060504030201, .number = number, .pace = FIFTH, .looked = 0x18171615};
-
-    has_bytes(&reading, sizeof reading, 8);
-    has_bytes(&code, sizeof code, 12);
-    has_bytes(&seen, sizeof seen, 20);
-    has_bytes(&near, sizeof near, 32);
-    has_bytes(&erased, sizeof erased, 16);
-    has_bytes(&sought, sizeof sought, 24);
-    CHECK(sizeof(LdvbiFieldReadings) == 24 && offsetof(LdvbiFieldReadings, lines[2]) == 16);
-    CHECK(sizeof(LdvbiRecord) == 452 && offsetof(LdvbiRecord, text) == 4);
+    AT(LdvbiReading, cause, 0), AT(LdvbiReading, pass, 1), AT(LdvbiReading, column, 2), AT(LdvbiReading, word, 4);
+    SIZE(LdvbiReading, 8), SIZE(LdvbiFieldReadings, 24), AT(LdvbiFieldReadings, lines[2], 16);
+    AT(LdvbiCode, kind, 0), AT(LdvbiCode, first, 4), AT(LdvbiCode, second, 8), SIZE(LdvbiCode, 12);
+    AT(LdvbiSighting, number, 0), AT(LdvbiSighting, weight, 4), SIZE(LdvbiSighting, 8);
+    AT(LdvbiSightings, line_17, 0), AT(LdvbiSightings, line_18, 8), AT(LdvbiSightings, instead, 16);
+    SIZE(LdvbiSightings, 20), AT(LdvbiNumber, number, 0), AT(LdvbiNumber, state, 4), SIZE(LdvbiNumber, 8);
+    AT(LdvbiNear, word, 0), AT(LdvbiNear, start, 4), AT(LdvbiNear, distance, 8), AT(LdvbiNear, rival, 16);
+    AT(LdvbiNear, longer, 24), SIZE(LdvbiNear, 32), SIZE(LdvbiRecord, 452), AT(LdvbiRecord, text, 4);
+    AT(LdvbiErased, field, 0), AT(LdvbiErased, line, 4), AT(LdvbiErased, first, 8), AT(LdvbiErased, last, 12);
+    SIZE(LdvbiErased, 16), AT(LdvbiSought, field, 0), AT(LdvbiSought, number, 8), AT(LdvbiSought, pace, 16);
+    AT(LdvbiSought, looked, 20), SIZE(LdvbiSought, 24);
 }
-
-/* A number of 64 bits of the eight bytes that begin at this place, whose bytes are 1, 2, 3 and so on. */
-#define EIGHT(place) (0x0706050403020100 + 0x0101010101010101 * (UINT64_C(1) + (place)))
 
 static void test_layout_of_sides(void)
 {
-    LdvbiGap gap = {.after = EIGHT(0), .before = EIGHT(8), .fields = EIGHT(16), .shown = EIGHT(24),
-                    .from = (uint32_t)EIGHT(32), .to = (uint32_t)EIGHT(36), .kind = (uint32_t)EIGHT(40)};
-    LdvbiTally tally = {.gaps = EIGHT(0), .lost = EIGHT(8), .held = EIGHT(16), .stood = EIGHT(24), .stills = EIGHT(32),
-                        .still_end = EIGHT(40), .back = EIGHT(48), .joined = EIGHT(56), .open_gaps = EIGHT(64),
-                        .lost_numbers = EIGHT(72), .undecided = EIGHT(80), .unread = EIGHT(88)};
-    LdvbiSide side = {.tally = tally, .first = EIGHT(96), .last = EIGHT(104), .swap = EIGHT(112),
-                      .verdict = (uint32_t)EIGHT(120), .reasons = (uint32_t)EIGHT(124)};
-
-    has_bytes(&gap, offsetof(LdvbiGap, kind) + sizeof gap.kind, 44);
-    CHECK(sizeof gap == 48);
-    has_bytes(&tally, sizeof tally, 96);
-    has_bytes(&side, sizeof side, 128);
+    AT(LdvbiGap, after, 0), AT(LdvbiGap, before, 8), AT(LdvbiGap, fields, 16), AT(LdvbiGap, shown, 24);
+    AT(LdvbiGap, from, 32), AT(LdvbiGap, to, 36), AT(LdvbiGap, kind, 40), SIZE(LdvbiGap, 48);
+    AT(LdvbiTally, gaps, 0), AT(LdvbiTally, lost, 8), AT(LdvbiTally, held, 16), AT(LdvbiTally, stood, 24);
+    AT(LdvbiTally, stills, 32), AT(LdvbiTally, still_end, 40), AT(LdvbiTally, back, 48), AT(LdvbiTally, joined, 56);
+    AT(LdvbiTally, open_gaps, 64), AT(LdvbiTally, lost_numbers, 72), AT(LdvbiTally, undecided, 80);
+    AT(LdvbiTally, unread, 88), SIZE(LdvbiTally, 96), AT(LdvbiSide, tally, 0), AT(LdvbiSide, first, 96);
+    AT(LdvbiSide, last, 104), AT(LdvbiSide, swap, 112), AT(LdvbiSide, verdict, 120), AT(LdvbiSide, reasons, 124);
+    SIZE(LdvbiSide, 128);
 }
 
 /* ---- Texts by their numbers' names, of which one is the last, and that of any other number */

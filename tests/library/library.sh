@@ -5,11 +5,8 @@
 # usage: sh tests/library/library.sh PROGRAM
 # runs: library rust
 # fails where: include/ldvbi.h|s/LDVBI_HOLD = 4/LDVBI_HOLD = 5/
-# shellcheck disable=SC2086,SC2317
 
-# shellcheck source=tests/helpers.sh
 . "$(dirname "$0")/../helpers.sh"
-# shellcheck source=tests/library/library_helpers.sh
 . "$here/library_helpers.sh"
 
 with_python
@@ -39,19 +36,12 @@ check 'the version of the header is that of make' \
 check 'the interface of the header is that of make' \
     [ "$(sed -n 's/^#define LDVBI_ABI //p' "$top/include/ldvbi.h")" = "$(sed -n 's/^ABI := //p' "$top/Makefile")" ]
 
-# Calls over the border, from Python, and from C with the sanitizers. Worn lines are read without these, which would
-# take their time over the noise.
+# Calls over the border, from C with the sanitizers, and from Python
+check 'the tests in C are built' does $cc -std=c99 $strict -fsanitize=address,undefined -I"$top/include" -o library \
+    "$here/library.c" "$built/libldvbi.a" -lpthread -lm
+check 'the tests in C' prints 0 '0 wrong' ./library
 PYTHONPATH=$PYTHONPATH:$tests/python
-for part in lines worn pile fields refusals judged completed whole ruled; do
+for part in fields refusals judged completed whole lines worn no_words ruled; do
     check "the tests of $part" prints 0 '0 wrong' python3 "$here/$part.py"
 done
-while read -r name sanitizers; do
-    check "the tests of $name are built" does $cc -std=c99 $strict -Wno-unused-function $sanitizers -I"$top/include" \
-        -o "$name" "$here/$name.c" "$built/libldvbi.a" -lpthread -lm
-    check "the tests of $name" prints 0 '0 wrong' "./$name"
-done << 'END'
-library -fsanitize=address,undefined
-library_worn
-END
-
 finish

@@ -1,4 +1,4 @@
-# shellcheck shell=sh disable=SC2016,SC2034,SC2086,SC2154
+# shellcheck shell=sh disable=SC2034
 # What the tests of the library share. They read this in after tests/helpers.sh.
 
 cc=${CC:-cc}

@@ -58,7 +58,7 @@ def some_words(count=WORDS):
     return [0x800000, 0xFFFFFF] + [chance.randrange(0x800000, 0x1000000) for _ in range(count - 2)]
 
 
-# ---- Words and causes, and the sizes of lines
+# ---- Words, and the sizes of lines. Causes at their limits are tested in crates/vbi_line_tests.
 
 def test_words(tv):
     """Each word as the library draws it, and as it reads it."""
@@ -69,18 +69,6 @@ def test_words(tv):
         expect(draw_line(*tv[:3], word, at, len(line)) == 0 and ROOM.get(len(line)) == line, "draws", hex(word))
         found = read(tv, array("H", line))
         expect(found == ((0, 1, 0, word) if word else (BLANK, 0, 0, 0)), tv.system, hex(word), "is read as", found)
-
-
-def test_causes():
-    """Lines of NTSC whose samples are white from one column to before another; and a word, of whose first high half
-    cell two columns are black: the smoothed levels show it still."""
-    for begin, end, wanted in ((900, 910, (2, 0, 0, 0)), (14, 34, (3, 0, 34, 0)), (164, 910, (4, 0, 200, 0))):
-        line = drawn(NTSC, 0)
-        line[begin:end] = array("H", [NTSC.white]) * (end - begin)
-        expect(read(NTSC, line) == wanted, "white from", begin, "to", end, read(NTSC, line))
-    line = drawn(NTSC, 0x82CFFF)
-    line[170:172] = array("H", [NTSC.black] * 2)
-    expect(read(NTSC, line) == (0, 2, 0, 0x82CFFF), "smoothed", read(NTSC, line))
 
 
 def test_sizes():
@@ -182,7 +170,6 @@ def test_near(tv, starts, cell, shorter, longer, fewest, most):
 
 def main():
     test_sizes()
-    test_causes()
     test_rates()
     for row in NEARS:
         test_near(*row)

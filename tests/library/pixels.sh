@@ -4,11 +4,8 @@
 # usage: sh tests/library/pixels.sh PROGRAM
 # runs: library rust
 # fails where: examples/pixels.c|s/858 : 864/920 : 864/
-# shellcheck disable=SC2086,SC2317
 
-# shellcheck source=tests/helpers.sh
 . "$(dirname "$0")/../helpers.sh"
-# shellcheck source=tests/library/library_helpers.sh
 . "$here/library_helpers.sh"
 
 # is_refused_in_a_line COMMAND..: whether a command ends with status 2, writes nothing, and says one line

@@ -3,6 +3,7 @@ two have to show the same. The fields are made here, the same in each run.
 
 usage: ruled.py [FIELDS]     so many fields of each system, or 60; with a number, what was seen is printed as well"""
 
+import json
 import math
 import random
 import struct
@@ -20,7 +21,7 @@ LINES, FIELDS = (16, 17, 18), 60
 # are erased, and words of pass 2 that stay and that don't
 WAYS = {"nothing", "erased", "stays"} | {
     name + " " + stand for name in ("levelled", "given") for stand in ("alone", "apart", "together")}
-SAMPLES, ANSWER, MARKED = map(Guarded, (3 * 2270, 3 * READING.size, 9 * 16))
+SAMPLES, ANSWER, MARKED, RECORD = map(Guarded, (3 * 2270, 3 * READING.size, 9 * 16, 452))
 chance = random.Random(60857)
 
 
@@ -101,12 +102,17 @@ def some_field(tv):
 
 
 def recovered(tv, rows, erased):
-    """What the library recovers of the rows without the columns that are erased: line, first and last one of each."""
+    """What the library recovers of the rows without the columns that are erased (line, first and last one of each): a
+    pass and a word of each line; the same by the record of a field, and there its nearest word."""
     listed = MARKED.put(b"".join(struct.pack("<4I", 0, *one) for one in sorted(erased)))
-    samples, answer = SAMPLES.put(rows.tobytes()), ANSWER.put(b"\xAA" * 3 * READING.size)
-    status = call("recover_rows_without")(*tv[:3], samples, 2 * len(rows), listed, len(erased), answer)
-    expect(status == 0, tv.system, erased, "has the status", status)
-    return [(of_pass, word) for _, of_pass, _, word in READING.iter_unpack(ANSWER.get(3 * READING.size))]
+    read = SAMPLES.put(rows.tobytes()), 2 * len(rows), listed, len(erased)
+    answer, written = ANSWER.put(b"\xAA" * 3 * READING.size), RECORD.put(bytes(452))
+    found = call("recover_rows_without")(*tv[:3], *read, answer), call("recovered_record")(*tv[:3], 1, *read, written)
+    expect(found == (0, 0), tv.system, erased, "has the status", found)
+    length, text = struct.unpack("<I448s", RECORD.get(452))
+    record = json.loads(text[:length])
+    return ([(of_pass, word) for _, of_pass, _, word in READING.iter_unpack(ANSWER.get(3 * READING.size))],
+            list(zip(record["vbiPass"], record["vbi"]["vbiData"])), record["vbiNear"])
 
 
 def test_field(tv, place, lines, dropouts):
@@ -120,8 +126,12 @@ def test_field(tv, place, lines, dropouts):
     field = Field(tv.system, (tv.black, tv.white), [
         Line(number, line, marked, (cause, of_pass, word))
         for number, line, marked, (cause, of_pass, _, word) in zip(LINES, lines, marks, readings)])
+    nears = [near.given.word if of_pass == 3 else None for near, (of_pass, _) in zip(field.near, field.shown)]
+    nears = [near and {"word": near.word or 0, "distance": 100 * near.distance // field.unit,
+                       "rival": 100 * near.rival // field.unit} for near in nears]
     found = recovered(tv, rows, erased)
-    expect(found == field.shown, tv.system, "field", place, "shows", found, "and by the rule", field.shown)
+    expect(found == (field.shown, field.shown, nears), tv.system, "field", place, "shows", found, "and by the rule",
+           field.shown, nears)
     return field.ways + ["erased"] * bool(erased)
 
 

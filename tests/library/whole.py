@@ -41,7 +41,8 @@ def field_of(items, marks):
         line_17 = (0, 0)
     elif "=" in marks[0]:
         line_18 = line_17
-    return SEEN.pack(*line_17, *line_18, 0), NUMBER.pack(int(item or other), state), STATE.pack(END_OF.get(other, NO_END))
+    end = END_OF.get(other, NO_END)
+    return SEEN.pack(*line_17, *line_18, 0), NUMBER.pack(int(item or other), state), STATE.pack(end)
 
 
 def gap_of(text):

@@ -1,5 +1,5 @@
 """Hands worn lines to the library whose words and distances are counted on paper, and compares what is recovered: alone
-and in a stream, levelled, and with erased columns. Lines and lists end where no page follows.
+and in a stream, levelled, with erased columns, and of lines of one word. Lines and lists end where no page follows.
 
 usage: worn.py"""
 
@@ -7,9 +7,10 @@ import struct
 from array import array
 
 from border import Guarded, call, expect, finish
-from lines import ANSWER, BLANK, FIELDS, NEAR, NTSC, PAL, READING, SAMPLES, TELEVISIONS, answered_of, drawn, edges_of
+from lines import BLANK, FIELDS, NEAR, NTSC, PAL, READING, SAMPLES, TELEVISIONS, answered_of, drawn, edges_of
 
-LIST = Guarded(4096)
+RECORD = struct.Struct("<I448s")
+LIST, WRITTEN = Guarded(4096), Guarded(RECORD.size)
 
 # ---- Columns of one cell are turned over, so that no levels show a word
 
@@ -188,33 +189,31 @@ def erased_of(tv, field, turned, erased):
     return entries
 
 
-def answered_without(tv, name, samples, entries, *count):
-    """What is written with these entries, which end where no page follows."""
-    packed = b"".join(struct.pack("<4I", *entry) for entry in entries)
-    erased = (LIST.put(packed) if entries else None), len(entries)
-    answer = ANSWER.put(b"\xAA" * 24 * (count or (1, ))[0])
-    status = call(name)(*tv[:3], SAMPLES.put(samples.tobytes()), 2 * len(samples), *erased, answer, *count)
-    expect(status == 0, name, tv.system, entries, "has the status", status)
-    return ANSWER.get(24 * (count or (1, ))[0])
+def answered_without(name, asked, samples, entries, size, *count):
+    """So many bytes that are written with these entries, which end where no page follows."""
+    erased = LIST.put(b"".join(struct.pack("<4I", *entry) for entry in entries)) if entries else None
+    answer = WRITTEN.put(b"\xAA" * size)
+    read = (SAMPLES.put(samples.tobytes()) if samples else None), 2 * len(samples)
+    status = call(name)(*asked, *read, erased, len(entries), answer, *count)
+    expect(status == 0, name, asked, entries, "has the status", status)
+    return WRITTEN.get(size)
 
 
 def test_erased(tv):
     """Each row alone, and each three as the fields of a stream."""
     for row in ERASED:
         entries = erased_of(tv, 0, row[1], row[3])
-        packed = answered_without(tv, "recover_rows_without", worn_rows(tv, *row[:2]), entries)
+        packed = answered_without("recover_rows_without", tv[:3], worn_rows(tv, *row[:2]), entries, 24)
         are_recovered(tv, [row[:3]], packed)
     for first in range(0, len(ERASED), FIELDS):
         fields = ERASED[first:first + FIELDS]
         entries = sum((erased_of(tv, field, row[1], row[3]) for field, row in enumerate(fields)), [])
-        packed = answered_without(tv, "recover_fields_without", stream_of(tv, fields), entries, FIELDS)
+        packed = answered_without("recover_fields_without", tv[:3], stream_of(tv, fields), entries, 24 * FIELDS, FIELDS)
         are_recovered(tv, [row[:3] for row in fields], packed)
 
 
 # ---- The record of a field
 
-RECORD = struct.Struct("<I448s")
-WRITTEN = Guarded(RECORD.size)
 # Of a field whose line 17 alone is worn, as above: how many columns are turned over, and what is erased; the field's
 # number; and how far the word is off, and any other, in hundredths of a column, if it is recovered. The cell has 29
 # columns, or 35. Of those that are turned over none counts where they are erased.
@@ -234,12 +233,43 @@ def test_records(tv):
                 '"vbiPass":[1,%d,0],"vbiNear":[null,%s,null]}' % (number, word, FIRST_TURNED[tv], of_pass, near))
         rows = worn_rows(tv, (0x8DC0A1, 0xF12345, 0), (0, turned, 0))
         entries = erased_of(tv, 0, (0, turned, 0), erased)
-        packed = b"".join(struct.pack("<4I", *entry) for entry in entries)
-        answer = WRITTEN.put(b"\xAA" * RECORD.size)
-        status = call("recovered_record")(*tv[:3], number, SAMPLES.put(rows.tobytes()), 2 * len(rows),
-                                          LIST.put(packed) if entries else None, len(entries), answer)
-        wanted = 0, RECORD.pack(len(text), text.encode("ascii"))
-        expect((status, WRITTEN.get(RECORD.size)) == wanted, tv.system, number, status, WRITTEN.get(RECORD.size))
+        found = answered_without("recovered_record", (*tv[:3], number), rows, entries, RECORD.size)
+        expect(found == RECORD.pack(len(text), text.encode("ascii")), tv.system, number, found)
+
+
+# ---- Some lines of one word
+
+# The line's number, whether dropouts are known, and the word that is said, or 0; the word that is drawn; of each line
+# in which of three cells how many of its 28 or 29 columns are turned over (of PAL three more of 35 or 36), and whether
+# these are erased (e). So 9 leave a word ahead of the one with this bit turned by 10 or 11 columns, 11 by 6 or 7, 14
+# by none or one.
+SAID = (
+    (17, 0, 0xF12345, 0xF12345, "0:0"), (17, 0, 0, 0, "0:0"), (17, 1, 0, 0, "0:0 1:0"),
+    # a code that may stand on the line, where dropouts are known or not
+    (17, 1, 0xF12345, 0xF12345, "1:11"), (17, 1, 0, 0xF12345, "1:12"),
+    (17, 0, 0xF12345, 0xF12345, "1:9"), (17, 0, 0, 0xF12345, "1:10"), (17, 0, 0, 0xF12345, "1:11"),
+    # another word
+    (16, 1, 0xF12345, 0xF12345, "0:9"), (16, 1, 0, 0xF12345, "0:10"), (16, 0, 0, 0xF12345, "0:10"),
+    # lines that say it only together: worn in two cells, or in one
+    (17, 0, 0xF12345, 0xF12345, "1:13 2:13"), (18, 1, 0xF12345, 0xF12345, "0:13 1:13 2:13"),
+    (17, 0, 0xF12345, 0xF12345, "1:11 1:11"), (17, 1, 0, 0xF12345, "1:14 1:14"),
+    # the same where the columns of one line are erased, and count neither for a word nor against it
+    (17, 1, 0xF12345, 0xF12345, "1:14e 1:14"), (17, 0, 0xF12345, 0xF12345, "1:14 1:14e"),
+    # as many lines as are taken
+    (17, 0, 0xF12345, 0xF12345, " ".join(["1:13"] * 14 + ["2:13"] * 14)))
+
+
+def test_pile(tv):
+    for number, known, wanted, word, turned in SAID:
+        samples, entries = array("H"), []
+        for place, (row, columns) in enumerate(one.split(":") for one in turned.split()):
+            row, count = int(row), int(columns.rstrip("e"))
+            samples += worn(tv, word, row, count)
+            if columns.endswith("e"):
+                entries += [(place, number, column, column) for column in sorted(turned_over(tv, row, count))]
+        found, = struct.unpack("<I", answered_without(
+            "recover_pile", (*tv[:3], number, known), samples, entries, 4))
+        expect(found == wanted, tv.system, number, known, turned, "says", hex(found))
 
 
 def main():
@@ -251,6 +281,7 @@ def main():
         test_levelled_first(tv)
         test_erased(tv)
         test_records(tv)
+        test_pile(tv)
     finish()
 
 

@@ -6,9 +6,7 @@
 # usage: sh tests/program/bare.sh PROGRAM     (the program is never run)
 # runs: whole
 # fails where: README.md|/^make rust && make venv$/d
-# shellcheck disable=SC2016,SC2086
 
-# shellcheck source=tests/helpers.sh
 . "$(dirname "$0")/../helpers.sh"
 
 # Downloads and cargo take longer than other runs.
@@ -59,7 +57,7 @@ in_bare two 'ldvbi-side side.tbc'
 check 'its command' [ "$status $(head -n 1 out)" = "1 $(grep -m 1 '^whole: ' "$top/README.md")" ]
 in_bare two 'rm ldvbi_*.deb; apt-get purge ldvbi'
 check 'nothing of it is left' [ "$status $(find two -name '*ldvbi*')" = '0 ' ]
-if command -v lintian > lintian; then
+if command -v lintian > found; then
     check 'lintian has nothing to say of it' [ -z "$(bounded lintian one/src/dist/ldvbi_*.deb 2> err)" ]
 else
     leave_out 1

@@ -5,47 +5,36 @@
 # usage: sh tests/program/device_faults.sh PROGRAM
 # runs: everywhere rust
 # fails where: tests/program/device_faults.sh|s/write failed/write foiled/g
-# shellcheck disable=SC2086
 
-# shellcheck source=tests/helpers.sh
 . "$(dirname "$0")/../helpers.sh"
-# shellcheck source=tests/program/devices.sh
 . "$here/devices.sh"
 
 # Two fields; what is written of them when so many are whole (begun), of all, and where the second is cut
-printf '82CFFF|F12345|F12345\n87FFFF|F0DD09|82CFFF @170-171L\n' | signal NTSC 1 | ntsc_samples > two.tbc
-document_head NTSC 910 263 16384 51200 > extract.begun.0
-{ cat extract.begun.0; record 1 8572927,15803205,15803205 '"word","word","word"' 1,1,1; } > extract.begun.1
-{
-    cat extract.begun.1
-    printf ',\n'
-    record 2 8912895,15785225,8572927 '"word","word","word"' 1,1,2
-    cut_field null
-} > extract.whole
-{ cat extract.begun.1; cut_field '{"seqNo":2,"bytes":1000}'; } > extract.cut
-cat > show.whole << 'END'
+printf '82CFFF|F12345|F12345\n87FFFF|F0DD09|82CFFF @170-171L\n' | signal NTSC 1 > two.tbc
+document_head NTSC 910 263 16384 51200 > begun.0
+{ cat begun.0; record 1 8572927,15803205,15803205 '"word","word","word"' 1,1,1; } > begun.1
+{ cat begun.1; printf ',\n'; record 2 8912895,15785225,8572927 '"word","word","word"' 1,1,2; cut_field null; } > whole
+{ cat begun.1; cut_field '{"seqNo":2,"bytes":1000}'; } > cut.json
+cat > report << 'END'
 system NTSC 910x263 black 16384 white 51200
 field 1 cav
 16 82CFFF picture stop
 17 F12345 picture 12345
 18 F12345 picture 12345
-field 2 both
-16 87FFFF clv
-17 F0DD09 time 0:09
-18 82CFFF picture stop
-fields 2 cut none
 END
-head -n 1 show.whole > show.begun.0
-head -n 5 show.whole > show.begun.1
-{ cat show.begun.1; echo 'fields 1 cut field 2 bytes 1000'; } > show.cut
+cp "$stored/stdout" word
+{ cat "$stored/stdin"; echo rest; } > longer.raw
+printf '82CFFF F12345 F12345\n82CFFF - -\n' > words
+printf '82CFFF|F12345|F12345\n82CFFF|-|-\n' | signal NTSC 1 > drawn.tbc
+printf '{"videoParameters":{"system":"NTSC","black16bIre":8224,"white16bIre":16448}}' > line.json
 
-# faults INPUT WORD..: runs the program with these words, this file on standard input, and each row of a table: the
-# fault of reads, of writes, the status, what is written (a file, or so many of its bytes as FILE:BYTES), what is said,
-# and how often reads were asked and had a fault, the same of writes. Reads are those of the descriptor `descriptor`.
-descriptor=0
+# faults DESCRIPTOR INPUT WORD..: runs the program with these words, this file on standard input, and each row of a
+# table: the fault of reads of the descriptor, of writes, the status, what is written (a file, or so many of its bytes
+# as FILE:BYTES), what is said, and how often reads were asked and had a fault, the same of writes.
 faults() {
-    faulty_input=$1
-    shift
+    descriptor=$1
+    faulty_input=$2
+    shift 2
     while IFS='|' read -r read_fault write_fault ended written said reads writes; do
         faulty_with $faulty_input "$descriptor $read_fault" "1 $write_fault" "$@" 3<&-
         case $written in
@@ -59,69 +48,56 @@ faults() {
 
 # Fields are asked for line by line, and the head, each record and the tail are written one by one: behind a byte that
 # comes alone the rest is asked for. 17 interruptions in a row are one too many.
-for command in extract show; do
-    begun=$command.begun
-    faults two.tbc $command $ntsc << END
-0 error||1|$begun.0|read failed in field 1 at byte 0|1 1|1 0
-479660 error||1|$begun.1|read failed in field 2 at byte 1000|265 1|2 0
-479660 interrupt||1|$begun.1|read failed in field 2 at byte 1000|281 17|2 0
-479660 interrupt 16||0|$command.whole||544 16|4 0
-479660 1 1||0|$command.whole||529 1|4 0
-479660 end||3|$command.cut||265 1|3 0
-|30 error|1|$command.whole:30|write failed after 30 bytes|0 0|2 1
-|30 end|1|$command.whole:30|write failed after 30 bytes|0 0|2 1
-|30 interrupt|1|$command.whole:30|write failed after 30 bytes|0 0|18 17
-|30 interrupt 16|0|$command.whole||527 0|21 16
-|30 1 1|0|$command.whole||527 0|6 1
+faults 0 two.tbc extract $ntsc << END
+0 error||1|begun.0|read failed in field 1 at byte 0|1 1|1 0
+479660 error||1|begun.1|read failed in field 2 at byte 1000|265 1|2 0
+479660 interrupt||1|begun.1|read failed in field 2 at byte 1000|281 17|2 0
+479660 interrupt 16||0|whole||544 16|4 0
+479660 1 1||0|whole||529 1|4 0
+479660 end||3|cut.json||265 1|3 0
+|30 error|1|whole:30|write failed after 30 bytes|0 0|2 1
+|30 end|1|whole:30|write failed after 30 bytes|0 0|2 1
+|30 interrupt|1|whole:30|write failed after 30 bytes|0 0|18 17
+|30 interrupt 16|0|whole||527 0|21 16
+|30 1 1|0|whole||527 0|6 1
 END
-done
-
 # `line` asks for its one line and no more, and for no byte after it
-cp "$stored/stdout" word
-{ cat "$stored/stdin"; echo rest; } > longer.raw
-faults longer.raw line $levels << 'END'
+faults 0 longer.raw line $levels << 'END'
 ||0|word||1 0|1 0
-7 error||1|empty|read failed at byte 7|2 1|0 0
 7 interrupt||1|empty|read failed at byte 7|18 17|0 0
 7 interrupt 16||0|word||18 16|1 0
 0 1||0|word||1820 1820|1 0
 1819 end 1||1|empty|short line: 1819 of 1820 bytes|2 1|0 0
-|3 error|1|word:3|write failed after 3 bytes|1 0|2 1
 |3 interrupt|1|word:3|write failed after 3 bytes|1 0|18 17
-|3 interrupt 16|0|word||1 0|18 16
 |0 1|0|word||1 0|7 7
 END
-
 # `draw` asks for one byte after the other, and writes a field line by line
-printf '82CFFF F12345 F12345\n82CFFF - -\n' > words
-printf '82CFFF|F12345|F12345\n82CFFF|-|-\n' | signal NTSC 1 | ntsc_samples > drawn.tbc
-faults words draw $ntsc << 'END'
+faults 0 words draw $ntsc << 'END'
 21 error||1|drawn.tbc:478660|read failed in row 2|22 1|263 0
 25 interrupt||1|drawn.tbc:478660|read failed in row 2|42 17|263 0
 25 interrupt 16||0|drawn.tbc||49 16|526 0
 21 end||0|drawn.tbc:478660||22 1|263 0
 |1000 error|1|drawn.tbc:1000|write failed after 1000 bytes|21 0|2 1
-|1000 interrupt|1|drawn.tbc:1000|write failed after 1000 bytes|21 0|18 17
 |0 1 1820|0|drawn.tbc||33 0|2345 1820
 END
 
 # An input that is a file is asked as standard input is. Its descriptor is the first free one: 3, where that is closed.
-descriptor=3
-faults empty line $levels longer.raw << END
+faults 3 empty line $levels longer.raw << END
 7 error||1|empty|read failed at byte 7|2 1|0 0
 END
-faults empty draw $ntsc words << END
+faults 3 empty draw $ntsc words << END
 21 error||1|drawn.tbc:478660|read failed in row 2|22 1|263 0
 END
-faults empty extract $ntsc two.tbc << END
-479660 interrupt||1|extract.begun.1|read failed in field 2 at byte 1000|281 17|2 0
-479660 interrupt 16||0|extract.whole||544 16|4 0
+faults 3 empty show $ntsc two.tbc << END
+479660 interrupt||1|report|read failed in field 2 at byte 1000|281 17|2 0
+END
+faults 3 empty extract $ntsc two.tbc << END
+479660 interrupt 16||0|whole||544 16|4 0
 END
 
 # Metadata that can't be read, or only in part, and which comes byte by byte. An interrupted read of it is made again,
 # however often: 10 bytes, 1,000 interruptions, 66 bytes, the end. Where it fails the input is left alone.
-printf '{"videoParameters":{"system":"NTSC","black16bIre":8224,"white16bIre":16448}}' > line.json
-faults longer.raw line --meta line.json << 'END'
+faults 3 longer.raw line --meta line.json << 'END'
 10 end||1|empty|metadata is not JSON|2 1|0 0
 0 1||0|word||77 77|1 0
 10 interrupt 1000||0|word||1003 1000|1 0

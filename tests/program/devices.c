@@ -51,7 +51,7 @@ static ssize_t allow(struct device *device, size_t size)
     return size < most ? size : most;
 }
 
-/* Calls the function of this name behind this one. Of the device's descriptor it moves at most what its fault allows. */
+/* Calls the next function of this name. Of the device's descriptor it moves at most what its fault allows. */
 static ssize_t move(struct device *device, const char *name, int descriptor, void *bytes, size_t size)
 {
     ssize_t (*real)(int, void *, size_t) = (ssize_t (*)(int, void *, size_t))dlsym(RTLD_NEXT, name);

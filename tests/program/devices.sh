@@ -1,4 +1,4 @@
-# shellcheck shell=sh disable=SC2034,SC2154
+# shellcheck shell=sh disable=SC2034
 # What the scripts share that make the built program's reads and writes fail (by devices.c), after helpers.sh.
 
 "${CC:-cc}" -std=c99 -shared -fPIC -O2 -Wall -o devices.so "$here/devices.c" -ldl || exit 1
@@ -28,7 +28,6 @@ stands() {
     said_line "$4"
     check "$1" is_so "$2" "$3" "read $5 0" "write $6 0"
 }
-# shellcheck disable=SC2317
 is_so() {
     { read -r was_read; read -r was_written; } < record
     [ "$was_read, $was_written" = "$3, $4" ] && ended "$1" "$2" wanted && return

@@ -10,9 +10,7 @@
 # usage: sh tests/program/docs.sh PROGRAM
 # runs: everywhere
 # fails where: README.md|s/^picture 1$/picture 2/
-# shellcheck disable=SC2086
 
-# shellcheck source=tests/helpers.sh
 . "$(dirname "$0")/../helpers.sh"
 
 mkdir bin
@@ -51,7 +49,6 @@ END { if (inside) print "a block without its end" > "/dev/stderr" }
 AWK
 
 # prints FILE: whether the last command succeeded, and printed what is in this file, if there is one
-# shellcheck disable=SC2317
 prints() {
     [ "$status" = 0 ] && { [ ! -e "$1" ] || cmp out "$1"; }
 }
@@ -59,7 +56,7 @@ prints() {
 # folder NAME: makes a folder in which commands of documents run, with what they name of the repository
 folder() {
     mkdir "$1" "$1/rust"
-    for part in contrib docs examples include python share; do
+    for part in docs examples include python share; do
         ln -s "$top/$part" "$1/$part"
     done
     ln -s "$program" "$1/rust/ldvbi"
@@ -132,7 +129,7 @@ mkdir copy
 for part in "$top"/* "$top/.ci"; do ln -s "$part" copy; done
 rm copy/codes copy/docs copy/texts
 cp -r "$top/codes" "$top/docs" "$top/texts" copy
-sed -i 's/^| `cause` | as/| `why` | as/' copy/docs/ANSWER.md
+sed -i 's/^- `cause`: as/- `why`: as/' copy/docs/ANSWER.md
 sed -i 's/^| CLV mark | 17 |$/| CLV mark | 18 |/' copy/docs/FORMATS.md
 for pair in codes:FORMATS texts:ANSWER; do
     in_folder copy python3 ${pair%:*}/write.py --check
@@ -141,7 +138,7 @@ for pair in codes:FORMATS texts:ANSWER; do
 done
 
 # The real examples of causes in FORMATS.md, of which these are the lines in the order of its rows
-signal NTSC 1 << 'END' | ntsc_samples > causes.tbc
+signal NTSC 1 << 'END' > causes.tbc
 82CFFF|82CFFF @170-171L|-
 L900 H10|82CFFF @170-174L|L164 H746
 END

@@ -5,15 +5,12 @@
 # usage: sh tests/program/large.sh PROGRAM
 # runs: everywhere rust
 # fails where: ldvbi|s/"cutField":{/"cutfield":{/g
-# shellcheck disable=SC2086
 
-# shellcheck source=tests/helpers.sh
 . "$(dirname "$0")/../helpers.sh"
-# shellcheck source=tests/program/devices.sh
 . "$here/devices.sh"
 
 # 8,980 fields have 4,298,366,800 bytes; 4 GiB are 4,294,967,296
-echo '82CFFF|F12345|F12345' | signal NTSC 1 | ntsc_samples > drawn.tbc
+echo '82CFFF|F12345|F12345' | signal NTSC 1 > drawn.tbc
 dd if=/dev/null of=large.tbc bs=478660 seek=8980 2> dd.log
 head -c 1000 drawn.tbc | cat drawn.tbc - >> large.tbc
 check 'the input has more than 4 GiB' [ "$(wc -c < large.tbc)" = 4298846460 ]

@@ -4,9 +4,7 @@
 # usage: sh tests/program/manual.sh PROGRAM
 # runs: everywhere
 # fails where: share/completions/ldvbi.bash|s/extract/extrakt/
-# shellcheck disable=SC2086
 
-# shellcheck source=tests/helpers.sh
 . "$(dirname "$0")/../helpers.sh"
 
 completions=$top/share/completions

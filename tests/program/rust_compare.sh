@@ -7,9 +7,7 @@
 # usage: sh tests/program/rust_compare.sh PROGRAM
 # runs: rust
 # fails where: ldvbi|s/short line/shirt line/g
-# shellcheck disable=SC2086
 
-# shellcheck source=tests/helpers.sh
 . "$(dirname "$0")/../helpers.sh"
 
 proved=$top/ldvbi

@@ -5,9 +5,8 @@
 # usage: sh tests/program/rust_crate.sh PROGRAM
 # runs: rust
 # fails where: rust/hand/Cargo.toml|s/^version = .*/version = "0.0.9"/
-# shellcheck disable=SC2059,SC2086,SC2317
+# shellcheck disable=SC2059
 
-# shellcheck source=tests/helpers.sh
 . "$(dirname "$0")/../helpers.sh"
 
 # stops PLACE WHY FILE SED: whether the script stops with this place and reason once the file is altered by this program

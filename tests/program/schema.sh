@@ -4,9 +4,7 @@
 # usage: sh tests/program/schema.sh PROGRAM
 # runs: everywhere
 # fails where: share/schema/ldvbi.schema.json|s/hold/held/
-# shellcheck disable=SC2086
 
-# shellcheck source=tests/helpers.sh
 . "$(dirname "$0")/../helpers.sh"
 
 schema=$top/share/schema/ldvbi.schema.json
@@ -41,14 +39,14 @@ for count in (1000000, 1000001):
 END
 
 # Documents of every kind: no field, each cause with the least and the greatest columns, both passes, a cut field
-signal NTSC 1 << 'END' | ntsc_samples > ntsc.tbc
+signal NTSC 1 << 'END' > ntsc.tbc
 82CFFF|82CFFF @170-171L|-
 L900 H10|82CFFF @170-174L|L164 H746
 H1|L1 H1|L908 H1
 L11 H11|L11 H37|L873 H37
 -|-|F12345
 END
-signal PAL 1 << 'END' | pal_samples > pal.tbc
+signal PAL 1 << 'END' > pal.tbc
 8AE012|8AE012 @200-201L|-
 L1130 H5|8AE012 @220-224L|H1
 L1 H1|L1133 H1|L14 H14
@@ -87,7 +85,7 @@ while read -r system discs word from columns; do
     [ $system = ntsc ] && options=$ntsc || options=$pal
     worn="$word @$from-$((from + 4))L"
     printf '%s\n' "$word|$word @$from-$((from + 1))L|-" "L$columns H10|$worn|$worn" "$worn|-|L$columns H10" |
-        signal $discs 1 | samples_of $discs > worn.tbc
+        signal $discs 1 > worn.tbc
     output_of extract --recover $options worn.tbc > recovered/$system.json
 done << 'END'
 ntsc NTSC 82CFFF 170 900
@@ -145,12 +143,12 @@ while read -r document record count words; do
     esac
     case $document in
         documents/*)
-            places 2 $system $words > places
-            does "$(with_jsonschema)" "$here/validate_parts.py" "$schema" places one.json
+            places 2 $system $words > places.txt
+            does "$(with_jsonschema)" "$here/validate_parts.py" "$schema" places.txt one.json
             ;;
         *)
-            { places 3 $system $words; echo '.fields[].vbiNear 3 items'; } > places
-            does "$(with_jsonschema)" "$here/validate_parts.py" "$schema_of_recovered" places one.json
+            { places 3 $system $words; echo '.fields[].vbiNear 3 items'; } > places.txt
+            does "$(with_jsonschema)" "$here/validate_parts.py" "$schema_of_recovered" places.txt one.json
             ;;
     esac
     cat out >> err

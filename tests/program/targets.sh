@@ -4,9 +4,7 @@
 # usage: sh tests/program/targets.sh PROGRAM     (the program is never run)
 # runs: everywhere
 # fails where: .ci/run|s/make setup test/make setup/
-# shellcheck disable=SC2046,SC2086
 
-# shellcheck source=tests/helpers.sh
 . "$(dirname "$0")/../helpers.sh"
 
 # A tree in which each script says its name and its words, and nothing has to be built
@@ -32,10 +30,11 @@ while IFS='|' read -r words wanted; do
     ran tree make -s $words
     echo "$wanted" | tr ',' '\n' > wanted_text
     judge "make $words" 0 wanted_text ''
-    for fault in $(cut -d ' ' -f 1 wanted_text | sort -u); do
+    cut -d ' ' -f 1 wanted_text | sort -u > faults
+    while read -r fault; do
         ran tree env FAULT="$fault" make -s $words
         check "make $words ends where $fault fails" [ "$status $(tail -n 1 out | cut -d ' ' -f 1)" = "2 $fault" ]
-    done
+    done < faults
 done << 'END'
 setup|tests/tools.sh install
 test|tests/tools.sh test,tests/gate.sh
@@ -84,7 +83,7 @@ for pair in own:bin/cargo none:debian/cargo; do
     check "a compiler of ${pair%:*}: ${pair#*:}" [ "$status ${pair#*:}" = "0 $(sed "s,^$work/,,; s/ .*//" out | uniq)" ]
 done
 check 'with its own compiler' grep -qx "$work/debian/cargo $work/debian/rustc" out
-check 'what is built for another machine' [ "$(ls other/rust/mips | paste -s -d ' ')" = \
+check 'what is built for another machine' [ "$(cd other/rust/mips && echo *)" = \
     'ldvbi ldvbi.dll ldvbi.exe libldvbi.a libldvbi.dll.a libldvbi.dylib libldvbi.so libldvbi.so.1' ]
 rm bin/python3
 
@@ -105,8 +104,7 @@ mkdir none alone
 ln -s "$(command -v sh)" alone/sh
 # tools [WORDS]: runs tools.sh with nothing on the PATH but a shell and what the folder `alone` has
 tools() {
-    (unset CC CXX && PATH=$work/alone && export PATH && sh ./tools.sh ${1:-}) < empty > out 2> err
-    status=$?
+    does env -u CC -u CXX PATH="$work/alone" sh ./tools.sh ${1:-}
 }
 tools ''
 check 'the tools that the scripts need' \

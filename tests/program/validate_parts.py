@@ -11,7 +11,6 @@ what its words allow.
 
 usage: python3 tests/program/validate_parts.py SCHEMA TABLE DOCUMENT..
 """
-import copy
 import json
 import os
 import re
@@ -87,14 +86,13 @@ def others(value, words):
 
 
 class Places:
-    """The places that were tried and their kinds of values, what was wrong, and how many documents were made."""
+    """The rows of a table, those that no document has had so far, the places that were tried, each with a kind of
+    value, and what was wrong."""
 
-    def __init__(self, schema, table):
-        self.validator = jsonschema.Draft202012Validator(schema)
-        self.table, self.unused = table, set(table)
-        self.tried, self.faults, self.count = set(), [], 0
+    def __init__(self, table):
+        self.table, self.unused, self.tried, self.faults = table, set(table), set(), []
 
-    def row_of(self, place, value):
+    def words_of(self, place, value):
         """Returns the words of a place's row, or of the row of its last name; none of an object or list without."""
         row = place if place in self.table else "*" + place[place.rfind("."):]
         self.unused.discard(row)
@@ -105,49 +103,47 @@ class Places:
             self.faults.append("%s has %d items" % (place, len(value)))
         return words
 
-    def expect(self, document, is_valid, place, what):
-        """Counts a document, and keeps a fault where the schema says otherwise of it."""
-        self.count += 1
-        if self.validator.is_valid(document) != is_valid:
-            self.faults.append("%s: %s is %s" % (place, what, "refused" if is_valid else "valid"))
-
-    def put(self, document, path, value, is_valid, place):
-        """Tries a copy of the document that has this value at the path."""
-        changed = {"all": copy.deepcopy(document)}
-        inner, last = changed, "all"
-        for step in path:
-            inner, last = inner[last], step
-        inner[last] = value
-        self.expect(changed["all"], is_valid, place, json.dumps(value))
-
-    def look_at(self, document, value, path=(), place=""):
-        """Tries this place of a document, at which the value stands, and all below it."""
+    def changes(self, value, place=""):
+        """Yields the value that stands at this place with something else in it, or in its stead: where and what this
+        is, and whether it may stand there."""
         if (place, type(value)) not in self.tried:
             self.tried.add((place, type(value)))
-            for other, is_valid in others(value, self.row_of(place, value)):
-                self.put(document, path, other, is_valid, place)
-        if isinstance(value, dict):
-            for name in value:
-                self.look_at(document, value[name], path + (name,), "%s.%s" % (place, name))
-        elif isinstance(value, list):
-            has_places = has_fixed_items(self.table.get(place, []))
-            for index, item in enumerate(value):
-                self.look_at(document, item, path + (index,), "%s[%s]" % (place, index if has_places else ""))
+            for other, is_valid in others(value, self.words_of(place, value)):
+                yield other, place, json.dumps(other), is_valid
+        is_object, is_fixed = isinstance(value, dict), has_fixed_items(self.table.get(place, []))
+        for key, item in value.items() if is_object else enumerate(value) if isinstance(value, list) else ():
+            inner = "%s.%s" % (place, key) if is_object else "%s[%s]" % (place, key if is_fixed else "")
+            for other, *what in self.changes(item, inner):
+                changed = value.copy()
+                changed[key] = other
+                yield (changed, *what)
+
+
+def tried(schema, table, documents):
+    """Returns the places of these documents, each with its name, after all of them were tried, and how many documents
+    were made for it. The first document should be the smallest."""
+    validator, places, count = jsonschema.Draft202012Validator(schema), Places(table), 0
+    for name, whole in documents:
+        document = shortened(whole, table)
+        for changed, place, what, is_valid in [(document, name, "with short lists", True), *places.changes(document)]:
+            count += 1
+            if validator.is_valid(changed) != is_valid:
+                places.faults.append("%s: %s is %s" % (place, what, "refused" if is_valid else "valid"))
+    places.faults += [row + " is in no document" for row in sorted(places.unused)]
+    return places, count
+
+
+def read(path):
+    with open(path, encoding="ascii") as file:
+        return json.load(file)
 
 
 def main():
-    with open(sys.argv[1], encoding="ascii") as file:
-        places = Places(json.load(file), read_table(sys.argv[2]))
-    for path in sorted(sys.argv[3:], key=os.path.getsize):
-        with open(path, encoding="ascii") as file:
-            document = shortened(json.load(file), places.table)
-        places.expect(document, True, path, "with short lists")
-        places.look_at(document, document)
-    tried = {place for place, _ in places.tried}
-    places.faults += [row + " is in no document" for row in sorted(places.unused)]
+    places, count = tried(read(sys.argv[1]), read_table(sys.argv[2]),
+                          [(path, read(path)) for path in sorted(sys.argv[3:], key=os.path.getsize)])
     for fault in places.faults:
         print(fault)
-    print("%d places, %d documents" % (len(tried), places.count))
+    print("%d places, %d documents" % (len({place for place, _ in places.tried}), count))
 
 
 if __name__ == "__main__":

@@ -6,7 +6,6 @@
 # runs: everywhere rust
 # fails where: tests/program/want_of_memory.sh|s/out of memory/out of memori/
 
-# shellcheck source=tests/helpers.sh
 . "$(dirname "$0")/../helpers.sh"
 
 "${CC:-cc}" -shared -fPIC -O2 -Wall -o refuse.so "$here/refuse.c" -ldl || exit 1
@@ -51,11 +50,10 @@ metadata() {
 printf '{"a":NaN}' > nan.json
 metadata 8224 16448 > line.json
 metadata 16384 51200 > full.json
-echo '-|-|-' | signal NTSC 1 | ntsc_samples > black.tbc
+echo '-|-|-' | signal NTSC 1 > black.tbc
 
 # The stored run; words that give no job; metadata that isn't JSON, and the stored run's line with metadata for it; a
 # field of black samples with its metadata
-# shellcheck disable=SC2046
 each 'the stored run' "$stored/stdin" $(cat "$stored/args")
 each 'no command' empty
 each 'help' empty line --help
@@ -72,7 +70,6 @@ each 'metadata beside the input' black.tbc extract --recover beside.tbc
 { seq 0 1000; awk 'BEGIN { for (size = 1024; size <= 33554432; size *= 2) print size }'; } > lengths
 { printf '"'; head -c 33554432 /dev/zero | tr '\000' a; } > letters
 rm -f mark
-# shellcheck disable=SC2016
 does sh -c '
     while read -r length; do
         head -c $length letters > text.json
@@ -96,7 +93,6 @@ field='"audioSamples":735,"diskLoc":1.1,"isFirstField":true,"medianBurstIRE":19.
 bytes=$(wc -c < long.json)
 for times in 2 4 6 8 10 12 14 16 18 20; do
     rm -f mark
-    # shellcheck disable=SC2016
     does sh -c 'ulimit -v $1; shift; LD_PRELOAD=$1 REFUSE_MARK=mark "$2" line --meta long.json "$3"' \
         sh $((bytes * times / 1024)) "$work/refuse.so" "$program" "$stored/stdin"
     set -- 0 "$stored/stdout" ''

@@ -3,9 +3,7 @@
 # usage: sh tests/program/words.sh PROGRAM
 # runs: everywhere rust
 # fails where: tests/program/help/ldvbi.txt|s/Turns rows/Turns words/
-# shellcheck disable=SC2086,SC2317
 
-# shellcheck source=tests/helpers.sh
 . "$(dirname "$0")/../helpers.sh"
 
 cp "$stored/stdin" line.raw
@@ -35,15 +33,10 @@ while IFS='|' read -r words line; do
     check_refusal "$words" is_refused_first "$line"
 done << END
 lin $levels line.raw|unrecognized subcommand 'lin'
-EXTRACT $levels line.raw|unrecognized subcommand 'EXTRACT'
 help lines|unrecognized subcommand 'lines'
 --vers|unexpected argument '--vers' found
--v|unexpected argument '-v' found
---system NTSC line line.raw|unexpected argument '--system' found
 line --system ntsc line.raw|invalid value 'ntsc' for '--system <NAME>'
 extract $levels line.raw line.raw|unexpected argument 'line.raw' found
-show $levels line.raw --met|unexpected argument '--met' found
-draw $levels line.raw --version|unexpected argument '--version' found
 END
 run line $levels "$(printf '\377')"
 judge 'a word that is not text' 2 empty 'ldvbi: arguments are not UTF-8'
@@ -59,10 +52,7 @@ while IFS='|' read -r there answer words; do
     eval "run_with ../line.raw line $words"
     mv out err ..
     cd ..
-    case $answer in
-        82CFFF) judge "line $words, beside $there" 0 "$stored/stdout" '' ;;
-        *) judge "line $words, beside $there" 1 empty "ldvbi: $answer" ;;
-    esac
+    judge_line "line $words, beside $there" "$answer"
 done << END
 videos.json -|82CFFF|--meta -
 videos.json -|82CFFF|$levels -
@@ -78,13 +68,18 @@ line.raw --black|82CFFF|$levels -- --black
 END
 
 # help_of NAME: the help of this file, whose lines `@options` and `@help` stand for what all commands have, and
-# `@recover` for a flag of two. The short help of a
-# command is its line in that of the program, and then the same from the usage on, with the input in one line.
+# `@recover` for a flag of two. The short help of a command is its line in that of the program, and then the same from
+# the usage on, with the input in one line; that of the program has another first line, and options in one line each.
 help_of() {
     of=${1%-short}
     short=${1#"$of"}
     case $1 in
-        ldvbi* | "$of") cat "$here/help/$1.txt" ;;
+        ldvbi-short)
+            echo "Reads the biphase code words of LaserDiscs from fields in ld-decode's TBC format"
+            sed -n '/^$/,$p' "$here/help/ldvbi.txt" | sed "s/^  -h, --help\$/&     Print help (see more with '--help')/
+                s/^  -V, --version\$/&  Print version/; /^   .*\(rint version\|a summary\)/d; /^  -h/{n;N;d;}"
+            ;;
+        "$of") cat "$here/help/$1.txt" ;;
         *)
             sed -n "s/^  $of  *//p" "$here/help/ldvbi.txt"
             sed -n '/^$/,$p' "$here/help/$of.txt" | sed '/^  \[INPUT\]$/{N;s/\n */  /;}'
@@ -121,15 +116,15 @@ while read -r text words; do
     run $words
     check "the help by $words" helped "$text"
 done < rows
-sed -n 's/^VERSION := /ldvbi /p' "$top/Makefile" > version
-[ -z "${DIFFERENCES:-}" ] || sed -i 's/$/ (plain Rust)/' version
+kind=${DIFFERENCES:+plain Rust}
+sed -n "s/^VERSION := \(.*\)/ldvbi \1 (${kind:-proved})/p" "$top/Makefile" > version
 judge_rows << 'END'
 the version|--version|0|version|
 the version in short|-V|0|version|
 END
 
-# Help that can't be written is a fault; a word that is refused is one, wherever that is said. The status of each with what
-# the other stream has, and which stream has no room, or is closed.
+# Help that can't be written is a fault; a word that is refused is one, wherever that is said. The status of each with
+# what the other stream has, and which stream has no room, or is closed.
 while IFS='|' read -r ended full words; do
     for place in /dev/full '&-'; do
         status=0

@@ -12,7 +12,8 @@ A side is a text of parts, from left to right. These add fields:
     -/#17/#7                  a row of discs.py, with / for its spaces: #17 is picture 17, c7 chapter 7, @1:09 a minute,
                               s7.12 a picture of a second, S a stop, M the mark of CLV; * or ^ stands behind them
 
-and x9 behind one of these has each nine times. The others change the fields that are there by then, counted from 1:
+and x9 behind one of these has each nine times. The others change the fields that are there by then, counted from 1;
+<1..9/2 2N-1=N+40 B> has these parts for each N:
 
     13=-/#17/#7   61:73/2=?   another row in field 13, or in each second one from 61 to 73
     15.18=@0:09   1:60.16=?   another item on this line
@@ -75,10 +76,17 @@ def places_of(first, last, step):
     return range(int(first) - 1, int(last or first), int(step or 1))
 
 
+def repeated(loop):
+    """The parts of a loop, for each of its numbers."""
+    first, last, step, parts = loop.groups()
+    return " ".join(re.sub(r"(\d*)N([+-]\d+)?", lambda one: str(int(one[1] or 1) * number + int(one[2] or 0)), parts)
+                    for number in range(int(first), int(last) + 1, int(step or 1)))
+
+
 def rows(text, rate=25):
     """The rows of a side."""
     found = []
-    for part in text.split():
+    for part in re.sub(r"<(\d+)\.\.(\d+)(?:/(\d+))? (.*?)>", repeated, text).split():
         change, gone = CHANGE.fullmatch(part), GONE.fullmatch(part)
         if gone:
             for place in reversed(places_of(*gone.groups())):
@@ -187,20 +195,40 @@ def cells_of(table):
     return [[cell.strip() for cell in row.split(" | ")] for row in re.split(r"\n| \|\| ", text) if row.strip()]
 
 
-def check(test, table, **more):
+def table_in(path):
+    """The rows of a file, with what is known or asked besides, which lines in brackets have for those behind them. A
+    line with # is a comment, and one with = a name, whose text {NAME} stands for."""
+    with open(path, encoding="ascii") as file:
+        lines = re.sub(r"\n {5,}", " ", file.read()).split("\n")
+    names, more = {}, {}
+    for line in lines:
+        if line.startswith("= "):
+            _, name, text = line.split(" ", 2)
+            names["{%s}" % name] = re.sub(r"{\w+}", lambda one: names[one[0]], text)
+        elif line.startswith("["):
+            more = {name: value == "True" for name, value in re.findall(r"(\w+)=(\w+)", line)}
+        elif not line.startswith("#"):
+            for cells in cells_of(re.sub(r"{\w+}", lambda one: names[one[0]], line)):
+                yield cells, more
+
+
+def check(table, **more):
     """Each row has a name, a side, and members of its answer, behind a | each. What is known or asked besides, `Fields`
     has."""
-    for name, side, *members in cells_of(table):
-        found = analyse(made(side, plain)._replace(**more))
-        with test.subTest(name):
-            for member in members:
-                asked, _, wanted = member.partition(" ")
-                if asked == "no":
-                    test.assertEqual({one: found[one] for one in wanted.split()}, dict.fromkeys(wanted.split(), []))
-                    continue
-                said = "x%d" % len(found[asked]) if re.fullmatch(r"x\d+", wanted) else of_member(found, asked)
-                if wanted.endswith(".."):
-                    said = said[:len(wanted) - 2] + ".."
-                elif wanted.startswith(".."):
-                    said = ".." + said[len(said) - len(wanted) + 2:]
-                test.assertEqual(said, wanted, asked)
+    for cells in cells_of(table):
+        check_row(*cells, **more)
+
+
+def check_row(name, side, *members, **more):
+    found = analyse(made(side, plain)._replace(**more))
+    for member in members:
+        asked, _, wanted = member.partition(" ")
+        if asked == "no":
+            assert {one: found[one] for one in wanted.split()} == dict.fromkeys(wanted.split(), []), name
+            continue
+        said = "x%d" % len(found[asked]) if re.fullmatch(r"x\d+", wanted) else of_member(found, asked)
+        if wanted.endswith(".."):
+            said = said[:len(wanted) - 2] + ".."
+        elif wanted.startswith(".."):
+            said = ".." + said[len(said) - len(wanted) + 2:]
+        assert said == wanted, (name, asked)

@@ -1,7 +1,8 @@
 #!/bin/sh
-# Runs the scripts that test the Python package (`# runs: python`), side by side, by Debian's Python, whose coverage
-# records which lines of the package run: each of them has to.
-# Needs libldvbi.so.1 at the top of the repository (`make lib`).
+# Runs the tests of the Python package, tests/python/test_*.py, by Debian's pytest, side by side. Each test that passes
+# is a check, so that none gets lost; one that is skipped is a failure. Each line of the package has to run, in the
+# tests or in a process that they start.
+# Needs libldvbi.so.1 beside the program, or at the top of the repository (`make lib`).
 # usage: sh tests/python/python.sh PROGRAM
 # runs: library
 # fails where: python/ldvbi_side/answer/analysis.py|s/^def analyse(/def analyze(/
@@ -9,10 +10,19 @@
 # shellcheck source=tests/helpers.sh
 . "$(dirname "$0")/../helpers.sh"
 
+LDVBI_LIBRARY=$built/libldvbi.so.1
+LDVBI_PROGRAM=$program
+# Python reads sitecustomize in as it starts: in pytest's processes, and in those that tests start.
+PYTHONPATH=$top/python:$top/bench/sides:$work/site
 COVERAGE_PROCESS_START=$work/coveragerc
-export COVERAGE_PROCESS_START
-mkdir bin lines
+# What is compiled once serves all processes, and nothing is written beside the package.
+PYTHONPYCACHEPREFIX=$work/compiled
+export LDVBI_LIBRARY LDVBI_PROGRAM PYTHONPATH COVERAGE_PROCESS_START PYTHONPYCACHEPREFIX
+unset PYTHONDONTWRITEBYTECODE
+mkdir bin lines site
 ln -s /usr/bin/python3 bin/python3
+PATH=$work/bin:$PATH
+echo 'import coverage; coverage.process_startup()' > site/sitecustomize.py
 cat > coveragerc << END
 [run]
 source = $top/python
@@ -20,18 +30,34 @@ parallel = true
 data_file = $work/lines/data
 disable_warnings = no-data-collected, module-not-imported, module-not-measured
 END
+# It has the runs of many tests, and may run beside other scripts on a machine with few processors.
+seconds=$((5 * seconds))
 status=0
-names=$(grep -lx '# runs: python' "$here"/*.sh | xargs -n 1 basename -s .sh)
-# Said at the end alone: prove waits for a line of TAP where a script says something.
-# shellcheck disable=SC2086
-PATH=$work/bin:$PATH sh "$tests/scripts.sh" "$program" $names < empty > said 2>&1 || status=$?
-cat said >&2
-check 'each script of the package passed' [ "$status" = 0 ]
+# What is said is kept, since prove waits for a line of TAP when a script says something.
+bounded python3 -m pytest -n "$(nproc)" --dist loadgroup ${STOP_AT_FIRST:+-x} --quiet --basetemp "$work/tests" \
+    --junit-xml "$work/tests.xml" --durations 10 "$here" < empty > err 2>&1 || status=$?
+passed=$status
+check 'pytest passed' [ "$status" = 0 ]
 unset COVERAGE_PROCESS_START
+# Each test of the report, by its file and name; a test that was skipped, or that failed, has more in it.
+python3 - "$work/tests.xml" << 'END' > names
+import sys
+import xml.etree.ElementTree as xml
+
+for test in xml.parse(sys.argv[1]).iter("testcase"):
+    kind = [part.tag for part in test if part.tag in ("skipped", "failure", "error")]
+    print(*kind, test.get("classname").rpartition(".")[2], ascii(test.get("name")))
+END
+grep '^skipped' names > err
+check 'no test is skipped' [ ! -s err ]
 for step in 'combine -q' 'report --skip-covered --show-missing --fail-under 100'; do
     status=0
     # shellcheck disable=SC2086
-    bounded bin/python3 -m coverage ${step%% *} --rcfile coveragerc ${step#* } < empty > err 2>&1 || status=$?
+    bounded python3 -m coverage ${step%% *} --rcfile coveragerc ${step#* } < empty > err 2>&1 || status=$?
     check "each line of the package runs: ${step%% *}" [ "$status" = 0 ]
 done
+[ "$passed" = 0 ] || : > names
+while read -r one; do
+    check "$one" true
+done < names
 finish

@@ -1,12 +1,11 @@
 """What breaks cost, how far apart numbers stand, which are believed, and what becomes of those passed over."""
 
-import unittest
-
-from compact import cells_of, check
-from ldvbi_side.judge.chain import chosen
+from compact import cells_of
 from ldvbi_side.answer.missing import Passed, PassedOver
+from ldvbi_side.judge.chain import chosen
 from ldvbi_side.judge.paces import ChapterPace, MinutePace, Pace, price
 from ldvbi_side.judge.readings import Reading
+import pytest
 
 PACES = {"video": Pace("video"), "both": Pace("both"), "film": Pace("film"), "minutes": MinutePace("PAL"),
          "chapters": ChapterPace()}
@@ -25,31 +24,32 @@ BETWEEN = {"video": "7 5 0 0: 10", "film": "1 1 0 0: 3, 2 1 0 0: 2, 1 4 0 0: 10,
 NUMBERS = {"video": "5: 2", "both": "3: 1", "film": "2: 1, 4: 1, 5: 2, 7: 3", "minutes": "2999: 0, 5999: 1"}
 
 
-class Paces(unittest.TestCase):
-    def test_a_break_costs_1_and_its_binary_digits(self):
-        # fields too many or too few: none, one field, one picture, two pictures, ten pictures, 10,000 pictures
-        for off, cost in ((0, 0), (1, 2), (2, 3), (4, 4), (20, 6), (20000, 16), (-1, 2), (-20, 6), (None, 0)):
-            self.assertEqual(price(off), cost)
+@pytest.mark.parametrize("off, cost",
+                         ((0, 0), (1, 2), (2, 3), (4, 4), (20, 6), (20000, 16), (-1, 2), (-20, 6), (None, 0)))
+def test_a_break_costs_1_and_its_binary_digits(off, cost):
+    assert price(off) == cost
 
-    def test_rows(self):
-        for name, table in (("off", OFF), ("between", BETWEEN), ("numbers_in", NUMBERS)):
-            for kind, rows in table.items():
-                for row in rows.split(", "):
-                    asked, _, wanted = row.partition(": ")
-                    found = getattr(PACES[kind], name)(*map(int, asked.split()))
-                    self.assertEqual(str(found), wanted, (name, kind, row))
 
-    def test_least_off(self):
-        """No fields are less off than the least, whatever the variants are: of minutes and chapters it is exact."""
-        rows = [(number, step, fields) for number in (6, 7) for step in (-3, -1, 1, 2, 5) for fields in range(1, 16)]
-        for pace in PACES.values():
-            ways = [(one, other) for one in range(pace.variants) for other in range(pace.variants)]
-            for number, step, fields in rows + [(7, 1, 6001), (8, 3, 5), (8, -2, 9), (3, 2, 17), (3, 90, 4)]:
-                least = pace.least_off(fields, number, step)
-                offs = [abs(pace.off(fields, number, step, *way) or 0) for way in ways]
-                self.assertLessEqual(abs(least or 0), min(offs), (pace.kind, number, step, fields))
-                if len(ways) == 1:
-                    self.assertEqual(abs(least or 0), offs[0], (pace.kind, number, step, fields))
+@pytest.mark.parametrize("name, table", (("off", OFF), ("between", BETWEEN), ("numbers_in", NUMBERS)))
+def test_paces_rows(name, table):
+    for kind, rows in table.items():
+        for row in rows.split(", "):
+            asked, _, wanted = row.partition(": ")
+            found = getattr(PACES[kind], name)(*map(int, asked.split()))
+            assert str(found) == wanted
+
+
+def test_least_off():
+    """No fields are less off than the least, whatever the variants are: of minutes and chapters it is exact."""
+    rows = [(number, step, fields) for number in (6, 7) for step in (-3, -1, 1, 2, 5) for fields in range(1, 16)]
+    for pace in PACES.values():
+        ways = [(one, other) for one in range(pace.variants) for other in range(pace.variants)]
+        for number, step, fields in rows + [(7, 1, 6001), (8, 3, 5), (8, -2, 9), (3, 2, 17), (3, 90, 4)]:
+            least = pace.least_off(fields, number, step)
+            offs = [abs(pace.off(fields, number, step, *way) or 0) for way in ways]
+            assert abs(least or 0) <= min(offs)
+            if len(ways) == 1:
+                assert abs(least or 0) == offs[0]
 
 
 def readings(*numbers, first=1):
@@ -61,86 +61,67 @@ def believed(ones, sure=()):
     return [(one.field, one.number) for one in chosen(ones, Pace("video"), dict(sure))]
 
 
-class Noise(unittest.TestCase):
-    """Many numbers, one in four fields or more, are noise if few go on with one of the four before."""
-
-    def test_noise(self):
-        video = PACES["video"]
-        noise = [Reading(4 * place, place ** 3 % 10007, 4, (17, 18)) for place in range(1, 1002)]
-        self.assertEqual(chosen(noise, video, {}), [])
-        for others in (noise[:1000], noise[:-1] + [noise[-1]._replace(field=4009)],  # few, and too far apart
-                       noise[:749] + readings(*range(252), first=3001)):  # a quarter goes on
-            self.assertTrue(chosen(others, video, {}), len(others))
-        sure = {one.field: one.number for one in noise[::500]}  # between two of the library's there are fewer
-        self.assertGreater(len(chosen(noise, video, sure)), len(sure))
+# Many numbers, one in four fields or more, are noise if few go on with one of the four before.
+def test_noise():
+    video = PACES["video"]
+    noise = [Reading(4 * place, place ** 3 % 10007, 4, (17, 18)) for place in range(1, 1002)]
+    assert chosen(noise, video, {}) == []
+    for others in (noise[:1000], noise[:-1] + [noise[-1]._replace(field=4009)],  # few, and too far apart
+                   noise[:749] + readings(*range(252), first=3001)):
+        assert chosen(others, video, {})
+    sure = {one.field: one.number for one in noise[::500]}  # between two of the library's there are fewer
+    assert len(chosen(noise, video, sure)) > len(sure)
 
 
-class Chains(unittest.TestCase):
-    def test_which_are_believed(self):
-        """Of two of a field the one that fits, of two that fit equally well none; pass 1 counts for more than 2."""
-        on, still, wild = list(range(1, 20)), [1, 2, 3, *[4] * 50, 5, 6, 7], list(range(40000, 40020))
-        two = [Reading(1, 5, 2, (17,)), Reading(1, 6, 2, (18,))]
-        for ones, wanted in (
-                ([], []), (readings(5, 6, 70000, 8, 9), [5, 6, 8, 9]), (two, []),
-                (sorted(readings(5, 6, 7) + [Reading(3, 80, 2, (18,))]), [5, 6, 7]),
-                ([two[0], Reading(1, 6, 1, (18,))], [5]),
-                # a jump that many follow, and a wild number at the end; a number that stays costs nothing
-                (readings(*on, *wild), on + wild), (readings(*on, 40000), on), (readings(*still), still),
-                # it fits the still before it, but the number behind it goes back
-                (readings(*[30] * 10, 31, *[30] * 10), [30] * 20)):
-            self.assertEqual([number for _, number in believed(ones)], wanted)
-        self.assertEqual(believed(readings(5, 70000, 7)), [(1, 5), (5, 7)])
-        ones = [*readings(5), Reading(3, 7, 2, (17,)), Reading(3, 5, 2, (18,)), *readings(7, first=5)]
-        self.assertNotIn(3, dict(believed(ones)))
-
-    def test_between_two_that_are_sure(self):
-        """Of a single number the two breaks cost more than it weighs, of ten they don't; a sure one is believed
-        whatever stands around it or in its field."""
-        self.assertEqual(believed(readings(1, 2, 70000, 4, 5), {3: 2, 7: 4}), [(1, 1), (3, 2), (7, 4), (9, 5)])
-        row = readings(1, 2, *range(500, 510), 13, 14)
-        self.assertEqual([number for _, number in believed(row, {3: 2, 25: 13})], [1, 2, *range(500, 510), 13, 14])
-        ones = readings(1, 2, 3, 4, 5)
-        ones[2:3] = [Reading(5, 900, 1, (17,)), Reading(5, 3, 4, (18,))]
-        self.assertEqual(believed(ones, {5: 900}), [(5, 900)])
-
-    def test_a_long_row_of_wrong_numbers(self):
-        """As far as the search goes back, and beyond. Those that fit one another weigh 14, and the jumps there and back
-        cost 8 each: the best of all chains goes astray before the end."""
-        for count in (30, 39, 40, 41):
-            right = list(range(1, 31)), list(range(31 + count, 121))
-            ones = readings(*right[0], *[(place * 7919) % 79999 for place in range(30, 30 + count)], *right[1])
-            self.assertEqual([number for _, number in believed(ones)], right[0] + right[1], count)
-        wrong = [Reading(41 + 2 * place, 61 + place, 1, (18,)) for place in range(14)]
-        ones = readings(*range(1, 21)) + wrong + readings(*range(35, 61), first=69)
-        self.assertEqual([number for _, number in believed(ones)], list(range(1, 21)) + list(range(35, 61)))
-
-    def test_a_chain_that_went_astray(self):
-        """The first of the wrong numbers weighs more than its break, so that the chain which ends there is the best one
-        so far; the jump back behind it costs more than it brings. The right chain is found by its numbers, which go
-        on."""
-        for count in (3, 39, 41):
-            wrong = [Reading(40, 21, 3, (17,))]  # one field too late
-            wrong += [Reading(41 + place, (place * 7919 + 30000) % 79999, 1, (18,)) for place in range(count - 1)]
-            ones = believed(readings(*range(1, 21)) + wrong + readings(*range(60, 80), first=119))
-            self.assertEqual([number for _, number in ones], [*range(1, 21), *range(60, 80)], count)
+def test_which_are_believed():
+    """Of two of a field the one that fits, of two that fit equally well none; pass 1 counts for more than 2."""
+    on, still, wild = list(range(1, 20)), [1, 2, 3, *[4] * 50, 5, 6, 7], list(range(40000, 40020))
+    two = [Reading(1, 5, 2, (17,)), Reading(1, 6, 2, (18,))]
+    for ones, wanted in (
+            ([], []), (readings(5, 6, 70000, 8, 9), [5, 6, 8, 9]), (two, []),
+            (sorted(readings(5, 6, 7) + [Reading(3, 80, 2, (18,))]), [5, 6, 7]),
+            ([two[0], Reading(1, 6, 1, (18,))], [5]),
+            # a jump that many follow, and a wild number at the end; a number that stays costs nothing
+            (readings(*on, *wild), on + wild), (readings(*on, 40000), on), (readings(*still), still),
+            # it fits the still before it, but the number behind it goes back
+            (readings(*[30] * 10, 31, *[30] * 10), [30] * 20)):
+        assert [number for _, number in believed(ones)] == wanted
+    assert believed(readings(5, 70000, 7)) == [(1, 5), (5, 7)]
+    ones = [*readings(5), Reading(3, 7, 2, (17,)), Reading(3, 5, 2, (18,)), *readings(7, first=5)]
+    assert 3 not in dict(believed(ones))
 
 
-class Anchors(unittest.TestCase):
-    """Numbers that the library believes, and what is believed between them."""
+def test_between_two_that_are_sure():
+    """Of a single number the two breaks cost more than it weighs, of ten they don't; a sure one is believed whatever
+    stands around it or in its field."""
+    assert believed(readings(1, 2, 70000, 4, 5), {3: 2, 7: 4}) == [(1, 1), (3, 2), (7, 4), (9, 5)]
+    row = readings(1, 2, *range(500, 510), 13, 14)
+    assert [number for _, number in believed(row, {3: 2, 25: 13})] == [1, 2, *range(500, 510), 13, 14]
+    ones = readings(1, 2, 3, 4, 5)
+    ones[2:3] = [Reading(5, 900, 1, (17,)), Reading(5, 3, 4, (18,))]
+    assert believed(ones, {5: 900}) == [(5, 900)]
 
-    def test_rows(self):
-        """Five words of weight 2 that fit one another weigh 10, as much as the library asks for, though the breaks
-        around them cost more. What stands between two that fit others is set aside."""
-        check(self, """
-    of four none is believed | 1..100 61=-/#71/? 63=-/#72/? 65=-/#73/? 67=-/#74/? | missing 31-34 unread
-        | doubtful 61/17 71 neighbours, 63/17 72 neighbours, 65/17 73 neighbours, 67/17 74 neighbours
-    five are | 1..100 61=-/#71/? 63=-/#72/? 65=-/#73/? 67=-/#74/? 69=-/#75/? | missing 31-35 lost | no doubtful
-        | repeated 71-75@141-149 after 61 | breaks lost 59-61 30 to 71, 80, back 69-71 75 to 36, 80 | whole no
-    one of them on another line as well | 1..100 61=-/#71/#31 63=-/#72/? 65=-/#73/? 67=-/#74/? 69=-/#75/?
-        | conflicts 61 71|31 31
-    a wrong one | 1..60 61=79999 | missing 31 unread | doubtful 61/17 79999 neighbours, 61/18 79999 neighbours
-    a few pictures later | 1..60 61=35 | missing 31 unread | aside 61, 61
-    """)
+
+def test_a_long_row_of_wrong_numbers():
+    """As far as the search goes back, and beyond. Those that fit one another weigh 14, and the jumps there and back
+    cost 8 each: the best of all chains goes astray before the end."""
+    for count in (30, 39, 40, 41):
+        right = list(range(1, 31)), list(range(31 + count, 121))
+        ones = readings(*right[0], *[(place * 7919) % 79999 for place in range(30, 30 + count)], *right[1])
+        assert [number for _, number in believed(ones)] == right[0] + right[1]
+    wrong = [Reading(41 + 2 * place, 61 + place, 1, (18,)) for place in range(14)]
+    ones = readings(*range(1, 21)) + wrong + readings(*range(35, 61), first=69)
+    assert [number for _, number in believed(ones)] == list(range(1, 21)) + list(range(35, 61))
+
+
+@pytest.mark.parametrize("count", (3, 39, 41))
+def test_a_chain_that_went_astray(count):
+    """The first of the wrong numbers weighs more than its break, so that the chain which ends there is the best one so
+    far; the jump back behind it costs more than it brings. The right chain is found by its numbers, which go on."""
+    wrong = [Reading(40, 21, 3, (17,))]  # one field too late
+    wrong += [Reading(41 + place, (place * 7919 + 30000) % 79999, 1, (18,)) for place in range(count - 1)]
+    ones = believed(readings(*range(1, 21)) + wrong + readings(*range(60, 80), first=119))
+    assert [number for _, number in ones] == [*range(1, 21), *range(60, 80)]
 
 
 # Which numbers were passed over, for how many of them there are fields, whether fields are lost, and why each is
@@ -157,15 +138,14 @@ FATES = """
 """
 
 
-class Rows(unittest.TestCase):
-    def test_fates(self):
-        for name, passed, fates in cells_of(FATES):
-            ones = [(*map(int, numbers.split("-")), int(fields), {"True": True, "False": False}.get(is_lost))
-                    for numbers, fields, is_lost in (one.split() for one in passed.split(", "))]
-            spans = {"unread": [], "undecided": [], "lost": [], "unshown": [(50, 200)] if len(ones) > 1 else []}
-            for why, first, last in (part for one in ones for part in Passed(*one).parts()):
-                spans[why].append((first, last))
-            found = PassedOver(list(spans.items()))
-            for numbers, why in (fate.split() for fate in fates.split(", ")):
-                first, last = map(int, numbers.split("-"))
-                self.assertEqual({found.why(number) for number in range(first, last + 1)}, {why}, (name, numbers))
+@pytest.mark.parametrize("name, passed, fates", cells_of(FATES))
+def test_fates(name, passed, fates):
+    ones = [(*map(int, numbers.split("-")), int(fields), {"True": True, "False": False}.get(is_lost))
+            for numbers, fields, is_lost in (one.split() for one in passed.split(", "))]
+    spans = {"unread": [], "undecided": [], "lost": [], "unshown": [(50, 200)] if len(ones) > 1 else []}
+    for why, first, last in (part for one in ones for part in Passed(*one).parts()):
+        spans[why].append((first, last))
+    found = PassedOver(list(spans.items()))
+    for numbers, why in (fate.split() for fate in fates.split(", ")):
+        first, last = map(int, numbers.split("-"))
+        assert {found.why(number) for number in range(first, last + 1)} == {why}

@@ -6,12 +6,14 @@ import itertools
 import os
 import re
 import struct
-import unittest
 
-from cases import reason
-from ldvbi.classes import Format, Kind, classify, format_of, usual_pictures
-from ldvbi.codes import STANDARD_LINES, code, code_of, codes_by_kind, name_of, value_of
+from ldvbi.classes import classify, Format, format_of, Kind, usual_pictures
+from ldvbi.codes import code, code_of, codes_by_kind, name_of, STANDARD_LINES, value_of
+import pytest
+from room import reason
 from streams import TOP
+
+pytestmark = pytest.mark.unrecorded
 
 # What words say: kind and numbers by name, and the one that counts
 MEANINGS = (
@@ -50,48 +52,47 @@ def ranges_of_header():
             for greatest in re.findall(r", 0 to (\d+)$", said)]
 
 
-class Classes(unittest.TestCase):
-    def test_what_words_say(self):
-        self.assertEqual(repr(classify(0xF12345)), "Code(kind=<Kind.picture: 1>, first=12345, second=0)")
-        for word, meaning, value in MEANINGS:
-            with self.subTest("%06X" % word):
-                self.assertEqual((code(word), value_of(code_of(word))), (meaning, value))
-                self.assertEqual(name_of(code_of(word).kind), meaning["kind"])
-        for words, wanted in BY_KIND:
-            self.assertEqual(codes_by_kind(words), wanted)
-        for words, wanted in FORMATS:
-            self.assertIs(format_of(*words), Format[wanted], words)
-        self.assertEqual(({kind: STANDARD_LINES[kind] for kind in LINES}, len(STANDARD_LINES)), (LINES, 11))
+def test_what_words_say():
+    assert repr(classify(0xF12345)) == "Code(kind=<Kind.picture: 1>, first=12345, second=0)"
+    for word, meaning, value in MEANINGS:
+        assert (code(word), value_of(code_of(word))) == (meaning, value)
+        assert name_of(code_of(word).kind) == meaning["kind"]
+    for words, wanted in BY_KIND:
+        assert codes_by_kind(words) == wanted
+    for words, wanted in FORMATS:
+        assert format_of(*words) is Format[wanted]
+    assert ({kind: STANDARD_LINES[kind] for kind in LINES}, len(STANDARD_LINES)) == (LINES, 11)
 
-    def test_no_words(self):
-        self.assertEqual([code(0), code_of(0)], [None, None])
-        for value, text in [(number, "number is no code word") for number in (
-                0, 1, 0x7FFFFF, 0x1000000, 2 ** 32 + 0x800000, -1, -0x800000)] + [
-                    (value, "word is not a whole number") for value in (15803205.0, "F12345", None, b"\xF1")]:
-            self.assertEqual(reason(classify, value), text)
-            if value != 0:
-                self.assertEqual([reason(format_of, value, 0, 0), reason(format_of, 0, value, 0)], [text] * 2)
 
-    def test_words_beside_the_library(self):
-        """All that begin with 8 or F, as those of each class do, and of the others those whose digits are at the edges
-        of classes."""
-        call = ctypes.CDLL(os.environ["LDVBI_LIBRARY"]).ldvbi_classify
-        call.argtypes = ctypes.c_uint32, ctypes.c_void_p
-        edges = [int("".join(digits), 16) for digits in itertools.product("0789ACDEF", repeat=5)]
-        greatest = {}
-        for words in (range(0x800000, 0x900000), range(0xF00000, 0x1000000),
-                      *([first << 20 | rest for rest in edges] for first in range(9, 15))):
-            codes = (ctypes.c_uint32 * (3 * len(words)))()
-            self.assertFalse(any(map(call, words, itertools.count(ctypes.addressof(codes), 12))))
-            wanted = list(struct.iter_unpack("=III", codes))
-            wrong = ("%06X: %s" % (word, known) for word, known, one in zip(words, map(classify, words), wanted)
-                     if known != one)
-            self.assertIsNone(next(wrong, None))
-            self.assertEqual(usual_pictures(words), {
-                word: number for word, (kind, number, _) in zip(words, wanted)
-                if kind == Kind.picture and word < 0xF80000})
-            for kind, *numbers in set(wanted):
-                greatest[kind] = list(map(max, greatest.get(kind, numbers), numbers))
-        ranges = ranges_of_header()
-        self.assertEqual([(kind, place, greatest[kind][place]) for kind, place, _ in ranges], ranges)
-        self.assertEqual(len(ranges), 10)
+def test_no_words():
+    assert [code(0), code_of(0)] == [None, None]
+    for value, text in [(number, "number is no code word") for number in (
+            0, 1, 0x7FFFFF, 0x1000000, 2 ** 32 + 0x800000, -1, -0x800000)] + [
+                (value, "word is not a whole number") for value in (15803205.0, "F12345", None, b"\xF1")]:
+        assert reason(classify, value) == text
+        if value != 0:
+            assert [reason(format_of, value, 0, 0), reason(format_of, 0, value, 0)] == [text] * 2
+
+
+def test_words_beside_the_library():
+    """All that begin with 8 or F, as those of each class do, and of the others those whose digits are at the edges of
+    classes."""
+    call = ctypes.CDLL(os.environ["LDVBI_LIBRARY"]).ldvbi_classify
+    call.argtypes = ctypes.c_uint32, ctypes.c_void_p
+    edges = [int("".join(digits), 16) for digits in itertools.product("0789ACDEF", repeat=5)]
+    greatest = {}
+    for words in (range(0x800000, 0x900000), range(0xF00000, 0x1000000),
+                  *([first << 20 | rest for rest in edges] for first in range(9, 15))):
+        codes = (ctypes.c_uint32 * (3 * len(words)))()
+        assert not any(map(call, words, itertools.count(ctypes.addressof(codes), 12)))
+        wanted = list(struct.iter_unpack("=III", codes))
+        wrong = ("%06X: %s" % (word, known) for word, known, one in zip(words, map(classify, words), wanted)
+                 if known != one)
+        assert next(wrong, None) is None
+        assert usual_pictures(words) == {word: number for word, (kind, number, _) in zip(words, wanted) if kind ==
+                                         Kind.picture and word < 0xF80000}
+        for kind, *numbers in set(wanted):
+            greatest[kind] = list(map(max, greatest.get(kind, numbers), numbers))
+    ranges = ranges_of_header()
+    assert [(kind, place, greatest[kind][place]) for kind, place, _ in ranges] == ranges
+    assert len(ranges) == 10

@@ -6,20 +6,21 @@ import io
 import itertools
 import json
 import random
+import re
 import subprocess
-import unittest
 from unittest import mock
 
 import ldvbi
-from cases import InFolder, reason
 from ldvbi import Cause
-from ldvbi.document import (RECORD, _as_json, head_of, is_document, read_document, tail_of, write_document,
+from ldvbi.document import (_as_json, head_of, is_document, read_document, RECORD, tail_of, write_document,
                             write_recovered)
-from ldvbi.readings import Cut, Levels, PackedFields, cause_text
+from ldvbi.readings import cause_text, Cut, Levels, PackedFields
 from ldvbi_side.command.progress import Progress
 from ldvbi_side.judge.readings import Fields
 from ldvbi_side.side import side_of_document
-from streams import NTSC, PAL, PROGRAM, line_with, pictures, worn_line, write_stream
+import pytest
+from room import reason
+from streams import line_with, NTSC, PAL, pictures, PROGRAM, worn_line, write_stream
 
 PICTURE = 0xF00001
 GONE = object()
@@ -60,41 +61,41 @@ def refusal(whole):
     return reason(side_of_document, whole if isinstance(whole, bytes) else text_of(whole))
 
 
-class Sound(unittest.TestCase):
-    def test_a_document(self):
-        side = side_of_document(text_of(document()))
-        self.assertEqual(side.plain(), Fields(
-            "NTSC", [(0, 0, 0), (0, 0, 0), (0, PICTURE, PICTURE), (0, 0, 0)],
-            [(0, 0, 0), (0, 0, 0), (0, 1, 2), (0, 0, 0)],
-            [("blank",) * 3, ("unfinished", "change 0", "hold 909"), ("blank", "word", "word"), ("blank",) * 3],
-            side.readings.data, Cut(5, 85360)))
-        self.assertEqual(side.levels, Levels(16384, 51200))
-        words = side_of_document(text_of(changed("fields.2.vbi.vbiData", [0, 0x800000, 0xFFFFFF])))
-        self.assertEqual([line.word for line in words.readings[2]], [0, 0x800000, 0xFFFFFF])  # the least, the greatest
+def test_a_document():
+    side = side_of_document(text_of(document()))
+    assert side.plain() == Fields(
+        "NTSC", [(0, 0, 0), (0, 0, 0), (0, PICTURE, PICTURE), (0, 0, 0)], [(0, 0, 0), (0, 0, 0), (0, 1, 2), (0, 0, 0)],
+        [("blank",) * 3, ("unfinished", "change 0", "hold 909"), ("blank", "word", "word"), ("blank",) * 3],
+        side.readings.data, Cut(5, 85360))
+    assert side.levels == Levels(16384, 51200)
+    words = side_of_document(text_of(changed("fields.2.vbi.vbiData", [0, 0x800000, 0xFFFFFF])))
+    assert [line.word for line in words.readings[2]] == [0, 0x800000, 0xFFFFFF]  # the least, the greatest
 
-    def test_each_system(self):
-        """Columns are those of 1 to 4 digits that a line has, and no other; a cut is less than a field."""
-        for system, width, height in (("NTSC", 910, 263), ("PAL", 1135, 313)):
-            most = 2 * width * height - 1
-            whole = document()
-            whole["videoParameters"] = {"system": system, "fieldWidth": width, "fieldHeight": height,
-                                        "black16bIre": 0, "white16bIre": 65535}
-            whole["fields"] = [record(number + 1, [0, 0, 0], ["change %d" % number, "hold %d" % number, "blank"],
-                                      [0, 0, 0]) for number in range(width)]
-            whole["cutField"] = {"seqNo": width + 1, "bytes": most}
-            side = side_of_document(text_of(whole))
-            for line in ("first", "second"):
-                self.assertEqual([getattr(field, line).column for field in side.readings], list(range(width)))
-            self.assertEqual((side.system.name, side.cut.bytes, side.levels), (system, most, Levels(0, 65535)))
-            whole["cutField"]["bytes"] += 1
-            self.assertRegex(refusal(whole), "bytes is not from 1 to %d$" % most)
-            whole["fields"][0]["vbiCause"][1] = "hold %d" % width
-            self.assertRegex(refusal(whole), "no cause")
 
-    def test_what_is_taken_for_a_document(self):
-        self.assertTrue(is_document("a.json", b""))
-        self.assertTrue(is_document("a", b' \n{ "version": 2'))
-        self.assertFalse(is_document("a.tbc", b'{"fields"'))
+@pytest.mark.parametrize("system, width, height", (("NTSC", 910, 263), ("PAL", 1135, 313)))
+def test_each_system(system, width, height):
+    """Columns are those of 1 to 4 digits that a line has, and no other; a cut is less than a field."""
+    most = 2 * width * height - 1
+    whole = document()
+    whole["videoParameters"] = {"system": system, "fieldWidth": width, "fieldHeight": height,
+                                "black16bIre": 0, "white16bIre": 65535}
+    whole["fields"] = [record(number + 1, [0, 0, 0], ["change %d" % number, "hold %d" % number, "blank"],
+                              [0, 0, 0]) for number in range(width)]
+    whole["cutField"] = {"seqNo": width + 1, "bytes": most}
+    side = side_of_document(text_of(whole))
+    for line in ("first", "second"):
+        assert [getattr(field, line).column for field in side.readings] == list(range(width))
+    assert (side.system.name, side.cut.bytes, side.levels) == (system, most, Levels(0, 65535))
+    whole["cutField"]["bytes"] += 1
+    assert re.search("bytes is not from 1 to %d$" % most, refusal(whole))
+    whole["fields"][0]["vbiCause"][1] = "hold %d" % width
+    assert re.search("no cause", refusal(whole))
+
+
+def test_what_is_taken_for_a_document():
+    assert is_document("a.json", b"")
+    assert is_document("a", b' \n{ "version": 2')
+    assert not is_document("a.tbc", b'{"fields"')
 
 
 LEVELS = "black16bIre and white16bIre are not two samples, black below white"
@@ -137,44 +138,44 @@ BROKEN = (
 )
 
 
-class Broken(unittest.TestCase):
-    def test_each_change(self):
-        for text, path, *values in BROKEN:
-            for value in values:
-                with self.subTest((path, value)):
-                    wanted = text if value is GONE else text.replace("VALUE", json.dumps(value))
-                    self.assertEqual(refusal(changed(path, value)), wanted)
+def test_each_change():
+    for text, path, *values in BROKEN:
+        for value in values:
+            wanted = text if value is GONE else text.replace("VALUE", json.dumps(value))
+            assert refusal(changed(path, value)) == wanted
 
-    def test_the_cut_field_of_an_empty_side(self):
-        """It is the first one, of which true isn't the number; one byte of it is enough."""
-        side = side_of_document(text_of(dict(document(), fields=[], cutField={"seqNo": 1, "bytes": 1})))
-        self.assertEqual((side.readings, side.cut, side.answer["fields"]), ([], (1, 1), 0))
-        self.assertIsNone(side_of_document(text_of(dict(document(), fields=[], cutField=None))).cut)
-        self.assertEqual(refusal(dict(document(), fields=[], cutField={"seqNo": True, "bytes": 1})),
-                         "cutField: seqNo is not 1")
 
-    def test_recovered_words(self):
-        """A document of version 3 has them with the causes of their lines, and one of version 2 hasn't got them."""
-        whole = dict(document(), version=3)
-        whole["fields"][2] = record(3, [PICTURE] * 3, ["change 170", "word", "unfinished"], [3, 3, 3])
-        side = side_of_document(text_of(whole))
-        self.assertEqual([tuple(line) for line in side.readings[2]], [
-            (Cause.change, 3, 170, PICTURE), (Cause.word, 3, 0, PICTURE), (Cause.unfinished, 3, 0, PICTURE)])
-        self.assertEqual([rates["near"] for rates in side.answer["lines"].values()], [1, 1, 1])
-        self.assertEqual(refusal(dict(whole, version=2)), "field 3: 3 is no pass")
-        for word, cause, of_pass in ((0, "change 170", 3), (PICTURE, "blank", 3), (PICTURE, "change 170", 2),
-                                     (PICTURE, "change 170", 0), (0, "word", 3)):
-            whole["fields"][2] = record(3, [word] * 3, [cause] * 3, [of_pass] * 3)
-            self.assertTrue(refusal(whole).startswith(NO_FIT), (word, cause, of_pass))
-        whole["fields"][2]["vbiPass"][0] = 4
-        self.assertEqual(refusal(whole), "field 3: 4 is no pass")
+def test_the_cut_field_of_an_empty_side():
+    """It is the first one, of which true isn't the number; one byte of it is enough."""
+    side = side_of_document(text_of(dict(document(), fields=[], cutField={"seqNo": 1, "bytes": 1})))
+    assert (side.readings, side.cut, side.answer["fields"]) == ([], (1, 1), 0)
+    assert side_of_document(text_of(dict(document(), fields=[], cutField=None))).cut is None
+    assert refusal(dict(document(), fields=[], cutField={"seqNo": True, "bytes": 1})) == "cutField: seqNo is not 1"
 
-    def test_what_is_no_object_or_not_json(self):
-        self.assertEqual(refusal(b"[1]"), "not a document of version 2 or 3")
-        sound = text_of(document())
-        for data in (sound[:-3], b"", sound.replace(b"85360", b"NaN"), b"\xef\xbb\xbf" + sound,
-                     sound.decode().encode("utf-16"), b"[" * 100000, b'{"a":"\xff"}'):
-            self.assertTrue(refusal(data).startswith("not JSON: "), data[:20])
+
+def test_recovered_words():
+    """A document of version 3 has them with the causes of their lines, and one of version 2 hasn't got them."""
+    whole = dict(document(), version=3)
+    whole["fields"][2] = record(3, [PICTURE] * 3, ["change 170", "word", "unfinished"], [3, 3, 3])
+    side = side_of_document(text_of(whole))
+    assert [tuple(line) for line in side.readings[2]] == [
+        (Cause.change, 3, 170, PICTURE), (Cause.word, 3, 0, PICTURE), (Cause.unfinished, 3, 0, PICTURE)]
+    assert [rates["near"] for rates in side.answer["lines"].values()] == [1, 1, 1]
+    assert refusal(dict(whole, version=2)) == "field 3: 3 is no pass"
+    for word, cause, of_pass in ((0, "change 170", 3), (PICTURE, "blank", 3), (PICTURE, "change 170", 2),
+                                 (PICTURE, "change 170", 0), (0, "word", 3)):
+        whole["fields"][2] = record(3, [word] * 3, [cause] * 3, [of_pass] * 3)
+        assert refusal(whole).startswith(NO_FIT)
+    whole["fields"][2]["vbiPass"][0] = 4
+    assert refusal(whole) == "field 3: 4 is no pass"
+
+
+def test_what_is_no_object_or_not_json():
+    assert refusal(b"[1]") == "not a document of version 2 or 3"
+    sound = text_of(document())
+    for data in (sound[:-3], b"", sound.replace(b"85360", b"NaN"), b"\xef\xbb\xbf" + sound,
+                 sound.decode().encode("utf-16"), b"[" * 100000, b'{"a":"\xff"}'):
+        assert refusal(data).startswith("not JSON: ")
 
 
 FIELDS = [((0, 0, 0), ("blank", "unfinished", "hold 909"), (0, 0, 0)),
@@ -196,53 +197,57 @@ def outcome(read, data):
     return reason(read, data) or read(data)
 
 
-class Written(unittest.TestCase):
-    def by_pattern(self, data):
-        """What is read of a document without a look at its records as JSON."""
-        with mock.patch("ldvbi.document._as_json", side_effect=AssertionError):
-            return read_document(data)
+def by_pattern(data):
+    """What is read of a document without a look at its records as JSON."""
+    with mock.patch("ldvbi.document._as_json", side_effect=AssertionError):
+        return read_document(data)
 
-    def test_as_its_json(self):
-        sizes = (3, None), (2500, Cut(2501, 17))
-        for system, version, (count, cut) in itertools.product(ldvbi.System, (2, 3), sizes):
-            data = written(version, count, cut, system)
-            found = self.by_pattern(data)
-            self.assertEqual(found, _as_json(data))
-            self.assertEqual([len(found.readings), found.cut, found.system], [count, cut, system])
 
-    def test_each_part(self):
-        readings = self.by_pattern(written(3)).readings
-        self.assertEqual(readings.words(), [words for words, _, _ in FIELDS])
-        self.assertEqual(readings.causes(), [FIELDS[0][1], ("change 17", "word", "word"), FIELDS[2][1]])
-        self.assertEqual(readings.passes(), [(0, 0, 0), (3, 2, 1), (0, 1, 1)])
-        self.assertEqual([line.column for line in readings[0]], [0, 0, 909])
-        self.assertEqual(readings[-2:], list(readings)[1:])
-        self.assertEqual(PackedFields.of(list(readings)), readings)
-        with self.assertRaises(IndexError):
-            readings[3]
+def test_as_its_json():
+    sizes = (3, None), (2500, Cut(2501, 17))
+    for system, version, (count, cut) in itertools.product(ldvbi.System, (2, 3), sizes):
+        data = written(version, count, cut, system)
+        found = by_pattern(data)
+        assert found == _as_json(data)
+        assert [len(found.readings), found.cut, found.system] == [count, cut, system]
 
-    def test_one_character_changed(self):
-        """A character is put in the place of one, or before it. Most have a fault, some are sound in another form."""
-        rng, faults = random.Random(1), 0
-        for version in (2, 3):
-            data = written(version, 3, Cut(4, 17))
-            for _ in range(400):
-                other, place = bytearray(data), rng.randrange(len(data))
-                other[place:place + rng.randrange(2)] = rng.choice((b"0", b"7", b" ", b",", b"}", b'"', b"\n", b"\xff"))
-                found = outcome(read_document, bytes(other))
-                self.assertEqual(found, outcome(_as_json, bytes(other)), bytes(other))
-                faults += isinstance(found, str)
-        self.assertGreater(faults, 500)
 
-    def test_other_forms(self):
-        """Records that a pattern finds in a place that isn't theirs, or with another number; and none."""
-        data = written()
-        inner = b'{"version":2,"videoParameters":{},"fields":[],"x":' + data[:-1] + b"}"
-        for other in (inner, data.replace(b"\n", b"\r\n"), b" " + data, data + b" ", data.replace(b":", b": "),
-                      written(count=0), data.replace(b'"seqNo":2', b'"seqNo":02'), data.replace(b":2,", b":4,", 1),
-                      data.replace(b'"seqNo":2', b'"seqNo":4'), data.replace(b"[0,0,0]", b"[0,0,8388608]", 1)):
-            self.assertNotEqual(other, data)
-            self.assertEqual(outcome(read_document, other), outcome(_as_json, other))
+def test_each_part():
+    readings = by_pattern(written(3)).readings
+    assert readings.words() == [words for words, _, _ in FIELDS]
+    assert readings.causes() == [FIELDS[0][1], ("change 17", "word", "word"), FIELDS[2][1]]
+    assert readings.passes() == [(0, 0, 0), (3, 2, 1), (0, 1, 1)]
+    assert [line.column for line in readings[0]] == [0, 0, 909]
+    assert readings[-2:] == list(readings)[1:]
+    assert PackedFields.of(list(readings)) == readings
+    with pytest.raises(IndexError):
+        readings[3]
+
+
+def test_one_character_changed():
+    """A character is put in the place of one, or before it. Most have a fault, some are sound in another form."""
+    rng, faults = random.Random(1), 0
+    for version in (2, 3):
+        data = written(version, 3, Cut(4, 17))
+        for _ in range(400):
+            other, place = bytearray(data), rng.randrange(len(data))
+            other[place:place + rng.randrange(2)] = rng.choice((b"0", b"7", b" ", b",", b"}", b'"', b"\n", b"\xff"))
+            found = outcome(read_document, bytes(other))
+            assert found == outcome(_as_json, bytes(other))
+            faults += isinstance(found, str)
+    assert faults > 500
+
+
+def test_other_forms():
+    """Records that a pattern finds in a place that isn't theirs, or with another number; and none."""
+    data = written()
+    inner = b'{"version":2,"videoParameters":{},"fields":[],"x":' + data[:-1] + b"}"
+    for other in (inner, data.replace(b"\n", b"\r\n"), b" " + data, data + b" ", data.replace(b":", b": "),
+                  written(count=0), data.replace(b'"seqNo":2', b'"seqNo":02'), data.replace(b":2,", b":4,", 1),
+                  data.replace(b'"seqNo":2', b'"seqNo":4'), data.replace(b"[0,0,0]", b"[0,0,8388608]", 1),
+                  data.replace(b"16777215", b"16777216"), data.replace(b'"blank"', b'"BLANK"', 1)):
+        assert other != data
+        assert outcome(read_document, other) == outcome(_as_json, other)
 
 
 def extracted(path, setup, is_recovered):
@@ -286,46 +291,47 @@ class Stub:
         return iter(self._blocks)
 
 
-class Writing(InFolder):
-    def compare(self, setup, fields, rest=0, is_recovered=False):
-        write_stream(self.path, setup, fields, rest)
-        wanted, status = extracted(self.path, setup, is_recovered)
-        self.assertEqual(status, 3 if rest else 0)
-        self.assertEqual(written_of(self.path, setup, is_recovered), wanted)
-        return wanted.decode("ascii")
+def compare(room, setup, fields, rest=0, is_recovered=False):
+    write_stream(room.path, setup, fields, rest)
+    wanted, status = extracted(room.path, setup, is_recovered)
+    assert status == (3 if rest else 0)
+    assert written_of(room.path, setup, is_recovered) == wanted
+    return wanted.decode("ascii")
 
-    def test_causes_and_passes(self):
-        """Of a file, and of a buffer; with recovered words, too."""
-        for setup in (NTSC, PAL, ("NTSC", 0, 65535), ("PAL", 65534, 65535)):
-            with self.subTest(setup):
-                text = self.compare(setup, causes(setup))
-                self.assertEqual(written_of(self.read("side.tbc"), setup), text.encode())
-                last = {"NTSC": '"change 909"', "PAL": '"change 1134"'}[setup[0]]
-                for part in ('"word"', '"blank"', '"unfinished"', '"change ', '"hold ', '"vbiPass":[1,2,0]', last):
-                    self.assertIn(part, text)
-                text = self.compare(setup, [*causes(setup), [0, 0xF12345, worn_line(0xF12345, setup, 9, 11)]], 7, True)
-                self.assertEqual(written_of(self.read("side.tbc"), setup, True), text.encode())
-                self.assertIn('"vbiPass":[0,1,3],"vbiNear":[null,null,{"word":15803205,', text)
 
-    def test_counts_of_fields(self):
-        """Whole streams and cut ones."""
-        for setup in (NTSC, PAL):
-            size = ldvbi.field_bytes(setup[0])
-            for count, rest in ((0, 0), (1, 0), (64, 0), (65, 0), (129, 0), (0, 1), (64, 1000), (3, size - 1)):
-                with self.subTest((setup, count, rest)):
-                    self.compare(setup, pictures(count), rest)
-                    self.compare(setup, pictures(count), rest, True)
+@pytest.mark.parametrize("setup", (NTSC, PAL, ("NTSC", 0, 65535), ("PAL", 65534, 65535)))
+def test_causes_and_passes(room, setup):
+    """Of a file, and of a buffer; with recovered words, too."""
+    text = compare(room, setup, causes(setup))
+    assert written_of(room.read("side.tbc"), setup) == text.encode()
+    last = {"NTSC": '"change 909"', "PAL": '"change 1134"'}[setup[0]]
+    for part in ('"word"', '"blank"', '"unfinished"', '"change ', '"hold ', '"vbiPass":[1,2,0]', last):
+        assert part in text
+    text = compare(room, setup, [*causes(setup), [0, 0xF12345, worn_line(0xF12345, setup, 9, 11)]], 7, True)
+    assert written_of(room.read("side.tbc"), setup, True) == text.encode()
+    assert '"vbiPass":[0,1,3],"vbiNear":[null,null,{"word":15803205,' in text
 
-    def test_too_many_fields(self):
-        """As the program, which takes at most 1,000,000."""
-        for many, is_taken in ((Stub(1000000), True), (Stub(1000000, 1), False), (Stub(1000001), False)):
-            text = io.StringIO()
-            said = reason(write_document, many, text, Progress(0, is_wanted=False).over)
-            self.assertEqual((said, text.getvalue() != ""), (None, True) if is_taken else ("too many fields", False))
 
-    def test_a_cause_of_a_later_library(self):
-        text = "the library's cause 5 is not known here"
-        field = ldvbi.PACKED_FIELD.pack(1, 0, 0, 0, 1, 0, 0, 0, len(ldvbi.Cause), 0, 0, 0)
-        over = Progress(0, is_wanted=False).over
-        self.assertEqual(reason(write_document, Stub(1, 0, [field]), io.StringIO(), over), text)
-        self.assertEqual(reason(cause_text, ldvbi.Reading(5, 0, 0, 0)), text)
+@pytest.mark.parametrize("setup", (NTSC, PAL))
+def test_counts_of_fields(room, setup):
+    """Whole streams and cut ones."""
+    size = ldvbi.field_bytes(setup[0])
+    for count, rest in ((0, 0), (1, 0), (64, 0), (65, 0), (129, 0), (0, 1), (64, 1000), (3, size - 1)):
+        compare(room, setup, pictures(count), rest)
+        compare(room, setup, pictures(count), rest, True)
+
+
+@pytest.mark.parametrize("many, is_taken", ((Stub(1000000), True), (Stub(1000000, 1), False), (Stub(1000001), False)))
+def test_too_many_fields(many, is_taken):
+    """As the program, which takes at most 1,000,000."""
+    text = io.StringIO()
+    said = reason(write_document, many, text, Progress(0, is_wanted=False).over)
+    assert (said, text.getvalue() != "") == ((None, True) if is_taken else ("too many fields", False))
+
+
+def test_a_cause_of_a_later_library():
+    text = "the library's cause 5 is not known here"
+    field = ldvbi.PACKED_FIELD.pack(1, 0, 0, 0, 1, 0, 0, 0, len(ldvbi.Cause), 0, 0, 0)
+    over = Progress(0, is_wanted=False).over
+    assert reason(write_document, Stub(1, 0, [field]), io.StringIO(), over) == text
+    assert reason(cause_text, ldvbi.Reading(5, 0, 0, 0)) == text

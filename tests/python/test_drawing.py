@@ -2,7 +2,6 @@
 a side of 64 fields on 960 pixels from 150 on has 15 for each."""
 
 import re
-import unittest
 import xml.etree.ElementTree as xml
 from unittest import mock
 
@@ -11,13 +10,15 @@ from discs import side, typed
 from ldvbi import Kind
 from ldvbi.readings import Cut
 from ldvbi_side.answer.entries import Doubt, Extent, Lost, Missing, Neighbour, Repeated, Speed, Swapped
-from ldvbi_side.draw import bands, curve
+from ldvbi_side.draw import bands, bars, curve, drawing
+from ldvbi_side.draw.axis import Axis
 from ldvbi_side.draw.curve import Scale, ticks
 from ldvbi_side.draw.drawing import drawing_of
 from ldvbi_side.draw.marks import Mark, marks_of
-from ldvbi_side.draw.svg import Svg, shortened
+from ldvbi_side.draw.svg import shortened, Svg
 from ldvbi_side.judge.places import Break, Still
 from ldvbi_side.judge.readings import Stray
+import pytest
 
 SPACE = "{http://www.w3.org/2000/svg}"
 # Entries of an answer's lists, of which each row below changes a part
@@ -76,34 +77,32 @@ def answer_with(unit="picture", **lists):
     return made("", typed)._replace(unit=unit, **lists)
 
 
-class Marks(unittest.TestCase):
-    def test_fields_lost_of_a_minute_may_be_lost_anywhere_in_it(self):
-        answer = answer_with(unit="minute", lost=[entry("lost", after=3610, before=7111, fields=90)])
-        self.assertEqual(marks_of(answer)["lost fields"], [
-            (3611, 7110, "lost: at least 90 fields between fields 3611 and 7110, by the minute's length")])
-
-    def test_each(self):
-        for name, other, lane, first, last, text in MARKS:
-            with self.subTest((name, other)):
-                marks = marks_of(answer_with(**{name: [entry(name, **other)]}))
-                self.assertEqual(marks[lane], [Mark(first, last, text)])
-        self.assertEqual(marks_of(answer_with(breaks=[entry("breaks", kind="lost")]))["jumps"], [])
+def test_fields_lost_of_a_minute_may_be_lost_anywhere_in_it():
+    answer = answer_with(unit="minute", lost=[entry("lost", after=3610, before=7111, fields=90)])
+    assert marks_of(answer)["lost fields"] == [
+        (3611, 7110, "lost: at least 90 fields between fields 3611 and 7110, by the minute's length")]
 
 
-class Parts(unittest.TestCase):
-    def test_texts_and_ticks_that_fit(self):
-        self.assertEqual(shortened("0123456789", 46, 10), "012\u2026789")  # 7 characters of 6.5 pixels
-        self.assertEqual(shortened("0123456789", 65.1, 10), "0123456789")  # as wide as it may be
-        self.assertEqual(shortened("0123456789", 64.9, 10), "0123\u20266789")
-        svg = Svg(20, 10)
-        svg.text(1, 2.5, "a < b", "\"&\"", font_size=None, class_="x")
-        self.assertIn('<text x="1" y="2.5" class="x"><title>"&amp;"</title>a &lt; b</text>', svg.render())
-        self.assertEqual(ticks(1, 52, 5, [1, 2, 5, 10, 20]), [1, 20, 40])
-        self.assertEqual(ticks(1, 3, 5, [1, 2]), [1, 2, 3])
-        self.assertEqual(ticks(7, 100, 5, [1, 2]), [7] + list(range(8, 101, 2)))  # no step is large enough
-        self.assertEqual(ticks(1, 0, 5, [1]), [])
-        minutes = Extent(30, "0:00", "0:29")  # whose least step is a minute
-        self.assertEqual(Scale("minute", "PAL", minutes, 0, 9).ticks(), [0, 10, 20])
+def test_each():
+    for name, other, lane, first, last, text in MARKS:
+        marks = marks_of(answer_with(**{name: [entry(name, **other)]}))
+        assert marks[lane] == [Mark(first, last, text)]
+    assert marks_of(answer_with(breaks=[entry("breaks", kind="lost")]))["jumps"] == []
+
+
+def test_texts_and_ticks_that_fit():
+    assert shortened("0123456789", 46, 10) == "012\u2026789"  # 7 characters of 6.5 pixels
+    assert shortened("0123456789", 65.1, 10) == "0123456789"  # as wide as it may be
+    assert shortened("0123456789", 64.9, 10) == "0123\u20266789"
+    svg = Svg(20, 10)
+    svg.text(1, 2.5, "a < b", "\"&\"", font_size=None, class_="x")
+    assert '<text x="1" y="2.5" class="x"><title>"&amp;"</title>a &lt; b</text>' in svg.render()
+    assert ticks(1, 52, 5, [1, 2, 5, 10, 20]) == [1, 20, 40]
+    assert ticks(1, 3, 5, [1, 2]) == [1, 2, 3]
+    assert ticks(7, 100, 5, [1, 2]) == [7] + list(range(8, 101, 2))  # no step is large enough
+    assert ticks(1, 0, 5, [1]) == []
+    minutes = Extent(30, "0:00", "0:29")  # whose least step is a minute
+    assert Scale("minute", "PAL", minutes, 0, 9).ticks() == [0, 10, 20]
 
 
 def parts_of(text, **more):
@@ -145,69 +144,72 @@ COUNTS = (("t0..57/3", "other speeds", 1), ("t0..57/3", "swapped fields", None),
           ("8AE001/@0:01/@0:02", "doubtful", 3), ("-/@0:01/@0:02", "doubtful", 2))
 
 
-class Drawings(unittest.TestCase):
-    def test_rows(self):
-        for text, name, wanted in DRAWN:
-            with self.subTest((text, name)):
-                self.assertEqual(of_class(drawn(text), name), wanted)
-        for text, lane, count in COUNTS:
-            counts = dict(one.split(": ") for one in of_class(drawn(text), "count"))
-            self.assertEqual(counts.get(lane), count if count is None else str(count), (text, lane))
-        for text, number in (("10..19 79999 21..29", "picture 79999"), ("10..19 1 21..29", "picture 1"),
-                             ("m59x20 m60x28 9=-/M/@2:10", "time 2:10")):
-            words, = of_class(drawn(text), "doubt")
-            self.assertEqual(words.partition(" in ")[0], "doubtful: " + number)
+def test_rows():
+    for text, name, wanted in DRAWN:
+        assert of_class(drawn(text), name) == wanted
+    for text, lane, count in COUNTS:
+        counts = dict(one.split(": ") for one in of_class(drawn(text), "count"))
+        assert counts.get(lane) == (count if count is None else str(count))
+    for text, number in (("10..19 79999 21..29", "picture 79999"), ("10..19 1 21..29", "picture 1"),
+                         ("m59x20 m60x28 9=-/M/@2:10", "time 2:10")):
+        words, = of_class(drawn(text), "doubt")
+        assert words.partition(" in ")[0] == "doubtful: " + number
 
-    def test_a_cav_side(self):
-        found = drawn("NTSC Lx8 1..19 25 2 28..49 Ox8 9=S/S/#1 61=?/!/~")
-        self.assertEqual(of_class(found, "system"), ["NTSC, CAV, 102 fields, 41 pictures, 1 to 49"])
-        self.assertEqual(of_class(found, "stop"), ["picture stop of 1 in field 9, lines 16 and 17"])
-        self.assertEqual(of_class(found, "lead-in"), ["lead-in: fields 1 to 8"])
-        self.assertIn("line 17, field 61: hold 200", of_class(found, "line-17"))
-        self.assertTrue(of_class(found, "upright"))
-        self.assertEqual(len(of_class(found, "doubt")), 1)
-        self.assertIn("film (2 and 3 fields a picture)", of_class(drawn("NTSC f1..39"), "system")[0])
-        found = drawn("-/#9/#9", cut=Cut(2, 5))
-        self.assertEqual(of_class(found, "run") + of_class(found, "system"), [
-            "9 in field 1", "PAL, CAV, 1 field, field 2 is cut: 5 bytes of it, 1 picture, 9 to 9"])
 
-    def test_sides_of_whose_numbers_none_is_believed(self):
-        for text in ("-/#3/#5", "8AE001/@0:01/@0:02", "-/@0:01/@0:02"):
-            for system in ("NTSC ", "PAL "):
-                found = drawn(system + text)
-                self.assertEqual(of_class(found, "empty"), ["no picture number and no time is believed"])
-                self.assertEqual([name for name, _ in found if name in ("run", "doubt", "number-label")], [], text)
+def test_a_cav_side():
+    found = drawn("NTSC Lx8 1..19 25 2 28..49 Ox8 9=S/S/#1 61=?/!/~")
+    assert of_class(found, "system") == ["NTSC, CAV, 102 fields, 41 pictures, 1 to 49"]
+    assert of_class(found, "stop") == ["picture stop of 1 in field 9, lines 16 and 17"]
+    assert of_class(found, "lead-in") == ["lead-in: fields 1 to 8"]
+    assert "line 17, field 61: hold 200" in of_class(found, "line-17")
+    assert of_class(found, "upright")
+    assert len(of_class(found, "doubt")) == 1
+    assert "film (2 and 3 fields a picture)" in of_class(drawn("NTSC f1..39"), "system")[0]
+    found = drawn("-/#9/#9", cut=Cut(2, 5))
+    assert of_class(found, "run") + of_class(found, "system") == [
+        "9 in field 1", "PAL, CAV, 1 field, field 2 is cut: 5 bytes of it, 1 picture, 9 to 9"]
 
-    def test_more_than_can_cross_the_curve(self):
-        """Chapters and marks. A strip of 16 pixels has room for one digit, but not for `chapter 5` nor for two."""
-        text = " ".join("-/#{0}/#{0} -/c{0}/c{0}".format(number) for number in range(1, 71))
-        for count, lines in ((60, 60), (70, 0)):
-            found = drawn("%s -%d:140" % (text, 2 * count + 1) if count < 70 else text)
-            self.assertEqual((len(of_class(found, "chapter")), len(of_class(found, "chapter-line"))), (count, lines))
-        self.assertEqual(of_class(drawn(text + " -61:140"), "disc-label"), list("123456789"))
-        found = drawn("1..600!0%8")
-        self.assertEqual([len(of_class(found, name)) for name in ("lost", "lost-fields")], [74, 74])
-        self.assertEqual(len(of_class(drawn("1..399!0%8"), "upright")), 2 * 49)
 
-    def test_unread_numbers_are_pale(self):
-        parts = parts_of("1..30 21=?")
-        marks = [part.get("fill") for name, part in parts if name == "unread"]
-        labels = [part.get("fill") for _, part in parts if part.text == "unread: 1"]
-        self.assertEqual((marks, labels), (["#fca5a5"], ["#64748b"]))
+@pytest.mark.parametrize("text", ("-/#3/#5", "8AE001/@0:01/@0:02", "-/@0:01/@0:02"))
+def test_sides_of_whose_numbers_none_is_believed(text):
+    for system in ("NTSC ", "PAL "):
+        found = drawn(system + text)
+        assert of_class(found, "empty") == ["no picture number and no time is believed"]
+        assert [name for name, _ in found if name in ("run", "doubt", "number-label")] == []
 
-    def test_it_fits_on_a_narrow_page(self):
-        """A page 900 pixels wide shows 850 of the drawing. Letters are 7 pixels wide, or less."""
-        texts = [(float(part.get("x")), float(part.get("y")), part.text)
-                 for _, part in parts_of("1..8 5=-/#3^/#3^") if part.tag == SPACE + "text"]
-        wanted = ["change", "hold", "unfinished", "recovered", "read only after smoothing", "word", "blank",
-                  "lead-in, lead-out", "doubtful number"]
-        found = [one for one in texts if one[2] in wanted]
-        self.assertEqual([text for _, _, text in found], wanted)
-        for (x, y, text), (after, below, _) in zip(found, found[1:] + [(850, found[-1][1], "")]):
-            end = x + 7 * len(text)
-            self.assertLessEqual(end, 850, text)
-            # a box, or a ring, stands before the next one; or that begins another line
-            self.assertTrue(end <= after - 20 or below - y >= 16, text)
+
+def test_more_than_can_cross_the_curve():
+    """Chapters and marks. A strip of 16 pixels has room for one digit, but not for `chapter 5` nor for two."""
+    text = " ".join("-/#{0}/#{0} -/c{0}/c{0}".format(number) for number in range(1, 71))
+    for count, lines in ((60, 60), (70, 0)):
+        found = drawn("%s -%d:140" % (text, 2 * count + 1) if count < 70 else text)
+        assert (len(of_class(found, "chapter")), len(of_class(found, "chapter-line"))) == (count, lines)
+    assert of_class(drawn(text + " -61:140"), "disc-label") == list("123456789")
+    found = drawn("1..600!0%8")
+    assert [len(of_class(found, name)) for name in ("lost", "lost-fields")] == [74, 74]
+    assert len(of_class(drawn("1..399!0%8"), "upright")) == 2 * 49
+
+
+def test_unread_numbers_are_pale():
+    parts = parts_of("1..30 21=?")
+    marks = [part.get("fill") for name, part in parts if name == "unread"]
+    labels = [part.get("fill") for _, part in parts if part.text == "unread: 1"]
+    assert (marks, labels) == (["#fca5a5"], ["#64748b"])
+
+
+def test_it_fits_on_a_narrow_page():
+    """A page 900 pixels wide shows 850 of the drawing. Letters are 7 pixels wide, or less."""
+    texts = [(float(part.get("x")), float(part.get("y")), part.text)
+             for _, part in parts_of("1..8 5=-/#3^/#3^") if part.tag == SPACE + "text"]
+    wanted = ["change", "hold", "unfinished", "recovered", "read only after smoothing", "word", "blank",
+              "lead-in, lead-out", "doubtful number"]
+    found = [one for one in texts if one[2] in wanted]
+    assert [text for _, _, text in found] == wanted
+    for (x, y, text), (after, below, _) in zip(found, found[1:] + [(850, found[-1][1], "")]):
+        end = x + 7 * len(text)
+        assert end <= 850
+        # a box, or a ring, stands before the next one; or that begins another line
+        assert end <= after - 20 or below - y >= 16
 
 
 def whole(*values):
@@ -303,52 +305,77 @@ def places_of(text):
     return [(name, " ".join(place_of(part))) for name, part in parts_of(text) if name]
 
 
-class Many(unittest.TestCase):
-    """Sides of which much falls together."""
-
-    def test_line_16(self):
-        """What it shows of 20 fields to a pixel, of which one has noise, is no more than that, and is said in words."""
-        text = "NTSC 1..9600 1:19200/2.18=- 2:19200/2=B 9601.16=?"
-        self.assertIn("; 9601-9620 630-631 noise 1; 9601-9620 630-631 blank 27;",
-                      "; ".join(place for name, place in places_of(text) if name == "line-16"))
-        said = [text for name, text in drawn(text) if name == "line-16"]
-        self.assertEqual(said[1:3], ["line 16, fields 9601 to 9620: noise in 5 % of these fields",
-                                     "line 16, fields 9601 to 9620: blank in 95 % of these fields"])
-        self.assertIn("line 16, field 33: noise, change 170", [text for _, text in drawn("1..32 33.16=?")])
-        self.assertEqual([text for name, text in drawn("1..2001 33.17=?") if "change" in text and name == "line-17"],
-                         ["line 17, fields 31 to 36: change in 17 % of these fields"])
-
-    def test_bands_with_few_boxes(self):
-        """Where there are too many boxes, twice as many fields share a column, and again: at last 10,240 of them."""
-        with mock.patch.object(bands, "MOST_BOXES", 6):
-            found = [place for name, place in places_of(ONE_LINE + "9601=-/?/#4801") if name == "line-17"]
-            self.assertIn(("line-17", "line 17, fields 1 to 10240: change in less than 1 % of these fields"),
-                          drawn(ONE_LINE + "9601=-/?/#4801"))
-        self.assertEqual(found, ["1-10240 150-662 change 4", "1-10240 150-662 word 12", "1-10240 150-662 blank 12",
-                                 "10241-19200 662-1110 word 14", "10241-19200 662-1110 blank 14"])
-
-    def test_rings_and_runs(self):
-        """Of doubtful numbers three pixels from each other one is drawn, and of many those within twelve pixels; of
-        numbers between two that aren't read one in each pixel."""
-        text = ONE_LINE + "9641=-/#100/- 9643=-/#101/- 9781=-/#100/-"
-        for most, wanted in ((3, ["9641 1", "9781 0"]), (2, ["9641 2"])):
-            with mock.patch.object(curve, "MOST_RINGS", most):
-                found = [re.findall(r"in field (\d+), line 17: .*?(?:; and (\d+) more near it)?$", text)[0]
-                         for name, text in drawn(text) if name == "doubt"]
-            self.assertEqual(["%s %s" % (field, more or 0) for field, more in found], wanted)
-        self.assertEqual([place.split(" ")[0] for name, place in places_of(ONE_LINE + "9601=B 9605=B 9609=B")
-                          if name == "run"], ["1-9599", "9603-9603", "9611-19199"])
+# Sides of which much falls together.
+def test_line_16():
+    """What it shows of 20 fields to a pixel, of which one has noise, is no more than that, and is said in words."""
+    text = "NTSC 1..9600 1:19200/2.18=- 2:19200/2=B 9601.16=?"
+    assert "; 9601-9620 630-631 noise 1; 9601-9620 630-631 blank 27;" in "; ".join(
+        place for name, place in places_of(text) if name == "line-16")
+    said = [text for name, text in drawn(text) if name == "line-16"]
+    assert said[1:3] == ["line 16, fields 9601 to 9620: noise in 5 % of these fields",
+                         "line 16, fields 9601 to 9620: blank in 95 % of these fields"]
+    assert "line 16, field 33: noise, change 170" in [text for _, text in drawn("1..32 33.16=?")]
+    assert [text for name, text in drawn("1..2001 33.17=?") if "change" in text and name == "line-17"] == [
+        "line 17, fields 31 to 36: change in 17 % of these fields"]
 
 
-class Places(unittest.TestCase):
-    def test_sides(self):
-        """What the drawing has of these classes is in these places, and there is no more of it. Marks that fall
-        together are one."""
-        for text, wanted in SIDES:
-            found = places_of(text)
-            for line in wanted.replace(";\n   ", ";").splitlines():
-                name, _, places = line.partition(": ")
-                self.assertEqual("; ".join(place for other, place in found if other == name), places, (text, name))
-        found = [place for name, place in places_of(ONE_LINE + "95:19200/192=B 10083=B") if name == "unread"]
-        self.assertEqual(len(found), 100)
-        self.assertIn("10078-10084 654-656", found)
+def test_bands_with_few_boxes():
+    """Where there are too many boxes, twice as many fields share a column, and again: at last 10,240 of them."""
+    with mock.patch.object(bands, "MOST_BOXES", 6):
+        found = [place for name, place in places_of(ONE_LINE + "9601=-/?/#4801") if name == "line-17"]
+        assert ("line-17", "line 17, fields 1 to 10240: change in less than 1 % of these fields") in drawn(
+            ONE_LINE + "9601=-/?/#4801")
+    assert found == ["1-10240 150-662 change 4", "1-10240 150-662 word 12", "1-10240 150-662 blank 12",
+                     "10241-19200 662-1110 word 14", "10241-19200 662-1110 blank 14"]
+
+
+def test_rings_and_runs():
+    """Of doubtful numbers three pixels from each other one is drawn, and of many those within twelve pixels; of numbers
+    between two that aren't read one in each pixel."""
+    text = ONE_LINE + "9641=-/#100/- 9643=-/#101/- 9781=-/#100/-"
+    for most, wanted in ((3, ["9641 1", "9781 0"]), (2, ["9641 2"])):
+        with mock.patch.object(curve, "MOST_RINGS", most):
+            found = [re.findall(r"in field (\d+), line 17: .*?(?:; and (\d+) more near it)?$", text)[0]
+                     for name, text in drawn(text) if name == "doubt"]
+        assert ["%s %s" % (field, more or 0) for field, more in found] == wanted
+    assert [place.split(" ")[0] for name, place in places_of(ONE_LINE + "9601=B 9605=B 9609=B") if name == "run"] == [
+        "1-9599", "9603-9603", "9611-19199"]
+
+
+def test_sides():
+    """What the drawing has of these classes is in these places, and there is no more of it. Marks that fall together
+    are one."""
+    for text, wanted in SIDES:
+        found = places_of(text)
+        for line in wanted.replace(";\n   ", ";").splitlines():
+            name, _, places = line.partition(": ")
+            assert "; ".join(place for other, place in found if other == name) == places
+    found = [place for name, place in places_of(ONE_LINE + "95:19200/192=B 10083=B") if name == "unread"]
+    assert len(found) == 100
+    assert "10078-10084 654-656" in found
+
+
+# Marks by their first and last field, of 960 that have a pixel each, of which a mark has two at least: what is drawn of
+# them, by the first and the last field, how many more there are in it, and up to which field these go
+JOINED = (
+    ("1-1 2-2 3-3", "1-3 2 3"), ("1-1 2-2 3-3 4-4 6-6", "1-4 3 4, 6-6"), ("1-1 3-3 5-5", "1-1, 3-3, 5-5"),
+    ("1-9 10-19 20-29", "1-9, 10-19, 20-29"), ("1-100 5-6 20-30", "1-100 2 30"), ("1-100 5-90 20-30", "1-100 2 90"),
+    ("1-100 5-6 100-200", "1-200 2 200"), ("1-100 5-6 101-101", "1-100 1 6, 101-101"),
+    ("1-10 9-20 19-30 40-50 41-42", "1-30 2 30, 40-50 1 42"), ("959-959 960-960", "959-960 1 960"),
+    ("7-7 7-7", "7-7 1 7"))
+
+
+@pytest.mark.parametrize("marks, wanted", JOINED)
+def test_marks_that_fall_together(marks, wanted):
+    ones = [tuple(map(int, mark.split("-"))) for mark in marks.split()]
+    wanted = [re.findall(r"\d+", one) for one in wanted.split(", ")]
+    of_lane = list(drawing._joined(Axis(960), [Mark(*one, "m") for one in ones]))
+    of_bar = list(bars._joined(Axis(960), [(*one, "m") for one in ones]))
+    assert [mark for _, _, mark in of_lane] == [
+        (int(first), int(last), "m; and %s more up to field %s" % tuple(more) if more else "m") for first, last, *more
+        in wanted]
+    assert [mark for _, _, mark in of_bar] == [(int(first), int(last), "m; and %s more" % more[0] if more else "m") for
+                                               first, last, *more in wanted]
+    for begin, end, (first, last, _) in of_lane + of_bar:
+        ends = [max(150 + b, 151 + min(a, 959)) for a, b in ones if first <= a and b <= last]
+        assert (begin, end) == (149 + min(first, 959), max(ends))

@@ -4,20 +4,21 @@ known here."""
 
 import contextlib
 import io
+import itertools
 import json
 import os
 import random
 import re
 import sqlite3
-import unittest
 from unittest import mock
 
-from cases import InFolder, in_database, reason
 from ldvbi.metadata import read_metadata
 from ldvbi.scanner import Scanner
 from ldvbi_side.into.field import place_of_words
 from ldvbi_side.into.rows import Rows
 from ldvbi_side.into.text import Places
+import pytest
+from room import in_database, reason
 
 WORDS, SAID = (8572927, 0, 15803205), "as read"
 # Fields, and what becomes of them: WORDS is a list of the words, and WORDS, has spaces in it. The numbers alone are
@@ -32,9 +33,6 @@ FORMS = r"""
     {} -> {"vbi":{"vbiData":WORDS}}
     { } -> {"vbi":{"vbiData":WORDS} }
     {"a": 1, "b": {}} -> {"a": 1, "b": {}, "vbi": {"vbiData": WORDS, }}
-    { "a" : 1 } -> { "a" : 1, "vbi" : {"vbiData" : WORDS, } }
-    {\r\n\t"a": 1,\r\n\t"b": 2\r\n} -> {\r\n\t"a": 1,\r\n\t"b": 2,\r\n\t"vbi": {"vbiData": WORDS, }\r\n}
-    {"vbi": {"a": "x"}} -> {"vbi": {"a": "x", "vbiData": WORDS, }}
     {"vbi": {}} -> {"vbi": {"vbiData": WORDS, }}
     {"v\u0062i":{"\u0076biData":[1,2,3]}} -> {"v\u0062i":{"\u0076biData":WORDS}}
     {"a":{"vbi":1},"c":"\"vbi\"}","vbi":{"vbiData":5}} -> {"a":{"vbi":1},"c":"\"vbi\"}","vbi":{"vbiData":WORDS}}
@@ -85,54 +83,53 @@ def copied(text, words, piece=1 << 18):
     return len(places), new.getvalue()
 
 
-class Fields(unittest.TestCase):
-    def test_where_they_go(self):
-        for old, new in rows_of(FORMS):
-            new = new.replace("WORDS, ", "[8572927, 0, 15803205]").replace("WORDS", "[8572927,0,15803205]")
-            with self.subTest(old):
-                self.assertEqual(with_words(old), new)
-
-    def test_refused(self):
-        for text, wanted in (("5", "it is no object"), ("[]", "it is no object"), ("null", "it is no object"),
-                             ('{"seqNo":8}', "its seqNo is 8"), ('{"seqNo":"7"}', 'its seqNo is "7"'),
-                             ('{"seqNo":null}', "its seqNo is null"), ('{"vbi":null}', "its vbi is no object"),
-                             ('{"vbi":[1,2,3]}', "its vbi is no object"),
-                             ('{"vbi":{"vbiData":[]},"vbi":{"vbiData":[]}}', "it has more than one vbi"),
-                             ('{"vbi":5,"v\\u0062i":{}}', "it has more than one vbi"),
-                             ('{"vbi":{"vbiData":[],"a":1, "vbiData":[]}}', "it has more than one vbiData")):
-            self.assertEqual(reason(with_words, text), wanted, text)
+@pytest.mark.parametrize("old, new", rows_of(FORMS))
+def test_where_they_go(old, new):
+    new = new.replace("WORDS, ", "[8572927, 0, 15803205]").replace("WORDS", "[8572927,0,15803205]")
+    assert with_words(old) == new
 
 
-class Documents(unittest.TestCase):
-    def test_all_else_is_the_same(self):
-        """White space of any kind, and numbers that are written in another way: what isn't a word stays, but for what an
-        older copy says of its words."""
-        choose = random.Random(49)
-        parts = {"?": ["1.50", "-0", "1E+2", '"\\u00fc\\/"', '"ü"', "[ 1,2 ]", '{"vbi" : 3}', "null", "1" * 30],
-                 "~": ["", "", " ", "\n", "\r\n\t", "  "]}
+@pytest.mark.parametrize("text, wanted", (
+    ("5", "it is no object"), ("[]", "it is no object"), ("null", "it is no object"),
+    ('{"seqNo":8}', "its seqNo is 8"), ('{"seqNo":"7"}', 'its seqNo is "7"'),
+    ('{"seqNo":null}', "its seqNo is null"), ('{"vbi":null}', "its vbi is no object"),
+    ('{"vbi":[1,2,3]}', "its vbi is no object"),
+    ('{"vbi":{"vbiData":[]},"vbi":{"vbiData":[]}}', "it has more than one vbi"),
+    ('{"vbi":5,"v\\u0062i":{}}', "it has more than one vbi"),
+    ('{"vbi":{"vbiData":[],"a":1, "vbiData":[]}}', "it has more than one vbiData")))
+def test_refused(text, wanted):
+    assert reason(with_words, text) == wanted
 
-        def members(*known):
-            """An object with these members in any order, in which ? stands for a value, and ~ for white space."""
-            return "~{~%s~}~" % "~,~".join('"%s"~:~%s~' % one for one in choose.sample(known, len(known)))
-        for _ in range(200):
-            fields = [members(("x", "?"), ("y", "?"), ("vbiData", "?"), ("seqNo", number),
-                              ("vbi", members(("a", "?"), ("vbiData", "[~%d~,~%d~,~%d~]")))) for number in range(1, 6)]
-            text = members(("fields", "[%s]" % ",".join(fields)), ("z", "?"), ("ldvbiWords", "@"))
-            text = re.sub("[?~]", lambda mark: choose.choice(parts[mark[0]]), text)
-            words = [tuple(choose.choice([0, choose.randrange(0x800000, 0x1000000)]) for _ in range(3))
-                     for _ in range(5)]
-            piece = choose.choice([1, 10, 1 << 18])
-            old = text.replace("%d", choose.choice(["0", "-1", "1.5"])).replace("@", choose.choice(parts["?"]))
-            with self.subTest((piece, text)):
-                self.assertEqual(copied(old, words, piece), (5, text.replace("@", '"as read"') % sum(words, ())))
 
-    def test_no_field_at_all(self):
-        for old, new in rows_of(MEMBERS):
-            with self.subTest(old):
-                self.assertEqual(copied(old, []), (0, new))
+def test_documents_all_else_is_the_same():
+    """White space of any kind, and numbers that are written in another way: what isn't a word stays, but for what an
+    older copy says of its words."""
+    choose = random.Random(49)
+    parts = {"?": ["1.50", "-0", "1E+2", '"\\u00fc\\/"', '"ü"', "[ 1,2 ]", '{"vbi" : 3}', "null", "1" * 30],
+             "~": ["", "", " ", "\n", "\r\n\t", "  "]}
 
-    def test_a_field_that_is_refused_is_named(self):
-        self.assertEqual(reason(copied, '{"fields":[{"seqNo":1},{"seqNo":3}]}', [WORDS] * 2), "field 2: its seqNo is 3")
+    def members(*known):
+        """An object with these members in any order, in which ? stands for a value, and ~ for white space."""
+        return "~{~%s~}~" % "~,~".join('"%s"~:~%s~' % one for one in choose.sample(known, len(known)))
+
+    for _ in range(200):
+        fields = [members(("x", "?"), ("y", "?"), ("vbiData", "?"), ("seqNo", number),
+                          ("vbi", members(("a", "?"), ("vbiData", "[~%d~,~%d~,~%d~]")))) for number in range(1, 6)]
+        text = members(("fields", "[%s]" % ",".join(fields)), ("z", "?"), ("ldvbiWords", "@"))
+        text = re.sub("[?~]", lambda mark: choose.choice(parts[mark[0]]), text)
+        words = [tuple(choose.choice([0, choose.randrange(0x800000, 0x1000000)]) for _ in range(3)) for _ in range(5)]
+        piece = choose.choice([1, 10, 1 << 18])
+        old = text.replace("%d", choose.choice(["0", "-1", "1.5"])).replace("@", choose.choice(parts["?"]))
+        assert copied(old, words, piece) == (5, text.replace("@", '"as read"') % sum(words, ()))
+
+
+@pytest.mark.parametrize("old, new", rows_of(MEMBERS))
+def test_no_field_at_all(old, new):
+    assert copied(old, []) == (0, new)
+
+
+def test_a_field_that_is_refused_is_named():
+    assert reason(copied, '{"fields":[{"seqNo":1},{"seqNo":3}]}', [WORDS] * 2) == "field 2: its seqNo is 3"
 
 
 FORM = """
@@ -147,7 +144,6 @@ CREATE TABLE vbi (capture_id INTEGER NOT NULL, field_id INTEGER NOT NULL, vbi0 I
 CREATE TABLE drop_outs (capture_id INTEGER NOT NULL, field_id INTEGER NOT NULL, startx INTEGER NOT NULL);
 INSERT INTO capture VALUES (4, 'NTSC', 910, NULL, 51200, 16384, 'ü');
 """
-
 ALL_WORDS = ("SELECT * FROM vbi ORDER BY field_id", "SELECT words FROM ldvbi_words")
 
 
@@ -155,155 +151,191 @@ def words(count):
     return [(0x800000 + number, 0, 0xF00000 + number) for number in range(count)]
 
 
-class Databases(InFolder):
-    def setUp(self):
-        super().setUp()
-        self.path, self.copy = self.named("side.tbc.db"), self.named("copy.db")
-
-    def make(self, *more, count=12, form=FORM, begin=0):
-        """A database of so many fields, of which each third one has words, and what else these statements make."""
-        if os.path.exists(self.path):
-            os.unlink(self.path)
-        numbers = range(begin, begin + count)
-        fields = [("INSERT INTO field_record VALUES (4, ?, ?, ?, 17.25)", (number, number / 3, (number - begin) % 2))
-                  for number in numbers]
-        shown = [("INSERT INTO vbi (capture_id, field_id, vbi0, vbi1, vbi2) VALUES (4, ?, -1, 5, 6)", (number,))
-                 for number in numbers if number % 3 == 0]
-        drop_outs = [("INSERT INTO drop_outs VALUES (4, ?, 100)", (number,)) for number in numbers]
-        in_database(self.path, *form.split(";"), *fields, *shown, *drop_outs, *more)
-
-    def both(self, *statements):
-        """What these statements answer on the database, and on its copy."""
-        return [in_database(path, *statements) for path in (self.path, self.copy)]
-
-    def refused(self, text):
-        found = reason(lambda: Rows(self.path).copy(self.copy, words(12), SAID))
-        self.assertEqual(found, "%s: %s" % (self.path, text))
+@pytest.fixture
+def databases(room):
+    room.path, room.copy = room.named("side.tbc.db"), room.named("copy.db")
+    return room
 
 
-class Copies(Databases):
-    def test_each_field_has_a_row(self):
-        for begin in (0, 1, 100):
-            self.make("INSERT INTO vbi VALUES (4, 150, 1, 2, 3)", begin=begin)  # of no field, which stays
-            before = in_database(self.path, "SELECT * FROM vbi")
-            rows = Rows(self.path)
-            self.assertEqual(len(rows), 12)
-            rows.copy(self.copy, words(12), "believed")
-            wanted = [(4, begin + place, *three) for place, three in enumerate(words(12))] + [(4, 150, 1, 2, 3)]
-            self.assertEqual(in_database(self.copy, *ALL_WORDS), [wanted, [("believed",)]])
-            self.assertEqual(in_database(self.path, "SELECT * FROM vbi"), before)
-            Rows(self.copy).copy(self.named("two"), words(12), SAID)
-            self.assertEqual(in_database(self.named("two"), *ALL_WORDS), [wanted, [(SAID,)]])
-            os.unlink(self.copy)
-
-    def test_all_else_is_the_same(self):
-        self.make("CREATE INDEX by_field ON vbi (field_id)", "UPDATE vbi SET note = 'kept'", "PRAGMA user_version = 3",
-                  "CREATE VIEW words AS SELECT * FROM vbi", count=1000,
-                  form=FORM.replace("vbi2 INTEGER NOT NULL,", "vbi2 INTEGER NOT NULL, note TEXT DEFAULT 'new',"))
-        Rows(self.path).copy(self.copy, words(1000), SAID)
-        self.assertEqual(*self.both("PRAGMA user_version", "PRAGMA journal_mode", *(
-            "SELECT * FROM " + name for name in ("sqlite_master WHERE name <> 'ldvbi_words'", "capture", "field_record",
-                                                 "drop_outs"))))
-        found = in_database(self.copy, "SELECT note, count(*) FROM vbi GROUP BY note", "PRAGMA integrity_check",
-                            "PRAGMA foreign_key_check")
-        self.assertEqual(found, [[("kept", 334), ("new", 666)], [("ok",)], []])
-
-    def test_the_fields_are_those_of_the_table_vbi_where_no_other_has_them(self):
-        self.make(count=0, form="CREATE TABLE vbi (field_id INT, vbi0 INT, vbi1 INT, vbi2 INT);"
-                                "INSERT INTO vbi VALUES (7, 1, 2, 3), (6, 1, 2, 3)")
-        rows = Rows(self.path)
-        self.assertEqual(len(rows), 2)
-        rows.copy(self.copy, words(2), SAID)
-        self.assertEqual(in_database(self.copy, "SELECT * FROM vbi"), [[(7, *words(2)[1]), (6, *words(2)[0])]])
-
-    def test_what_was_written_last_is_copied_too(self):
-        """In a database with a log of its own, which another program still has open."""
-        self.make()
-        with contextlib.closing(sqlite3.connect(self.path)) as other:
-            other.execute("PRAGMA journal_mode = WAL")
-            other.execute("UPDATE field_record SET median_burst_ire = 5 WHERE field_id = 11")
-            other.commit()
-            Rows(self.path).copy(self.copy, words(12), SAID)
-            self.assertTrue(os.path.exists(self.path + "-wal"))
-        found = in_database(self.copy, "SELECT field_id FROM field_record WHERE median_burst_ire = 5")
-        self.assertEqual(found, [[(11,)]])
-        self.assertEqual(self.names(), ["copy.db", "side.tbc.db"])
-
-    def test_all_words_come_in_one_transaction(self):
-        """Where the words end in a fault, the copy has none of them."""
-        def interrupted():
-            yield from words(5)
-            raise KeyboardInterrupt
-
-        self.make()
-        with self.assertRaises(KeyboardInterrupt):
-            Rows(self.path).copy(self.copy, interrupted(), SAID)
-        self.assertEqual(*self.both("SELECT * FROM vbi"))
-        self.make(form=FORM.replace("vbi2 INTEGER NOT NULL,", "vbi2 INTEGER NOT NULL CHECK (vbi2 <> %d)," % 0xF00007))
-        os.unlink(self.copy)
-        self.refused("SQLite can't copy it: CHECK constraint failed: vbi2 <> %d" % 0xF00007)
-        self.assertEqual(*self.both("SELECT * FROM vbi"))
-
-    def test_triggers(self):
-        """By which words would be left out, changed, or written without end, or another table be emptied."""
-        for table, body in (("vbi", "SELECT raise(ignore)"), ("vbi", "UPDATE vbi SET vbi1 = 0"),
-                            ("vbi", "DELETE FROM drop_outs"), ("drop_outs", "DELETE FROM capture")):
-            self.make("CREATE TRIGGER one BEFORE INSERT ON %s BEGIN %s; END" % (table, body), count=0)
-            self.refused("its trigger one of the table %s may write something else" % table)
-            self.assertEqual(self.names(), ["side.tbc.db"])
-
-    def test_the_copy_is_read_back(self):
-        """By what else the database may do, words could be others, or rows of another table gone or new."""
-        fill = Rows._fill
-        for statement, text in (
-                ("UPDATE vbi SET vbi1 = 7 WHERE field_id = 3", "words in the row of field_id 3"),
-                ("DELETE FROM vbi WHERE field_id = 11", "words in the row of field_id 11"),
-                ("DELETE FROM drop_outs WHERE field_id = 3", "rows in the table drop_outs"),
-                ("INSERT INTO capture (system) VALUES ('PAL')", "rows in the table capture"),
-                ("DROP TABLE field_record", "rows in the table field_record"),
-                ("UPDATE ldvbi_words SET words = 'believed'", "rows in the table ldvbi_words")):
-            self.make()
-            with mock.patch.object(Rows, "_fill", lambda self, new, *more, one=statement: (
-                    fill(self, new, *more), new.execute(one), new.commit())):
-                found = reason(lambda: Rows(self.path).copy(self.copy, words(12), SAID))
-            self.assertEqual(found, "%s: its copy has other %s" % (self.path, text))
-            os.unlink(self.copy)
-
-    def test_other_forms(self):
-        gaps = "the fields' numbers, field_id, leave some out, or have one twice"
-        for text, count, form, *more in (
-                ("table vbi has no column vbi1; there are: capture_id, field_id, vbi0, b, vbi2", 0,
-                 FORM.replace("vbi1 INTEGER NOT NULL", "b INTEGER").replace("VALUES (4, ?, -1", "(")),
-                ("no table vbi; there are: capture, drop_outs, field_record, words", 0,
-                 FORM.replace("TABLE vbi", "TABLE words")),
-                (gaps, 12, FORM, "UPDATE field_record SET field_id = 20 WHERE field_id = 5"),
-                (gaps, 12, FORM, "INSERT INTO field_record VALUES (5, 5, 0, 1, 0)",
-                 "DELETE FROM field_record WHERE field_id = 11"),
-                (gaps, 0, "CREATE TABLE vbi (field_id INT, vbi0, vbi1, vbi2); INSERT INTO vbi VALUES (NULL, 1, 2, 3)"),
-                ("SQLite can't copy it: no such column: capture_id", 12,
-                 FORM.replace("capture_notes TEXT", "x").replace("(capture_id INTEGER PRIMARY KEY, system",
-                                                                 "(id INTEGER, system"))):
-            self.make(*more, count=count, form=form)
-            self.refused(text)
+def make(databases, *more, count=12, form=FORM, begin=0):
+    """A database of so many fields, of which each third one has words, and what else these statements make."""
+    if os.path.exists(databases.path):
+        os.unlink(databases.path)
+    numbers = range(begin, begin + count)
+    fields = [("INSERT INTO field_record VALUES (4, ?, ?, ?, 17.25)", (number, number / 3, (number - begin) % 2))
+              for number in numbers]
+    shown = [("INSERT INTO vbi (capture_id, field_id, vbi0, vbi1, vbi2) VALUES (4, ?, -1, 5, 6)", (number,))
+             for number in numbers if number % 3 == 0]
+    drop_outs = [("INSERT INTO drop_outs VALUES (4, ?, 100)", (number,)) for number in numbers]
+    in_database(databases.path, *form.split(";"), *fields, *shown, *drop_outs, *more)
 
 
-class FirstFields(Databases):
-    def test_they_are_read(self):
-        """In the order of the fields, where each has one."""
-        for change, wanted in (("disk_loc = 0", [False, True] * 2), ("field_id = 9 - field_id", [True, False] * 2),
-                               ("is_first_field = NULL WHERE field_id = 2", None)):
-            self.make("UPDATE field_record SET " + change, count=4)
-            self.assertEqual(read_metadata(self.path)[2:4], (4, wanted))
+def are_alike(databases, *statements):
+    """Whether the database and its copy answer the same to these statements."""
+    return in_database(databases.path, *statements) == in_database(databases.copy, *statements)
 
-    def test_which_table_has_them(self):
-        """One alone, whatever its name is; else the count is that of the table capture."""
-        count = "UPDATE capture SET number_of_sequential_fields = 640"
-        for name in ("field_record", "fields", '"my ""own"" fields"'):
-            self.make("INSERT INTO %s VALUES (4, 0, 0, 0, 0), (4, 1, 0, 1, 0)" % name, count, count=0,
-                      form=FORM.replace("field_record", name))
-            self.assertEqual((read_metadata(self.path)[2:4], len(Rows(self.path))), ((2, [False, True]), 2))
-            in_database(self.path, "CREATE TABLE b AS SELECT * FROM " + name)
-            self.assertEqual((read_metadata(self.path)[2:4], len(Rows(self.path))), ((640, None), 0))
-        self.make(count, "INSERT INTO field_record VALUES (4, 0, 0, 0, 0)", count=0,
-                  form=FORM.replace("is_first_field", "first"))
-        self.assertEqual(read_metadata(self.path)[2:4], (640, None))
+
+def refused(databases, text):
+    found = reason(lambda: Rows(databases.path).copy(databases.copy, words(12), SAID))
+    assert found == "%s: %s" % (databases.path, text)
+
+
+@pytest.mark.parametrize("begin", (0, 1, 100))
+def test_each_field_has_a_row(databases, begin):
+    make(databases, "INSERT INTO vbi VALUES (4, 150, 1, 2, 3)", begin=begin)  # of no field, which stays
+    before = in_database(databases.path, "SELECT * FROM vbi")
+    rows = Rows(databases.path)
+    assert len(rows) == 12
+    rows.copy(databases.copy, words(12), "believed")
+    wanted = [(4, begin + place, *three) for place, three in enumerate(words(12))] + [(4, 150, 1, 2, 3)]
+    assert in_database(databases.copy, *ALL_WORDS) == [wanted, [("believed",)]]
+    assert in_database(databases.path, "SELECT * FROM vbi") == before
+    Rows(databases.copy).copy(databases.named("two"), words(12), SAID)
+    assert in_database(databases.named("two"), *ALL_WORDS) == [wanted, [(SAID,)]]
+    os.unlink(databases.copy)
+
+
+def test_copies_all_else_is_the_same(databases):
+    make(databases, "CREATE INDEX by_field ON vbi (field_id)", "UPDATE vbi SET note = 'kept'",
+         "PRAGMA user_version = 3", "CREATE VIEW words AS SELECT * FROM vbi", count=1000,
+         form=FORM.replace("vbi2 INTEGER NOT NULL,", "vbi2 INTEGER NOT NULL, note TEXT DEFAULT 'new',"))
+    Rows(databases.path).copy(databases.copy, words(1000), SAID)
+    assert are_alike(databases, "PRAGMA user_version", "PRAGMA journal_mode", *(
+        "SELECT * FROM " + name for name in ("sqlite_master WHERE name <> 'ldvbi_words'", "capture", "field_record",
+                                             "drop_outs")))
+    found = in_database(databases.copy, "SELECT note, count(*) FROM vbi GROUP BY note", "PRAGMA integrity_check",
+                        "PRAGMA foreign_key_check")
+    assert found == [[("kept", 334), ("new", 666)], [("ok",)], []]
+
+
+def test_the_fields_are_those_of_the_table_vbi_where_no_other_has_them(databases):
+    make(databases, count=0, form="CREATE TABLE vbi (field_id INT, vbi0 INT, vbi1 INT, vbi2 INT);"
+                            "INSERT INTO vbi VALUES (7, 1, 2, 3), (6, 1, 2, 3)")
+    rows = Rows(databases.path)
+    assert len(rows) == 2
+    rows.copy(databases.copy, words(2), SAID)
+    assert in_database(databases.copy, "SELECT * FROM vbi") == [[(7, *words(2)[1]), (6, *words(2)[0])]]
+
+
+def test_what_was_written_last_is_copied_too(databases):
+    """In a database with a log of its own, which another program still has open."""
+    make(databases)
+    with contextlib.closing(sqlite3.connect(databases.path)) as other:
+        other.execute("PRAGMA journal_mode = WAL")
+        other.execute("UPDATE field_record SET median_burst_ire = 5 WHERE field_id = 11")
+        other.commit()
+        Rows(databases.path).copy(databases.copy, words(12), SAID)
+        assert os.path.exists(databases.path + "-wal")
+    found = in_database(databases.copy, "SELECT field_id FROM field_record WHERE median_burst_ire = 5")
+    assert found == [[(11,)]]
+    assert databases.names() == ["copy.db", "side.tbc.db"]
+
+
+def test_all_words_come_in_one_transaction(databases):
+    """Where the words end in a fault, the copy has none of them."""
+
+    def interrupted():
+        yield from words(5)
+        raise KeyboardInterrupt
+
+    make(databases)
+    with pytest.raises(KeyboardInterrupt):
+        Rows(databases.path).copy(databases.copy, interrupted(), SAID)
+    assert are_alike(databases, "SELECT * FROM vbi")
+    make(databases,
+         form=FORM.replace("vbi2 INTEGER NOT NULL,", "vbi2 INTEGER NOT NULL CHECK (vbi2 <> %d)," % 0xF00007))
+    os.unlink(databases.copy)
+    refused(databases, "SQLite can't copy it: CHECK constraint failed: vbi2 <> %d" % 0xF00007)
+    assert are_alike(databases, "SELECT * FROM vbi")
+
+
+@pytest.mark.parametrize("table, body", (
+    ("vbi", "SELECT raise(ignore)"), ("vbi", "UPDATE vbi SET vbi1 = 0"),
+    ("vbi", "DELETE FROM drop_outs"), ("drop_outs", "DELETE FROM capture")))
+def test_triggers(databases, table, body):
+    """By which words would be left out, changed, or written without end, or another table be emptied."""
+    make(databases, "CREATE TRIGGER one BEFORE INSERT ON %s BEGIN %s; END" % (table, body), count=0)
+    refused(databases, "its trigger one of the table %s may write something else" % table)
+    assert databases.names() == ["side.tbc.db"]
+
+
+def test_the_copy_is_read_back(databases):
+    """By what else the database may do, words could be others, or rows of another table gone or new."""
+    fill = Rows._fill
+    for statement, text in (("UPDATE vbi SET vbi1 = 7 WHERE field_id = 3", "words in the row of field_id 3"),
+                            ("DELETE FROM vbi WHERE field_id = 11", "words in the row of field_id 11"),
+                            ("DELETE FROM drop_outs WHERE field_id = 3", "rows in the table drop_outs"),
+                            ("INSERT INTO capture (system) VALUES ('PAL')", "rows in the table capture"),
+                            ("DROP TABLE field_record", "rows in the table field_record"),
+                            ("UPDATE ldvbi_words SET words = 'believed'", "rows in the table ldvbi_words")):
+        make(databases)
+        with mock.patch.object(Rows, "_fill", lambda self, new, *more, one=statement: (
+                fill(self, new, *more), new.execute(one), new.commit())):
+            found = reason(lambda: Rows(databases.path).copy(databases.copy, words(12), SAID))
+        assert found == "%s: its copy has other %s" % (databases.path, text)
+        os.unlink(databases.copy)
+
+
+def test_other_forms(databases):
+    gaps = "the fields' numbers, field_id, leave some out, or have one twice"
+    for text, count, form, *more in (
+            ("table vbi has no column vbi1; there are: capture_id, field_id, vbi0, b, vbi2", 0,
+             FORM.replace("vbi1 INTEGER NOT NULL", "b INTEGER").replace("VALUES (4, ?, -1", "(")),
+            ("no table vbi; there are: capture, drop_outs, field_record, words", 0,
+             FORM.replace("TABLE vbi", "TABLE words")),
+            (gaps, 12, FORM, "UPDATE field_record SET field_id = 20 WHERE field_id = 5"),
+            (gaps, 12, FORM, "INSERT INTO field_record VALUES (5, 5, 0, 1, 0)",
+             "DELETE FROM field_record WHERE field_id = 11"),
+            (gaps, 0, "CREATE TABLE vbi (field_id INT, vbi0, vbi1, vbi2); INSERT INTO vbi VALUES (NULL, 1, 2, 3)"),
+            ("SQLite can't copy it: no such column: capture_id", 12,
+             FORM.replace("capture_notes TEXT", "x").replace("(capture_id INTEGER PRIMARY KEY,", "(id INTEGER,"))):
+        make(databases, *more, count=count, form=form)
+        refused(databases, text)
+
+
+@pytest.mark.parametrize("change, wanted", (
+    ("disk_loc = 0", [False, True] * 2), ("field_id = 9 - field_id", [True, False] * 2),
+    ("is_first_field = NULL WHERE field_id = 2", None)))
+def test_they_are_read(databases, change, wanted):
+    """In the order of the fields, where each has one."""
+    make(databases, "UPDATE field_record SET " + change, count=4)
+    assert read_metadata(databases.path)[2:4] == (4, wanted)
+
+
+def test_which_table_has_them(databases):
+    """One alone, whatever its name is; else the count is that of the table capture."""
+    count = "UPDATE capture SET number_of_sequential_fields = 640"
+    for name in ("field_record", "fields", '"my ""own"" fields"'):
+        make(databases, "INSERT INTO %s VALUES (4, 0, 0, 0, 0), (4, 1, 0, 1, 0)" % name, count, count=0,
+                  form=FORM.replace("field_record", name))
+        assert (read_metadata(databases.path)[2:4], len(Rows(databases.path))) == ((2, [False, True]), 2)
+        in_database(databases.path, "CREATE TABLE b AS SELECT * FROM " + name)
+        assert (read_metadata(databases.path)[2:4], len(Rows(databases.path))) == ((640, None), 0)
+    make(databases, count, "INSERT INTO field_record VALUES (4, 0, 0, 0, 0)", count=0,
+              form=FORM.replace("is_first_field", "first"))
+    assert read_metadata(databases.path)[2:4] == (640, None)
+
+
+# How the first member of an object may be written: what stands before its name, before and behind its colon, and before
+# what comes next
+STYLES = list(itertools.product(("", " ", "\n", "\r\n\t", "\n\n    "), ("", " ", "\t"), ("", " ", "\t ", "\n"),
+                                ("", "  ", "\r\n")))
+
+
+@pytest.mark.parametrize("before, colon, gap, end", STYLES)
+def test_each_style(before, colon, gap, end):
+    """What is new is written like the first member: behind a comma as it is, where that is on a line of its own, and
+    else as behind the colon."""
+    colon += ":" + gap
+    comma = "," + (before if "\n" in before else gap)
+    words = "[%d,{0}%d,{0}%d]".format(gap) % WORDS
+    head, known = '{%s"a"%s' % (before, colon), '{%s"b" : 1%s}' % (before, end)
+    numbers = '{"vbi":{"vbiData":[%s%%d%s,%s%%d,%%d%s]}}' % (before, gap, before, end)
+    for old, new in (
+            (head + "1" + end + "}", head + '1%s"vbi"%s{"vbiData"%s%s}%s}' % (comma, colon, colon, words, end)),
+            (head + '1, "vbi":{%s}}' % end, head + '1, "vbi":{"vbiData"%s%s%s}}' % (colon, words, end)),
+            ('{"vbi" :\t%s1%s}}' % (head, end), '{"vbi" :\t%s1%s"vbiData"%s%s%s}}' % (head, comma, colon, words, end)),
+            ('{"vbi":%s%s,"vbiData":null}}' % (head, known), '{"vbi":%s%s,"vbiData":%s}}' % (head, known, words)),
+            (numbers % (0, -1, 15), numbers % WORDS)):
+        assert with_words(old) == new
+        json.loads(new)

@@ -6,13 +6,13 @@ many fields are read at most, is proved."""
 import ctypes
 import mmap
 import os
-import unittest
 
-import ldvbi
-from cases import InFolder, reason
 from compact import made, words_of
 from discs import minutes, second, side
+import ldvbi
 from ldvbi import Both, Counted, Gap, GapKind, Number, Pace, Reason, State, Verdict
+import pytest
+from room import reason
 from simulate import simulated
 from streams import NTSC, PAL, write_fields, write_stream
 
@@ -35,85 +35,84 @@ def judged(text, *words):
     return ldvbi.judge(one.readings, one.system, *words)
 
 
-class States(unittest.TestCase):
-    def test_rows(self):
-        for text, wanted, *words in STATES:
-            with self.subTest((text, words)):
-                self.assertEqual(" ".join("-" if one == NOTHING else "%d%s" % (one.number, LETTERS[one.state])
-                                          for one in judged(text, *words)), wanted)
-
-    def test_paces(self):
-        for text, pace, *words in (("NTSC f1..3", Pace.film), ("NTSC f1..3", Pace.film, "pictures"),
-                                   ("NTSC f1..3", Pace.video, Counted.times), ("f1..3", Pace.video, 1)):
-            one = made(text, side)
-            self.assertIs(ldvbi.find_pace(one.readings, one.system, *words), pace)
-
-    def test_one_field(self):
-        """Each of the first fields, of the 97 that all of them rest on."""
-        numbers = judged("NTSC f1..59 41=B 61=999", "pictures", "film")
-        readings = made("NTSC f1..59 41=B 61=999", side).readings[:97]
-        self.assertEqual([ldvbi.judge_field(readings, field, "NTSC", "pictures", "film") for field in range(49)],
-                         numbers[:49])
-
-    def test_first_of(self):
-        numbers = judged("1..3 -/#79999/- B 5..7 30 3..6")
-        found = {number: ldvbi.first_of(numbers, number) for number in (None, *range(9), 30, 79999)}
-        self.assertEqual(found, {None: None, 0: None, 1: 0, 2: 2, 3: 4, 4: 6, 5: 8, 6: 10, 7: 12, 8: None, 30: None,
-                                 79999: None})
+def test_states_rows():
+    for text, wanted, *words in STATES:
+        assert " ".join("-" if one == NOTHING else "%d%s" % (one.number, LETTERS[one.state]) for one in
+                        judged(text, *words)) == wanted
 
 
-class Forms(InFolder):
-    """The same readings in each form that they come in: readings, a stream, and what the library wrote."""
+def test_paces():
+    for text, pace, *words in (("NTSC f1..3", Pace.film), ("NTSC f1..3", Pace.film, "pictures"),
+                               ("NTSC f1..3", Pace.video, Counted.times), ("f1..3", Pace.video, 1)):
+        one = made(text, side)
+        assert ldvbi.find_pace(one.readings, one.system, *words) is pace
 
-    def test_each(self):
-        words = [0xF00003, 0x803DDD, 0, 0x803DDD, 0xF00005, 0x803DDD, 0xF00006, 0x803DDD]
-        believed = [Number(number, State.believed) for number in (3, 5, 6)]
-        chapter = Number(3, State.believed)
-        wanted = ([believed[0], NOTHING, (4, State.due), NOTHING, believed[1], NOTHING, believed[2], NOTHING],
-                  [NOTHING, chapter] * 4)
-        write_stream(self.path, NTSC, [[0, word, word] for word in words], 5)
-        readings = list(ldvbi.fields(self.path, *NTSC))
-        plain = [tuple(map(tuple, field)) for field in readings]
-        with ldvbi.Stream(self.path, *NTSC) as stream:
-            block, = stream.packed(0, 8)
-            known = bytes(block)
-            for form in (lambda: readings, lambda: tuple(readings), lambda: iter(readings), lambda: plain,
-                         lambda: ldvbi.fields(self.path, *NTSC), lambda: stream, lambda: block, lambda: known,
-                         lambda: bytearray(known), lambda: memoryview(known), lambda: memoryview(b"x" + known)[1:],
-                         lambda: (ctypes.c_uint32 * 48).from_buffer_copy(known)):
-                self.assertEqual((ldvbi.judge(form(), ldvbi.System.NTSC), ldvbi.judge_chapters(form())), wanted)
-        self.assertEqual((len(readings), reason(ldvbi.judge, stream, "NTSC")), (8, "the stream is closed"))
-        self.assertEqual(repr(ldvbi.judge(known, "NTSC")[0]), "Number(number=3, state=<State.believed: 1>)")
 
-    def test_none(self):
-        for one in ([], (), b"", iter([]), ldvbi.Stream(b"", *NTSC)):
-            self.assertEqual([ldvbi.judge(one, "NTSC"), ldvbi.judge_chapters(one), ldvbi.judge_stops(one)], [[]] * 3)
-            self.assertIs(ldvbi.find_pace(one, "NTSC"), Pace.video)
-            self.assertIsNone(ldvbi.first_of(ldvbi.judge(one, "NTSC"), 5))
+def test_one_field():
+    """Each of the first fields, of the 97 that all of them rest on."""
+    numbers = judged("NTSC f1..59 41=B 61=999", "pictures", "film")
+    readings = made("NTSC f1..59 41=B 61=999", side).readings[:97]
+    assert [ldvbi.judge_field(readings, field, "NTSC", "pictures", "film") for field in range(49)] == numbers[:49]
 
-    def test_refused(self):
-        line = (0, 0, 0, 0)
-        for readings, text in ((None, "readings are none of fields, but of the type NoneType"),
-                               (5, "readings are none of fields, but of the type int"),
-                               (b"12345", "packed readings have 24 bytes to a field, and these are 5"),
-                               ([[line] * 3, [line] * 2], "readings[1] is not three readings"),
-                               ([[line, line, (0, 0, 0)]], "readings[0] is not three readings"),
-                               ([[line, line, (0, 0, 0, 2 ** 32)]], "readings[0] is not three readings"),
-                               ("ab", "readings[0] is not three readings")):
-            for call, *words in ((ldvbi.judge, "PAL"), (ldvbi.find_pace, "PAL"), (ldvbi.complete_times, "PAL"),
-                                 (ldvbi.judge_chapters,), (ldvbi.judge_stops,), (ldvbi.judge_side, "PAL")):
-                self.assertEqual(reason(call, readings, *words), text)
+
+def test_first_of():
+    numbers = judged("1..3 -/#79999/- B 5..7 30 3..6")
+    found = {number: ldvbi.first_of(numbers, number) for number in (None, *range(9), 30, 79999)}
+    assert found == {None: None, 0: None, 1: 0, 2: 2, 3: 4, 4: 6, 5: 8, 6: 10, 7: 12, 8: None, 30: None, 79999: None}
+
+
+# The same readings in each form that they come in: readings, a stream, and what the library wrote.
+def test_each(room):
+    words = [0xF00003, 0x803DDD, 0, 0x803DDD, 0xF00005, 0x803DDD, 0xF00006, 0x803DDD]
+    believed = [Number(number, State.believed) for number in (3, 5, 6)]
+    chapter = Number(3, State.believed)
+    wanted = ([believed[0], NOTHING, (4, State.due), NOTHING, believed[1], NOTHING, believed[2], NOTHING],
+              [NOTHING, chapter] * 4)
+    write_stream(room.path, NTSC, [[0, word, word] for word in words], 5)
+    readings = list(ldvbi.fields(room.path, *NTSC))
+    plain = [tuple(map(tuple, field)) for field in readings]
+    with ldvbi.Stream(room.path, *NTSC) as stream:
+        block, = stream.packed(0, 8)
+        known = bytes(block)
+        for form in (lambda: readings, lambda: tuple(readings), lambda: iter(readings), lambda: plain,
+                     lambda: ldvbi.fields(room.path, *NTSC), lambda: stream, lambda: block, lambda: known,
+                     lambda: bytearray(known), lambda: memoryview(known), lambda: memoryview(b"x" + known)[1:],
+                     lambda: (ctypes.c_uint32 * 48).from_buffer_copy(known)):
+            assert (ldvbi.judge(form(), ldvbi.System.NTSC), ldvbi.judge_chapters(form())) == wanted
+    assert (len(readings), reason(ldvbi.judge, stream, "NTSC")) == (8, "the stream is closed")
+    assert repr(ldvbi.judge(known, "NTSC")[0]) == "Number(number=3, state=<State.believed: 1>)"
+
+
+@pytest.mark.parametrize("one", ([], (), b"", iter([]), ldvbi.Stream(b"", *NTSC)))
+def test_none(one):
+    assert [ldvbi.judge(one, "NTSC"), ldvbi.judge_chapters(one), ldvbi.judge_stops(one)] == [[]] * 3
+    assert ldvbi.find_pace(one, "NTSC") is Pace.video
+    assert ldvbi.first_of(ldvbi.judge(one, "NTSC"), 5) is None
+
+
+def test_refused():
+    line = (0, 0, 0, 0)
+    for readings, text in ((None, "readings are not those of fields, but of the type NoneType"),
+                           (5, "readings are not those of fields, but of the type int"),
+                           (b"12345", "packed readings have 24 bytes to a field, and these are 5"),
+                           ([[line] * 3, [line] * 2], "readings[1] is not three readings"),
+                           ([[line, line, (0, 0, 0)]], "readings[0] is not three readings"),
+                           ([[line, line, (0, 0, 0, 2 ** 32)]], "readings[0] is not three readings"),
+                           ("ab", "readings[0] is not three readings")):
+        for call, *words in ((ldvbi.judge, "PAL"), (ldvbi.find_pace, "PAL"), (ldvbi.complete_times, "PAL"),
+                             (ldvbi.judge_chapters,), (ldvbi.judge_stops,), (ldvbi.judge_side, "PAL")):
+            assert reason(call, readings, *words) == text
 
 
 BLANK = (1, 0, 0, 0)
 
 
-def fields_of(numbers, without=(), misread=()):
-    """The readings of the two fields of each of these PAL times: some without their minute, some a minute too late."""
+def fields_of(numbers, without=()):
+    """The readings of the two fields of each of these PAL times: some without their minute."""
     fields = []
     for number in numbers:
         seconds, part = divmod(number, 25)
-        minute = minutes(*divmod(seconds // 60 + (number in misread), 60))
+        minute = minutes(*divmod(seconds // 60, 60))
         lines = [(0, 1, 0, int(word, 16)) for word in (second(seconds % 60, part), minute)]
         fields += [[lines[0], BLANK if number in without else lines[1], BLANK], [BLANK] * 3]
     return fields
@@ -123,41 +122,31 @@ def packed(fields):
     return b"".join(ldvbi.PACKED_FIELD.pack(*sum(map(tuple, field), ())) for field in fields)
 
 
-class Completed(InFolder):
-    """Times without their minute. More rows of what the library completes has tests/library/completed.py."""
+# Times without their minute, in each form. What the library completes has tests/library/completed.py.
+def test_minutes():
+    numbers = range(1496, 1504)
+    whole, none = packed(fields_of(numbers)), packed(fields_of(numbers, numbers))
+    for fields, wanted in ((fields_of(numbers, (1498, 1499, 1500)), whole), (fields_of(numbers, numbers), none)):
+        for form in (fields, packed(fields), iter(fields), bytearray(packed(fields))):
+            assert ldvbi.complete_times(form, ldvbi.System.PAL) == wanted
+    assert ldvbi.complete_times([], "NTSC") == b""
 
-    def test_minutes(self):
-        """The minute that the others say, over a minute's end too, if that is two lines in pass 1 or as much; a misread
-        one stands alone. Without any there is none."""
-        numbers, some = range(1496, 1504), (1498, 1499, 1500)
-        whole, none = packed(fields_of(numbers)), packed(fields_of(numbers, numbers))
-        three = fields_of(numbers, numbers[:-2])  # of a weight of 3
-        three[-2][1] = (0, 2, *three[-2][1][2:])
-        for fields, wanted in ((fields_of(numbers, some), whole), (fields_of(numbers), whole),
-                               (fields_of(numbers, numbers), none),
-                               (fields_of(numbers, numbers[:-1]), packed(fields_of(numbers, numbers[:-1]))),
-                               (three, packed(three)), (fields_of(numbers, numbers[:-2]), whole),
-                               (fields_of(numbers, some, (1496,)), packed(fields_of(numbers, misread=(1496,)))),
-                               (fields_of(numbers[:3], (1497,), (1496,)),
-                                packed(fields_of(numbers[:3], (1497,), (1496,))))):
-            for form in (fields, packed(fields), iter(fields), bytearray(packed(fields))):
-                self.assertEqual(ldvbi.complete_times(form, ldvbi.System.PAL), wanted)
-        self.assertEqual(ldvbi.complete_times([], "NTSC"), b"")
 
-    def test_judged(self):
-        """What is completed is judged as what was read: by itself no field here would be believed."""
-        fields = fields_of(range(1496, 1504), range(1498, 1504))
-        before, after = (ldvbi.judge(one, "PAL", "times") for one in (fields, ldvbi.complete_times(fields, "PAL")))
-        self.assertEqual([one.state for one in before[::2]], [State.doubtful] * 2 + [State.nothing] * 6)
-        self.assertEqual(after[::2], [Number(number, State.believed) for number in range(1496, 1504)])
-        self.assertEqual(ldvbi.judge_side(ldvbi.complete_times(fields, "PAL"), "PAL", "times").numbers, after)
+def test_judged():
+    """What is completed is judged as what was read: by itself no field here would be believed."""
+    fields = fields_of(range(1496, 1504), range(1498, 1504))
+    before, after = (ldvbi.judge(one, "PAL", "times") for one in (fields, ldvbi.complete_times(fields, "PAL")))
+    assert [one.state for one in before[::2]] == [State.doubtful] * 2 + [State.nothing] * 6
+    assert after[::2] == [Number(number, State.believed) for number in range(1496, 1504)]
+    assert ldvbi.judge_side(ldvbi.complete_times(fields, "PAL"), "PAL", "times").numbers == after
 
-    def test_a_stream(self):
-        write_stream(self.path, NTSC, [[0x8AE710, 0xF0DD02, 0xF0DD02], [0, 0, 0], [0x8AE711, 0, 0xF12345]])
-        with ldvbi.Stream(self.path, *NTSC) as stream:
-            completed = ldvbi.complete_times(stream, "NTSC")
-            self.assertEqual(completed[:48], b"".join(stream.packed(0, 2)))
-        self.assertEqual(completed[48:], packed([[(0, 1, 0, 0x8AE711), (0, 1, 0, 0xF0DD02), (0, 1, 0, 0xF12345)]]))
+
+def test_a_stream(room):
+    write_stream(room.path, NTSC, [[0x8AE710, 0xF0DD02, 0xF0DD02], [0, 0, 0], [0x8AE711, 0, 0xF12345]])
+    with ldvbi.Stream(room.path, *NTSC) as stream:
+        completed = ldvbi.complete_times(stream, "NTSC")
+        assert completed[:48] == b"".join(stream.packed(0, 2))
+    assert completed[48:] == packed([[(0, 1, 0, 0x8AE711), (0, 1, 0, 0xF0DD02), (0, 1, 0, 0xF12345)]])
 
 
 # Sides that are judged by all defaults, their verdicts and reasons, and their gaps: the kind, the fields around it, the
@@ -181,54 +170,55 @@ def judged_side(text, *words, **more):
     return ldvbi.judge_side(one.readings, one.system, *words, **more)
 
 
-class Sides(unittest.TestCase):
-    def test_rows(self):
-        for counted, rows in (("pictures", SIDES), ("times", TIMES)):
-            for text, wanted, *gaps in rows:
-                with self.subTest((counted, text)):
-                    found = judged_side(text, counted)
-                    self.assertEqual([found.verdict.name, *(one.name for one in Reason if one in found.reasons)],
-                                     wanted.split())
-                    self.assertEqual(["%s %d-%d %d-%d %d %d" % (gap.kind.name, gap.after, gap.before, gap.from_, gap.to,
-                                                                gap.fields, gap.shown) for gap in found.gaps], gaps)
-                    self.assertEqual(found.tally.gaps, len(gaps))
+@pytest.mark.parametrize("counted, rows", (("pictures", SIDES), ("times", TIMES)))
+def test_sides_rows(counted, rows):
+    for text, wanted, *gaps in rows:
+        found = judged_side(text, counted)
+        assert [found.verdict.name, *(one.name for one in Reason if one in found.reasons)] == wanted.split()
+        assert ["%s %d-%d %d-%d %d %d" %
+                (gap.kind.name, gap.after, gap.before, gap.from_, gap.to, gap.fields, gap.shown) for gap in
+                found.gaps] == gaps
+        assert found.tally.gaps == len(gaps)
 
-    def test_what_stands_beside(self):
-        found = judged_side("L 1..30!15 22=? O")
-        self.assertEqual((found.first, found.last, found.swap, found.pace, found.on_both),
-                         (1, 57, None, Pace.video, False))
-        self.assertEqual(found.tally._asdict(), dict.fromkeys(found.tally._fields, 0) | {
-            "gaps": 1, "lost": 2, "lost_numbers": 1, "unread": 1})
-        self.assertEqual(found.gaps, (Gap(27, 29, 2, 0, 14, 16, GapKind.lost),))
-        self.assertEqual(found.numbers, judged("L 1..30!15 22=? O"))
-        self.assertEqual(found.numbers[21], (11, State.due))
-        found = judged_side("Bx9")
-        self.assertEqual((found.first, found.last, found.swap, found.gaps), (None, None, None, ()))
-        # the field that shows picture 11, which belongs into the one before
-        self.assertEqual(judged_side("1..30 ~21 O").swap, 21)
 
-    def test_what_is_asked(self):
-        self.assertIs(judged_side("1..30", may_end=True).verdict, Verdict.whole)
-        for both, is_so in ((Both.find, True), ("on_both", True), (1, True), ("on_one", False), (Both.on_one, False)):
-            found = judged_side("b1..30 O", both=both)
-            self.assertEqual((found.on_both, found.verdict is Verdict.whole), (is_so, is_so), both)
-        for pace, wanted in (("film", Pace.film), (Pace.video, Pace.video), (3, Pace.film)):
-            self.assertIs(judged_side("NTSC f1..30", "pictures", pace).pace, wanted)
+def test_what_stands_beside():
+    found = judged_side("L 1..30!15 22=? O")
+    assert (found.first, found.last, found.swap, found.pace, found.on_both) == (1, 57, None, Pace.video, False)
+    assert found.tally._asdict() == dict.fromkeys(found.tally._fields, 0) | {
+        "gaps": 1, "lost": 2, "lost_numbers": 1, "unread": 1}
+    assert found.gaps == (Gap(27, 29, 2, 0, 14, 16, GapKind.lost),)
+    assert found.numbers == judged("L 1..30!15 22=? O")
+    assert found.numbers[21] == (11, State.due)
+    found = judged_side("Bx9")
+    assert (found.first, found.last, found.swap, found.gaps) == (None, None, None, ())
+    # the field that shows picture 11, which belongs into the one before
+    assert judged_side("1..30 ~21 O").swap == 21
 
-    def test_many_gaps(self):
-        """All of them, also where there are more than a first call has room for: pictures 4, 14, .. are lost."""
-        found = judged_side("1..1000!4%10 O")
-        self.assertEqual([(gap.from_, gap.to, gap.fields) for gap in found.gaps],
-                         [(number - 1, number + 1, 2) for number in range(4, 1000, 10)])
-        self.assertEqual((found.tally.gaps, found.tally.lost), (100, 200))
 
-    def test_ends(self):
-        """One line in pass 1, or two lines, on lines 17 and 18."""
-        states = ldvbi.judge_ends(made("L O -/88FFFF/- -/-/80EEEE* -/88FFFF*/80EEEE* 88FFFF/-/- 1", side).readings)
-        self.assertEqual([state.name for state in states], [
-            "lead_in", "lead_out", "lead_in", "doubtful", "doubtful", "none", "none", "none"])
-        stops = ldvbi.judge_stops(made("B S/S/- S*/-/- -/-/S -/S/-", side).readings)
-        self.assertEqual([state.name for state in stops], ["nothing", "believed", "doubtful", "nothing", "believed"])
+def test_what_is_asked():
+    assert judged_side("1..30", may_end=True).verdict is Verdict.whole
+    for both, is_so in ((Both.find, True), ("on_both", True), (1, True), ("on_one", False), (Both.on_one, False)):
+        found = judged_side("b1..30 O", both=both)
+        assert (found.on_both, found.verdict is Verdict.whole) == (is_so, is_so)
+    for pace, wanted in (("film", Pace.film), (Pace.video, Pace.video), (3, Pace.film)):
+        assert judged_side("NTSC f1..30", "pictures", pace).pace is wanted
+
+
+def test_many_gaps():
+    """All of them, also where there are more than a first call has room for: pictures 4, 14, .. are lost."""
+    found = judged_side("1..1000!4%10 O")
+    assert [(gap.from_, gap.to, gap.fields) for gap in found.gaps] == [
+        (number - 1, number + 1, 2) for number in range(4, 1000, 10)]
+    assert (found.tally.gaps, found.tally.lost) == (100, 200)
+
+
+def test_ends():
+    """One line in pass 1, or two lines, on lines 17 and 18."""
+    states = ldvbi.judge_ends(made("L O -/88FFFF/- -/-/80EEEE* -/88FFFF*/80EEEE* 88FFFF/-/- 1", side).readings)
+    assert [state.name for state in states] == ["lead_in", "lead_out", "lead_in", "doubtful", "doubtful", "none",
+                                                "none", "none"]
+    stops = ldvbi.judge_stops(made("B S/S/- S*/-/- -/-/S -/S/-", side).readings)
+    assert [state.name for state in stops] == ["nothing", "believed", "doubtful", "nothing", "believed"]
 
 
 def side_of(fields, setup=PAL, rest=0):
@@ -242,66 +232,45 @@ def side_of(fields, setup=PAL, rest=0):
 
 VIDEO, FILM = (State.believed, Pace.video), (State.believed, Pace.film)
 MISREAD = "1..299 299=-/#79999/#7"  # picture 150
-BOTH = "1..299 299=-/#79999/#79999"
-DARK = "1..399 381:440=B"  # pictures 191 to 220
 # Numbers that are sought in the bytes of a side, and the answer: the field, counted from 0, the state, and the pace
 SOUGHT = (
     ("f100..299", NTSC, (206,), (265, *FILM)), ("f100..299", NTSC, (206, "pictures", "film"), (265, *FILM)),
     ("t3000..3399", PAL, (3111, "times"), (222, *VIDEO)), (MISREAD, PAL, (150,), (298, State.due, Pace.video)),
-    (MISREAD, PAL, (200,), (398, *VIDEO)), (MISREAD, PAL, (79999,), None), (BOTH, PAL, (150,), None),
-    *((BOTH, PAL, (number,), (2 * number - 2, *VIDEO)) for number in (20, 149, 151, 280)),
-    ("1..199 200x60 201..399", PAL, (200,), (398, *VIDEO)),  # a still begins
-    *((DARK, PAL, (number,), (2 * number - 2, *VIDEO)) for number in (150, 190, 222, 300, 399)),
-    (DARK, PAL, (205,), None), ("", PAL, (5,), None), ("5", PAL, (5,), None), ("5..6", PAL, (5,), None),
-    ("5..7", PAL, (6,), (2, *VIDEO)))
+    (MISREAD, PAL, (79999,), None), ("", PAL, (5,), None), ("5..6", PAL, (5,), None), ("5..7", PAL, (6,), (2, *VIDEO)))
 
 
-class Seeking(unittest.TestCase):
-    def test_rows(self):
-        for text, setup, asked, wanted in SOUGHT:
-            found = ldvbi.seek(side_of(text, setup), *asked)
-            with self.subTest((text, asked)):
-                self.assertEqual(found and (found.field, found.number.state, found.pace), wanted)
+@pytest.mark.parametrize("text, setup, asked, wanted", SOUGHT)
+def test_seeking_rows(text, setup, asked, wanted):
+    found = ldvbi.seek(side_of(text, setup), *asked)
+    assert (found and (found.field, found.number.state, found.pace)) == wanted
 
-    def test_a_side_that_runs_on(self):
-        side = side_of("Lx30 1..399 Ox300")
-        for number in (1, 2, 3, 30, 199, 200, 398, 399):
-            self.assertEqual(ldvbi.seek(side, number)[:3],
-                             (28 + 2 * number, Number(number, State.believed), Pace.video))
-        for number in (0, 400, 79999, 2 ** 32 - 1):
-            self.assertIsNone(ldvbi.seek(side, number))
 
-    def test_any_lead_in_and_lead_out(self):
-        for text, before, last in (("Lx600 1..3000 Ox8", 600, 3000), ("Lx8 1..300 Ox4000", 8, 300),
-                                   ("Lx4000 1..300 Ox8", 4000, 300), ("Lx3000 1..2000 Ox3000", 3000, 2000)):
-            side = side_of(text)
-            for number in (1, 2, 3, last // 2, last - 20, last - 1, last):
-                with self.subTest((text, number)):
-                    found = ldvbi.seek(side, number)
-                    self.assertEqual(found and found.field, before + 2 * number - 2)
-                    self.assertLessEqual(found.looked, 1000)
+def test_a_side_that_runs_on():
+    side = side_of("Lx30 1..399 Ox300")
+    for number in (1, 2, 3, 30, 199, 200, 398, 399):
+        assert ldvbi.seek(side, number)[:3] == (28 + 2 * number, Number(number, State.believed), Pace.video)
+    for number in (0, 400, 79999, 2 ** 32 - 1):
+        assert ldvbi.seek(side, number) is None
 
-    def test_few_fields_are_read(self):
-        side = side_of("1..4000")
-        self.assertLessEqual(max(ldvbi.seek(side, number).looked for number in range(1, 4001, 97)), 220)
 
-    def test_a_cut_side_and_a_closed_one(self):
-        side = side_of("5..7", rest=700000)
-        self.assertEqual(ldvbi.seek(side, 7)[0], 4)
-        side.close()
-        self.assertEqual(reason(ldvbi.seek, side, 7), "the stream is closed")
+def test_a_cut_side_and_a_closed_one():
+    side = side_of("5..7", rest=700000)
+    assert ldvbi.seek(side, 7)[0] == 4
+    side.close()
+    assert reason(ldvbi.seek, side, 7) == "the stream is closed"
 
-    def test_most_numbers_of_simulated_sides_are_found(self):
-        found, known = 0, 0
-        for seed in range(SEEDS):
-            side = simulated(seed, count=250)
-            setup = NTSC if side.document["videoParameters"]["system"] == "NTSC" else PAL
-            stream = side_of([field["vbi"]["vbiData"] for field in side.document["fields"]], setup)
-            counted = "times" if side.layout.startswith("clv") else "pictures"
-            answers = ldvbi.judge(stream, setup[0], counted)
-            for number in {number for number in side.numbers[::37] if number is not None}:
-                place = ldvbi.seek(stream, number, counted)
-                found += place is not None
-                known += place is not None or ldvbi.first_of(answers, number) is not None
-        self.assertGreater(known, 20)
-        self.assertGreaterEqual(found, 0.97 * known)
+
+def test_most_numbers_of_simulated_sides_are_found():
+    found, known = 0, 0
+    for seed in range(SEEDS):
+        side = simulated(seed, count=250)
+        setup = NTSC if side.document["videoParameters"]["system"] == "NTSC" else PAL
+        stream = side_of([field["vbi"]["vbiData"] for field in side.document["fields"]], setup)
+        counted = "times" if side.layout.startswith("clv") else "pictures"
+        answers = ldvbi.judge(stream, setup[0], counted)
+        for number in {number for number in side.numbers[::37] if number is not None}:
+            place = ldvbi.seek(stream, number, counted)
+            found += place is not None
+            known += place is not None or ldvbi.first_of(answers, number) is not None
+    assert known > 20
+    assert found >= 0.97 * known

@@ -9,9 +9,9 @@ import os
 import pathlib
 import re
 import subprocess
-import unittest
 
 import ldvbi
+import pytest
 from streams import TOP
 
 PYTHON = pathlib.Path(TOP, "python")
@@ -49,41 +49,41 @@ def room_of(name):
     return room if room in ROOMS else name.split(".")[0]
 
 
-class Package(unittest.TestCase):
-    def test_project(self):
-        project = dict(re.findall(r'^([a-z-]+) = (.*)$', text_of("pyproject.toml"), re.MULTILINE))
-        self.assertEqual([project[name] for name in ("name", "requires-python", "version")],
-                         ['"ldvbi"', '">=3.9"', '{ attr = "ldvbi.__version__" }'])
-        self.assertEqual(ldvbi.__version__, re.search(r"^VERSION := (.*)$", text_of("Makefile"), re.MULTILINE).group(1))
-        module, name = project["ldvbi-side"].strip('"').split(":")
-        with contextlib.redirect_stderr(io.StringIO()), self.assertRaises(SystemExit) as ended:
-            getattr(importlib.import_module(module), name)(["--black"])
-        self.assertEqual(ended.exception.code, 2)
+def test_project():
+    project = dict(re.findall(r'^([a-z-]+) = (.*)$', text_of("pyproject.toml"), re.MULTILINE))
+    assert [project[name] for name in ("name", "requires-python", "version")] == [
+        '"ldvbi"', '">=3.9"', '{ attr = "ldvbi.__version__" }']
+    assert ldvbi.__version__ == re.search(r"^VERSION := (.*)$", text_of("Makefile"), re.MULTILINE).group(1)
+    module, name = project["ldvbi-side"].strip('"').split(":")
+    with contextlib.redirect_stderr(io.StringIO()), pytest.raises(SystemExit) as ended:
+        getattr(importlib.import_module(module), name)(["--black"])
+    assert ended.value.code == 2
 
-    def test_files(self):
-        """Each file of python/ belongs to one of the packages that are named, each of which has some."""
-        named = re.search(r"^packages = \[(.*?)\]$", text_of("pyproject.toml"), re.MULTILINE | re.DOTALL).group(1)
-        self.assertEqual(set(map(package_of, MODULES)), set(re.findall(r'"(.*?)"', named)))
 
-    def test_no_package_imports_one_above_it(self):
-        """`ldvbi` knows nothing of `ldvbi_side`; there each room stands on those before it."""
-        order = ["ldvbi", ROOMS[0], "ldvbi_side", *ROOMS[1:]]
-        found = [(name, imported) for name in MODULES for imported in imported_by(name)
-                 if order.index(room_of(imported)) > order.index(room_of(name))]
-        # the command's entry, which hands over to the room above
-        self.assertEqual(found, [("ldvbi_side.__main__", "ldvbi_side.command.main")])
+def test_files():
+    """Each file of python/ belongs to one of the packages that are named, each of which has some."""
+    named = re.search(r"^packages = \[(.*?)\]$", text_of("pyproject.toml"), re.MULTILINE | re.DOTALL).group(1)
+    assert set(map(package_of, MODULES)) == set(re.findall(r'"(.*?)"', named))
 
-    def test_each_room_is_read_in_the_order_of_its_imports(self):
-        """What the head of a room names, in this order, are its modules, and none imports one that is named later."""
-        for room in ROOMS:
-            head = ast.get_docstring(MODULES[room + ".__init__"])
-            names = re.search(r"\n\n([a-z]+(?:,\s[a-z]+)+)\n\n", head + "\n\n").group(1)
-            order = ["%s.%s" % (room, name) for name in re.split(r",\s", names)]
-            with self.subTest(room):
-                self.assertEqual(sorted([*order, room + ".__init__"]),
-                                 sorted(name for name in MODULES if package_of(name) == room))
-                self.assertEqual([(name, imported) for place, name in enumerate(order)
-                                  for imported in imported_by(name) if imported in order[place:]], [])
+
+def test_no_package_imports_one_above_it():
+    """`ldvbi` knows nothing of `ldvbi_side`; there each room stands on those before it."""
+    order = ["ldvbi", ROOMS[0], "ldvbi_side", *ROOMS[1:]]
+    found = [(name, imported) for name in MODULES for imported in imported_by(name)
+             if order.index(room_of(imported)) > order.index(room_of(name))]
+    # the command's entry, which hands over to the room above
+    assert found == [("ldvbi_side.__main__", "ldvbi_side.command.main")]
+
+
+def test_each_room_is_read_in_the_order_of_its_imports():
+    """What the head of a room names, in this order, are its modules, and none imports one that is named later."""
+    for room in ROOMS:
+        head = ast.get_docstring(MODULES[room + ".__init__"])
+        names = re.search(r"\n\n([a-z]+(?:,\s[a-z]+)+)\n\n", head + "\n\n").group(1)
+        order = ["%s.%s" % (room, name) for name in re.split(r",\s", names)]
+        assert sorted([*order, room + ".__init__"]) == sorted(name for name in MODULES if package_of(name) == room)
+        assert [(name, imported) for place, name in enumerate(order) for imported in imported_by(name) if imported in
+                order[place:]] == []
 
 
 def public_functions(tree):
@@ -100,16 +100,16 @@ def untyped_in(function):
             and one.arg not in ("self", "cls")] + ["return"] * (function.returns is None)
 
 
-class Types(unittest.TestCase):
-    def test_each_public_function_has_types(self):
-        found = [(name, one.name, untyped_in(one)) for name, tree in MODULES.items() for one in public_functions(tree)]
-        self.assertEqual([one for one in found if one[-1]], [])
-        self.assertGreater(len(found), 200)
+def test_each_public_function_has_types():
+    found = [(name, one.name, untyped_in(one)) for name, tree in MODULES.items() for one in public_functions(tree)]
+    assert [one for one in found if one[-1]] == []
+    assert len(found) > 200
 
-    def test_mypy_finds_nothing(self):
-        # Of the tests' own environment it gets the PATH alone: the rest may have each line counted that Python runs.
-        words = ["mypy", "--python-version", "3.9", "--cache-dir", os.devnull, "--disallow-incomplete-defs"]
-        ran = subprocess.run(words + ["-p", "ldvbi", "-p", "ldvbi_side"], cwd=PYTHON,
-                             env={"PATH": os.environ["PATH"]}, stdin=subprocess.DEVNULL, capture_output=True, text=True)
-        self.assertRegex(ran.stdout, r"^Success: no issues found in %d source files\n$" % len(MODULES))
-        self.assertEqual((ran.stderr, ran.returncode), ("", 0))
+
+def test_mypy_finds_nothing():
+    # Of the tests' own environment it gets the PATH alone: the rest may have each line counted that Python runs.
+    words = ["mypy", "--python-version", "3.9", "--cache-dir", os.devnull, "--disallow-incomplete-defs"]
+    ran = subprocess.run(words + ["-p", "ldvbi", "-p", "ldvbi_side"], cwd=PYTHON,
+                         env={"PATH": os.environ["PATH"]}, stdin=subprocess.DEVNULL, capture_output=True, text=True)
+    assert re.search(r"^Success: no issues found in %d source files\n$" % len(MODULES), ran.stdout)
+    assert (ran.stderr, ran.returncode) == ("", 0)

@@ -6,25 +6,28 @@ import json
 import random
 import sys
 import tracemalloc
-import unittest
 from unittest import mock
 
-from cases import reason
+from hypothesis import given, strategies as some
 from ldvbi import scanner
 from ldvbi.scanner import NotJson, Scanner
+import pytest
+from room import reason
 
-LEAVES = [0, -1, 12, 1.5, -2e-7, 1e300, True, False, None, "", "a b", "ü\u0101\U0001d11e", '"\\/\n', "[1,2]}", [], {}]
-
-
-def drawn(choose, depth=3):
-    """A value with objects and lists inside each other, down to so many."""
-    kind = choose.randrange(4)
-    if depth and kind == 0:
-        return [drawn(choose, depth - 1) for _ in range(choose.randrange(4))]
-    if depth and kind == 1:
-        return {choose.choice(["a", "fields", "ü", "\\", '"']) + str(place): drawn(choose, depth - 1)
-                for place in range(choose.randrange(4))}
-    return choose.choice(LEAVES)
+LEAVES = some.one_of(some.none(), some.booleans(), some.integers(-2 ** 60, 2 ** 60), some.text(max_size=9),
+                     some.floats(allow_nan=False, allow_infinity=False))
+VALUES = some.recursive(LEAVES, lambda inner: some.lists(inner, max_size=3) | some.dictionaries(
+    some.text(max_size=3), inner, max_size=3), max_leaves=9)
+BLANKS = some.sampled_from(["", "\n", " \t\r\n  "])
+# What has to stand at a place: texts that have something else there, and the place
+NO_JSON = {
+    "[": [("", "x", "5", "\ufeff[]", 0)], "]": [("[1}", 2)], "}": [('{"a":1]', 6)],
+    "a name": [("{", "{5:1}", "{'a':1}", 1), ('{"a":1,}', '{"a":1,5', 7)],
+    "a colon": [('{"a"}', 4), ('{"a" 1}', 5)],
+    "a comma or an end": [("[1", "[01]", "[1.]", "[1e+]", 2), ('{"a":1', 6), ('{"a":1 2}', 7)],
+    "a value": [("[tru]", "[nul", "[-]", '["a]', 1), ('["\\x"]', 2), ("[1,]", '["a\n"]', "[1,", 3), ("[[1,]]", 4),
+                ('{"a":}', 5)],
+    "the end": [("[1]]", "[] []", 3)]}
 
 
 class Made:
@@ -35,10 +38,7 @@ class Made:
 
     def read(self, count):
         self.reads += 1
-        while len(self.rest) < count:
-            part = next(self.parts, None)
-            if part is None:
-                break
+        while len(self.rest) < count and (part := next(self.parts, None)) is not None:
             self.rest += part
         text, self.rest = self.rest[:count], self.rest[count:]
         return text
@@ -53,121 +53,103 @@ def scanned(file, piece):
     return found
 
 
-class Values(unittest.TestCase):
-    def test_whatever_the_pieces_are(self):
-        choose = random.Random(5)
-        for count in range(60):
-            whole = [drawn(choose) for _ in range(5)]
-            if count % 2:
-                whole = {name + str(place): value for place, (name, value) in enumerate(zip("abcü\\", whole))}
-            text = json.dumps(whole, indent=choose.choice([None, 0, 3]), ensure_ascii=choose.random() < 0.5)
-            text = choose.choice(["", " \t\r\n"]) + text + choose.choice(["", "\n", "\r\n  "])
-            for piece in (1, 2, 3, 5, 7, 16, 1 << 18):
-                with self.subTest((piece, text)):
-                    found = scanned(text, piece)
-                    self.assertEqual([(name, value) for name, value, _, _ in found],
-                                     list(whole.items()) if count % 2 else [(None, value) for value in whole])
-                    for _, value, own, begin in found:
-                        self.assertEqual((own, json.loads(own)), (text[begin:begin + len(own)], value))
-
-    def test_several_together(self):
-        """The values of a list are those that come one by one, whichever are read together; and so are its faults."""
-        choose = random.Random(6)
-        inner = [{"a": [{"b": 1}, {"c": 2}]}, {"a": "},{"}, {"a": {}}, {}, 5, [{}, {}], {"a": drawn(choose)}]
-        deep = "[" * 125 + "]" * 125  # in the object of a list
-        faults = [",]", ",5", "}", "", ',{"a":[%s]},{}]' % deep, ",{},1e999,{},{}]", ",{},[1.],{},{}]"]
-        for count in range(96):
-            whole = [choose.choice(inner) if count % 3 else {"a": count} for _ in range(300)]
-            whole += [{"a": json.loads(deep)}] * (count % 2) + [{}]
-            text = json.dumps(whole, indent=choose.choice([None, 1]), separators=choose.choice([None, (",", ":")]))
-            text = text if count % 4 else text[:-1] + faults[count // 4 % len(faults)]
-            for piece in (100, 1 << 18):
-                one = Scanner(io.StringIO(text, newline=""), piece)
-                found = []
-                why = reason(lambda: (found.extend(itertools.chain.from_iterable(one.values())), one.end()))
-                self.assertEqual(why, reason(scanned, text, piece), (text[-400:], piece))
-                self.assertEqual((why is None, found if why is None else None),
-                                 (count % 4 > 0, whole if why is None else None))
-
-    def test_no_more_is_held_than_a_value_and_a_piece(self):
-        fields = ("%s%s" % ("," if place else '{"fields":[', json.dumps({"a": [place] * 100})) for place in range(3000))
-        one = Scanner(Made(of=fields), 4096)  # about two million characters
-        tracemalloc.start()
-        self.addCleanup(tracemalloc.stop)
-        count = 0
-        for _ in one.members():
-            with self.assertRaisesRegex(NotJson, r"^not JSON at character 1\d{6}, where a comma or an end "):
-                for count, _ in enumerate(one.items(), 1):
-                    self.assertEqual(len(one.value()["a"]), 100)
-            break
-        self.assertEqual(count, 3000)
-        self.assertLess(tracemalloc.get_traced_memory()[1], 100000)
-
-    def test_a_long_value_is_begun_a_few_times(self):
-        """As often as what is read is twice as long: a value that is longer by far than a piece takes no longer."""
-        with mock.patch.object(scanner, "_DECODER", mock.Mock(wraps=json.JSONDecoder())) as decoder:
-            self.assertEqual(scanned('["%s"]' % ("a" * 100000), 1)[0][1], "a" * 100000)
-        self.assertLess(decoder.raw_decode.call_count, 40)
+@given(some.lists(VALUES, max_size=5) | some.dictionaries(some.text(max_size=3), VALUES, max_size=5),
+       some.sampled_from([None, 0, 3]), some.booleans(), BLANKS, BLANKS)
+def test_whatever_the_pieces_are(whole, indent, is_ascii, before, behind):
+    text = before + json.dumps(whole, indent=indent, ensure_ascii=is_ascii) + behind
+    for piece in (1, 2, 3, 5, 7, 16, 1 << 18):
+        found = scanned(text, piece)
+        assert [(name, value) for name, value, _, _ in found] == list(
+            whole.items() if isinstance(whole, dict) else ((None, value) for value in whole))
+        for _, value, own, begin in found:
+            assert (own, json.loads(own)) == (text[begin:begin + len(own)], value)
 
 
-# What has to stand at a place: texts that have something else there, and the place
-NO_JSON = {
-    "[": [("", "x", "5", "\ufeff[]", 0)], "]": [("[1}", 2)], "}": [('{"a":1]', 6)],
-    "a name": [("{", "{5:1}", "{'a':1}", 1), ('{"a":1,}', '{"a":1,5', 7)],
-    "a colon": [('{"a"}', 4), ('{"a" 1}', 5)],
-    "a comma or an end": [("[1", "[01]", "[1.]", "[1e+]", 2), ('{"a":1', 6), ('{"a":1 2}', 7)],
-    "a value": [("[tru]", "[nul", "[-]", '["a]', 1), ('["\\x"]', 2), ("[1,]", '["a\n"]', "[1,", 3), ("[[1,]]", 4),
-                ('{"a":}', 5)],
-    "the end": [("[1]]", "[] []", 3)]}
+def test_several_together():
+    """The values of a list are those that come one by one, whichever are read together; and so are its faults."""
+    choose = random.Random(6)
+    inner = [{"a": [{"b": 1}, {"c": 2}]}, {"a": "},{"}, {"a": {}}, {}, 5, [{}, {}], {"a": [[], "ü", {"b": [None]}]}]
+    deep = "[" * 125 + "]" * 125  # in the object of a list
+    faults = [",]", ",5", "}", "", ',{"a":[%s]},{}]' % deep, ",{},1e999,{},{}]", ",{},[1.],{},{}]"]
+    for count in range(96):
+        whole = [choose.choice(inner) if count % 3 else {"a": count} for _ in range(300)]
+        whole += [{"a": json.loads(deep)}] * (count % 2) + [{}]
+        text = json.dumps(whole, indent=choose.choice([None, 1]), separators=choose.choice([None, (",", ":")]))
+        text = text if count % 4 else text[:-1] + faults[count // 4 % len(faults)]
+        for piece in (100, 1 << 18):
+            one, found = Scanner(io.StringIO(text, newline=""), piece), []
+            why = reason(lambda: (found.extend(itertools.chain.from_iterable(one.values())), one.end()))
+            assert why == reason(scanned, text, piece)
+            assert (why is None, found if why is None else None) == (count % 4 > 0, whole if why is None else None)
 
 
-class Refused(unittest.TestCase):
-    def refused(self, text, wanted, *pieces):
-        for piece in pieces:
-            self.assertEqual(reason(scanned, text, piece, kind=NotJson), wanted, (text[:40], piece))
+def test_no_more_is_held_than_a_value_and_a_piece():
+    fields = ("%s%s" % ("," if place else '{"fields":[', json.dumps({"a": [place] * 100})) for place in range(3000))
+    one, count = Scanner(Made(of=fields), 4096), 0  # about two million characters
+    tracemalloc.start()
+    next(one.members())
+    with pytest.raises(NotJson, match=r"^not JSON at character 1\d{6}, where a comma or an end "):
+        for count, _ in enumerate(one.items(), 1):
+            assert len(one.value()["a"]) == 100
+    most = tracemalloc.get_traced_memory()[1]
+    tracemalloc.stop()
+    assert count == 3000 and most < 100000
 
-    def test_what_is_no_json(self):
-        for wanted, rows in NO_JSON.items():
-            for *texts, place in rows:
-                for text in texts:
-                    self.refused(text, "not JSON at character %d, where %s has to stand" % (place, wanted),
-                                 1, 2, 3, 7, 1 << 18)
 
-    def test_a_fault_far_from_the_end_is_seen_at_once(self):
-        """What comes behind it isn't read: it could be any length."""
-        file = Made("[[1 2" + "," * 100)
-        self.assertIsNotNone(reason(scanned, file, 50, kind=NotJson))
-        self.assertEqual(file.reads, 1)
+def test_a_long_value_is_begun_a_few_times():
+    """As often as what is read is twice as long: a value that is longer by far than a piece takes no longer."""
+    with mock.patch.object(scanner, "_DECODER", mock.Mock(wraps=json.JSONDecoder())) as decoder:
+        assert scanned('["%s"]' % ("a" * 100000), 1)[0][1] == "a" * 100000
+    assert decoder.raw_decode.call_count < 40
 
-    def test_nested_and_long(self):
-        """As deep as the program has it: 127 lists and objects in each other, also those that are gone through one by
-        one; and numbers without an end."""
-        deep = "nested too deep, or with too large a number, at character %d"
-        for inner in ("[" * 100000, '{"a":' * 50000, "NaN", "Infinity", "-Infinity", "1e999", "-1e999", '{"a":[NaN]}',
-                      *["1" * 5000] * hasattr(sys, "set_int_max_str_digits")):
-            self.refused("[%s]" % inner, deep % 1, 1 << 18)
-        for before, begin, end in (("", "[", "]"), ("1, ", '{"a":[', "]}")):
-            depth = 126 // len(end)
-            inner = begin * depth + end * depth
-            self.assertEqual(scanned("[%s%s]" % (before, inner), 50)[-1][2], inner)
-            self.refused("[%s[%s]]" % (before, inner), deep % (1 + len(before)), 50)
-        many = "[%s]" % ",".join(["[[]]"] * 200)  # none of which is deep
-        self.assertEqual(len(scanned(many, 50)), 200)
-        one = Scanner(io.StringIO(many))
-        self.assertEqual([one.value() for _ in one.items() for _ in one.items()], [[]] * 200)
-        self.assertEqual([value for _, value, *_ in scanned("[1e308,-1e-999]", 50)], [1e308, 0])
-        with mock.patch.object(scanner, "LONGEST", 20):
-            self.assertEqual(len(scanned('["%s"]' % ("a" * 18), 1)), 1)
-            self.refused('["%s"]' % ("a" * 100), "too long: what begins at character 1", 1, 5)
 
-    def test_a_text_without_an_end(self):
-        with mock.patch.object(scanner, "MOST", 10000):
-            for begin, part in (("[", " " * 300), ("[1", ",1" * 300), ("{", '"a":1,' * 50),
-                                ('{"a":[]', ' ,"b":{}' * 50)):
-                file = Made(begin, of=itertools.repeat(part))
-                self.assertEqual(reason(scanned, file, 700, kind=NotJson), "too long", (begin, part[:8]))
+def refused(text, wanted, *pieces):
+    for piece in pieces:
+        assert reason(scanned, text, piece, kind=NotJson) == wanted
 
-    def test_other_bytes(self):
-        for data in (b'["\xff"]', b'["\xc3"]', b'["\xed\xa0\x80"]', "[]".encode("utf-16")):
-            file = io.TextIOWrapper(io.BytesIO(data), encoding="utf-8", newline="")
-            self.assertEqual(reason(scanned, file, scanner.PIECE, kind=NotJson), "not UTF-8")
+
+@pytest.mark.parametrize("wanted, texts, place", [
+    (wanted, texts, place) for wanted, rows in NO_JSON.items() for *texts, place in rows])
+def test_what_is_no_json(wanted, texts, place):
+    for text in texts:
+        refused(text, "not JSON at character %d, where %s has to stand" % (place, wanted), 1, 2, 3, 7, 1 << 18)
+
+
+def test_a_fault_far_from_the_end_is_seen_at_once():
+    """What comes behind it isn't read: it could be any length."""
+    file = Made("[[1 2" + "," * 100)
+    assert reason(scanned, file, 50, kind=NotJson) is not None
+    assert file.reads == 1
+
+
+def test_nested_and_long():
+    """As deep as the program has it: 127 lists and objects in each other, also those that are gone through one by one;
+    and numbers without an end."""
+    deep = "nested too deep, or with too large a number, at character %d"
+    for inner in ("[" * 100000, '{"a":' * 50000, "NaN", "Infinity", "-Infinity", "1e999", "-1e999", '{"a":[NaN]}',
+                  *["1" * 5000] * hasattr(sys, "set_int_max_str_digits")):
+        refused("[%s]" % inner, deep % 1, 1 << 18)
+    for before, begin, end in (("", "[", "]"), ("1, ", '{"a":[', "]}")):
+        inner = begin * (126 // len(end)) + end * (126 // len(end))
+        assert scanned("[%s%s]" % (before, inner), 50)[-1][2] == inner
+        refused("[%s[%s]]" % (before, inner), deep % (1 + len(before)), 50)
+    many = "[%s]" % ",".join(["[[]]"] * 200)  # none of which is deep
+    one = Scanner(io.StringIO(many))
+    assert (len(scanned(many, 50)), [one.value() for _ in one.items() for _ in one.items()]) == (200, [[]] * 200)
+    assert [value for _, value, *_ in scanned("[1e308,-1e-999]", 50)] == [1e308, 0]
+    with mock.patch.object(scanner, "LONGEST", 20):
+        assert len(scanned('["%s"]' % ("a" * 18), 1)) == 1
+        refused('["%s"]' % ("a" * 100), "too long: what begins at character 1", 1, 5)
+
+
+@pytest.mark.parametrize("begin, part", (("[", " " * 300), ("[1", ",1" * 300), ("{", '"a":1,' * 50),
+                                         ('{"a":[]', ' ,"b":{}' * 50)))
+def test_a_text_without_an_end(begin, part):
+    with mock.patch.object(scanner, "MOST", 10000):
+        assert reason(scanned, Made(begin, of=itertools.repeat(part)), 700, kind=NotJson) == "too long"
+
+
+@pytest.mark.parametrize("data", (b'["\xff"]', b'["\xc3"]', b'["\xed\xa0\x80"]', "[]".encode("utf-16")))
+def test_other_bytes(data):
+    file = io.TextIOWrapper(io.BytesIO(data), encoding="utf-8", newline="")
+    assert reason(scanned, file, scanner.PIECE, kind=NotJson) == "not UTF-8"

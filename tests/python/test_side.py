@@ -2,19 +2,19 @@
 
 import gc
 import re
-import unittest
 
-from cases import reason
 from compact import made
 from discs import plain, side, typed
 from ldvbi.readings import Cut, Levels
+from ldvbi_side.answer.entries import Best, FewWords, Swapped, Tried
+from ldvbi_side.answer.lines import SIZES
 from ldvbi_side.command.chapters import chapter_spans
 from ldvbi_side.command.map import head_rows, map_rows
 from ldvbi_side.command.summary import MOST_LINES, summary
 from ldvbi_side.command.tables import bad_line_rows, field_rows
-from ldvbi_side.answer.entries import Best, FewWords, Swapped, Tried
-from ldvbi_side.answer.lines import SIZES
 from ldvbi_side.seek import seek, text_of, wanted_of, why_not
+import pytest
+from room import reason
 
 AROUND = ", by the numbers around it: "
 CLOCK, NOWHERE = "no clock shows it", "no field shows it"
@@ -65,28 +65,27 @@ SOUGHT = (
     ("Bx10", {"3": "no number of the side is believed", "chapter 1": "no chapter of the side is believed"}))
 
 
-class Seeking(unittest.TestCase):
-    def test_texts(self):
-        for text, wanted in (("00123", ("picture", (123,))), ("1:09", ("time", (1, 9))),
-                             ("chapter 3", ("chapter", (3,))), ("1:9:3.7", ("time", (1, 9, 3, 7))),
-                             ("1:09:30", ("time", (1, 9, 30)))):
-            self.assertEqual(wanted_of(text), wanted)
-        for text in ("", "x", "-1", "1:2", "1:02:3", "1:02:03.", "chapter", "chapter  3", "1.5", " 1", "1:09:30.12.1"):
-            self.assertIsNotNone(reason(wanted_of, text), text)
+def test_texts():
+    for text, wanted in (("00123", ("picture", (123,))), ("1:09", ("time", (1, 9))), ("chapter 3", ("chapter", (3,))),
+                         ("1:9:3.7", ("time", (1, 9, 3, 7))), ("1:09:30", ("time", (1, 9, 30)))):
+        assert wanted_of(text) == wanted
+    for text in ("", "x", "-1", "1:2", "1:02:3", "1:02:03.", "chapter", "chapter  3", "1.5", " 1", "1:09:30.12.1"):
+        assert reason(wanted_of, text) is not None
 
-    def test_what_is_found(self):
-        for text, asked in SOUGHT:
-            for number, wanted in asked.items():
-                with self.subTest((text, number)):
-                    known, asked_for = made(text, typed), wanted_of(number)
-                    found = seek(known, asked_for)
-                    said = text_of(found) if found else why_not(known, asked_for)
-                    self.assertEqual(re.sub(r"^field (\d+), frame ", r"\1 ", said), wanted)
 
-    def test_what_is_lost_at_the_beginning(self):
-        lost = made("1..11 14..30", typed).missing[0]._replace(first=1, last=10, after=0, before=1)
-        known = made("11..20", typed)._replace(missing=[lost])
-        self.assertEqual(why_not(known, wanted_of("5")), "lost before field 1")
+@pytest.mark.parametrize("text, asked", SOUGHT)
+def test_what_is_found(text, asked):
+    for number, wanted in asked.items():
+        known, asked_for = made(text, typed), wanted_of(number)
+        found = seek(known, asked_for)
+        said = text_of(found) if found else why_not(known, asked_for)
+        assert re.sub(r"^field (\d+), frame ", r"\1 ", said) == wanted
+
+
+def test_what_is_lost_at_the_beginning():
+    lost = made("1..11 14..30", typed).missing[0]._replace(first=1, last=10, after=0, before=1)
+    known = made("11..20", typed)._replace(missing=[lost])
+    assert why_not(known, wanted_of("5")) == "lost before field 1"
 
 
 # A side, and its map: of each kind the number, the field, the frame and how it is known there
@@ -106,32 +105,34 @@ HEADS = (
     ("", None, "system PAL 1 1 side, black - 1 1 side, white - 1 1 side, fields 0 1 1 side"))
 
 
-class Maps(unittest.TestCase):
-    def test_rows(self):
-        for text, wanted in MAPS:
-            self.assertEqual(", ".join(" ".join(map(str, row)) for row in map_rows(made(text, typed))), wanted, text)
-        # a stop at picture 0
-        self.assertEqual(list(map_rows(made("0..9 1=S/#0/#0", typed)))[-1], ("stop", 0, 1, 1, "read"))
+def test_maps_rows():
+    for text, wanted in MAPS:
+        assert ", ".join(" ".join(map(str, row)) for row in map_rows(made(text, typed))) == wanted
+    # a stop at picture 0
+    assert list(map_rows(made("0..9 1=S/#0/#0", typed)))[-1] == ("stop", 0, 1, 1, "read")
 
-    def test_head(self):
-        for text, levels, wanted in HEADS:
-            found = head_rows(made(text, typed), levels)
-            self.assertEqual(", ".join(" ".join(map(str, row)) for row in found), wanted, text)
 
-    def test_a_time_is_sought_where_it_was_read(self):
-        """Not in the field before, in which it is only due; of a second the first field that has any of it counts."""
-        known = made("t1500..1529 t1510..1539 31=?/?/?", typed)  # 0:01:00.15, which is read in field 71
-        found = [seek(known, wanted_of(text)) for text in ("0:01:00.15", "0:01:00", "0:01:00.14")]
-        self.assertEqual([(one["field"], one["read"]) for one in found], [(71, True), (1, True), (29, True)])
+@pytest.mark.parametrize("text, levels, wanted", HEADS)
+def test_head(text, levels, wanted):
+    found = head_rows(made(text, typed), levels)
+    assert ", ".join(" ".join(map(str, row)) for row in found) == wanted
 
-    def test_it_says_what_seeking_says(self):
-        known = made("1..40 21..60 60x4 70..90 1:210/14=?", typed)
-        mapped = {number: row for kind, number, *row in map_rows(known) if kind == "picture"}
-        for number in range(100):
-            found = seek(known, wanted_of(str(number)))
-            row = found and [found["field"], found["frame"], "read" if found["read"] else "neighbours"]
-            self.assertEqual(mapped.get(number), row, number)
-        self.assertIn("neighbours", [row[2] for row in mapped.values()])
+
+def test_a_time_is_sought_where_it_was_read():
+    """Not in the field before, in which it is only due; of a second the first field that has any of it counts."""
+    known = made("t1500..1529 t1510..1539 31=?/?/?", typed)  # 0:01:00.15, which is read in field 71
+    found = [seek(known, wanted_of(text)) for text in ("0:01:00.15", "0:01:00", "0:01:00.14")]
+    assert [(one["field"], one["read"]) for one in found] == [(71, True), (1, True), (29, True)]
+
+
+def test_it_says_what_seeking_says():
+    known = made("1..40 21..60 60x4 70..90 1:210/14=?", typed)
+    mapped = {number: row for kind, number, *row in map_rows(known) if kind == "picture"}
+    for number in range(100):
+        found = seek(known, wanted_of(str(number)))
+        row = found and [found["field"], found["frame"], "read" if found["read"] else "neighbours"]
+        assert mapped.get(number) == row
+    assert "neighbours" in [row[2] for row in mapped.values()]
 
 
 # A side, and its chapters, each with its fields, counted from 0
@@ -146,11 +147,11 @@ CHAPTERS = (
     ("Lx2 1..20 4:42/2=-/c1/c1 Lx2 1..20", "1 3-42, 0 45-84"),
     ("Bx10", ""))
 
-class Chapters(unittest.TestCase):
-    def test_where_they_end(self):
-        for text, wanted in CHAPTERS:
-            found = ", ".join("%d %d-%d" % one for one in chapter_spans(made(text, typed)))
-            self.assertEqual(found, wanted, text)
+
+@pytest.mark.parametrize("text, wanted", CHAPTERS)
+def test_where_they_end(text, wanted):
+    found = ", ".join("%d %d-%d" % one for one in chapter_spans(made(text, typed)))
+    assert found == wanted
 
 
 # Rows of sides: field, frame, format, picture, chapter, time, stop, doubtful, programme status, users' codes, unknown.
@@ -167,19 +168,18 @@ FIELD_ROWS = (
     ("b4..5", "1|1|cav|4  2|1|cav|4  3|2|cav|5  4|2|cav|5"), ("B", ""))
 
 
-class Tables(unittest.TestCase):
-    def test_rows(self):
-        for text, wanted in FIELD_ROWS:
-            found = ["|".join(map(str, row)).rstrip("|") for row in field_rows(made(text, side))]
-            self.assertEqual(found, re.split(r"\s{2,}", wanted.strip()) if wanted else [], text)
-        found = list(field_rows(made("1..20 21=-/#70000*/#70000* 23=8AE000/M/#12 32=-/c7/c7", side)))
-        self.assertEqual([found[20][:8], found[22][:8], found[31][:7]], [
-            [21, 11, "cav", "", "", "", "", "picture 70000 on line 17, pass 2: neighbours; "
-             "picture 70000 on line 18, pass 2: neighbours"],
-            [23, 12, "both", 12, "", "", "", "clv picture on line 16, pass 1: format; clv on line 17, pass 1: format"],
-            [32, 16, "neither", "", "", "", ""]])
-        for text, wanted in (("NTSC -/?/#1", [[1, 17, "change 170", 29120, "", "", ""]]), ("B", [])):
-            self.assertEqual(list(bad_line_rows(made(text, side))), wanted)
+def test_tables_rows():
+    for text, wanted in FIELD_ROWS:
+        found = ["|".join(map(str, row)).rstrip("|") for row in field_rows(made(text, side))]
+        assert found == (re.split(r"\s{2,}", wanted.strip()) if wanted else [])
+    found = list(field_rows(made("1..20 21=-/#70000*/#70000* 23=8AE000/M/#12 32=-/c7/c7", side)))
+    assert [found[20][:8], found[22][:8], found[31][:7]] == [
+        [21, 11, "cav", "", "", "", "",
+         "picture 70000 on line 17, pass 2: neighbours; picture 70000 on line 18, pass 2: neighbours"],
+        [23, 12, "both", 12, "", "", "", "clv picture on line 16, pass 1: format; clv on line 17, pass 1: format"],
+        [32, 16, "neither", "", "", "", ""]]
+    for text, wanted in (("NTSC -/?/#1", [[1, 17, "change 170", 29120, "", "", ""]]), ("B", [])):
+        assert list(bad_line_rows(made(text, side))) == wanted
 
 
 def lines_of(one):
@@ -210,8 +210,6 @@ unknown words: none
 programme status: none, users' codes: none
 codes out of place: none
 """
-
-
 # Sides, and lines of their summaries, of which one that begins with | goes on from the one before
 SUMMARIES = (
     ("1..30 5=-/#3^/#3^ 7=-/#4^/?", """whole: yes
@@ -247,100 +245,105 @@ SUMMARIES = (
      "swapped fields: none, other speeds: 1 (-1 numbers a picture in fields 181 to 221)"))
 
 
-class Summaries(unittest.TestCase):
-    def test_a_damaged_side(self):
-        """What it has of lead-in alone stands in the same order, without what there are no numbers for."""
-        lines = lines_of(made("Lx2 1..30 Ox2 21=79999 23=?/!/~ 25=S/S/#12 27=-/#13/#3 -45:46", side))
-        self.assertEqual(lines, DAMAGED.replace("\n ", " ").strip().split("\n"))
-        lines = lines_of(made("L", side))
-        self.assertEqual(lines[:1] + lines[6:], [
-            "whole: can't tell: no picture number and no time",
-            "pictures: none", "doubtful, set aside: none", "lines 17 and 18 differ: none", "chapters: none",
-            "picture stops: none", "lead-in: 1 (field 1), lead-out: none", "unknown words: none",
-            "programme status: none, users' codes: none", "codes out of place: none"])
-
-    def test_lines(self):
-        """Lists stand in the order of the side, and of more than four entries the first are named."""
-        for text, wanted in SUMMARIES:
-            found = lines_of(made(text, side))
-            for line in re.sub(r"\n *\|", " ", wanted).split("\n"):
-                self.assertIn(line.strip(), found)
-
-    def test_status_users_codes_and_unknown_words(self):
-        found = made("1..30 2:60/2.16=8DC0A1 4=8BA0A1/88FFFB/800DDD 6=83D00F/800DDD/F00E81*")
-        self.assertEqual([found[name] for name in ("unknown", "programmeStatus", "users", "whole", "stray")], [
-            [{"field": 4, "line": 17, "word": "88FFFB", "pass": 1},
-             {"field": 6, "line": 18, "word": "F00E81", "pass": 2}],
-            [{"cx": True, "digits": "0A1", "count": 28, "first": 2, "last": 60},
-             {"cx": False, "digits": "0A1", "count": 1, "first": 4, "last": 4}],
-            [{"digit": 3, "digits": "00F", "count": 1, "first": 6, "last": 6}], "yes", []])
-
-    def test_levels(self):
-        """What lines 17 and 18 have, and what to try, by what else is known; each in a line of 100 columns at most."""
-        def trial(*best):
-            return Tried(200, 10, 16384, 51200, Best(*best))
-        lower = "try: lower black and white, if the side has codes at all"
-        other = "try: another black and white; the signal may be noise, see --bad-lines"
-        for text, tried, wanted in (
-                ("Bx4", None, ["0 words, 0 are bad, 8 blank", lower]), ("-/?/!x4", None, ["0 words, 8 are bad, 0 blank",
-                                                                                      other]),
-                ("-/#3^/#3^x30", None, ["0 words of their own, 60 are bad, 0 blank", other]),
-                ("Bx4", trial(None, None, 30000, 98), ["0 words, 0 are bad, 8 blank",
-                                                       "try: --white 30000 (98 lines read, now 10 of 200)"]),
-                ("Bx4", trial("PAL", None, None, 200), [
-                    "0 words, 0 are bad, 8 blank",
-                    "try: --system PAL --black 16384 --white 51200, without --meta (200 lines read, now 10 of 200)"])):
-            one = made(text, side)
-            answer = one.analysis.answer
-            found = list(summary(answer._replace(levels=answer.levels._replace(tried=tried))))[6:8]
-            self.assertEqual(found, ["levels: lines 17 and 18 have " + wanted[0], wanted[1]])
-            self.assertLessEqual(max(map(len, found)), 100)
-
-    def test_levels_are_blamed_of_the_right_file_alone(self):
-        for expected, cut, is_other in ((4, None, False), (None, None, False), (5, None, True), (3, None, True),
-                                        (4, Cut(5, 7), True), (None, Cut(5, 7), True)):
-            for shown in ("Bx4", "-/?/!x4"):
-                one = made(shown, side, cut=cut)
-                one.expected = expected
-                line = lines_of(one)[7]
-                self.assertEqual(line == "try: another system, or this file's own metadata", is_other, line)
-                self.assertEqual("black and white" in line, not is_other)
-
-    def test_at_most_26_lines(self):
-        # a second row of numbers on line 17
-        known = made("NTSC t0..8999!400%1001 -101:110 1:17972/2.17=@2:20", typed)
-        self.assertTrue(known.second_rows and known.left_out)
-        known = known._replace(levels=FewWords("bad", 1, 9, 1, 1, 17, None), swapped=[Swapped(1, "2:20:00.00")])
-        lines = list(summary(known))
-        self.assertEqual((len(lines), MOST_LINES), (26, 26))
-        self.assertTrue([line for line in lines if line.startswith("a second row of numbers, not taken: 2:20:")])
+def test_a_damaged_side():
+    """What it has of lead-in alone stands in the same order, without what there are no numbers for."""
+    lines = lines_of(made("Lx2 1..30 Ox2 21=79999 23=?/!/~ 25=S/S/#12 27=-/#13/#3 -45:46", side))
+    assert lines == DAMAGED.replace("\n ", " ").strip().split("\n")
+    lines = lines_of(made("L", side))
+    assert lines[:1] + lines[6:] == ["whole: can't tell: no picture number and no time", "pictures: none",
+                                     "doubtful, set aside: none", "lines 17 and 18 differ: none", "chapters: none",
+                                     "picture stops: none", "lead-in: 1 (field 1), lead-out: none",
+                                     "unknown words: none", "programme status: none, users' codes: none",
+                                     "codes out of place: none"]
 
 
-class Sides(unittest.TestCase):
-    def test_the_collector_runs_behind_an_analysis_where_it_ran_before(self):
-        self.addCleanup(gc.enable)
-        for is_enabled, set_so in ((True, gc.enable), (False, gc.disable)):
-            set_so()
-            made("1 2")
-            self.assertEqual(gc.isenabled(), is_enabled)
+@pytest.mark.parametrize("text, wanted", SUMMARIES)
+def test_lines(text, wanted):
+    """Lists stand in the order of the side, and of more than four entries the first are named."""
+    found = lines_of(made(text, side))
+    for line in re.sub(r"\n *\|", " ", wanted).split("\n"):
+        assert line.strip() in found
 
-    def test_tables(self):
-        cav, clv = made("5..24 11..40 5=S/-/#7", side), made("t0..19", side)
-        self.assertEqual([cav.pictures()[5], cav.pictures()[11], cav.pictures()[40]], [1, 13, 99])
-        self.assertEqual([cav.times(), cav.chapters(), cav.stops(), cav.format()], [{}, {0: 2}, [5], "cav"])
-        self.assertEqual([clv.pictures(), clv.times()["0:00:00.07"], clv.format()], [{}, 15, "clv"])
-        self.assertEqual(cav.seek("8"), {"field": 7, "frame": 4, "read": True, "other": None})
-        self.assertIsNone(cav.seek("41"))
 
-    def test_codes_are_judged_by_nothing(self):
-        first, other = {"kind": "picture", "number": 1}, {"kind": "picture", "number": 79999}
-        self.assertEqual(list(made("-/#1/#79999", side).codes()), [{
-            "seqNo": 1, "format": "cav", "codes": [None, first, other],
-            "byKind": [dict(first, lines=[17]), dict(other, lines=[18])]}])
+def test_status_users_codes_and_unknown_words():
+    found = made("1..30 2:60/2.16=8DC0A1 4=8BA0A1/88FFFB/800DDD 6=83D00F/800DDD/F00E81*")
+    assert [found[name] for name in ("unknown", "programmeStatus", "users", "whole", "stray")] == [
+        [{"field": 4, "line": 17, "word": "88FFFB", "pass": 1}, {"field": 6, "line": 18, "word": "F00E81", "pass": 2}],
+        [{"cx": True, "digits": "0A1", "count": 28, "first": 2, "last": 60},
+         {"cx": False, "digits": "0A1", "count": 1, "first": 4, "last": 4}],
+        [{"digit": 3, "digits": "00F", "count": 1, "first": 6, "last": 6}], "yes", []]
 
-    def test_plain_data(self):
-        one = made("NTSC/0 -/#1/#1* ?/!/~", side, cut=Cut(3, 99))
-        self.assertEqual(one.plain(), made("NTSC/0 -/#1/#1* ?/!/~", plain, cut=Cut(3, 99)))
-        self.assertEqual(one.answer["cutField"], {"seqNo": 3, "bytes": 99})
-        self.assertIs(one.answer, one.answer)
-        self.assertEqual(SIZES, {"NTSC": (910 * 2, 263), "PAL": (1135 * 2, 313)})
+
+def test_levels():
+    """What lines 17 and 18 have, and what to try, by what else is known; each in a line of 100 columns at most."""
+
+    def trial(*best):
+        return Tried(200, 10, 16384, 51200, Best(*best))
+
+    lower = "try: lower black and white, if the side has codes at all"
+    other = "try: another black and white; the signal may be noise, see --bad-lines"
+    system = "try: --system PAL --black 16384 --white 51200, without --meta (200 lines read, now 10 of 200)"
+    for text, tried, wanted in (("Bx4", None, ["0 words, 0 are bad, 8 blank", lower]),
+                                ("-/?/!x4", None, ["0 words, 8 are bad, 0 blank", other]),
+                                ("-/#3^/#3^x30", None, ["0 words of their own, 60 are bad, 0 blank", other]),
+                                ("Bx4", trial(None, None, 30000, 98),
+                                 ["0 words, 0 are bad, 8 blank", "try: --white 30000 (98 lines read, now 10 of 200)"]),
+                                ("Bx4", trial("PAL", None, None, 200), ["0 words, 0 are bad, 8 blank", system])):
+        one = made(text, side)
+        answer = one.analysis.answer
+        found = list(summary(answer._replace(levels=answer.levels._replace(tried=tried))))[6:8]
+        assert found == ["levels: lines 17 and 18 have " + wanted[0], wanted[1]]
+        assert max(map(len, found)) <= 100
+
+
+@pytest.mark.parametrize("expected, cut, is_other", (
+    (4, None, False), (None, None, False), (5, None, True), (3, None, True),
+    (4, Cut(5, 7), True), (None, Cut(5, 7), True)))
+def test_levels_are_blamed_of_the_right_file_alone(expected, cut, is_other):
+    for shown in ("Bx4", "-/?/!x4"):
+        one = made(shown, side, cut=cut)
+        one.expected = expected
+        line = lines_of(one)[7]
+        assert (line == "try: another system, or this file's own metadata") == is_other
+        assert ("black and white" in line) == (not is_other)
+
+
+def test_at_most_26_lines():
+    # a second row of numbers on line 17
+    known = made("NTSC t0..8999!400%1001 -101:110 1:17972/2.17=@2:20", typed)
+    assert known.second_rows and known.left_out
+    known = known._replace(levels=FewWords("bad", 1, 9, 1, 1, 17, None), swapped=[Swapped(1, "2:20:00.00")])
+    lines = list(summary(known))
+    assert (len(lines), MOST_LINES) == (26, 26)
+    assert [line for line in lines if line.startswith("a second row of numbers, not taken: 2:20:")]
+
+
+def test_the_collector_runs_behind_an_analysis_where_it_ran_before():
+    for is_enabled, set_so in ((True, gc.enable), (False, gc.disable)):
+        set_so()
+        made("1 2")
+        assert gc.isenabled() == is_enabled
+
+
+def test_tables():
+    cav, clv = made("5..24 11..40 5=S/-/#7", side), made("t0..19", side)
+    assert [cav.pictures()[5], cav.pictures()[11], cav.pictures()[40]] == [1, 13, 99]
+    assert [cav.times(), cav.chapters(), cav.stops(), cav.format()] == [{}, {0: 2}, [5], "cav"]
+    assert [clv.pictures(), clv.times()["0:00:00.07"], clv.format()] == [{}, 15, "clv"]
+    assert cav.seek("8") == {"field": 7, "frame": 4, "read": True, "other": None}
+    assert cav.seek("41") is None
+
+
+def test_codes_are_judged_by_nothing():
+    first, other = {"kind": "picture", "number": 1}, {"kind": "picture", "number": 79999}
+    assert list(made("-/#1/#79999", side).codes()) == [{
+        "seqNo": 1, "format": "cav", "codes": [None, first, other],
+        "byKind": [dict(first, lines=[17]), dict(other, lines=[18])]}]
+
+
+def test_plain_data():
+    one = made("NTSC/0 -/#1/#1* ?/!/~", side, cut=Cut(3, 99))
+    assert one.plain() == made("NTSC/0 -/#1/#1* ?/!/~", plain, cut=Cut(3, 99))
+    assert one.answer["cutField"] == {"seqNo": 3, "bytes": 99}
+    assert one.answer is one.answer
+    assert SIZES == {"NTSC": (910 * 2, 263), "PAL": (1135 * 2, 313)}

@@ -3,18 +3,20 @@ whether simulated sides with one fault are whole (bench/sides/verdicts.py)."""
 
 import copy
 import random
-import unittest
 
-from comparison import Comparison
 from compact import cells_of, made
+from comparison import Comparison
 from discs import plain
 from ldvbi_side.answer.analysis import analyse
 from measure import fields_of
+import pytest
 from simulate import KINDS, PLAYED, played_through, simulated
 from simulated_faults import FAULTS, faulty, lead_in_of, lead_out_of, rearranged, with_lead_out
 from sound import faults_of
 from truth import Truth
 from verdicts import column_of, kind_of, readable_in, true_of
+
+pytestmark = pytest.mark.unrecorded
 
 
 def changed(known, change):
@@ -24,34 +26,33 @@ def changed(known, change):
     return found
 
 
-class Comparing(unittest.TestCase):
-    """The comparison itself finds what is wrong with an answer."""
+# The comparison itself finds what is wrong with an answer.
+# Changes after which less is as it should be, of what is counted by this name
+LESS = {"wrong found": "doubtful.clear()", "first fields": "showings.pop()", "chapter table": "chapters.pop(0)",
+        "stops": "stops.append({'field': 1})",
+        "missing": "missing.append(dict(first=1000000, last=1000000, why='lost'))"}
 
-    # Changes after which less is as it should be, of what is counted by this name
-    LESS = {"wrong found": "doubtful.clear()", "first fields": "showings.pop()", "chapter table": "chapters.pop(0)",
-            "stops": "stops.append({'field': 1})",
-            "missing": "missing.append(dict(first=1000000, last=1000000, why='lost'))"}
 
-    def test_each_change(self):
-        side = simulated(2000, "cav-pal", 0.02, 300)
-        truth, known = Truth(side), analyse(fields_of(side))
+def test_each_change():
+    side = simulated(2000, "cav-pal", 0.02, 300)
+    truth, known = Truth(side), analyse(fields_of(side))
 
-        def counts(change):
-            told = []
-            return Comparison(truth, changed(known, change), lambda *one: told.append(one[0])).counts, told
+    def counts(change):
+        told = []
+        return Comparison(truth, changed(known, change), lambda *one: told.append(one[0])).counts, told
 
-        before, told = counts("")
-        self.assertEqual(told, [])
-        self.assertEqual([before[name] for name in ("missing", "first fields", "stops", "chapter table")], [1] * 4)
-        for name, change in self.LESS.items():
-            found, told = counts(change)
-            self.assertLess(found[name], before[name], name)
-            self.assertTrue(told, name)
-        found, told = counts("lost.append(dict(after=5, before=7, fields=9, by='number')); "
-                             "unread.append(dict(number=1, field=300))")
-        self.assertEqual([found[name] - found[name + " found"] - before[name] + before[name + " found"]
-                          for name in ("lost", "due")], [1, 1])
-        self.assertEqual(told, ["due in the wrong field", "lost"])
+    before, told = counts("")
+    assert told == []
+    assert [before[name] for name in ("missing", "first fields", "stops", "chapter table")] == [1] * 4
+    for name, change in LESS.items():
+        found, told = counts(change)
+        assert found[name] < before[name]
+        assert told
+    found, told = counts("lost.append(dict(after=5, before=7, fields=9, by='number')); "
+                         "unread.append(dict(number=1, field=300))")
+    assert [found[name] - found[name + " found"] - before[name] + before[name + " found"] for name in
+            ("lost", "due")] == [1, 1]
+    assert told == ["due in the wrong field", "lost"]
 
 
 # Sides, which are simulated where a kind is named; behind them changes of their answers, each with the fault that is
@@ -109,21 +110,19 @@ ROWS = """
 """
 
 
-class Soundness(unittest.TestCase):
-    """What holds of every answer is found to be broken in one that is changed."""
-
-    def test_each(self):
-        """The answer of a side has no fault, and after the change one with this text."""
-        for sides, *changes in cells_of(ROWS):
-            for text in sides.rpartition(": ")[2].split("; "):
-                of_kind = (0, 600) if text == "losses" else (0.02, 200)
-                is_kind = text in (*KINDS, *PLAYED)
-                fields = fields_of(simulated(2000, text, *of_kind)) if is_kind else made(text, plain)
-                known = analyse(fields)
-                self.assertEqual(faults_of(fields, known), [], text)
-                for change, fault in zip(changes[::2], changes[1::2]):
-                    faults = faults_of(fields, changed(known, change))
-                    self.assertTrue([one for one in faults if fault in one], (text, fault))
+# What holds of every answer is found to be broken in one that is changed.
+def test_each():
+    """The answer of a side has no fault, and after the change one with this text."""
+    for sides, *changes in cells_of(ROWS):
+        for text in sides.rpartition(": ")[2].split("; "):
+            of_kind = (0, 600) if text == "losses" else (0.02, 200)
+            is_kind = text in (*KINDS, *PLAYED)
+            fields = fields_of(simulated(2000, text, *of_kind)) if is_kind else made(text, plain)
+            known = analyse(fields)
+            assert faults_of(fields, known) == []
+            for change, fault in zip(changes[::2], changes[1::2]):
+                faults = faults_of(fields, changed(known, change))
+                assert [one for one in faults if fault in one]
 
 
 SEEDS = range(14)  # two of each layout
@@ -140,46 +139,47 @@ def sides_of(fault, seeds=SEEDS, pictures=PICTURES):
         side for side in sides if side.layout == "clv-minutes"]
 
 
-class TrueVerdicts(unittest.TestCase):
-    def test_faults(self):
-        """Minutes alone don't show one field more or less, nor the ends of their disc, nor how long a minute is that
-        doesn't stand between two others. A capture that was cut off is whole only if it may end."""
-        for fault, wanted in TRUE.items():
-            sides, of_minutes = sides_of(fault)
-            self.assertEqual({(true_of(side), lead_out_of(side) is not None) for side in sides}, {wanted}, fault)
-            self.assertEqual([true_of(side) for side in of_minutes], ["either"] * len(of_minutes), fault)
-            self.assertEqual(len(of_minutes), 0 if fault in ("both", "film cut") else 2)
-        self.assertEqual({true_of(side, may_end=True) for side in sides_of("cut off")[0]}, {"yes"})
-        for side in sides_of("sound", range(len(KINDS)), 5000)[1]:
-            self.assertEqual(true_of(side), "either" if lead_in_of(side) is None else "yes")
+def test_faults():
+    """Minutes alone don't show one field more or less, nor the ends of their disc, nor how long a minute is that
+    doesn't stand between two others. A capture that was cut off is whole only if it may end."""
+    for fault, wanted in TRUE.items():
+        sides, of_minutes = sides_of(fault)
+        assert {(true_of(side), lead_out_of(side) is not None) for side in sides} == {wanted}
+        assert [true_of(side) for side in of_minutes] == ["either"] * len(of_minutes)
+        assert len(of_minutes) == (0 if fault in ("both", "film cut") else 2)
+    assert {true_of(side, may_end=True) for side in sides_of("cut off")[0]} == {"yes"}
+    for side in sides_of("sound", range(len(KINDS)), 5000)[1]:
+        assert true_of(side) == ("either" if lead_in_of(side) is None else "yes")
 
 
-class Played(unittest.TestCase):
-    def test_fields_that_stand_otherwise(self):
-        """A still is whole of a disc with pictures, a jump back isn't; fields that are swapped within a picture show
-        only if one of them has no number. Rows have the fields that are put before a first field with a number, counted
-        from there, and how many of those from it on are gone."""
-        for layout, changes, gone, wanted in (
-                ("cav-pal", (0, 1, 0, 1), 0, "yes"), ("clv-pal", (0, 1, 0, 1), 0, "no"), ("cav-pal", (1, 0), 2, "no"),
-                ("cav-both", (1, 0), 2, "either"), *((layout, range(-8, 0), 0, "no") for layout in KINDS[:-1])):
-            side = played_through(1, layout, PICTURES)
-            at = next(field for field in range(100, 110) if side.numbers[field] is not None and side.first[field])
-            fields = [*range(at), *(at + change for change in changes), *range(at + gone, len(side.order))]
-            self.assertEqual(true_of(with_lead_out(rearranged(side, fields))), wanted, (layout, changes))
+@pytest.mark.parametrize("layout, changes, gone, wanted", (
+    ("cav-pal", (0, 1, 0, 1), 0, "yes"), ("clv-pal", (0, 1, 0, 1), 0, "no"), ("cav-pal", (1, 0), 2, "no"),
+    ("cav-both", (1, 0), 2, "either"), *((layout, range(-8, 0), 0, "no") for layout in KINDS[:-1])))
+def test_fields_that_stand_otherwise(layout, changes, gone, wanted):
+    """A still is whole of a disc with pictures, a jump back isn't; fields that are swapped within a picture show only
+    if one of them has no number. Rows have the fields that are put before a first field with a number, counted from
+    there, and how many of those from it on are gone."""
+    side = played_through(1, layout, PICTURES)
+    at = next(field for field in range(100, 110) if side.numbers[field] is not None and side.first[field])
+    fields = [*range(at), *(at + change for change in changes), *range(at + gone, len(side.order))]
+    assert true_of(with_lead_out(rearranged(side, fields))) == wanted
 
-    def test_no_number_can_be_read(self):
-        side = with_lead_out(played_through(1, "cav-pal", PICTURES))
-        for record in side.document["fields"]:
-            record["vbi"]["vbiData"], record["vbiPass"] = [0, 0, 0], [0, 0, 0]
-        self.assertEqual(readable_in(Truth(side)), [])
-        self.assertEqual(true_of(side, may_end=True), "either")
 
-    def test_each_answer_beside_each_truth(self):
-        self.assertEqual([[column_of(said, true) for true in ("yes", "no", "either")]
-                          for said in ("yes", "no", "can't tell")],
-                         [["right", "false yes", "either"], ["false no", "right", "either"],
-                          ["can't tell of a yes", "can't tell of a no", "either"]])
+def test_no_number_can_be_read():
+    side = with_lead_out(played_through(1, "cav-pal", PICTURES))
+    for record in side.document["fields"]:
+        record["vbi"]["vbiData"], record["vbiPass"] = [0, 0, 0], [0, 0, 0]
+    assert readable_in(Truth(side)) == []
+    assert true_of(side, may_end=True) == "either"
 
-    def test_a_seed_has_one_kind(self):
-        self.assertEqual({kind_of(seed) for seed in range(3000)} & set(FAULTS), set(FAULTS))
-        self.assertEqual(*([kind_of(seed, ("twice", "one lost")) for seed in range(9)] for _ in (1, 2)))
+
+def test_each_answer_beside_each_truth():
+    assert [[column_of(said, true) for true in ("yes", "no", "either")] for said in ("yes", "no", "can't tell")] == [
+        ["right", "false yes", "either"], ["false no", "right", "either"],
+        ["can't tell of a yes", "can't tell of a no", "either"]]
+
+
+def test_a_seed_has_one_kind():
+    assert {kind_of(seed) for seed in range(3000)} & set(FAULTS) == set(FAULTS)
+    one, again = ([kind_of(seed, ("twice", "one lost")) for seed in range(9)] for _ in (1, 2))
+    assert one == again

@@ -1,6 +1,7 @@
 """Runs of the command that a signal stops at a random moment, from the one on in which the command heeds signals: the
 status is as documented, nothing is said, and nothing unfinished is left. `STOPPED_RUNS` has how many runs there are."""
 
+import contextlib
 import multiprocessing
 import os
 import random
@@ -8,18 +9,18 @@ import signal
 import subprocess
 import sys
 import time
-import unittest
 from multiprocessing import resource_tracker, util
 from unittest import mock
 
-from cases import in_database
-from command_runs import DEADLINE
 from compact import words_of
 from ldvbi_side import outside
 from ldvbi_side.command.processes import SideBySide
-from scanned import Scans
+import pytest
+from room import buffered, DEADLINE, in_database
 from streams import NTSC, worn_line
 from test_into import FORM
+
+pytestmark = pytest.mark.unrecorded
 
 RUNS, SEED = int(os.environ.get("STOPPED_RUNS", "60")), 20
 COMMANDS = (
@@ -47,100 +48,102 @@ def is_heeded(process):
     return bool(int(caught, 16) >> (signal.SIGTERM - 1) & 1) or process.poll() is not None
 
 
-class Stopped(Scans):
-    def setUp(self):
-        super().setUp()
-        for name in ("sides/side.tbc", "sides/other.tbc", "sides/third.tbc"):
-            fields = words_of("1..%d O" % (FIELDS // 2))
-            for place in range(4, FIELDS, 40):
-                fields[place][1:] = [worn_line(0xF00000 + place, NTSC, 10, 12)] * 2
-            self.add(name, fields)
-            self.metadata(name + ".json", count=len(fields), field={"vbi": {"vbiData": [0, 0, 0]}})
-        rows = [(place, place % 2) for place in range(FIELDS + 1)]
-        in_database(self.named("side.db"), *FORM.split(";"), *(
-            ("INSERT INTO field_record VALUES (4, ?, 0.5, ?, 17.25)", row) for row in rows))
-        self.inputs = self.all_files()
+@pytest.fixture
+def stopped(room):
+    for name in ("sides/side.tbc", "sides/other.tbc", "sides/third.tbc"):
+        fields = words_of("1..%d O" % (FIELDS // 2))
+        for place in range(4, FIELDS, 40):
+            fields[place][1:] = [worn_line(0xF00000 + place, NTSC, 10, 12)] * 2
+        room.add(name, fields)
+        room.metadata(name + ".json", count=len(fields), field={"vbi": {"vbiData": [0, 0, 0]}})
+    rows = [(place, place % 2) for place in range(FIELDS + 1)]
+    in_database(room.named("side.db"), *FORM.split(";"), *(
+        ("INSERT INTO field_record VALUES (4, ?, 0.5, ?, 17.25)", row) for row in rows))
+    room.inputs = all_files(room)
+    return room
 
-    def all_files(self):
-        """What is in each file of the folder, those of its folders with them."""
-        found = {}
-        for folder, _, names in os.walk(self.folder):
-            for path in (os.path.join(folder, name) for name in names):
-                found[os.path.relpath(path, self.folder)] = self.read(path)
-        return found
 
-    def new_files(self):
-        """Those that a run has written, which are taken away; what was there before is as it was."""
-        found = self.all_files()
-        for path, data in self.inputs.items():
-            self.assertEqual(found.pop(path, None), data, path)
-        for path in found:
-            os.unlink(self.named(path))
-        return found
+def all_files(stopped):
+    """What is in each file of the folder, those of its folders with them."""
+    found = {}
+    for folder, _, names in os.walk(stopped.folder):
+        for path in (os.path.join(folder, name) for name in names):
+            found[os.path.relpath(path, stopped.folder)] = stopped.read(path)
+    return found
 
-    def test_at_a_random_moment(self):
-        chance, wanted = random.Random(SEED), {}
-        for words in COMMANDS:
-            begun = time.monotonic()
-            status, printed, said = self.run_command(words)
-            self.assertEqual((said, status in (0, 1)), ("", True), words)
-            wanted[words] = (status, printed, self.new_files(), time.monotonic() - begun)
-        for run in range(RUNS):
-            words = COMMANDS[run % len(COMMANDS)]
-            number = chance.choice(list(STATUSES))
-            part, to_all = chance.random(), chance.random() < 0.5
-            with self.subTest((run, words, number, part, to_all)):
-                self.stopped_at(words, number, part * wanted[words][3], to_all, wanted[words])
 
-    def stopped_at(self, words, number, seconds, to_all, wanted):
-        """A run that gets this signal so many seconds after it began to heed it, with all of its processes or alone."""
-        whole_status, whole_text, whole_files, _ = wanted
-        process = self.started(words, start_new_session=True, preexec_fn=heed_all)
-        while not is_heeded(process):
-            time.sleep(0.001)
-        time.sleep(seconds)
+def new_files(stopped):
+    """Those that a run has written, which are taken away; what was there before is as it was."""
+    found = all_files(stopped)
+    for path, data in stopped.inputs.items():
+        assert found.pop(path, None) == data
+    for path in found:
+        os.unlink(stopped.named(path))
+    return found
+
+
+def test_at_a_random_moment(stopped):
+    chance, wanted = random.Random(SEED), {}
+    for words in COMMANDS:
+        begun = time.monotonic()
+        status, printed, said = stopped.run_command(words, env=buffered())
+        assert (said, status in (0, 1)) == ("", True)
+        wanted[words] = (status, printed, new_files(stopped), time.monotonic() - begun)
+    for run in range(RUNS):
+        words = COMMANDS[run % len(COMMANDS)]
+        number = chance.choice(list(STATUSES))
+        part, to_all = chance.random(), chance.random() < 0.5
+        stopped_at(stopped, words, number, part * wanted[words][3], to_all, wanted[words])
+
+
+def stopped_at(stopped, words, number, seconds, to_all, wanted):
+    """A run that gets this signal so many seconds after it began to heed it, with all of its processes or alone."""
+    whole_status, whole_text, whole_files, _ = wanted
+    process = stopped.started(words, start_new_session=True, preexec_fn=heed_all)
+    while not is_heeded(process):
+        time.sleep(0.001)
+    time.sleep(seconds)
+    with contextlib.suppress(ProcessLookupError):  # it has ended
         (os.killpg if to_all else os.kill)(process.pid, number)
-        try:
-            printed, said = process.communicate(timeout=60)
-        except subprocess.TimeoutExpired:
-            os.killpg(process.pid, signal.SIGKILL)
-            raise
-        files = self.new_files()
-        self.assertEqual(said.decode(), "")
-        self.assertIn(process.returncode, (STATUSES[number], whole_status, -number))
-        for path, data in files.items():
-            self.assertEqual(data, whole_files.get(path), path)
-        if process.returncode == STATUSES[number]:
-            self.assertTrue(whole_text.startswith(printed))
-        else:  # it had ended, or was ending
-            self.assertEqual((printed, files), (whole_text, whole_files))
+    try:
+        printed, said = process.communicate(timeout=60)
+    except subprocess.TimeoutExpired:
+        os.killpg(process.pid, signal.SIGKILL)
+        raise
+    files = new_files(stopped)
+    assert said.decode() == ""
+    assert process.returncode in (STATUSES[number], whole_status, -number)
+    for path, data in files.items():
+        assert data == whole_files.get(path)
+    if process.returncode == STATUSES[number]:
+        assert whole_text.startswith(printed)
+    else:
+        assert (printed, files) == (whole_text, whole_files)
 
 
 def waits(*_):
     time.sleep(DEADLINE)
 
 
-class Starting(unittest.TestCase):
-    def test_while_a_process_is_started(self):
-        """It is started whole, and ended before it has a job: one that is broken off says what it lacks."""
-        for number in (signal.SIGINT, signal.SIGTERM, signal.SIGHUP, signal.SIGALRM):
-            self.addCleanup(signal.signal, number, signal.getsignal(number))
-        self.addCleanup(setattr, sys, "unraisablehook", sys.unraisablehook)
-        heed_all()
-        resource_tracker.ensure_running()
-        for number in (signal.SIGINT, signal.SIGTERM, signal.SIGHUP):
-            ended, starts = [], util.spawnv_passfds
+def test_while_a_process_is_started(room):
+    """It is started whole, and ended before it has a job: one that is broken off says what it lacks."""
+    for number in (signal.SIGINT, signal.SIGTERM, signal.SIGHUP, signal.SIGALRM):
+        room.cleanup.callback(signal.signal, number, signal.getsignal(number))
+    room.cleanup.callback(setattr, sys, "unraisablehook", sys.unraisablehook)
+    heed_all()
+    resource_tracker.ensure_running()
+    for number in (signal.SIGINT, signal.SIGTERM, signal.SIGHUP):
+        ended, starts = [], util.spawnv_passfds
 
-            def stopped(*words, number=number, starts=starts):
-                process = starts(*words)
-                os.kill(os.getpid(), number)
-                sum(range(10))
-                return process
+        def stopped(*words, number=number, starts=starts):
+            process = starts(*words)
+            os.kill(os.getpid(), number)
+            sum(range(10))
+            return process
 
-            outside.end_in_order()
-            with self.subTest(number), mock.patch.object(util, "spawnv_passfds", stopped), \
-                    self.assertRaises(outside.Stopped) as raised, \
-                    SideBySide(waits, [1], 1, lambda task, _, ended=ended: ended.append(task)) as messages:
-                next(iter(messages))
-            self.assertEqual(raised.exception.status, 128 + number)
-            self.assertEqual((ended, multiprocessing.active_children()), ([], []))
+        outside.end_in_order()
+        with mock.patch.object(util, "spawnv_passfds", stopped), pytest.raises(outside.Stopped) as raised, \
+                SideBySide(waits, [1], 1, lambda task, _, ended=ended: ended.append(task)) as messages:
+            next(iter(messages))
+        assert raised.value.status == 128 + number
+        assert (ended, multiprocessing.active_children()) == ([], [])

@@ -6,8 +6,8 @@ ghost use Rattle.clap.specs.declared.builder.command.Command.TheViews.{out-Comma
 use clap::{Arg, ArgAction, Command, value_parser};
 use std::alloc::{AllocError, Global};
 
-/// What the program prints for `--version`, behind its name.
-const VERSION: &str = "0.2.0";
+/// What the program prints for `--version`, after its name. The plain Rust build says what it is there.
+const VERSION: &str = "0.2.0 (proved)";
 
 const ABOUT: &str =
     "Reads the biphase code words of LaserDiscs from fields in ld-decode's TBC format";

@@ -1,9 +1,9 @@
-//! A player: seeks, plays to the next stop, and prints the field, from 1, where it is then. Status 1: nothing is found.
+//! A player: seeks, plays to the next stop, and prints the field that it reaches, from 1. Status 1: nothing is found.
 //!     cargo run -- side.tbc NTSC 16384 51200 search 12345 play chapter 3 play search 0:59:29.07
 use ldvbi::{Counted, Levels, Place, Side, System};
 use std::{error::Error, fs::File, io, io::Write, os::unix::io::AsRawFd, process::ExitCode, ptr, slice};
 
-/// Maps a file until the program ends. Nobody may make it shorter meanwhile. Of its pages few are read, and none ahead.
+/// Maps a file until the program ends. Nobody may make it shorter meanwhile. Few of its pages are read, and none ahead.
 fn map(path: &str) -> io::Result<&'static [u8]> {
     let file = File::open(path)?;
     let size = file.metadata()?.len() as usize;

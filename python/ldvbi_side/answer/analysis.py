@@ -1,10 +1,10 @@
-"""What the words of a side mean: its numbers, what is missing, lost, repeated or doubtful, and where. Plain data in,
-an `Answer` (entries.py) out; docs/SIDES.md has the rules, docs/ANSWER.md the form that as_json.py gives the answer.
-Every output is a view of it.
+"""What the words of a side mean: its numbers, what is missing, lost, repeated or doubtful, and where. It takes plain
+data, and returns an `Answer` (entries.py). docs/SIDES.md has the rules, and share/schema/ldvbi-side.schema.json the
+form that as_json.py gives the answer. Every output is a view of it.
 
-Where the rules of docs/SIDES.md are: 1 in paces.py, 2 in readings.py, 3 and 4 in chain.py, 5 in numbers.py and
-places.py, 6 and the end of 4 in order.py, 7 in parts.py and readings.py, 8 in places.py, missing.py and confirmed.py, 9
-in clock.py. What the library says of the side is taken in by gaps.py."""
+The rules of docs/SIDES.md are in these modules: 1 in paces.py, 2 in readings.py, 3 and 4 in chain.py, 5 in numbers.py
+and places.py, 6 and the end of 4 in order.py, 7 in parts.py and readings.py, 8 in places.py, missing.py and
+confirmed.py, 9 in clock.py. gaps.py takes in what the library says of the side."""
 
 import operator
 from typing import Any, Dict, List, NamedTuple, Sequence
@@ -30,7 +30,8 @@ VERSION = 3  # of the answer's form
 
 
 class Analysis(NamedTuple):
-    """The answer, and where the numbers that are believed in it have breaks: more of these than the library reports."""
+    """The answer, and the breaks between the numbers that are believed in it: there are more of these than the library
+    reports."""
     answer: Answer
     breaks: List[Break]
 

@@ -1,6 +1,6 @@
-"""The answer as plain data, in the form that docs/ANSWER.md has: the members of each entry under their names there, in
-their order, with words and their kinds as texts. Nothing else knows these names but what reads the plain data: a page's
-lists."""
+"""The answer as plain data, in the form of share/schema/ldvbi-side.schema.json: the members of each entry under their
+names there, in their order, with words and their kinds as texts. Only what reads the plain data knows these names too:
+a page's lists."""
 
 import functools
 import re
@@ -32,7 +32,7 @@ def entries(ones: Sequence[Any]) -> List[Members]:
 
 
 def entry(one: Any, **others: Any) -> Members:
-    """An entry whose members are plain data but for these, which are given."""
+    """An entry as plain data. The members that are given replace its own."""
     return {**dict(zip(_names_of(one.__class__), one)), **others}
 
 

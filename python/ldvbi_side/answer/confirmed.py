@@ -1,5 +1,5 @@
-"""Due numbers that their lines bear nevertheless: a worn line shows no word, or another one, but the word that is
-nearest to it is that of the number. No margin is asked for, as the numbers around leave no other number."""
+"""Due numbers that their lines still show: a worn line shows no word, or another one, but its nearest word is that of
+the number. No margin is asked for, since the numbers around leave no other number."""
 
 from typing import Any, Dict, Optional, Tuple
 
@@ -15,7 +15,7 @@ _PILES: Dict[Optional[str], Tuple[Tuple[int, int], ...]] = {
 
 
 def with_confirmed(places: Places, nearest_word: Optional[NearestWord]) -> Places:
-    """The places, of whose due numbers those that are the nearest words of their lines count as shown."""
+    """The places, with each due number counted as shown if it is the nearest word of its lines."""
     unit = places.numbers.unit
     if nearest_word is None or unit.name not in _PILES:
         return places
@@ -36,7 +36,7 @@ def _is_nearest(number: int, field: int, unit: Unit, nearest_word: NearestWord) 
 
 
 def says(word: int, number: int, unit: Unit) -> bool:
-    """Whether a word says this number: of a time the second and the picture, as line 16 has them."""
+    """Whether a word says this number; for a time, the second and the picture, as line 16 has them."""
     wanted: Tuple[Kind, Any] = Kind.picture, number
     if unit.name == "time":
         seconds, part = divmod(number, unit.rate)

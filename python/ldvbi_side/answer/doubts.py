@@ -29,14 +29,15 @@ class Doubts(NamedTuple):
 
 
 class Beside(NamedTuple):
-    """Why a number that is set aside is doubtful, and the believed readings around, as the answer has them."""
+    """Why a number that is set aside is doubtful, and the believed readings around it, as the answer has them."""
     why: str
     before: Optional[Neighbour] = None
     after: Optional[Neighbour] = None
 
 
 class AllBeside:
-    """What is beside the fields of a side: between two believed readings the same, which is kept by their place."""
+    """What is beside the fields of a side. Between two believed readings it is the same, so it is kept by their
+    place."""
 
     def __init__(self, numbers: Numbers) -> None:
         self.numbers = numbers
@@ -44,8 +45,8 @@ class AllBeside:
         self.known: Dict[int, Optional[Neighbour]] = {-1: None, len(numbers.fields): None}  # believed readings by place
 
     def at(self, field: int, is_conflict: bool = False) -> Beside:
-        """What is beside a field, and why a number of it is set aside: because there is another one, or else by the
-        numbers around."""
+        """What is beside a field, and why a number of it is set aside: because there is another one, or else because of
+        the numbers around it."""
         fields = self.numbers.fields
         place = bisect.bisect_left(fields, field)
         is_believed = place < len(fields) and fields[place] == field
@@ -82,14 +83,15 @@ def doubts_in(codes: Codes, found: Found) -> Doubts:
 
 
 def doubts_of(codes: Codes, kind: Kind, field: int, lines: Lines, text: Any, beside: Beside) -> List[Doubt]:
-    """The words of these lines, which are of this kind, and whose number is this text."""
+    """The words of these lines, which are of this kind and whose number is this text."""
     words, passes, (why, before, after) = codes.fields.words[field - 1], codes.fields.passes[field - 1], beside
     return [_doubt((field, line, words[line - 16], kind, passes[line - 16], why, text, before, after))
             for line in lines]
 
 
 def conflict_of(field: int, said: Iterable[Tuple[Any, Lines]], taken: Any) -> Conflict:
-    """A field whose lines 17 and 18 have these numbers, each with its lines, of which one was taken, or none."""
+    """A field whose lines 17 and 18 have these numbers, each with its lines. `taken` is the number that was taken, or
+    None."""
     line17 = line18 = None
     for text, lines in said:
         line17 = text if 17 in lines else line17
@@ -98,8 +100,8 @@ def conflict_of(field: int, said: Iterable[Tuple[Any, Lines]], taken: Any) -> Co
 
 
 def read_in(doubtful: List[Doubt], fields: Collection[int]) -> Dict[int, Any]:
-    """What was read in these fields instead of a number that is due there, as text or number: of each field the first
-    word that is set aside, by its number or, where no clock shows that, by its digits."""
+    """What was read in these fields instead of a number that is due there, as text or number: the first word of each
+    field that is set aside, by its number or, if no clock shows that, by its digits."""
     found: Dict[int, Any] = {}
     for one in doubtful:
         if one.field in fields:
@@ -109,8 +111,7 @@ def read_in(doubtful: List[Doubt], fields: Collection[int]) -> Dict[int, Any]:
 
 def chapters_aside(codes: Codes, readings: List[Reading],
                    taken: Mapping[int, int]) -> Tuple[List[Doubt], List[Conflict]]:
-    """The chapters that aren't believed, and the fields whose lines differ. `taken` are the believed ones by
-    field."""
+    """The chapters that aren't believed, and the fields whose lines differ. `taken` has the believed ones by field."""
     doubtful: List[Doubt] = []
     said: Dict[int, Dict[Any, Lines]] = {}
     aside = {reading.field for reading in readings if taken.get(reading.field) != reading.number % 100}

@@ -1,5 +1,5 @@
 """The two ends of a side: whether it has fields for the numbers before its first one, and how far it goes on without
-numbers. By the answer's other members, and the library's reasons."""
+numbers. This is judged by the answer's other members and the library's reasons."""
 
 from typing import Any, Dict, NamedTuple, Optional, Tuple
 
@@ -15,9 +15,10 @@ LEFT_OUT = 2  # numbers that the clock of an NTSC disc leaves out in a minute, a
 
 
 class Begin(NamedTuple):
-    """How a side begins whose first number isn't the disc's: the number before which it lacks fields, how many these
-    are by the numbers (by minutes alone at least), and between which two fields, of which the first is 0 at the start
-    of the side; or else the first and the last of the fields there, where that can't be told."""
+    """How a side begins whose first number isn't the disc's. `lacks` is the number before which it lacks fields,
+    `fields` is how many these are by the numbers (by minutes alone, at least how many), and `after` and `before` are
+    the two fields around the place; `after` is 0 at the start of the side. If that can't be told, `unread` has the
+    first and the last of the fields there."""
     lacks: Any = None
     unread: Optional[Tuple[int, int]] = None
     fields: int = 0
@@ -26,8 +27,8 @@ class Begin(NamedTuple):
 
 
 def begin_of(answer: Answer, judged: Optional[JudgedSide], unit: Unit, is_strict: bool = False) -> Optional[Begin]:
-    """How a side begins, by the library, or of minutes alone by the fields before the first one; None where nothing is
-    to be said. With `is_strict` all from the disc's first number on have to be read, too."""
+    """How a side begins, by the library, or for minutes alone by the fields before the first one; None if there is
+    nothing to say. With `is_strict` all numbers from the disc's first one on have to be read, too."""
     least = answer.numbers.least
     if least is None:
         return None
@@ -58,8 +59,8 @@ def _fields_there(answer, field):
 
 
 def end_of(answer: Answer) -> Optional[Tuple[int, int]]:
-    """The first and the last field behind the last number and before the lead-out, or the end of the side, where they
-    are more than a scratch has."""
+    """The first and the last field after the last number and before the lead-out, or before the end of the side; None
+    if they are no more than a scratch has."""
     if not answer.showings:
         return None
     shown = answer.showings[-1].last
@@ -93,7 +94,7 @@ def _fields_before(number, answer):
 
 def ordinal_of(number: Any, rate: int) -> int:
     """A number of the answer as a count: a picture as it is, a minute in minutes, a time in pictures from the disc's
-    start, of which a second has as many as `rate`."""
+    start, with `rate` pictures a second."""
     if isinstance(number, int):
         return number
     clock, _, picture = number.partition(".")

@@ -1,7 +1,7 @@
-"""The answer of a side and the entries of its lists, under the names by which all of this package reads them;
-as_json.py gives them those of docs/ANSWER.md. A name that Python has taken ends with `_`. Numbers are as they are
-there: pictures are whole ones, times are texts. Words and their kinds are no texts here. Showings, breaks and stills
-are what `judge` makes (places.py), and so are stray and unknown words (readings.py)."""
+"""The answer for a side and the entries of its lists, under the names by which all of this package reads them;
+as_json.py gives them those of share/schema/ldvbi-side.schema.json. A name that Python has taken ends with `_`. Numbers
+are as they are there: pictures are whole numbers, times are texts. Words and their kinds are not texts here. `judge`
+makes showings, breaks and stills (places.py), and stray and unknown words (readings.py)."""
 
 from typing import Any, Dict, List, NamedTuple, Optional, Sequence, Set, Tuple
 
@@ -28,7 +28,7 @@ class Unread(NamedTuple):
 
 
 class Repeated(NamedTuple):
-    """Numbers that are shown again, their fields, and where the first was before."""
+    """Numbers that are shown again, their fields, and the earlier field of the first number."""
     first: Any
     last: Any
     field: int
@@ -37,7 +37,8 @@ class Repeated(NamedTuple):
 
 
 class Missing(NamedTuple):
-    """Numbers that no field has, `count_` of them, why, and the first fields of those around."""
+    """Numbers that no field has: the first and the last one, how many (`count_`), why, and the first fields of the
+    numbers around them."""
     first: Any
     last: Any
     count_: int
@@ -47,7 +48,7 @@ class Missing(NamedTuple):
 
 
 class Lost(NamedTuple):
-    """How many fields are lost between two, or None where that isn't known, and by what that is known."""
+    """How many fields are lost between two, or None if that isn't known, and how that is known."""
     after: int
     before: int
     fields: Optional[int]
@@ -76,8 +77,8 @@ class Neighbour(NamedTuple):
 
 
 class Doubt(NamedTuple):
-    """A word that is set aside, its pass, why, its number, or None where no clock shows it, and the believed numbers
-    around."""
+    """A word that is set aside: its pass, why, its number, or None if no clock shows it, and the believed numbers
+    around it."""
     field: int
     line: int
     word: int
@@ -89,7 +90,7 @@ class Doubt(NamedTuple):
     after: Optional[Neighbour]
 
     def said(self) -> Any:
-        """What was read: the number or, where no clock shows that, the word by its digits."""
+        """What was read: the number or, if no clock shows that, the word by its digits."""
         return "%06X" % self.word if self.number is None else self.number
 
 
@@ -102,8 +103,8 @@ class Conflict(NamedTuple):
 
 
 class SecondRow(NamedTuple):
-    """Numbers that are set aside and fit each other, `count_` of them, their fields and their weight, and that of the
-    believed ones in their fields."""
+    """Numbers that are set aside and fit each other: how many (`count_`), their fields, their weight, and the weight of
+    the believed ones in these fields."""
     first: Any
     last: Any
     field: int
@@ -116,7 +117,8 @@ class SecondRow(NamedTuple):
 # ---- The disc's other parts
 
 class Chapter(NamedTuple):
-    """A stretch of a chapter, from `field` to `last`, the last field of the one before, its first number and frame."""
+    """A stretch of a chapter from `field` to `last`, the last field of the chapter before it, its first number, and its
+    first frame."""
     chapter: int
     field: int
     last: int
@@ -126,7 +128,7 @@ class Chapter(NamedTuple):
 
 
 class Stop(NamedTuple):
-    """A picture stop that is believed, its picture, or None, and the lines that show it."""
+    """A picture stop that is believed: its picture, or None, and the lines that show it."""
     field: int
     frame: int
     number: Any
@@ -161,7 +163,7 @@ class Users(NamedTuple):
 # ---- Lines
 
 class BadLine(NamedTuple):
-    """A line that shows no word of its own and isn't blank, its cause, with that one's column, or None, and its place
+    """A line that shows no word of its own and isn't blank: its cause, the column of that cause, or None, and its place
     in the TBC file, in bytes."""
     field: int
     line: int
@@ -172,7 +174,7 @@ class BadLine(NamedTuple):
 
 
 class Rates(NamedTuple):
-    """How many fields show what on a line; `near` are the recovered words."""
+    """How many fields show each outcome on a line; `near` are the recovered words."""
     pass1: int
     pass2: int
     near: int
@@ -186,13 +188,13 @@ class Rates(NamedTuple):
         return self.pass1 + self.pass2 + self.near
 
     def bad(self) -> int:
-        """How many fields have no word of it, and show something."""
+        """How many fields show something on the line, but no word."""
         return self.change + self.hold + self.unfinished
 
 
 class Best(NamedTuple):
-    """The system and the levels by which most lines are read, as far as they differ from the side's, else None, and how
-    many lines these are."""
+    """The system and the levels by which most lines are read, each None unless it differs from the side's, and how many
+    lines these are."""
     system: Optional[str]
     black: Optional[int]
     white: Optional[int]
@@ -200,7 +202,8 @@ class Best(NamedTuple):
 
 
 class Tried(NamedTuple):
-    """How many of some lines are read by the side's levels, and by what more of them are read, or None."""
+    """How many of some lines are read by the side's levels, and the system and levels by which more of them are read,
+    or None."""
     lines: int
     read: int
     black: int
@@ -209,8 +212,8 @@ class Tried(NamedTuple):
 
 
 class FewWords(NamedTuple):
-    """What lines 17 and 18 show where they have few words, by how many of each, one of these lines, and what other
-    levels read, or None. `shows` is `blank` or `bad`."""
+    """What lines 17 and 18 show if they have few words: how many of each, one of these lines, and what other levels
+    read, or None. `shows` is `blank` or `bad`."""
     shows: str
     words: int
     bad: int
@@ -223,14 +226,14 @@ class FewWords(NamedTuple):
 # ---- The whole
 
 class Ground(NamedTuple):
-    """Why a side isn't whole, by a word and by a text, and what that alone would make of the side."""
+    """Why a side isn't whole, as a word and as a text, and what this alone would make of the side."""
     why: str
     whole: str
     text: str
 
 
 class Answer(NamedTuple):
-    """All that is said of a side. Each list ascends by field, `missing` and `left_out` by number."""
+    """The whole answer for a side. Each list ascends by field, but `missing` and `left_out` by number."""
     version: int
     system: str
     format: str
@@ -278,6 +281,6 @@ class Answer(NamedTuple):
 
 
 def frame_of(field: int, begin: int) -> int:
-    """The frame of a field, from 1: a pair of fields, counted from `begin`, the first field that begins one; 0 for a
-    field before."""
+    """The frame of a field, from 1. A frame is a pair of fields, counted from `begin`, the first field that begins one.
+    It is 0 for a field before that."""
     return max((field - begin) // 2 + 1, 0)

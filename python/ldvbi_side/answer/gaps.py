@@ -1,6 +1,6 @@
 """What the library says of the side: where numbers and fields don't go on together, and whether the capture is whole.
 What is found here besides may explain a gap: the clock of an NTSC disc (rule 9), another speed (rule 6), and which
-field of a picture was read where both have its number. A gap is left out only if it is explained."""
+field of a picture was read if both have its number. A gap is left out only if it is explained."""
 
 import bisect
 from typing import Dict, List, NamedTuple, Optional, Tuple
@@ -17,12 +17,15 @@ UNSEEN = 24  # fields without a number in which a player is known to have stood 
 
 class Gaps(NamedTuple):
     """Where numbers and fields don't go on together, as breaks with numbers as counts.
-    `judged` is the library's answer, or None of minutes alone, which it doesn't judge. `breaks` are lost fields, fields
-    too many, and jumps back; `open` are gaps where the disc itself may skip, `joins` those between two sides.
-    `at_speed` are those that another speed explains: there the breaks are those of the numbers that are believed here.
-    `more` is how many fields there are more than the first number and the last count to, or, negative, fewer, if the
-    library reports without a gap that numbers don't count to each other, and nothing here explains it; else None. It is
-    0 if they don't only over a stretch between these two."""
+
+    `judged` is the library's answer, or None for minutes alone, which it doesn't judge. `breaks` are lost fields,
+    fields too many, and jumps back. `open` are gaps where the disc itself may skip, and breaks at an end, for which the
+    library knows no gap. `joins` are gaps between two sides. `at_speed` are gaps that another speed explains: there the
+    breaks are those of the numbers that are believed here.
+
+    `more` is set if the library reports without a gap that numbers don't count to each other, and nothing here explains
+    it; else it is None. It is how many more fields there are than the first number and the last count to, or, if
+    negative, how many fewer. It is 0 if these two count to each other, and only a stretch between them doesn't."""
     judged: Optional[JudgedSide]
     breaks: List[Break]
     more: Optional[int] = None
@@ -32,8 +35,8 @@ class Gaps(NamedTuple):
 
 
 def gaps_of(places: Places, shown: ByField) -> Gaps:
-    """The gaps that the library reports, less those that are explained; of minutes alone the breaks that are known
-    here. `shown` are the picture numbers that fields show, with their lines."""
+    """The gaps that the library reports, without those that are explained; for minutes alone the breaks that are known
+    here. `shown` has the picture numbers that fields show, with their lines."""
     judged = places.numbers.judged
     if judged is None:
         return Gaps(None, places.breaks)
@@ -51,6 +54,8 @@ def gaps_of(places: Places, shown: ByField) -> Gaps:
     if judged.reasons & Reason.no_numbers:
         # What this package believes besides may show a loss, if too little for the library was read.
         found["breaks"] = places.breaks
+    found["open"] = sorted(found["open"] + [one for one in places.breaks if is_outside(judged, one)],
+                           key=lambda one: one.after)
     if not judged.reasons & Reason.is_off or judged.reasons & _BY_GAPS:
         return Gaps(judged, more=None, **found)
     known = _off_in(places, judged)
@@ -61,6 +66,15 @@ def gaps_of(places: Places, shown: ByField) -> Gaps:
     else:
         is_explained = not (judged.tally.stills or _shifts(judged))
     return Gaps(judged, more=None if known or is_explained else _more(judged), **found)
+
+
+def is_outside(judged: JudgedSide, one: Break) -> bool:
+    """Whether a break stands before the first number that the library believes, which has fields for all numbers before
+    it, or after the last one. The library knows of no gap there."""
+    if judged.first is None or judged.last is None:
+        return False
+    is_before = one.before <= judged.first + 1 and not judged.reasons & Reason.begins_late
+    return is_before or one.after > judged.last
 
 
 def _off_in(places, judged):

@@ -1,4 +1,4 @@
-"""What the lines of a side show where they show no word, and what that says of the levels they were read with."""
+"""What the lines of a side show if they show no word, and what that says of the levels with which they were read."""
 
 import operator
 from collections import Counter
@@ -30,7 +30,7 @@ def bad_lines_of(fields: Fields) -> List[BadLine]:
 
 
 def rates_of(fields: Fields) -> Dict[int, Rates]:
-    """Of each line how many fields show what."""
+    """For each line, how many fields show each outcome."""
     rates = {}
     alike = Counter(zip(fields.causes, fields.passes))  # many fields are
     for place, line in enumerate(LINES):
@@ -43,8 +43,8 @@ def rates_of(fields: Fields) -> Dict[int, Rates]:
 
 
 def levels_of(rates: Dict[int, Rates], bad: List[BadLine], fields: Fields) -> Optional[FewWords]:
-    """Whether the side was read with wrong levels: None where lines 17 and 18 show words of their own enough, else what
-    they show instead, a line to look at, and what other levels read of some lines, where their samples are at hand."""
+    """Whether the side was read with wrong levels: None if lines 17 and 18 show enough words of their own; else what
+    they show instead, a line to look at, and what other levels read of some lines, if their samples are at hand."""
     shown = Rates(*map(operator.add, rates[17], rates[18]))
     words, count = shown.pass1 + shown.pass2, len(fields.words)
     if not count or FEW * words >= 2 * count:

@@ -1,5 +1,5 @@
-"""Numbers that no field has, and whether each is lost or unread, by the fields that are there for it; fields that are
-lost, by the gaps; numbers that are shown again."""
+"""Numbers that no field has, each lost or unread, by whether there are fields for it; fields that are lost, by the
+gaps; and numbers that are shown again."""
 
 import bisect
 from typing import Any, Dict, Iterator, List, NamedTuple, Optional, Sequence, Set, Tuple
@@ -19,8 +19,8 @@ FAR = 10  # numbers passed over to one that fields may be there for: from here o
 
 
 def missing_of(places: Places, gaps: Gaps, codes: Codes) -> Tuple[List[Missing], List[Missing]]:
-    """The numbers between the least and the greatest that no field has, in stretches of one reason; and those that were
-    left out by the disc's clock. None is lost but in a gap that lacks fields."""
+    """The numbers between the least and the greatest that no field has, in stretches of one reason; and those that the
+    disc's clock left out. A number is lost only in a gap that lacks fields."""
     firsts, losses = _first_fields(places.showings), _Losses(gaps, places.numbers.unit)
     passed, unread = _passed_over(places, losses, gaps, codes), {number for number, _ in places.due}
     unread |= places.without_field
@@ -43,8 +43,8 @@ def missing_of(places: Places, gaps: Gaps, codes: Codes) -> Tuple[List[Missing],
 
 
 def missing_before(places: Places, codes: Codes, begin: Begin) -> List[Missing]:
-    """The numbers before the least one that aren't there since the side lacks fields before it, as `missing_of` has
-    those that are passed over."""
+    """The numbers before the least one that aren't there because the side lacks fields before it, in the form of
+    `missing_of`."""
     unit = places.numbers.unit
     first, number = first_of(unit.name, unit.rate), ordinal_of(begin.lacks, unit.rate)
     one = Break("lost", begin.after, begin.before, first - 1, number, begin.fields)
@@ -102,16 +102,16 @@ def _stretch(stretch, unit):
 # ---- Lost or unread
 
 class Passed(NamedTuple):
-    """Numbers from the first to the last that are passed over between two fields. For as many of them as `spare` there
-    are fields in between in which they may stand; `is_lost` says whether so many fields are lost that one of them may
-    be, too, or is None where that isn't known."""
+    """Numbers from the first to the last that are passed over between two fields. For `spare` of them there are fields
+    between in which they may stand. `is_lost` says whether enough fields are lost that one of them may be lost, too; it
+    is None if that isn't known."""
     first: int
     last: int
     spare: int
     is_lost: Optional[bool]
 
     def parts(self) -> Iterator[Tuple[str, int, int]]:
-        """Why they aren't there, from which one to which."""
+        """Why they aren't there, each reason with the first and the last number."""
         yield "lost", self.first, self.last
         if not self.is_lost:
             yield "undecided" if self.is_lost is None else "unread", self.first, self.last
@@ -123,8 +123,8 @@ class Passed(NamedTuple):
 
 
 class PassedOver:
-    """Why numbers aren't there that were passed over, by spans of numbers in the order of their weight: of a number
-    that was passed over more than once a field for it is enough. Of one in no span it isn't known."""
+    """Why numbers that were passed over aren't there, by spans of numbers in the order of their weight. If a number was
+    passed over more than once, one field for it is enough. If it is in no span, the reason isn't known."""
 
     def __init__(self, spans: List[Tuple[str, List[Tuple[int, int]]]]) -> None:
         ends = [(why, _merged(ones)) for why, ones in spans]
@@ -134,12 +134,12 @@ class PassedOver:
                                      for begin in self.begins)]
 
     def why(self, number: int) -> str:
-        """A number that is between those of two sides alone isn't one of either."""
+        """Why a number isn't there. One that is only between the numbers of two sides is of neither."""
         return self._whys[bisect.bisect(self.begins, number)]
 
 
 def _merged(spans):
-    """Where these spans begin and end, in turn: in one of them is what lies behind an odd count of these."""
+    """Where these spans begin and end, in turn: in one of them is what lies after an odd count of these."""
     ends = []
     for first, last in sorted(spans):
         if ends and first <= ends[-1]:
@@ -199,8 +199,8 @@ def _fate(one, numbers, fields):
 # ---- Lost fields
 
 def lost_fields(places: Places, gaps: Gaps, first: Sequence[bool]) -> List[Lost]:
-    """Where fields are lost: by the gaps, and between the first number and the last by two fields of one parity in a
-    row, where `first` says of each field whether it is the first one of its frame."""
+    """Where fields are lost: by the gaps, and, between the first number and the last, by two fields of one parity in a
+    row. `first` says of each field whether it is the first one of its frame."""
     lost = [Lost(one.after, one.before, one.fields, by)
             for by, ones in (("number", gaps.breaks), ("undecided", gaps.open))
             for one in ones if one.kind == "lost"]
@@ -219,9 +219,9 @@ def _is_between_sides(places, gaps, field):
 
 
 def own_breaks(places: Places) -> List[Break]:
-    """The breaks of the numbers that are believed here. Of a picture that was read in one of its two fields it isn't
-    known in which. So where one field is lost, such pictures before the loss may stand behind it, if their field is
-    taken for the first one. (The chain of numbers has the break as late as it can be.)"""
+    """The breaks of the numbers that are believed here. If a picture was read in one of its two fields, it isn't known
+    in which. So if one field is lost, such pictures before the loss may stand after it, if their field is taken for the
+    first one. (The chain of numbers has the break as late as it can be.)"""
     pace = places.numbers.pace
     if not pace or pace.kind != "both":
         return places.breaks
@@ -239,7 +239,7 @@ def _first_after(numbers, after):
 
 
 def _swapped_parity(numbers, first):
-    """The fields that have the parity of the one before since two are swapped: the first of these, and the one behind
+    """The fields that have the parity of the one before since two are swapped: the first of these, and the one after
     both."""
     found = set()
     for begin in pairs_of(numbers.swapped):
@@ -268,7 +268,7 @@ def _with_parity(lost, fields):
 
 def repeated_of(places: Places) -> List[Repeated]:
     """Numbers that are shown again, in stretches. A number that is due in a damaged field counts as shown there, so
-    that damage doesn't break a stretch."""
+    damage doesn't break a stretch."""
     shown = places.showings + [Showing(number, field, field) for number, field in places.due]
     if places.numbers.pace and places.numbers.pace.kind == "both":  # of a swapped pair the pictures' other fields count
         shown = [one for one in shown if one.first not in places.numbers.swapped]

@@ -1,4 +1,4 @@
-"""The parts of a disc beside its numbers: chapters, picture stops, lead-in and lead-out, programme status, users'
+"""The parts of a disc other than its numbers: chapters, picture stops, lead-in and lead-out, programme status, users'
 codes."""
 
 import bisect
@@ -60,7 +60,7 @@ def _in_order(sure):
 
 
 def _inside(found, sure):
-    """The fields whose chapter is sure, as the same one is before and behind them: of most chapters all but two."""
+    """The fields whose chapter is sure, as the same one is before and after them: of most chapters all but two."""
     numbers = list(map(sure.get, found))
     return {field for field, before, one, after in zip(list(found)[1:], numbers, numbers[1:], numbers[2:])
             if before == one == after is not None and len(found[field]) == 1}
@@ -81,10 +81,10 @@ def _chapters(believed, places, begin):
 # ---- Lead-in and lead-out
 
 def ends_of(codes: Codes, kind: Kind, numbers: Numbers) -> Tuple[List[Stretch], List[Stray]]:
-    """The stretches of fields with a code of lead-in or lead-out, and the lines on which that is stray. A stretch ends
-    before a believed number, before more than two fields with a number or a chapter, or before a hundred fields without
-    its code. Such a code in a field with a number, or between two numbers that fit each other, is stray. Two minutes
-    that fit leave room for a lead-in: between them a single field with the code is stray."""
+    """The stretches of fields with a code of lead-in or lead-out, and the lines on which that code is stray. A stretch
+    ends before a believed number, before more than two fields with a number or a chapter, or before a hundred fields
+    without its code. Such a code is stray in a field with a number, or between two numbers that fit each other. Two
+    minutes that fit leave room for a lead-in: between them a single field with the code is stray."""
     others = sorted(set().union(*(codes.kinds[one] for one in _OTHERS)))
 
     def is_one_with(last: int, field: int, place: int) -> bool:
@@ -113,8 +113,8 @@ def ends_of(codes: Codes, kind: Kind, numbers: Numbers) -> Tuple[List[Stretch], 
 
 def stops_of(codes: Codes, places: Places, begin: int) -> Tuple[List[Stop], List[Stray]]:
     """The fields with a picture stop, each with its picture, and the lines on which a stop isn't believed, as stray
-    ones. As the library's judge does, it believes a stop that line 16 or 17 shows in pass 1, or that both show. `begin`
-    is the first field that begins a frame."""
+    ones. A stop is believed as by the library's judge: if line 16 or 17 shows it in pass 1, or both show it. `begin` is
+    the first field that begins a frame."""
     found: List[Stop] = []
     stray: List[Stray] = []
     for field, values in sorted(codes.kinds[Kind.picture_stop].items()):
@@ -127,12 +127,12 @@ def stops_of(codes: Codes, places: Places, begin: int) -> Tuple[List[Stop], List
 
 
 def status_of(codes: Codes) -> List[Status]:
-    """The programme status codes that differ: whether CX is on, and the three digits behind that as they are."""
+    """The different programme status codes: whether CX is on, and the three digits after that as they are."""
     return [Status(word >> 12 == 0x8DC, "%03X" % (word & 0xFFF), *fields)
             for word, *fields in codes.words_of((Kind.cx_on, Kind.cx_off))]
 
 
 def users_of(codes: Codes) -> List[Users]:
-    """The users' codes that differ."""
+    """The different users' codes."""
     return [Users(word >> 16 & 7, "%03X" % (word & 0xFFF), *fields)
             for word, *fields in codes.words_of((Kind.users,))]

@@ -1,4 +1,4 @@
-"""What a page says of its side in its head: what a row of `scan` has of it, and how the side was read."""
+"""What the head of a page says of its side: what a row of `scan` has of it, and how the side was read."""
 
 import os
 from typing import Any, Dict, Optional, Sequence
@@ -10,8 +10,8 @@ from .whole import counted, counted_by, lost_fields_text
 
 
 def said_of(answer: Answer, path: Optional[str] = None, words: Sequence[str] = ()) -> Dict[str, Any]:
-    """This of the answer for a side, as plain data. `path` is the file that it was read from, None of standard input,
-    and `words` are the options by which it was read."""
+    """This part of the answer for a side, as plain data. `path` is the file from which it was read, None for standard
+    input, and `words` are the options with which it was read."""
     tried = answer.levels and answer.levels.tried
     return {"version": answer.version, "whole": answer.whole, "reasons": entries(answer.reasons),
             "system": answer.system, "format": answer.format, "unit": answer.unit, "fields": answer.fields,

@@ -1,5 +1,5 @@
-"""Whether a capture is whole: `yes`, `no`, or `can't tell`, of which the last two have reasons in order of weight. They
-are the library's reasons, and what the answer's other members say beyond gaps."""
+"""Whether a capture is whole: `yes`, `no`, or `can't tell`. The last two have reasons in order of weight: the
+library's, and what the answer's other members say beyond gaps."""
 
 import bisect
 from collections import Counter, defaultdict
@@ -9,7 +9,7 @@ from ldvbi import Kind, Reason, State
 from ..judge.paces import Unit
 from .ends import begin_of, end_of, is_end_seen, ordinal_of
 from .entries import Answer, Ground
-from .gaps import Gaps
+from .gaps import Gaps, is_outside
 
 YES, NO, OPEN = "yes", "no", "can't tell"
 UNITS: Dict[Optional[str], str] = {"picture": "pictures", "time": "times", "minute": "minutes"}
@@ -19,10 +19,10 @@ SHARE = 10  # numbers to one that is set aside, at most, where what was read sho
 
 
 def reasons_of(answer: Answer, gaps: Gaps, unit: Unit, is_strict: bool = False, may_end: bool = False) -> List[Ground]:
-    """Why a side with this answer and these gaps isn't whole, or why that can't be told, in order of weight: `why` is a
-    word for programs, `text` says it, and `whole` is what the reason alone would make of the side. Each reason that the
-    library has is among them, if nothing explains it. Numbers that weren't read while their fields are there are no
-    reason, nor is it that there is no lead-in, unless `is_strict`; nor that there is no lead-out, if it `may_end`."""
+    """Why a side with this answer and these gaps isn't whole, or why that can't be told, in order of weight. `why` is a
+    word for programs, `text` says it, and `whole` is what the reason alone would make of the side. Each reason of the
+    library is among them, unless something explains it. Unread numbers whose fields are there are no reason unless
+    `is_strict`, and neither is a lack of lead-in. A lack of lead-out is no reason if it `may_end`."""
     begin = begin_of(answer, gaps.judged, unit, is_strict)
     known = [_lost(answer), _jumps(answer), _speed(answer), _missing(answer), _swapped(answer, gaps.judged),
              _begins(answer, begin)]
@@ -42,23 +42,23 @@ def whole_of(reasons: List[Ground]) -> str:
 
 
 def other_file(answer: Answer) -> bool:
-    """Whether the bytes that were read aren't those that the metadata speaks of: of another count of fields, or no
-    whole number of them. Then the levels needn't be wrong."""
+    """Whether the bytes that were read aren't those that the metadata describes: another count of fields, or no whole
+    number of them. Then the levels needn't be wrong."""
     return answer.cut_field is not None or answer.metadata_fields not in (None, answer.fields)
 
 
 def counted(count: int, name: str) -> str:
-    """A count with its name, in the plural where it isn't 1."""
+    """A count with its name, in the plural unless it is 1."""
     return "%d %s%s" % (count, name, "" if count == 1 else "s")
 
 
 def counted_by(answer: Answer, why: str) -> int:
-    """How many numbers that no field shows are `lost`, `unread` or `undecided`."""
+    """How many of the numbers that no field shows are `lost`, `unread` or `undecided`."""
     return sum(one.count_ for one in answer.missing if one.why == why)
 
 
 def lost_fields_text(answer: Answer) -> str:
-    """How many fields are lost for sure; nothing where none is. Of minutes alone the least is known."""
+    """How many fields are lost for sure; empty if none is. For minutes alone only the least count is known."""
     lost = [one for one in answer.lost if one.by != "undecided"]
     least = "at least " if answer.unit == "minute" else ""
     more = " or more" if any(one.fields is None for one in lost) else ""
@@ -140,7 +140,7 @@ def _ends(answer, may_end):
 
 
 def _joined(answer, gaps):
-    """Lead-in behind a number, or lead-out before one: two sides in one capture, or two runs of one."""
+    """Lead-in after a number, or lead-out before one: two sides in one capture, or two runs of one."""
     found = _end_between(answer)
     if not found and gaps.joins:
         found = "joined", "another side begins after field %d" % gaps.joins[0].after
@@ -155,7 +155,7 @@ def _end_between(answer):
     if again:
         return "joined", "lead-in again in field %d (two sides joined)" % again[0]
     early = [one.first for one in answer.lead_out if one.last < showings[-1].last]
-    return ("joined", "lead-out in field %d, and numbers behind it (two sides joined)" % early[0]) if early else None
+    return ("joined", "lead-out in field %d, and numbers after it (two sides joined)" % early[0]) if early else None
 
 
 def _other_format(answer):
@@ -199,7 +199,8 @@ def _open(answer, gaps):
     what = "%s may be %s after field %d" % (
         counted(one.fields, "field"), "lost" if one.kind == "lost" else "too many", one.after)
     more = " and in %s" % counted(len(gaps.open) - 1, "more place") if len(gaps.open) > 1 else ""
-    why = ("the disc's clock left out a number" if answer.unit == "time" else
+    why = ("fields are swapped there" if gaps.judged and is_outside(gaps.judged, one) else
+           "the disc's clock left out a number" if answer.unit == "time" else
            "the film is cut there" if answer.pace == "film" else "lines 17 and 18 count apart there")
     return "open", "%s%s, or %s" % (what, more, why)
 
@@ -216,7 +217,7 @@ def _end_unseen(answer, judged, is_accepted):
     if is_accepted or not answer.showings or judged and judged.reasons & Reason.no_numbers:
         return None
     is_unseen = judged.reasons & Reason.end_unseen if judged else not is_end_seen(answer)
-    return ("lead-out", "no lead-out: the disc may go on behind %s %s" % (answer.unit, answer.showings[-1].number)
+    return ("lead-out", "no lead-out: the disc may go on after %s %s" % (answer.unit, answer.showings[-1].number)
             ) if is_unseen else None
 
 
@@ -235,7 +236,7 @@ def _unread_at(fields):
 
 
 def _order(answer):
-    """On film a number one field before or behind its place, while those around it go on as before. Either two fields
+    """On film a number one field before or after its place, while those around it go on as before. Either two fields
     are swapped there, or the film is cut twice within three pictures. Two pictures of film have five fields, so each
     even number is compared with even ones, and each odd one with odd ones."""
     if answer.pace != "film":

@@ -1,4 +1,4 @@
-"""The command `ldvbi-side`: its options, and what each of them writes of the judge's answer. Read in this order:
+"""The command `ldvbi-side`: its options, and what each of them writes from the judge's answer. Read in this order:
 
 statuses, parser, faults, summary, tables, map, chapters, outputs, folders, join, progress, into, processes, rows,
 parsers, scan, main

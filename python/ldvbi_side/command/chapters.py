@@ -1,4 +1,4 @@
-"""The chapters of a side for encoders and players, as ffmpeg's metadata, or for editors of sound, as Audacity's labels;
+"""The chapters of a side for encoders and players, as ffmpeg's metadata, or for sound editors, as Audacity's labels.
 docs/FORMATS.md has both forms."""
 
 import bisect
@@ -11,15 +11,15 @@ FIELD_SECONDS = {"NTSC": (1001, 60000), "PAL": (1, 50)}  # how long a field is, 
 
 
 class Span(NamedTuple):
-    """A stretch of a chapter, from a field to the one before which it ends, both counted from 0."""
+    """A stretch of a chapter, from its first field to the field before which it ends, both counted from 0."""
     chapter: int
     begin: int
     end: int
 
 
 def chapter_spans(answer: Answer) -> Iterator[Span]:
-    """The stretches of believed chapters. Each one goes on up to the next one, to lead-out, to lead-in, or to the end
-    of the side: of its last fields the codes may be unread."""
+    """The stretches of believed chapters. Each goes on to the next one, to lead-out, to lead-in, or to the end of the
+    side, since the codes of its last fields may be unread."""
     begins = [one.field for one in answer.chapters] + [one.first for one in answer.lead_out + answer.lead_in]
     ends = sorted([begin - 1 for begin in begins] + [answer.fields])
     for one in answer.chapters:

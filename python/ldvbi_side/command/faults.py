@@ -1,4 +1,4 @@
-"""What goes wrong, as a line that begins with the name of the file, in words that say what was looked for there."""
+"""What goes wrong, as a line that begins with the name of the file, and says what was looked for there."""
 
 import argparse
 import contextlib
@@ -10,11 +10,12 @@ from ldvbi.packed import ENDS, packed_as, refuse_packed
 
 STANDARD_INPUT, STANDARD_OUTPUT = "standard input", "standard output"
 SETTINGS = "give --meta, or --system, --black and --white"
-OF_TBC = "a document has its system and levels; they are options of a TBC file"
+OF_TBC = "a document has its system and levels; they are options for a TBC file"
 
 
 def fault_text(error: Exception) -> str:
-    """The text of a fault: that of the system behind the file's name, and without the system's number for it."""
+    """The text of a fault. If it comes from the system, it begins with the file's name and leaves out the system's
+    number for it."""
     if not isinstance(error, OSError) or not error.strerror:
         return str(error)
     # What is opened or written elsewhere has its name.
@@ -24,7 +25,7 @@ def fault_text(error: Exception) -> str:
 
 @contextlib.contextmanager
 def naming(name: str) -> Iterator[None]:
-    """Has what goes wrong in the block begin with the name of its file, if it doesn't yet."""
+    """Makes a fault in the block begin with the name of its file, unless it does already."""
     try:
         yield
     except UnicodeDecodeError:
@@ -43,7 +44,7 @@ _UNPACKS = {"gzip": "zcat", "zstd": "zstdcat", "xz": "xzcat", "bzip2": "bzcat", 
 
 
 def refuse_packed_side(options: argparse.Namespace, begin: bytes) -> None:
-    """Raises a ValueError where a side begins with these bytes, and is compressed: with the command that reads it, if
+    """Raises a ValueError if a side begins with these bytes and is compressed. It names the command that reads it, if
     there is one."""
     path, form = options.side, packed_as(begin)
     name = next((path[:-len(end)] for end in ENDS if path.endswith(end)), path)
@@ -56,7 +57,7 @@ def refuse_packed_side(options: argparse.Namespace, begin: bytes) -> None:
 
 
 def refuse_no_document(options: argparse.Namespace, begin: bytes) -> None:
-    """Raises a ValueError where standard input begins with these bytes, and isn't text, as a TBC file."""
+    """Raises a ValueError if standard input begins with these bytes and isn't text, as a TBC file isn't."""
     if begin.strip() and not begin.lstrip().startswith(b"{"):
         extract = _extract(options, "side.tbc") or "ldvbi extract --meta side.tbc.json | "
         raise ValueError("%s is no document; make one of a TBC file: %sldvbi-side -" % (STANDARD_INPUT, extract))
@@ -76,13 +77,13 @@ def _extract(options, name):
 
 
 def refuse_folder(path: str) -> None:
-    """Raises a ValueError where a folder is given as a side."""
+    """Raises a ValueError if a folder is given as a side."""
     if os.path.isdir(path):
         raise ValueError("%s is a folder: ldvbi-side scan %s" % (path, shlex.quote(path)))
 
 
 def no_metadata(path: str) -> str:
-    """What was looked for beside a TBC file, and isn't there."""
+    """The fault that what was looked for beside a TBC file isn't there."""
     name = os.path.basename(path)
     if not name.endswith(".tbc"):
         return "no metadata is looked for beside a name that doesn't end with .tbc"

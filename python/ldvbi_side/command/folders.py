@@ -1,38 +1,42 @@
-"""Which files of folders are sides, what there is to do for each, and how the pages of sides are named."""
+"""Which files of folders are sides, what there is to do for each of them, and the names of their pages."""
 
 import itertools
 import os
 from typing import Dict, Iterable, List, Mapping, NamedTuple, Optional, Sequence, Tuple
 
+from ldvbi.packed import ENDS
+
 TBC, DOCUMENT = ".tbc", ".vbi.json"
 MOST_OF_NAME = 200  # bytes; a name with all that comes to it may have 255
 # A compressed TBC file is a side that can't be read.
-_PACKED = tuple(TBC + end for end in (".gz", ".zst", ".flac"))
+_PACKED = tuple(TBC + end for end in ENDS)
 _OTHERS = {"index.html"}  # which is no side's
 
 
 class Found(NamedTuple):
-    """A side by the path of its TBC file or document; `fault` says why a folder wasn't gone through, else it is None.
-    One that is named, and not found in a folder, may be a pipe."""
+    """A side by the path of its TBC file or document. `fault` says why a folder wasn't gone through, else it is None. A
+    side that is named, and not found in a folder, may be a pipe."""
     path: str
     fault: Optional[str] = None
     is_named: bool = False
 
 
 class Task(NamedTuple):
-    """A side to read: its file, and its name; the page that is written of it, and the copy of its metadata, or None;
-    whether the file was named, and may be a pipe; and the options by which it is read, as words."""
+    """A side to read: its file and its name; the page to write and the copy of its metadata, each or None; whether that
+    copy gets the words as they were read; whether the file was named, and so may be a pipe; and the options with which
+    it is read, as words."""
     path: str
     name: str
     page: Optional[str]
     copy: Optional[str]
+    as_read: bool
     is_named: bool
     words: Sequence[str]
 
 
 def sides_in(paths: Iterable[str]) -> List[Found]:
-    """The sides of these files and folders in the order of their names, each once. Folders are gone through whole;
-    links to folders are not followed."""
+    """The sides in these files and folders, in the order of their names, each once. Folders are searched with all
+    folders in them; links to folders are not followed."""
     found: List[Found] = []
     for path in paths:
         found += _sides_below(path) if os.path.isdir(path) else [Found(path, is_named=True)]
@@ -62,15 +66,15 @@ def _is_side(name, beside):
 
 
 def name_below(path: str, folders: Iterable[str]) -> str:
-    """What a side is called: its path below the outermost of these folders, or else the name of its file."""
+    """The name of a side: its path below the outermost of these folders, or else the name of its file."""
     begins = [begin for begin in (os.path.join(folder, "") for folder in folders) if path.startswith(begin)]
     return os.path.relpath(path, min(begins, key=len)) if begins else os.path.basename(path)
 
 
 def page_names(sides: Iterable[Tuple[str, str]], known: Mapping[str, Optional[str]]) -> List[str]:
-    """The names of the pages of sides, which are given as pairs of a real path and a name. A side keeps the page that
-    it has. `known` are the pages that are there already, each with the real path of its side, or None for one of which
-    that isn't known. A new one is named after its side, with a number after that if there is such a page."""
+    """The names of the pages of sides. The sides are given as pairs of a real path and a name. A side keeps the page
+    that it has. `known` are the pages that are there already, each with the real path of its side, or None if that
+    isn't known. A new page is named after its side, followed by a number if there is such a page."""
     own = {side: name for name, side in sorted(known.items(), reverse=True) if side}
     taken, names = set(map(str.casefold, known)) | _OTHERS, []
     for side, name in sides:

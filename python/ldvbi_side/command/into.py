@@ -1,5 +1,5 @@
-"""The copy of ld-decode's metadata that `--into` writes: each field has its words there, as docs/FORMATS.md
-describes. And where the copies of a scan stand."""
+"""The copy of ld-decode's metadata that `--into` writes, in which each field has its words, as docs/FORMATS.md
+describes. And where the copies of a scan are."""
 
 import os
 import stat
@@ -17,9 +17,10 @@ from .progress import Progress
 
 
 class Into:
-    """The copy that gets this name, of the metadata of a side. `places` have to be told of these as they are read, then
-    `prepare` refuses what can't be copied, before anything is judged. With `is_recovered` the words that are recovered
-    from worn lines of a TBC file are among those of the copy; a document has the words that it has."""
+    """The copy with this name of the metadata of a side. Its `places` have to be given the fields and members of the
+    metadata as they are read. Then `prepare` refuses what can't be copied, before anything is judged. With
+    `is_recovered` the copy includes the words that are recovered from worn lines of a TBC file; a document has the
+    words that it has."""
 
     def __init__(self, path: str, is_recovered: bool) -> None:
         self._path, self._is_recovered = path, is_recovered
@@ -28,12 +29,12 @@ class Into:
         self.places = Places()
 
     def prepare(self, name: str, source: Union[Side, Stream], metadata: Optional[Metadata]) -> None:
-        """Takes in the metadata of a side that has this name, and of which there is this document or TBC file. Words in
-        the wrong fields are worse than none: a ValueError where the two have different counts of fields."""
+        """Takes in the metadata of a side with this name, and this document or TBC file of it. If the two have
+        different counts of fields, this raises a ValueError: words in the wrong fields are worse than none."""
         if metadata is None:
             raise ValueError("%s: %s; give the metadata to copy by --meta" % (name, no_metadata(name)))
         if isinstance(source, Side) and self._is_recovered:
-            raise ValueError("%s is a document, and --recovered is of a TBC file" % name)
+            raise ValueError("%s is a document, and --recovered is for a TBC file" % name)
         self._name, self._old = name, metadata.path
         if not stat.S_ISREG(os.stat(self._old).st_mode):
             raise ValueError("%s is no file that can be copied" % self._old)
@@ -60,7 +61,7 @@ class Into:
                 self._write(_words_of_stream(plain), AS_READ)
 
     def write_believed(self, side: Side) -> None:
-        """Writes the copy without the words of a side whose number its answer sets aside."""
+        """Writes the copy without the words of a side whose numbers its answer sets aside."""
         is_whole = self._is_recovered or side.samples is None
         self._write(_believed_words(side, is_whole), BELIEVED)
 
@@ -79,8 +80,9 @@ class Into:
 
 
 def copies_in(folder: Optional[str], paths: Sequence[str], sides: Sequence[str]) -> List[Optional[str]]:
-    """The copy of each of these sides, which a scan found by these paths, in a folder: they stand there as the sides do
-    in the folder that has all of them. None of a side without metadata beside it, and of all if no folder is named."""
+    """The copy of each of these sides, which a scan found by these paths, in a folder. The copies are arranged there as
+    the sides are in the folder that has all of them. A side without metadata beside it has none; there are none at all
+    if no folder is named."""
     if not folder:
         return [None] * len(sides)
     above = os.path.commonpath([os.path.abspath(path if os.path.isdir(path) else os.path.dirname(path))
@@ -93,7 +95,7 @@ def copies_in(folder: Optional[str], paths: Sequence[str], sides: Sequence[str])
 
 
 def make_folders(copies: Iterable[Optional[str]]) -> None:
-    """Makes the folders of these copies, without what earlier processes left of some there."""
+    """Makes the folders of these copies, and removes what earlier processes left of some there."""
     for folder in sorted({os.path.dirname(copy) for copy in copies if copy}):
         make_folder(folder)
 

@@ -67,7 +67,7 @@ def parser_of_join(program: str) -> argparse.ArgumentParser:
     output.add_argument("--csv", action="store_true", help="print a row for each number, with the capture to take it "
                         "from, and its first field and frame there")
     output.add_argument("--ranges", action="store_true", help="print the same in stretches of numbers that one "
-                        "capture has in fields that follow each other, to see which capture has which frames better")
+                        "capture has in consecutive fields, to see which capture has which frames better")
     output.add_argument("--json", action="store_true", help="print all that they have together, as JSON")
     parser.add_argument("--html", metavar="FILE", help="write a page into this file on which the captures are bars, "
                         "one above the other; print only what another option asks for")

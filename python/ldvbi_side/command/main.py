@@ -108,6 +108,12 @@ def _print_document(options, stream):
             write_document(plain, sys.stdout, progress.over)
 
 
+def _print_line(options, stream):
+    from ..draw.plotting import plot_line
+    with naming(options.side):
+        print(plot_line(stream, options.side, *options.plot_line), end="")
+
+
 def _side_of(source):
     """The side of either source."""
     if isinstance(source, Side):
@@ -133,7 +139,7 @@ def _add_fields(side, name, metadata, is_all):
         return
     side.first = metadata.first
     if is_all and side.first is None:
-        say("%s has no isFirstField of each field" % metadata.path)
+        say("%s has no isFirstField for each field" % metadata.path)
 
 
 def _is_of_another(metadata, name, count, cut, is_recovered):
@@ -204,7 +210,8 @@ def _drawn(options):
 
 def _is_printed(options):
     """Whether an option says what is printed."""
-    return any([options.csv, options.json, options.bad_lines, options.seek, options.summary, options.document])
+    return any([options.csv, options.json, options.bad_lines, options.seek, options.summary, options.document,
+                options.plot_line])
 
 
 def _is_asked(options):
@@ -232,7 +239,7 @@ def _options(words, settings=None):
     if "" in (options.meta, options.output, *_files(options)):
         parser.error("a file has to have a name")
     if options.recovered and (not (options.document or options.into) or options.no_recover):
-        parser.error("--recovered is of --document or --into, and not with --no-recover")
+        parser.error("--recovered goes with --document or --into, not with --no-recover")
     if options.as_read and not options.into:
         parser.error("--as-read is of --into")
     is_open = options.into or None in _settings(options)
@@ -270,16 +277,19 @@ def _scan(words):
 
 
 def answer_of(task: Task) -> Answer:
-    """The answer for a side of a scan, whose page and copy of its metadata are written if they are named. A side that
-    nobody named is a file."""
+    """The answer for a side of a scan. Its page and the copy of its metadata are written if they are named. A side that
+    nobody named has to be a file."""
     named = [word for option, name in (("--html", task.page), ("--into", task.copy)) if name
              for word in (option, name)]
     options = _options([*task.words, *named, "--", task.path])
     options.waits, options.title, options.is_alone = task.is_named, task.name, False
+    options.as_read = task.as_read
     into = _into(options)
     source, metadata = _source(options, into)
     if into:
         into.prepare(task.path, source, metadata)
+        if task.as_read:
+            into.write_read(source)
     side = _loaded(source, metadata, options)
     _write_files(side, options, not isinstance(source, Side), into)
     return side.analysis.answer
@@ -312,12 +322,16 @@ def _answer(options):
     _refuse_settings(options, _name_of(options), not isinstance(source, Side))
     if into:
         into.prepare(options.side, source, metadata)
+    for option in ("document", "plot_line"):
+        if getattr(options, option) and isinstance(source, Side):
+            raise ValueError("%s is a document, and --%s is for a TBC file" % (
+                _name_of(options), option.replace("_", "-")))
     if options.document:
-        if isinstance(source, Side):
-            raise ValueError("%s is a document, and --document is of a TBC file" % _name_of(options))
         if options.recovered and metadata and not _is_judged(options):
             _is_of_another(metadata, _name_of(options), len(source), cut_of(source), True)
         _print_document(options, source)
+    if options.plot_line:
+        _print_line(options, source)
     if into and options.as_read:
         into.write_read(source)
     if not _is_judged(options):

@@ -1,4 +1,4 @@
-"""The files that the command writes: under their names only when they are whole, and never in the place of an input."""
+"""The files that the command writes: they get their names only when they are whole, and never replace an input."""
 
 import contextlib
 import errno
@@ -19,8 +19,9 @@ _NAME_OF_PART = re.compile(re.escape(_PART) + r".*\.([0-9a-f]{8})-([1-9][0-9]{0,
 
 @contextlib.contextmanager
 def whole_file(path: str) -> Iterator[IO[str]]:
-    """A text file to write to. It gets its name, which may be that of an older file, when the block has ended without
-    an exception; else nothing is left of it. What is no file, as a pipe or a terminal, is written to as it is."""
+    """A text file to write to. It gets its name, which may be that of an older file, when the block ends without an
+    exception; else nothing is left of it. Something that isn't a file, such as a pipe or a terminal, is written to as
+    it is."""
     target = _target_of(path)
     if os.path.exists(target) and not os.path.isfile(target):
         with _named_where_written(path), _opened(path, target, "w") as file:
@@ -43,8 +44,8 @@ def whole_file(path: str) -> Iterator[IO[str]]:
 
 @contextlib.contextmanager
 def whole_path(path: str, ends: Sequence[str]) -> Iterator[str]:
-    """The path of a file to make by what wants a path, as `whole_file` has it. It stands in a folder of its own, with
-    what is written beside it under its name with these ends; nothing of that may lie beside an older file."""
+    """The path of a file for code that needs a path, otherwise like `whole_file`. It is in a folder of its own, with
+    the files that are written beside it under its name with these ends. None of these may be beside an older file."""
     target = _target_of(path)
     if os.path.exists(target) and not os.path.isfile(target):
         raise ValueError("%s is no file" % path)
@@ -122,7 +123,7 @@ def _machine():
 
 
 def drop_parts(folder: str) -> None:
-    """Removes from a folder the parts of processes of this machine that have gone without removing them."""
+    """Removes from a folder the unfinished files of processes of this machine that have gone without removing them."""
     for name in os.listdir(folder):
         match = _NAME_OF_PART.fullmatch(name)
         if match and match[1] == _machine() and not _is_there(int(match[2])):
@@ -130,7 +131,7 @@ def drop_parts(folder: str) -> None:
 
 
 def make_folder(path: str) -> None:
-    """Makes a folder that is to be written to, without what earlier processes left of unfinished files there."""
+    """Makes a folder to write to, and removes unfinished files that earlier processes left there."""
     try:
         os.makedirs(path, exist_ok=True)
     except OSError as error:
@@ -166,14 +167,14 @@ def _rename(part, target):
 
 
 def drop_part(path: str, process: int) -> None:
-    """Removes what a process, which has ended, left of a file that it was to write to this path: nothing, if it could
-    see to that itself."""
+    """Removes what a process that has ended left of a file that it was to write to this path. There is nothing if it
+    could see to that itself."""
     _drop(_part_by(os.path.realpath(path), process))
 
 
 def refuse_inputs(outputs: Iterable[Place], inputs: Iterable[Place]) -> None:
-    """Raises a ValueError where a file that is to be written is also read, or is written twice, whatever its names are.
-    An output or an input is a path, the number of an open file, or None."""
+    """Raises a ValueError if a file that is to be written is also read, or is written twice, under whatever names. An
+    output or an input is a path, the number of an open file, or None."""
     known = {_identity(place) for place in inputs} - {None}
     for place in outputs:
         identity = _identity(place)

@@ -41,16 +41,15 @@ class Version(argparse.Action):
 def add_settings(parser: argparse.ArgumentParser, tbc: str = "a TBC file") -> None:
     """Adds the options by which a side is read. `tbc` is what the help calls the files that some of them are of."""
     parser.add_argument("--meta", metavar="FILE", help="take system and levels of %s from this .tbc.json or .tbc.db of "
-                        "ld-decode, and not from the one beside the file. Levels with decimals are rounded to the "
-                        "nearest whole number. The count of fields in it is compared with the side. Its isFirstField "
-                        "shows single lost fields, of a document as well; columns in its dropOuts count for no "
-                        "recovered word" % tbc)
+                        "ld-decode, not from the one beside the file. Levels with decimals are rounded to the nearest "
+                        "whole number. Its count of fields is compared with the side's. Its isFirstField shows single "
+                        "lost fields, also of a document; columns in its dropOuts count for no recovered word" % tbc)
     parser.add_argument("--system", choices=list(System.__members__), help="the system of %s, in place of the "
                         "metadata's" % tbc)
     parser.add_argument("--black", metavar="N", type=int, help=LEVELS % "black")
     parser.add_argument("--white", metavar="N", type=int, help=LEVELS % "white")
     parser.add_argument("--no-recover", action="store_true", help="leave out the words that are recovered from worn "
-                        "lines of %s, those of pass 3" % tbc)
+                        "lines of %s (pass 3)" % tbc)
     parser.add_argument("--strict", action="store_true", help="say that a side without lead-in or lead-out, or with an "
                         "unread number, isn't whole")
     parser.add_argument("--open-end", action="store_true", help=OPEN_END + ". With --strict, too")

@@ -14,10 +14,11 @@ DESCRIPTION = """Reads a side from a TBC file, or from a document that `ldvbi ex
 mean together: which numbers, times and chapters are believed, and which are lost, unread, shown again or doubtful. A
 file is taken for a document if its name ends with .json or its text begins as a document does. `join SIDE SIDE..`
 compares and joins captures of one side, and `scan PATH..` prints a table of the sides in folders. """ + statuses_text()
-SCAN = """Prints a table with a row for each side in these files and folders, which are gone through whole: its .tbc
-files, with their metadata beside them, and its .vbi.json documents without a .tbc beside them. A side that can't be
-read has a row with its fault, and the others go on. Options by which a side is read count for each of them, but a
-document has its own system and levels. """ + statuses_text("scan")
+SCAN = """Prints a table with a row for each side in these files, and in these folders and all below them: each .tbc
+file, with its metadata beside it, and each .vbi.json document without a .tbc beside it. If a side can't be read, its
+row has the fault, and the others go on. The options by which a side is read count for all of them, but a document has
+its own system and levels. """ + statuses_text("scan")
+AS_READ = "with --into, copy all words as they were read, also those that are set aside"
 MOST_JOBS = 4  # sides that are read at a time, where the command line doesn't say
 
 
@@ -26,6 +27,12 @@ def _wanted(text):
         return wanted_of(text)
     except ValueError as error:
         raise argparse.ArgumentTypeError(str(error)) from None
+
+
+def _ordinal(text):
+    if not text.isdecimal() or int(text) < 1:
+        raise argparse.ArgumentTypeError("no number from 1 on: %r" % text)
+    return int(text)
 
 
 def parser_of_side(program: str) -> argparse.ArgumentParser:
@@ -38,8 +45,8 @@ def parser_of_side(program: str) -> argparse.ArgumentParser:
     output.add_argument("--csv", action="store_true", help="print a row for each field with any word")
     output.add_argument("--json", action="store_true", help="print all that is known of the side, every list in full")
     output.add_argument("--bad-lines", action="store_true", help="print a row for each line that shows no word of "
-                        "its own and isn't blank, with its cause, its offset in the TBC file, and the word "
-                        "that its samples are nearest to")
+                        "its own and isn't blank, with its cause, its offset in the TBC file, and the word nearest to "
+                        "its samples")
     output.add_argument("--seek", metavar="WANTED", type=_wanted, help="print the first field of a picture (its "
                         "number, or a CLV time h:mm:ss.pp), of a minute h:mm, of a second h:mm:ss, or of a chapter, as "
                         "'chapter 3'")
@@ -47,43 +54,37 @@ def parser_of_side(program: str) -> argparse.ArgumentParser:
                         "and what to look at first (the default)" % MOST_LINES)
     output.add_argument("--document", action="store_true", help="print the document of the TBC file, byte for byte as "
                         "`ldvbi extract` writes it")
-    parser.add_argument("--recovered", action="store_true", help="copy with --into the recovered words, too; print "
-                        "with --document the one that has the recovered "
-                        "words, too, of version 3")
+    output.add_argument("--plot-line", nargs=2, metavar=("FIELD", "LINE"), type=_ordinal, help="print a drawing of a "
+                        "line of the TBC file as an SVG: its samples, and the cells of its word, or why it shows none "
+                        "and which word is nearest; fields and lines are counted from 1")
+    parser.add_argument("--recovered", action="store_true", help="with --into, copy the recovered words, too; with "
+                        "--document, print the document that has them, of version 3")
     parser.add_argument("-o", "--output", metavar="FILE", help="print into this file, which gets its name only when it "
                         "is complete")
     parser.add_argument("--svg", metavar="FILE", help="draw the side into this file; print only what another option "
                         "asks for")
     parser.add_argument("--html", metavar="FILE", help="write a page with all that is known of the side into this "
                         "file, with drawings of the bad lines of a TBC file; print only what another option asks for")
-    parser.add_argument("--map", metavar="FILE", help="write into this file system, levels and count of fields, and "
-                        "where each number, chapter and picture stop is, for a player to seek by; print only what "
+    parser.add_argument("--map", metavar="FILE", help="write into this file where each number, chapter and picture "
+                        "stop is, for a player to seek by, with system, levels and count of fields; print only what "
                         "another option asks for")
     parser.add_argument("--chapters", metavar="FILE", help="write the chapters into this file, as ffmpeg's metadata "
                         "or, if its name ends with %s, as Audacity's labels; print only what another option asks for"
                         % LABELS)
-    parser.add_argument("--into", metavar="FILE", help="write a copy of ld-decode's metadata into this file, of --meta "
-                        "or beside the TBC file, in which each field has its words as vbi.vbiData (in a .tbc.db a row "
-                        "of the table vbi), with 0 for a word that is set aside; print only what another option asks "
-                        "for")
-    parser.add_argument("--as-read", action="store_true", help="copy with --into the words as they were read, those "
-                        "that are set aside, too")
+    parser.add_argument("--into", metavar="FILE", help="copy ld-decode's metadata, of --meta or beside the TBC file, "
+                        "into this file, with the words of each field as vbi.vbiData (in a .tbc.db as a row of the "
+                        "table vbi), and 0 for a word that is set aside; print only what another option asks for")
+    parser.add_argument("--as-read", action="store_true", help=AS_READ)
     return parser
-
-
-def _jobs(text):
-    if not text.isdecimal() or int(text) < 1:
-        raise argparse.ArgumentTypeError("no number from 1 on: %r" % text)
-    return int(text)
 
 
 def parser_of_scan(program: str) -> argparse.ArgumentParser:
     """What reads the words behind `scan`."""
     parser = Parser(prog=program + " scan", description=SCAN)
     parser.add_argument("paths", nargs="+", metavar="PATH", help="a TBC file, a document, or a folder")
-    parser.add_argument("-j", "--jobs", metavar="N", type=_jobs, default=min(os.cpu_count() or 1, MOST_JOBS),
-                        help="read so many sides at a time (as many as there are processors, at most %d; 1 is best "
-                        "for one spinning disk)" % MOST_JOBS)
+    parser.add_argument("-j", "--jobs", metavar="N", type=_ordinal, default=min(os.cpu_count() or 1, MOST_JOBS),
+                        help="read N sides at a time (if not given, one for each processor, at most %d; 1 is best for "
+                        "one spinning disk)" % MOST_JOBS)
     add_settings(parser, "each TBC file")
     output = parser.add_mutually_exclusive_group()
     output.add_argument("--csv", action="store_true", help="print the table as CSV")
@@ -91,9 +92,11 @@ def parser_of_scan(program: str) -> argparse.ArgumentParser:
     parser.add_argument("--html", metavar="FOLDER", help="write a page for each side into this folder, and index.html, "
                         "which links all pages there. A side whose page is newer than its files, and was written with "
                         "the same options, isn't read again")
-    parser.add_argument("--into", metavar="FOLDER", help="write into this folder a copy of the metadata beside each "
-                        "TBC file, with its believed words, in folders as those of the sides; each side is read again")
-    parser.add_argument("--again", action="store_true", help="read each side, and write its page anew")
+    parser.add_argument("--into", metavar="FOLDER", help="copy the metadata beside each TBC file, with the believed "
+                        "words, into this folder, whose folders are named as those of the sides; each side is read "
+                        "again")
+    parser.add_argument("--as-read", action="store_true", help=AS_READ)
+    parser.add_argument("--again", action="store_true", help="read each side, and write its page again")
     return parser
 
 

@@ -1,5 +1,4 @@
-"""Jobs side by side, in processes of their own: one that crashes, or is killed, takes no other with it but the job that
-it is at."""
+"""Jobs side by side, in processes of their own. If one crashes, or is killed, only the job that it is doing is lost."""
 
 import contextlib
 import multiprocessing
@@ -21,8 +20,8 @@ After = Callable[[Any, int], None]
 
 
 class Ended(NamedTuple):
-    """The last message of a job. `status` is 0, or that of its process if it ended too: the signal that ended it as a
-    negative number."""
+    """The last message of a job. `status` is 0, or the status of its process if that ended too: if a signal ended it,
+    the signal's number, negative."""
     status: int
 
 
@@ -35,11 +34,11 @@ class _Worker:
 
 
 class SideBySide:
-    """Runs a job once for each task, at most `most` at a time, in a `with` block, at whose end none runs any longer. A
-    process does many jobs, one after the other. The job gets its task and a function that sends a message to this
-    process. Job, tasks and messages have to be what `pickle` takes. A loop yields each message with its task's index,
-    and `Ended` after those of a task. When a job has ended, or its process has, however that was, `after` is called
-    here with its task and the number of the process."""
+    """Runs a job once for each task, at most `most` at a time, in a `with` block. At the end of the block none runs any
+    longer. A process does many jobs, one after the other. The job gets its task and a function that sends a message to
+    this process. Job, tasks and messages must be what `pickle` takes. A loop yields each message with its task's index,
+    and `Ended` after those of a task. When a job or its process has ended, in whatever way, `after` is called here with
+    its task and the number of the process."""
 
     def __init__(self, job: Job, tasks: Sequence[Any], most: int, after: After) -> None:
         self._job, self._after = job, after
@@ -131,7 +130,7 @@ def _without_signals():
 def _run(job, connection):
     """Does jobs in their process. One that ends, by itself or by a signal, has no use for signals that ask for that:
     one that came later would break into what has to be done before."""
-    stopping = [number for number in _ENDING if signal.getsignal(number) != signal.SIG_IGN]  # as SIGHUP is behind nohup
+    stopping = [number for number in _ENDING if signal.getsignal(number) != signal.SIG_IGN]  # as SIGHUP is under nohup
 
     def heed(handler):
         for number in stopping:

@@ -1,4 +1,5 @@
-"""How far a run over the fields of a TBC file is, or over many sides, on standard error where that is a terminal."""
+"""How far a run over the fields of a TBC file is, or over many sides. It is shown on standard error if that is a
+terminal."""
 
 import contextlib
 import sys
@@ -13,7 +14,7 @@ _listeners: List[Listener] = []
 
 @contextlib.contextmanager
 def heard_by(listener: Listener) -> Iterator[None]:
-    """Has a function get what `Progress` would show, in its place: how many fields are read, of how many."""
+    """Has a function get what `Progress` would show, instead of it: how many fields are read, and of how many."""
     _listeners.append(listener)
     try:
         yield
@@ -22,8 +23,8 @@ def heard_by(listener: Listener) -> Iterator[None]:
 
 
 class Progress:
-    """Messages of how many of so many fields are read, what part that is, and the time left at this pace; nothing where
-    standard error is no terminal. The line is empty again at the end of the `with` block."""
+    """Messages that say how many of the fields are read, what part that is, and the time left at this pace. There are
+    none if standard error is no terminal. The line is empty again at the end of the `with` block."""
 
     def __init__(self, fields: int, is_wanted: bool = True) -> None:
         self._fields = fields
@@ -39,7 +40,7 @@ class Progress:
         self._write("")
 
     def over(self, items: Iterable[Item], step: int = 1) -> Iterator[Item]:
-        """Yields the items, each of which has so many fields, and says how many fields have come with them."""
+        """Yields the items, each with this many fields, and shows how many fields have come with them."""
         if not self._is_shown:
             yield from items
             return
@@ -66,9 +67,9 @@ class Progress:
 
 
 class SidesProgress:
-    """Messages of how many of some sides are done, what part of all their fields is, and the time left at this pace;
-    nothing where standard error is no terminal. `sizes` says how large the sides are beside each other. The line is
-    empty again at the end of the `with` block."""
+    """Messages that say how many of some sides are done, what part of all their fields that is, and the time left at
+    this pace. There are none if standard error is no terminal. `sizes` gives the sides' sizes relative to each other.
+    The line is empty again at the end of the `with` block."""
 
     def __init__(self, sizes: Sequence[float]) -> None:
         self._sizes, self._parts = sizes, [0.0] * len(sizes)
@@ -84,7 +85,7 @@ class SidesProgress:
         self.clear()
 
     def reached(self, side: int, part: float) -> None:
-        """Of a side, by its index, such a part is done; of one that is done 1."""
+        """Takes in that this part of a side, given by its index, is done; 1 is all of it."""
         self._parts[side] = part
         self._show()
 

@@ -18,7 +18,7 @@ Row = Dict[str, Any]
 
 
 def row_of(path: str, said: Dict[str, Any], page: Optional[str]) -> Row:
-    """The row of a side of which its page says this; `page` is None where none is written."""
+    """The row of a side of which its page says this. `page` is None if none is written."""
     numbers, counts = said["numbers"], said["counts"]
     return {"side": path, "whole": said["whole"], "lost": counts["lost"], "unread": counts["unread"],
             "format": said["format"], "from": numbers["least"], "to": numbers["greatest"], "last": said["last"],
@@ -27,7 +27,7 @@ def row_of(path: str, said: Dict[str, Any], page: Optional[str]) -> Row:
 
 
 def fault_row(path: str, fault: str) -> Row:
-    """The row of a side that wasn't read, and why."""
+    """The row of a side that wasn't read, which says why."""
     return {**dict.fromkeys(COLUMNS.values()), "side": path, "reasons": [], "fault": legible(" ".join(fault.split())),
             "page": None}
 
@@ -46,11 +46,12 @@ class Table:
         """Prints a row, or keeps it for the end."""
 
     def end(self) -> None:
-        """Prints what stands behind all rows."""
+        """Prints what comes after all rows."""
 
 
 class Text(Table):
-    """Rows in columns for a reader. The first one is as wide as the longest of these names, of all sides to come."""
+    """Rows in columns for a reader. The first column is as wide as the longest of these names, those of all sides to
+    come."""
 
     def __init__(self, names: Sequence[str]) -> None:
         self._width = max(len(name) for name in [*names, "side"])

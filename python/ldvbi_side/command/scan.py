@@ -38,12 +38,14 @@ def _options(words):
         parser.error("a file has to have a name")
     if options.again and not options.html:
         parser.error("--again is of --html")
+    if options.as_read and not options.into:
+        parser.error("--as-read is of --into")
     return options
 
 
 def scan(words: List[str], read: Read) -> int:
-    """What the words behind `scan` ask for. `read` reads the side of a file, and writes its page where one is named; it
-    has to be a function of a module, since it runs in other processes. The answer is the exit status."""
+    """Does what the words after `scan` ask for, and returns the exit status. `read` reads the side of a file, and
+    writes its page if one is named. It has to be a function of a module, since it runs in other processes."""
     options = _options(words)
     sides = sides_in(options.paths)
     if not sides:
@@ -116,7 +118,7 @@ def _tasks(options, sides, folder):
         pages = [os.path.join(folder.path, name) for name in page_names(
             [(os.path.realpath(side.path), name) for side, name in zip(sides, names)], folder.known)]
     copies, words = copies_in(options.into, options.paths, [side.path for side in sides]), words_of(options)
-    return [Task(side.path, name, page, copy, side.is_named, words)
+    return [Task(side.path, name, page, copy, options.as_read, side.is_named, words)
             for side, name, page, copy in zip(sides, names, pages, copies)]
 
 

@@ -1,5 +1,5 @@
-"""The exit statuses, of which 0 to 2 are those of grep, and what each says of an option or a command. The help, the
-manual page and docs/FORMATS.md have them from here."""
+"""The exit statuses (0 to 2 are those of grep), and what each says for an option or a command. The help, the manual
+page and docs/FORMATS.md have them from here."""
 
 from typing import Dict, Iterable, List, Tuple
 
@@ -17,7 +17,7 @@ MEANINGS: Tuple[Tuple[Tuple[str, ...], Dict[int, str]], ...] = (
     (("--seek",), {0: "what is sought is found", 1: "it isn't found"}),
     (("scan",), {0: "all sides are whole", 1: "some side isn't whole",
                  4: "none is known not to be whole, and of some it can't be told"}),
-    (("--csv", "--json", "--bad-lines", "--document", "--svg", "--html", "--map", "--chapters",
+    (("--csv", "--json", "--bad-lines", "--document", "--plot-line", "--svg", "--html", "--map", "--chapters",
       "--into"),
      {0: "it is done", CUT: "done, and the last field is cut"}),
     (("join",), {0: "it is done", CUT: "done, and the last field is cut"}),
@@ -28,12 +28,12 @@ OF_ALL = {FAULT: "a fault, named in one line on standard error, or a refused com
 
 
 def of_many(statuses: Iterable[int]) -> int:
-    """The status of several sides: the weightiest one that any of them has alone."""
+    """The status of several sides: the weightiest one that any of them has by itself."""
     return max(statuses, key=_LIGHTEST_FIRST.index)
 
 
 def statuses_of(command: str = "") -> Dict[int, List[str]]:
-    """What each status may say behind a command, or where there is none."""
+    """What each status may say after a command, or without one."""
     found: Dict[int, List[str]] = {}
     for names, meanings in (*MEANINGS, ((command,), OF_ALL)):
         if command in names or not command and names[-1].startswith("--"):

@@ -1,5 +1,5 @@
-"""A side at a glance: whether it is whole, and what to look at first, in at most MOST_LINES lines. Lists stand in the
-order of the disc or the side."""
+"""A side at a glance: whether it is whole, and what to look at first, in at most MOST_LINES lines. Lists are in the
+order of the disc or of the side."""
 
 from typing import Any, Callable, Collection, Iterator, Optional, TypeVar
 
@@ -68,15 +68,15 @@ def _tried_text(tried):
 
 
 def listed(count: int, ones: Collection[Item], text_of: Callable[[Item], str], places: Optional[int] = None) -> str:
-    """How many there are, and the texts of the first ones of them. `places` is how many texts there would be, if `ones`
-    are the first ones alone."""
+    """How many there are, and the texts of the first of them. `places` is how many texts there would be, if `ones` has
+    only the first ones."""
     more = (len(ones) if places is None else places) - MOST_LISTED
     shown = ", ".join(text_of(one) for one, _ in zip(ones, range(MOST_LISTED)))
     return "%d (%s)" % (count, shown + (" and %d more" % more if more > 0 else "")) if count else "none"
 
 
 def named(unit: Optional[str], first: Any, last: Any) -> str:
-    """A number with what it counts, or the first and the last one of several."""
+    """A number with what it counts, or the first and the last of several."""
     return "%s %s" % (unit, first) if first == last else "%s %s to %s" % (UNITS[unit], first, last)
 
 

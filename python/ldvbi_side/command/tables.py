@@ -28,8 +28,8 @@ NONE = "-"  # of a line to which the row of no word is as near as any
 
 
 def field_rows(side: Side) -> Iterator[List[Any]]:
-    """A row for each field with any word: what is believed of it, in the column `doubt` what isn't, and in the last one
-    the words that are no code."""
+    """A row for each field with any word: what is believed of it, then, in the column `doubt`, what isn't, and last the
+    words that are no code."""
     answer = side.analysis.answer
     numbers = _numbers_by_field(answer)
     doubts = _doubts_by_field(answer)
@@ -92,8 +92,8 @@ def _doubt_text(one, number):
 
 
 def bad_line_rows(side: Side) -> Iterator[List[Any]]:
-    """A row for each line that shows no word of its own and isn't blank, with its place in the TBC file, in bytes, and
-    with its nearest word, the distance of that and of its rival, in hundredths of a column: empty where the samples
+    """A row for each line that shows no word of its own and isn't blank: its place in the TBC file, in bytes, its
+    nearest word, and the distance of that and of its rival, in hundredths of a column. These are empty if the samples
     aren't at hand."""
     for one in side.analysis.answer.bad_lines:
         near: Tuple[Any, ...] = ("", "", "")

@@ -1,5 +1,5 @@
-"""The bands of a drawing: what each field shows on lines 16, 17 and 18, in colour. Line 16 of many discs has no codes:
-what it shows where it isn't blank is noise then, and no damage."""
+"""The bands of a drawing: what each field shows on lines 16, 17 and 18, in colour. On many discs line 16 has no codes.
+What it shows there if it isn't blank is noise, not damage."""
 
 from collections import Counter
 
@@ -31,14 +31,14 @@ _PLAIN = ("word", "blank", "noise")
 
 
 def is_noise(answer: Answer) -> bool:
-    """Whether line 16 shows noise, and no damaged codes: hardly any field has one there, as on a CAV disc."""
+    """Whether line 16 shows noise, not damaged codes: hardly any field has a code there, as on a CAV disc."""
     line = answer.lines[16]
     return answer.format != "clv" and line.bad() > 0 and FEW * line.words() < answer.fields
 
 
 def draw_legend(svg: Svg, x: int, y: int, answer: Answer) -> None:
-    """The colours with their names, from left to right, those of recovered words and of noise where there are some.
-    All of them stand within what a page 900 pixels wide shows of the drawing."""
+    """The colours with their names, from left to right. Those of recovered words and of noise are there only if there
+    are some. All of them are within what a page 900 pixels wide shows of the drawing."""
     is_there = {"recovered": any(rates.near for rates in answer.lines.values()), "noise": is_noise(answer)}
     for name, fill in SHOWN.items():
         if not is_there.get(name, True):
@@ -49,8 +49,8 @@ def draw_legend(svg: Svg, x: int, y: int, answer: Answer) -> None:
 
 
 def draw_bands(svg: Svg, fields: Fields, axis: Axis, top: int, has_noise: bool = False) -> None:
-    """The three bands. Where fields share a column of pixels, each cause has its share of the band's height, and what
-    stands out has a few pixels at least. Line 16 may have noise in place of damage."""
+    """The three bands. If fields share a column of pixels, each cause has its share of the band's height, and what
+    stands out has at least a few pixels. Line 16 may have noise in place of damage."""
     for band, line in enumerate(LINES):
         y = top + STEP * band
         svg.text(axis.left - 10, y + HEIGHT / 2 + 5, "line %d" % line, text_anchor="end")

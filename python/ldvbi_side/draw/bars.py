@@ -1,5 +1,5 @@
 """Several captures of one side as bars, one above the other, over the numbers that they have together. A bar says which
-numbers its capture has, and which of these are to be taken from it; below all of them is what none has."""
+numbers its capture has, and which of these are to be taken from it. Below all of them is what none has."""
 
 from typing import Any, Iterable, Iterator, List, Tuple
 
@@ -37,12 +37,12 @@ class _Numbers:
         return self.scale.count_of(number) - self.scale.least + 1
 
     def stretch(self, one: Any, text: str) -> Stretch:
-        """Those of an entry that has a first and a last one."""
+        """The numbers of an entry that has a first and a last one."""
         return self.place(one.first), self.place(one.last), "%s: %s" % (span(one.first, one.last), text)
 
 
 def bars_of(joined: Joined) -> str:
-    """The text of the SVG of what captures have together."""
+    """The SVG of what captures have together, as text."""
     names = [one.name for one in joined.captures]
     lanes = len(names) + 2
     axis_top = BARS_TOP + STEP * lanes + 4

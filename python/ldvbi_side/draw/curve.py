@@ -1,4 +1,4 @@
-"""The curve of a drawing: a side's believed numbers over its fields, with the numbers that were set aside beside it."""
+"""The curve of a drawing: a side's believed numbers over its fields, and the numbers that were set aside."""
 
 import itertools
 from collections import Counter
@@ -17,8 +17,8 @@ MOST_RINGS = 1000  # from here on one stands for those around it
 
 
 class Scale:
-    """The numbers of a side as counts (pictures, or minutes), and where they stand on the height of the curve. The
-    believed numbers alone make the scale."""
+    """The numbers of a side as counts (pictures or minutes), and their heights on the curve. Only the believed numbers
+    make the scale."""
 
     def __init__(self, unit: str, system: str, numbers: Extent, top: int, height: int) -> None:
         self.unit, self.rate = unit, RATES[system]
@@ -37,7 +37,7 @@ class Scale:
         return (60 * count + int(second)) * self.rate + int(picture)
 
     def text_of(self, count: int) -> str:
-        """A count as a label: hours, minutes and seconds, with the picture where it isn't a whole second."""
+        """A count as a label: hours, minutes and seconds, with the picture if it isn't a whole second."""
         if self.unit == "picture":
             return str(count)
         if self.unit == "minute":
@@ -50,7 +50,7 @@ class Scale:
         return self.top + self.height * (self.greatest - count + 0.5) / (self.greatest - self.least + 1)
 
     def ticks(self) -> List[int]:
-        """The counts that have a label, some five of them."""
+        """The counts that have a label, about five."""
         steps: Iterable[int] = round_steps()
         if self.unit != "picture":
             minute = 60 * self.rate if self.unit == "time" else 1
@@ -60,7 +60,7 @@ class Scale:
 
     def place_of(self, doubt: Doubt) -> Optional[Tuple[float, int]]:
         """The height of a number that was set aside, and whether it is beyond the scale, above (1) or below (-1). None
-        for what has no number of its own."""
+        if it has no number of its own."""
         if doubt.number is None or doubt.kind != (Kind.picture if self.unit == "picture" else Kind.time):
             return None
         count = self.count_of(doubt.number)
@@ -84,7 +84,7 @@ def draw_numbers_axis(svg: Svg, axis: Axis, scale: Scale) -> None:
 
 def draw_curve(svg: Svg, axis: Axis, scale: Scale, answer: Answer) -> None:
     """A line for each run of showings in which every number is the next one or stays, with a point for each column of
-    pixels; where that is too short to be seen, a dot."""
+    pixels. If the line is too short to be seen, a dot."""
     starts = {one.before for one in answer.breaks}
     run: List[Tuple[int, int, int, Any]] = []
     drawn: Set[Tuple[int, ...]] = set()
@@ -122,8 +122,8 @@ def _draw_run(svg, axis, scale, run, drawn):
 
 
 def draw_doubts(svg: Svg, axis: Axis, scale: Scale, answer: Answer) -> None:
-    """The numbers that were set aside, as rings off the curve, or as triangles on the edge where they are beyond it.
-    Those that would cover each other are one, and so are more of them where there are many."""
+    """The numbers that were set aside, as rings off the curve, or as triangles on the edge if they are beyond it. Those
+    that would cover each other are drawn as one. If there are many, more of them are."""
     placed = [(axis.x(one.field + 0.5), *place, one) for one in answer.doubtful
               for place in [scale.place_of(one)] if place is not None]
     near = 3 if len(placed) <= MOST_RINGS else 12
@@ -157,8 +157,8 @@ def round_steps() -> Iterator[int]:
 
 
 def ticks(least: int, greatest: int, count: int, steps: Iterable[int]) -> List[int]:
-    """Numbers from the least to the greatest, at most about so many, at multiples of one of these ascending steps: the
-    first that is large enough, or the last."""
+    """Numbers from the least to the greatest, at most about `count` of them, at multiples of one of these ascending
+    steps: the first that is large enough, or the last."""
     if greatest < least:
         return []
     for step in steps:

@@ -1,6 +1,6 @@
 """A side drawn as an SVG: fields along, what each of the three lines shows in colour, lead-in, chapters, lead-out and
-picture stops, the numbers as a curve, and below it a lane for each kind of what there is to look at. It draws the
-answer of `answer.analysis`, and each mark has a title that says its fields and why it is there."""
+picture stops, the numbers as a curve, and below it a lane for each kind of thing to look at. It draws the answer of
+`answer.analysis`. Each mark has a title with its fields and the reason for it."""
 
 from ..answer.whole import counted, other_file
 from ..side import Side
@@ -23,7 +23,7 @@ END_COLOUR, CHAPTER_COLOURS = "#94a3b8", ("#e0e7ff", "#c7d2fe")
 
 
 def drawing_of(side: Side, title: str) -> str:
-    """The text of the SVG of a `ldvbi_side.side.Side`."""
+    """The SVG of a `ldvbi_side.side.Side`, as text."""
     answer, fields = side.analysis.answer, side.plain()
     axis_top = LANES_TOP + LANE_STEP * len(lanes_of(marks_of(answer))) + 4
     svg = Svg(LEFT + WIDTH + RIGHT, axis_top + 56)

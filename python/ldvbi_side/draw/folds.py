@@ -1,5 +1,5 @@
-"""The lists of an answer on a page, each behind a fold. Of a list with many rows, as noise has, the first ones stand
-there, and before them all of them in groups."""
+"""The lists of an answer on a page, each in a fold. If a list has many rows, as that of noise has, only the first ones
+are there, and before them all of them in groups."""
 
 from collections import Counter
 from typing import Any, Dict, Iterator, List, Sequence, Tuple
@@ -29,7 +29,8 @@ _ALIKE, _PLACES = ("line", "cause", "kind", "why", "pass", "by"), ("field", "aft
 
 
 def folds_of(answer: Answer, plain: Dict[str, Any]) -> Iterator[str]:
-    """The lists of this answer, which is `plain` as plain data; those that a later answer has, too."""
+    """The lists of this answer, which is `plain` as plain data. Lists that a later answer may have are included,
+    too."""
     for name in LISTS:
         yield _fold(name, plain[name], answer)
     for name, ones in plain.items():
@@ -38,7 +39,7 @@ def folds_of(answer: Answer, plain: Dict[str, Any]) -> Iterator[str]:
 
 
 def _fold(name, ones, answer):
-    """A list behind its name and how many rows it has."""
+    """A list under its name and how many rows it has."""
     title = "%s: %d" % (LISTS.get(name, name), len(ones))
     if not ones:
         return "<p>%s</p>" % escaped(title)

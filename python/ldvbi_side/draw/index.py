@@ -1,4 +1,4 @@
-"""A page that links the pages of many sides, with what each says of itself. Its rows can be sorted and filtered."""
+"""A page that links the pages of many sides, with what each of them says. Its rows can be sorted and filtered."""
 
 import contextlib
 import html
@@ -32,8 +32,8 @@ class Fault(NamedTuple):
 
 
 class Row(NamedTuple):
-    """What the index says of a side: its name, the link to its page or None, one of ORDER, the other cells, and what
-    these are sorted by."""
+    """What the index says of a side: its name, the link to its page or None, one of ORDER, the other cells, and the
+    values by which these are sorted."""
     name: str
     link: Optional[str]
     whole: str
@@ -105,8 +105,7 @@ def _is_said(said):
 
 
 def head_of(page: str) -> Tuple[str, Dict[str, Any]]:
-    """The title of a page, and what it says of itself. A ValueError where it is no page of a side, or has another
-    form."""
+    """The title of a page, and what it says of itself. A ValueError if it is no page of a side, or has another form."""
     head = _head_in(page, MARK)
     if not isinstance(head.said, dict):
         raise ValueError("%s is no page that --html wrote" % page)
@@ -127,8 +126,8 @@ def is_page(page: str) -> bool:
 
 
 def sides_of(folder: str) -> Dict[str, Optional[str]]:
-    """The names of what may be pages in a folder, each with the real path of its side, or None where that isn't known,
-    as of what is no page."""
+    """The names of the files in a folder that may be pages, each with the real path of its side, or None if that isn't
+    known, as for a file that is no page."""
     return {name: _side_of(os.path.join(folder, name)) for name in os.listdir(folder) if name.endswith(".html")}
 
 
@@ -142,7 +141,7 @@ def _side_of(page):
 
 
 def faults_in(index: str) -> List[Fault]:
-    """The sides without a page of which an index says why, if it is there."""
+    """The sides without a page for which an index says why, if the index is there."""
     try:
         said = _head_in(index, FAULTS).said
     except (OSError, ValueError):
@@ -155,7 +154,7 @@ def faults_in(index: str) -> List[Fault]:
 
 def index_of(path: str, pages: Iterable[str], faults: Sequence[Fault] = (), names_gone: bool = False) -> str:
     """The text of an index that is written to `path`: a row for each of these pages, and for each of these sides
-    without one, in the order of ORDER. With `names_gone` it says of which pages the side isn't there any longer."""
+    without one, in the order of ORDER. With `names_gone` it says for which pages the side isn't there any longer."""
     found = [(page, *head_of(page)) for page in pages]
     names = Counter([title for _, title, _ in found] + [fault.name for fault in faults])
     rows = [Row(fault.side if names[fault.name] > 1 else fault.name, None, FAULT, why=fault.text) for fault in faults]

@@ -1,5 +1,5 @@
-"""What there is to look at on a side, as marks: fields, and in words what is there and why. Each list of the answer is
-a lane of the drawing."""
+"""The things to look at on a side, as marks: fields, and in words what is there and why. Each list of the answer is a
+lane of the drawing."""
 
 from typing import Any, Dict, List, NamedTuple
 
@@ -55,19 +55,20 @@ _READ = {1: "", 2: ", read only after smoothing", 3: ", recovered"}
 
 
 class Mark(NamedTuple):
-    """What is to be seen in the fields from the first to the last."""
+    """Something to see in the fields from the first to the last."""
     first: int
     last: int
     text: str
 
 
 def span(first: Any, last: Any) -> str:
-    """Two numbers as text, and one where they are the same."""
+    """Two numbers as text, or one if they are the same."""
     return str(first) if first == last else "%s to %s" % (first, last)
 
 
 def place_text(after: int, before: int) -> str:
-    """Where something is missing: behind a field, or before one at the beginning of a side, which has none before."""
+    """Where something is missing: after a field, or before one at the beginning of a side, where there is none
+    before."""
     return "after field %d" % after if after else "before field %d" % before
 
 
@@ -97,12 +98,12 @@ def marks_of(answer: Answer) -> Dict[str, List[Mark]]:
 
 
 def lanes_of(marks: Dict[str, List[Mark]]) -> List[str]:
-    """The lanes that are drawn of these marks."""
+    """The lanes that are drawn for these marks."""
     return [lane for lane in LANES if marks[lane] or lane not in _RARE]
 
 
 def counts_of(answer: Answer) -> Dict[str, int]:
-    """How many there are of each lane, as the summary counts them."""
+    """The count of each lane, as the summary counts it."""
     counts = {lane: len(marks) for lane, marks in marks_of(answer).items()}
     counts.update((why, counted_by(answer, why)) for why in _MISSING)
     counts["lost fields"] = sum(one.fields or 1 for one in answer.lost)

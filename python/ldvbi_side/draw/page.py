@@ -1,5 +1,5 @@
 """A side as one page of HTML that needs nothing else: whether it is whole, the summary, the drawing, every list of the
-answer behind a fold, and its first bad lines drawn, where the TBC file is there."""
+answer in a fold, and, if the TBC file is there, drawings of its first bad lines."""
 
 import json
 from typing import Callable, Iterable, Optional, Sequence
@@ -29,9 +29,9 @@ summary{cursor:pointer;padding:4px 0}details svg{max-width:100%;height:auto}
 
 def page_of(side: Side, title: str, summary: Iterable[str], plot: Optional[Callable[[BadLine], str]] = None,
             path: Optional[str] = None, words: Sequence[str] = ()) -> str:
-    """The text of the page. `summary` are the lines of the side's summary. `plot` draws one of the answer's bad lines
-    as an SVG; it is None where the TBC file isn't there. `path` is the side's file, None of standard input, and `words`
-    are the options by which it was read."""
+    """The text of the page. `summary` has the lines of the side's summary. `plot` draws one of the answer's bad lines
+    as an SVG; it is None if the TBC file isn't there. `path` is the side's file, None for standard input, and `words`
+    are the options with which it was read."""
     answer, plain = side.analysis.answer, side.answer
     facts = [line.partition(": ") for line in summary][1:]
     parts = [_head(title, said_of(answer, path, words)), "<h1>%s</h1>" % escaped(title), _verdict(answer),
@@ -56,7 +56,7 @@ def _verdict(answer):
 
 
 def _plots(side, plot):
-    """The first bad lines, drawn, each behind a fold that says its cause and its word, if that was recovered."""
+    """The first bad lines, drawn, each in a fold that says its cause and its word, if that was recovered."""
     bad = side.analysis.answer.bad_lines
     if plot is None or not bad:
         return []

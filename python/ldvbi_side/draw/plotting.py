@@ -1,43 +1,56 @@
-"""Bad lines of a TBC file as drawings: contrib/plot_line.py, called in this process."""
+"""Lines of a TBC file, drawn beside the rows of their nearest words."""
 
 import os
-import runpy
-from types import SimpleNamespace
-from typing import Callable, Optional
+from typing import Callable, Optional, Tuple
 
+from ldvbi import Stream, System, field_bytes, line_bytes, read_line
+from ldvbi.codes import LINES
+from ldvbi.readings import size_of
 from ..answer.entries import BadLine
 from ..near import nearest_in
 from ..outside import shown
 from ..side import Side
-
-_HERE = os.path.dirname(os.path.dirname(os.path.abspath(__file__)))  # the package
-# in a wheel, in the repository, and as installed to PREFIX/share/ldvbi
-_PLACES = ("contrib/plot_line.py", "../../contrib/plot_line.py", "../../plot_line.py")
+from .line import Row, line_of, plot_of
 
 
-def plotter(side: Side, path: str) -> Optional[Callable[[BadLine], str]]:
-    """What draws one of the answer's bad lines, read from this TBC file, as an SVG, where words are recovered with the
-    row of its nearest word; None where plot_line.py isn't there."""
-    places = [os.path.join(_HERE, place) for place in _PLACES]
-    script = next(filter(os.path.exists, places), None)
-    if script is None:
-        return None
-    picture = runpy.run_path(script)["picture"]
+def plotter(side: Side, path: str) -> Callable[[BadLine], str]:
+    """A function that draws one of the answer's bad lines, read from this TBC file, as an SVG, with the row of its
+    nearest word if words are recovered."""
+    assert side.levels  # which a side that was read from samples has
+    setup = side.system, side.levels.black, side.levels.white
 
-    def plot(bad):
-        with open(path, "rb") as file:
-            file.seek(bad.offset)
-            line = file.read(bad.bytes)
-        samples = [low + 256 * high for low, high in zip(line[::2], line[1::2])]
-        title = "%s, field %d, line %d" % (shown(os.path.basename(path)), bad.field, bad.line)
-        return picture(samples, bad.cause, SimpleNamespace(
-            system=side.system.name, black=side.levels.black, white=side.levels.white, first=0, last=len(samples) - 1,
-            title=title), _nearest_row(side, bad))
+    def plot(bad: BadLine) -> str:
+        return _plot(path, setup, bad.field, bad.line, side.samples)
     return plot
 
 
-def _nearest_row(side, bad):
-    """The nearest word of a bad line, and the column from which on its row is drawn; None where there is none, or where
-    the side's samples aren't at hand."""
-    near = side.samples and nearest_in(side.samples, bad.field, bad.line, bad.line)
-    return (near.word, near.start) if near and near.word else None
+def plot_line(stream: Stream, path: str, field: int, line: int) -> str:
+    """The drawing of a line of a stream, which is of this file. If words are recovered and the line shows no word, the
+    row of its nearest word is drawn, too. Fields and lines are counted from 1. A ValueError if the stream has no such
+    line."""
+    lines = size_of(stream.system)[1]
+    if field > len(stream):
+        raise ValueError("it has no field %d, but %d whole fields" % (field, len(stream)))
+    if line > lines:
+        raise ValueError("there is no line %d: a field of %s has %d" % (line, stream.system.name, lines))
+    return _plot(path, (stream.system, stream.black, stream.white), field, line, stream if stream.recover else None)
+
+
+def _plot(path: str, setup: Tuple[System, int, int], field: int, line: int, samples: Optional[Stream]) -> str:
+    system = setup[0]
+    with open(path, "rb") as file:
+        file.seek((field - 1) * field_bytes(system) + (line - 1) * line_bytes(system))
+        data = file.read(line_bytes(system))
+    if len(data) < line_bytes(system):
+        raise ValueError("%s became shorter while it was read" % path)
+    reading = read_line(data, *setup)
+    title = "%s, field %d, line %d" % (shown(os.path.basename(path)), field, line)
+    row = None if reading.word else _nearest_row(samples, field, line)
+    return plot_of(line_of(data, *setup, reading), title, row)
+
+
+def _nearest_row(samples: Optional[Stream], field: int, line: int) -> Optional[Row]:
+    """The nearest word of a line, and the column from which on its row is drawn; None if there is none, or no words are
+    recovered."""
+    near = nearest_in(samples, field, line, line) if samples and line in LINES else None
+    return Row(near.word, near.start) if near and near.word else None

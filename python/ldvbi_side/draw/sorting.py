@@ -1,6 +1,6 @@
-"""The script of an index, and its looks. A click on a column's head sorts the rows by it, a second one the other way
-round, and a box leaves those rows that have all of its words. Without the script the rows stand in their order. As the
-index is XML, the script has no sign that is one there."""
+"""The script of an index, and its looks. A click on a column's head sorts the rows by it, and a second click sorts them
+the other way round. A box keeps the rows that have all of its words. Without the script the rows stay in their order.
+The index is XML, so the script has no character that has a meaning in XML."""
 
 from typing import Sequence
 
@@ -31,7 +31,8 @@ filter.querySelector("input").oninput = event => {
 filter.hidden = false;
 """
 STYLE = """td{vertical-align:top;border-bottom:1px solid #e2e8f0}th{vertical-align:bottom;white-space:nowrap}
-td:first-child{overflow-wrap:anywhere;min-width:13em}td:last-child{min-width:16em}input{font:inherit;width:16em;max-width:100%}
+td:first-child{overflow-wrap:anywhere;min-width:13em}td:last-child{min-width:16em}
+input{font:inherit;width:16em;max-width:100%}
 td.yes,td.no,td.open,td.fault,td.gone{padding:2px 10px;border-color:#e2e8f0;border-left:6px solid;font-weight:bold}
 td.yes{color:#15803d}td.no{color:#b91c1c}td.open{color:#b45309}td.fault{color:#7e22ce}td.gone{color:#64748b}
 th button{font:inherit;border:0;padding:0;background:none;color:inherit;cursor:pointer}
@@ -43,7 +44,7 @@ display:none}tbody tr{padding:4px 0 8px}td,td:first-child,td:last-child{border-b
 
 def looks_of(columns: Sequence[str]) -> str:
     """The looks of a table with these columns. On a narrow page the cells of a row stand one below the other, and all
-    but the first two of them begin with the name of their column."""
+    but the first two begin with the name of their column."""
     named = "".join('td:nth-child(%d)::before{content:"%s: ";color:#64748b}' % one
                     for one in list(enumerate(columns, 1))[2:])
     return STYLE + named + "}\n"

@@ -15,7 +15,7 @@ def escape(text: str) -> str:
 
 
 def escaped(value: Any) -> str:
-    """A value as text of HTML, in an attribute, too."""
+    """A value as text of HTML, also in an attribute."""
     return html.escape(shown(str(value)))
 
 
@@ -25,7 +25,7 @@ def text_width(text: str, size: float) -> float:
 
 
 def shortened(text: str, width: float, size: float) -> str:
-    """The text, with its middle left out where it is wider than so many pixels."""
+    """The text, without its middle if it is wider than this many pixels."""
     most = int(width / (CHARACTER * size))
     if len(text) <= most:
         return text
@@ -50,7 +50,7 @@ class Svg:
         self.parts: List[str] = []
 
     def element(self, name: str, title: Optional[str] = None, words: str = "", **attributes: Any) -> None:
-        """An element with a title and words, where these are given."""
+        """An element, with a title and words if these are given."""
         inner = ("<title>%s</title>" % escape(title) if title else "") + escape(words)
         end = ">%s</%s>" % (inner, name) if inner else "/>"
         self.parts.append("<" + name + _attributes(attributes) + end)

@@ -36,7 +36,7 @@ def page_of_joined(joined: Joined, lines: Iterable[str]) -> str:
 
 
 def _fold(name: str, text: str, ones: List[Dict[str, Any]]) -> str:
-    """A list in full, behind its name and how many rows it has."""
+    """A list in full, under its name and how many rows it has."""
     title = "%s: %d" % (escaped(text), len(ones))
     if not ones:
         return "<p>%s</p>" % title

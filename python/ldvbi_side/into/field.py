@@ -1,5 +1,5 @@
-"""Where in the JSON text of one field of ld-decode's metadata its words go, its `vbi.vbiData`: all else of the text
-stays as it is, and what is new in it is written like what stands there."""
+"""Where in the JSON text of one field of ld-decode's metadata its words go, `vbi.vbiData`. The rest of the text stays
+as it is, and what is new is written in the style of what is there."""
 
 import functools
 import json
@@ -22,15 +22,15 @@ MEMBER = "ldvbiWords"
 
 
 class Place(NamedTuple):
-    """A part of a text, from its begin to its end, and what stands there in its copy, with `%d` for each word."""
+    """A part of a text, from its begin to its end, and what is there in the copy, with `%d` for each word."""
     begin: int
     end: int
     form: str
 
 
 def place_of_words(text: str, field: Any, number: int) -> Place:
-    """The place of the words in the text of the field with this number, whose value is known. What is wrong with the
-    field is a ValueError."""
+    """The place of the words in the text of the field with this number, whose value is known. If something is wrong
+    with the field, a ValueError says what."""
     if not isinstance(field, dict):
         raise ValueError("it is no object")
     if field.get("seqNo", number) != number:
@@ -49,7 +49,8 @@ def place_of_words(text: str, field: Any, number: int) -> Place:
 
 
 def place_of_member(text: str) -> Place:
-    """The place of that member before all others of a document that begins with this text, with `%s` for its value."""
+    """The place for that member, before all others of a document that begins with this text, with `%s` for its
+    value."""
     begin = text.index("{")
     first = _FIRST.match(text, begin)
     comma, colon, _ = _style_of(text, begin)
@@ -59,7 +60,7 @@ def place_of_member(text: str) -> Place:
 
 def _style_of(text: str, begin: int) -> Tuple[str, str, str]:
     """How the members of the object that begins there are written, by its first one: the comma with the white space
-    behind it, the colon with that around it, and that behind the colon alone."""
+    after it, the colon with that around it, and that after the colon alone."""
     first = _FIRST.match(text, begin)
     if first is None:
         return ",", ":", ""  # there is none
@@ -68,14 +69,14 @@ def _style_of(text: str, begin: int) -> Tuple[str, str, str]:
 
 
 def _added(text: str, begin: int, end: int, member: str) -> Place:
-    """The place of one more member in the object that stands there, behind all others."""
+    """The place of one more member in the object that stands there, after all others."""
     place = begin + len(text[begin:end - 1].rstrip(" \t\n\r"))
     comma = _style_of(text, begin)[0] if place > begin + 1 else ""
     return Place(place, place, comma + member)
 
 
 def _list_with(gap: str) -> str:
-    """The form of a list with this white space behind each comma."""
+    """The form of a list with this white space after each comma."""
     return "[%%d,%s%%d,%s%%d]" % (gap, gap)
 
 

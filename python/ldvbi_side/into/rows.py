@@ -1,5 +1,5 @@
-"""A database of ld-decode's metadata, copied with the words of its fields: the table `vbi` has a row for each of
-them, and a table of its own, which no reader of ld-decode's looks for, says which words these are."""
+"""A database of ld-decode's metadata, copied with the words of its fields. The table `vbi` has a row for each field. A
+table of its own, which no reader of ld-decode's looks for, says which words these are."""
 
 import array
 import contextlib
@@ -22,8 +22,8 @@ _SAY = ("CREATE TABLE IF NOT EXISTS main.%s (words TEXT NOT NULL)" % _SAID, "DEL
 
 
 class Rows:
-    """The fields of a database: those of the table that says which of them begin a frame, or else of the table `vbi`. A
-    database of another form is a ValueError, and so is one with a trigger, which may write something else."""
+    """The fields of a database: those of the table that says which fields begin a frame, or else of the table `vbi`. A
+    database of another form raises a ValueError, and so does one with a trigger, which may write something else."""
 
     def __init__(self, path: str) -> None:
         self._path = path
@@ -43,8 +43,8 @@ class Rows:
         return len(self._fields)
 
     def copy(self, path: str, words: Iterable[Words], said: str) -> None:
-        """Makes a copy of the database, in which each field in turn has these words, with what is said of them. All of
-        them come into it in one transaction; the other columns of a row that is there stay as they are."""
+        """Makes a copy of the database. Each field in turn has these words there, with what is said of them. All of
+        them are written in one transaction. The other columns of a row that exists stay as they are."""
         of_capture = ("", "")
         if "capture_id" in self._columns:
             of_capture = ("capture_id, ", "(SELECT capture_id FROM main.capture), ")

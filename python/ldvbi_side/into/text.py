@@ -14,8 +14,8 @@ Edit = Tuple[int, int, str]  # a part of a text, from its begin to its end, and 
 
 
 class Places:
-    """Where the words of each field go in a document, and the member that says which words these are: what it has to be
-    told of each field, and of each other member, as the document is read. Of a document no more is kept than that."""
+    """Where the words of each field go in a document, and the member that says which words these are. As the document
+    is read, each field and each other member has to be added. Nothing more of the document is kept."""
 
     def __init__(self) -> None:
         self._begins, self._ends, self._forms = array("Q"), array("Q"), array("Q")
@@ -39,7 +39,7 @@ class Places:
         self._forms.append(self._numbers.setdefault(place.form, len(self._numbers)))
 
     def add_member(self, name: str, begin: int, text: str) -> None:
-        """Adds a member beside the fields: its name, and of its value the place and the text."""
+        """Adds a member beside the fields: its name, and the place and the text of its value."""
         if name == MEMBER:
             self._members.append((begin, begin + len(text)))
 
@@ -71,7 +71,7 @@ class Places:
         return [(place.begin, place.end, place.form % self._said)]
 
     def other_in(self, path: str) -> Optional[str]:
-        """What a copy has otherwise than it was to be written; None where it has all words, and says which."""
+        """What a copy has that is other than what was to be written; None if it has all words, and says which."""
         shown, said = array("I"), set()
 
         def take(_begin: int, _text: str, field: Any) -> None:

@@ -12,7 +12,7 @@ from ..judge.paces import RATES, Unit
 from ..judge.places import Break
 from ..side import Side
 
-NEARBY = 25  # fields before and behind one, in which its bad lines are counted
+NEARBY = 25  # fields before and after one, in which its bad lines are counted
 NUMBERS = (Kind.picture, Kind.time, Kind.clv_picture)
 DUE = "unread"  # why a number is missing that is due in a field
 READ, NEAR, TOGETHER, NEIGHBOURS = "read", "near", "together", "neighbours"
@@ -20,10 +20,10 @@ READ, NEAR, TOGETHER, NEIGHBOURS = "read", "near", "together", "neighbours"
 
 class Place(NamedTuple):
     """Where a capture has a number: the first field that shows it, or in which it is due, and its last field. `how` is
-    as the map of a side has it. `is_whole` is false where a field of its picture may be lost, or be another's: right
-    before a break, or within a still. `lines` are the lines of the first field on which the number was read, or 0 where
-    it is the nearest word of these, or -1 where it is only due; `sure` are those of pass 1. `bad` are the bad lines of
-    the fields nearby."""
+    as the map of a side has it. `is_whole` is false if a field of its picture may be lost, or be another's: right
+    before a break, or within a still. `lines` is the count of lines of the first field on which the number was read; it
+    is 0 if the number is the nearest word of these lines, and -1 if it is only due. `sure` is the count of those of
+    pass 1. `bad` is the count of bad lines in the fields nearby."""
     number: int
     field: int
     last: int
@@ -35,10 +35,10 @@ class Place(NamedTuple):
 
 
 class Capture(NamedTuple):
-    """A capture under its name. `breaks` are where its numbers and fields don't go on together, more of them than the
-    library reports. `places` are in the order of its fields; `first` has the first place of each number.
-    `said` has for each kind of code, by its name, what stands beside which number. `samples` is the stream from which
-    words were recovered; None where it isn't at hand."""
+    """A capture under its name. `breaks` are where its numbers and fields don't go on together; there are more of them
+    than the library reports. `places` are in the order of its fields; `first` has the first place of each number.
+    `said` has, for each kind of code, by its name, what is beside which number. `samples` is the stream from which
+    words were recovered; None if it isn't at hand."""
     name: str
     answer: Answer
     breaks: List[Break]
@@ -59,11 +59,11 @@ class Capture(NamedTuple):
         return ordinal_of(number, RATES[self.answer.system])
 
     def numbers_of(self, stretches: Iterable[Tuple[Any, Any]]) -> Set[int]:
-        """The numbers of some stretches, of which the first and the last one are as the answer has them."""
+        """The numbers of some stretches, whose first and last numbers are as the answer has them."""
         return {number for first, last in stretches for number in range(self.ordinal(first), self.ordinal(last) + 1)}
 
     def lasts(self, number: int) -> Optional[int]:
-        """How many fields come from a number to the next one, where these two are first; None where either isn't
+        """How many fields there are from a number to the next one, where each comes first; None if either isn't
         there."""
         one, after = self.first.get(number), self.first.get(number + 1)
         return after.field - one.field if one and after else None

@@ -1,10 +1,10 @@
-"""Where two captures disagree about a number. Between two breaks each capture has its numbers at the disc's own pace,
-so two of them can only disagree where one of them says something else of the same fields:
+"""Where two captures disagree about a number. Between two breaks each capture has its numbers at the disc's own pace.
+So two of them can only disagree if one of them says something else of the same fields:
 
-- `detour`: the numbers before and behind some fields leave these for numbers that the other capture has, and other
+- `detour`: the numbers before and after some fields leave these for numbers that the other capture has, and other
   numbers were read there;
 - `clock`: one says that the disc's clock leaves out a number, and the other one has it;
-- `distance`: numbers are further from those before them in one capture than in the other one, and neither says why."""
+- `distance`: numbers are farther from those before them in one capture than in the other, and neither says why."""
 
 import itertools
 from typing import Iterator, List, NamedTuple, Set, Tuple
@@ -16,8 +16,8 @@ DETOUR, CLOCK, DISTANCE = "detour", "clock", "distance"
 
 
 class Part(NamedTuple):
-    """What one capture says: the numbers from the first to the last, and the fields in which they are. Of numbers that
-    it leaves out these are the fields around them."""
+    """What one capture says: the numbers from the first to the last, and the fields that have them. If it leaves the
+    numbers out, these are the fields around them."""
     name: str
     first: int
     last: int
@@ -26,7 +26,7 @@ class Part(NamedTuple):
 
 
 class Disagreement(NamedTuple):
-    """Two captures that disagree, and why they do. The first one is the one that has the detour, or leaves out."""
+    """Two captures that disagree, and why. The first is the one that has the detour, or leaves numbers out."""
     why: str
     one: Part
     other: Part
@@ -44,8 +44,8 @@ def disagreements_of(captures: List[Capture]) -> List[Disagreement]:
 
 
 def disputed_in(found: List[Disagreement]) -> Set[Tuple[str, int]]:
-    """The captures' names and fields whose numbers belong to another place, by what is around them and by another
-    capture."""
+    """The captures' names and the fields whose numbers belong in another place, according to what is around them and to
+    another capture."""
     return {(one.one.name, field) for one in found if one.why == DETOUR
             for field in range(one.one.field, one.one.last_field + 1)}
 
@@ -59,7 +59,7 @@ def _part(capture, places):
 # ---- Between two breaks
 
 def _detours(one: Capture, other: Capture) -> Iterator[Disagreement]:
-    """Numbers between two breaks of a capture, where those before and behind both breaks fit each other."""
+    """Numbers between two breaks of a capture, where those before and after both breaks fit each other."""
     if one.answer.pace == "minute":
         return
     pace = Pace(str(one.answer.pace))

@@ -1,5 +1,5 @@
 """What several captures have together, and the entries of its lists, under the names by which this package reads them;
-plain.py gives them those of docs/FORMATS.md. Numbers are as the answer of a side has them."""
+plain.py gives them those of share/schema/ldvbi-join.schema.json. Numbers are as the answer of a side has them."""
 
 from typing import Any, List, NamedTuple, Optional
 
@@ -7,7 +7,7 @@ from ..answer.entries import Extent
 
 
 class Held(NamedTuple):
-    """A capture by its name, how many fields it has, whether it is whole, and its numbers."""
+    """A capture: its name, how many fields it has, whether it is whole, and its numbers."""
     name: str
     fields: int
     whole: str
@@ -23,7 +23,7 @@ class Lacking(NamedTuple):
 
 
 class Lack(NamedTuple):
-    """Numbers that a capture lacks, `count_` of them, and the names of those that have them."""
+    """Numbers that a capture lacks, `count_` of them, and the names of the captures that have them."""
     capture: str
     first: Any
     last: Any
@@ -32,7 +32,7 @@ class Lack(NamedTuple):
 
 
 class Shown(NamedTuple):
-    """Numbers, `count_` of them, that a capture has alone, or that it shows better than others."""
+    """Numbers, `count_` of them, that only this capture has, or that it shows better than others."""
     capture: str
     first: Any
     last: Any
@@ -47,7 +47,7 @@ class Alike(NamedTuple):
 
 
 class Told(NamedTuple):
-    """What one of two captures that disagree says: numbers, and their fields there."""
+    """What one of two captures that disagree says: numbers, and their fields in that capture."""
     capture: str
     first: Any
     last: Any
@@ -82,7 +82,7 @@ class Range(NamedTuple):
 
 class Joined(NamedTuple):
     """All that captures have together: the numbers that any of them has, those between them that none has, those that
-    the disc leaves out, and so on. `shown_by` are the kinds of codes which show that they are of one disc."""
+    the disc leaves out, and so on. `shown_by` has the kinds of codes which show that they are of one disc."""
     version: int
     system: str
     format: str

@@ -18,7 +18,7 @@ WHYS = (CLOCK, DUE, UNDECIDED)
 
 
 def join(captures: List[Capture]) -> Joined:
-    """What these captures have together. A ValueError where two of them can't be of one disc."""
+    """What these captures have together. A ValueError if two of them can't be of one disc."""
     refuse_other_discs(captures)
     unit, found = captures[0].unit(), disagreements_of(captures)
     disputed = disputed_in(found)

@@ -1,5 +1,5 @@
-"""Captures that can't be of one disc, and what shows that others are. That they have no number in common says nothing:
-each may have another part."""
+"""Captures that can't be of one disc, and what shows that others are. If they have no number in common, that says
+nothing: each may have another part."""
 
 import itertools
 from typing import List, Set
@@ -13,9 +13,9 @@ KINDS = CHAPTER, STATUS, USERS  # of codes that may show that two captures are o
 
 
 def refuse_other_discs(captures: List[Capture]) -> None:
-    """Raises a ValueError that names two captures which can't be of one disc: they have another system or other
-    numbers, one has film where the other has video, or beside most of the numbers that both have there is another
-    chapter or programme status. One without numbers is refused, too."""
+    """Raises a ValueError that names two captures which can't be of one disc. They have different systems or count
+    different numbers; or one has film and the other video; or beside most of the numbers that both have, their chapters
+    or programme statuses differ. A capture without numbers is refused, too."""
     for capture in captures:
         if not capture.places:
             raise ValueError("%s has no numbers to join" % capture.name)
@@ -59,8 +59,8 @@ def _refuse_contradiction(one, other, name):
 # ---- What shows that captures are of one disc
 
 def shown_by(captures: List[Capture]) -> List[str]:
-    """The kinds of codes which show that captures are of one disc. There are none if some capture is tied to no other
-    one by them, or some captures are only tied to each other."""
+    """The kinds of codes which show that captures are of one disc. There are none if they tie some capture to no other,
+    or tie some captures only to each other."""
     found: Set[str] = set()
     tied, left = captures[:1], captures[1:]
     for capture in tied:  # which grows meanwhile

@@ -1,5 +1,5 @@
-"""Numbers that no capture reads, and which are due in two or more of them: what their lines say as one pile. Lines that
-say nothing alone may do so together, since noise and dropouts are others in each capture."""
+"""Numbers that no capture reads and that are due in two or more of them: what their lines say as one pile. Lines that
+say nothing alone may say something together, since noise and dropouts differ in each capture."""
 
 import struct
 from typing import Dict, Iterator, List, NamedTuple, Optional, Set, Tuple
@@ -32,8 +32,8 @@ class Line(NamedTuple):
 
 
 def read_together(captures: List[Capture], disputed: Set[Tuple[str, int]]) -> Set[int]:
-    """The numbers that no capture reads, and which the lines of the fields say in which they are due. A field that is
-    disputed isn't asked."""
+    """The numbers that no capture reads, but that the lines of the fields in which they are due say together. A field
+    that is disputed isn't asked."""
     unit = captures[0].unit()
     if unit.name not in _LINES:
         return set()

@@ -1,4 +1,4 @@
-"""What captures have together as plain data, in the form that docs/FORMATS.md has."""
+"""What captures have together as plain data, in the form that share/schema/ldvbi-join.schema.json has."""
 
 from typing import Any, Dict
 

@@ -12,7 +12,7 @@ Rank = Tuple[bool, bool, int, int]  # of a place: the least one is shown best
 
 
 class Taken(NamedTuple):
-    """A number with the capture to take it from, its place there, and how it stands there."""
+    """A number with the capture to take it from, its place there, and how it is known there."""
     number: int
     capture: Capture
     place: Place
@@ -28,10 +28,10 @@ class _Best(NamedTuple):
 
 
 def taken_of(captures: List[Capture], disputed: Set[Tuple[str, int]]) -> List[Taken]:
-    """Each number that a capture has, ascending, with the place to take it from. It is the one that was read on more
-    lines; of these the one with more lines of pass 1, then with fewer bad lines nearby, then of the earlier capture,
-    and there the first one. What is disputed, or has lost a field, is only taken where nothing else is. Bad lines and
-    the order of captures make no capture better."""
+    """Each number that a capture has, ascending, with the place to take it from. That is the place where it was read on
+    more lines; then with more lines of pass 1, then with fewer bad lines nearby, then of the earlier capture, and there
+    the first one. A place that is disputed, or has lost a field, is only taken if there is no other. Bad lines and the
+    order of captures make no capture better."""
     having: Dict[int, List[_Best]] = {}
     for capture in captures:
         for number, one in _best_of(capture, disputed).items():
@@ -56,8 +56,8 @@ def _best_of(capture: Capture, disputed: Set[Tuple[str, int]]) -> Dict[int, _Bes
 
 
 def stretches_of(taken: List[Taken], left_out: Set[int]) -> List[List[Taken]]:
-    """The numbers in stretches: each follows the one before, but for numbers that the disc's clock leaves out, and its
-    fields follow those of the one before, all of them, in the same capture."""
+    """The numbers in stretches. Each number follows the one before it, except for numbers that the disc's clock leaves
+    out, and its fields follow all of that one's fields, in the same capture."""
     stretches: List[List[Taken]] = []
     for one in taken:
         before = stretches[-1][-1] if stretches else None

@@ -1,7 +1,7 @@
 """Which numbers of a side are believed, and what lies between them. Plain data goes through the modules in one
-direction. None imports one that stands behind it here, or changes what another made. Read them in this order:
+direction. None imports one that comes after it here, or changes what another made. Read them in this order:
 
 readings, paces, chain, believed, order, numbers, clock, places
 
 `chain` asks the library what it believes. Up to `numbers` the words become believed numbers; `places` finds what lies
-between these. What is said of them is in the package `answer`."""
+between these. The package `answer` says what this means."""

@@ -1,5 +1,5 @@
 """The numbers of a side that are believed, as data: the readings by field, and how two of them stand to each other, at
-the disc's own speed or where it was played at another one."""
+the disc's own speed or where it was played at another speed."""
 
 import bisect
 import functools
@@ -20,7 +20,7 @@ _NONE: Mapping[int, int] = types.MappingProxyType({})
 
 
 class Line(NamedTuple):
-    """Numbers that go on by `step` every so many fields, from a field with a number on."""
+    """Numbers that go on by `step` at a fixed distance in fields, from a field with a number on."""
     step: int
     fields: int
     field: int
@@ -63,10 +63,10 @@ class _Numbers(NamedTuple):
 
 class Numbers(_Numbers):  # so that it can keep what was found of it
     """The believed readings of a side by field, what they count, and the pace at which they go on. `completed` are the
-    fields whose minute is another field's; `others` those in which no number is due, since their lines show a code that
-    stands there instead of one; `swapped` are the fields with a number that a capture has written one field off, each
-    with the field in which that is due, and `speeds` the stretches at another speed. `judged` is what the library
-    answers of the side, None of minutes alone."""
+    fields whose minute is another field's. `others` are the fields in which no number is due, since their lines show a
+    code that stands there instead. `swapped` are the fields with a number that a capture has written one field off,
+    each with the field in which that is due. `speeds` are the stretches at another speed. `judged` is the library's
+    answer for the side, None for minutes alone."""
 
     @functools.cached_property
     def fields(self) -> List[int]:
@@ -75,22 +75,22 @@ class Numbers(_Numbers):  # so that it can keep what was found of it
 
     @functools.cached_property
     def values(self) -> List[int]:
-        """Their numbers."""
+        """The numbers of the believed readings."""
         return [one.number for one in self.believed]
 
     @functools.cached_property
     def taken(self) -> Dict[int, int]:
-        """These numbers by field."""
+        """The believed numbers by field."""
         return dict(zip(self.fields, self.values))
 
     def believing(self, readings: List[Reading]) -> "Numbers":
-        """The same with these readings in the place of those that were believed."""
+        """The same with these readings in place of those that were believed."""
         return self._replace(believed=readings)
 
     @functools.cached_property
     def odd_places(self) -> Sequence[int]:
-        """The places of the believed readings that may be anything else than the next number of video in its own place,
-        two fields behind the one before. Most aren't."""
+        """The places of the believed readings that may be anything but the next number of video in its own place, two
+        fields after the one before. Most aren't."""
         if not self.pace or self.pace.kind != "video":
             return range(1, len(self.fields))
         steps = zip(map(operator.sub, self.fields[1:], self.fields),
@@ -103,7 +103,7 @@ class Numbers(_Numbers):  # so that it can keep what was found of it
         return found
 
     def aside(self, readings: List[Reading]) -> List[Reading]:
-        """Those of these readings whose fields have no believed one."""
+        """Those of these readings whose fields have no believed reading."""
         return [one for one in readings if one.field not in self.taken]
 
     def rest_of(self, readings: List[Reading]) -> List[Reading]:
@@ -112,8 +112,8 @@ class Numbers(_Numbers):  # so that it can keep what was found of it
         return [one for one in readings if get(one.field) != one.number]
 
     def beside(self, aside: List[Reading]) -> Iterator[Tuple[Reading, Optional[Reading], Optional[Reading]]]:
-        """These readings, which ascend by field, and whose fields have no believed one, each with the believed ones
-        before and behind it, or None."""
+        """These readings, each with the believed ones before and after it, or None. They ascend by field, and their
+        fields have no believed reading."""
         fields, believed, place = self.fields + [math.inf], self.believed + [None], 0
         for one in aside:
             while fields[place] < one.field:
@@ -125,13 +125,13 @@ class Numbers(_Numbers):  # so that it can keep what was found of it
         return self.believed[bisect.bisect_left(self.fields, first):bisect.bisect(self.fields, last)]
 
     def around(self, field: int) -> Around:
-        """The believed readings before and behind a field, or None."""
+        """The believed readings before and after a field, or None."""
         before, after = bisect.bisect_left(self.fields, field), bisect.bisect(self.fields, field)
         return (self.believed[before - 1] if before else None,
                 self.believed[after] if after < len(self.fields) else None)
 
     def off(self, before: Reading, after: Reading) -> Optional[int]:
-        """The fields that are too many (or, negative, too few) between two readings; None where the number stays."""
+        """How many fields are too many (or, negative, too few) between two readings; None if the number stays."""
         if self.speeds:
             off = off_at_speed(self, before, after)
             if off is not None:
@@ -147,7 +147,7 @@ class Numbers(_Numbers):  # so that it can keep what was found of it
         return self.swapped.get(reading.field, reading.field)
 
     def fit(self, around: Around) -> bool:
-        """Whether there is a reading before and behind, and these two fit each other."""
+        """Whether there is a reading before and one after, and these two fit each other."""
         before, after = around
         return before is not None and after is not None and self.off(before, after) == 0
 
@@ -163,7 +163,7 @@ def numbers_of_readings(unit: Unit, pace: Union[Pace, MinutePace, None], believe
 
 
 def no_numbers(system: str, judged: Optional[JudgedSide] = None) -> Numbers:
-    """Those of a side without any, of which the library answers this."""
+    """The numbers of a side without any. This is the library's answer for it."""
     return numbers_of_readings(Unit(None, RATES[system]), None, [], set(), judged)
 
 
@@ -176,7 +176,7 @@ def stretch_at(speeds: Tuple[Stretch, ...], field: int) -> Optional[Stretch]:
 
 
 def line_from(numbers: Numbers, reading: Reading, is_before: bool) -> Line:
-    """The line on which the numbers go on from a reading, or on which they come to it."""
+    """The line on which the numbers go on from a reading, or on which they lead to it."""
     place = bisect.bisect_left(numbers.speeds, (reading.field + is_before,)) - 1
     if place >= 0 and reading.field + is_before <= numbers.speeds[place].last:
         return numbers.speeds[place].line
@@ -199,8 +199,8 @@ def _lines_between(numbers, before, after):
 
 
 def off_at_speed(numbers: Numbers, before: Reading, after: Reading) -> Optional[int]:
-    """The fields that are too many (or, negative, too few) between two readings at one other speed, or 0 where the
-    speed changes between them in a picture in which both lines have the same number; None of all others."""
+    """How many fields are too many (or, negative, too few) between two readings at one other speed. It is 0 if the
+    speed changes between them in a picture in which both lines have the same number; None for all others."""
     lines = _lines_between(numbers, before, after)
     return None if lines is None else _off_on_lines(numbers, lines, before, after)
 
@@ -234,8 +234,8 @@ def passed_between(numbers: Numbers, before: Reading, after: Reading) -> List[Tu
 
 
 def meeting(line: Line, other: Line, before: Reading, after: Reading) -> Optional[int]:
-    """The first field of the picture in which two lines have the same number, between two readings that aren't far from
-    each other."""
+    """The first field of the picture in which two lines have the same number, between two readings that are near each
+    other."""
     if after.field - before.field > APART or (line.field - other.field) % 2:
         return None
     return next((field for field in range(before.field - before.variant, after.field + 1, 2)

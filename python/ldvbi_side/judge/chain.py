@@ -1,19 +1,19 @@
-"""Which readings are believed. Those that the library believes are, which are the anchors of a side (`anchored`). Where
-it leaves that open, it is the choice of at most one reading a field with the greatest weight less the price of its
-breaks. Such a choice is a chain, drawn from one anchor to the next (`chosen`); chapters are chosen so, too, and
-minutes, of which the library believes none. The pace (paces.py) says by how many fields two readings are off, and
-`price` what that costs:
+"""Which readings are believed. Those that the library believes are: they are the anchors of a side (`anchored`). Where
+the library leaves it open, at most one reading a field is chosen, so that their weight less the price of their breaks
+is greatest. Such a choice is a chain, drawn from one anchor to the next (`chosen`). Chapters are chosen in this way,
+too, and so are minutes, of which the library believes none. The pace (paces.py) says by how many fields two readings
+are off, and `price` says what that costs:
 
     field    1   3    5   7   9     each number weighs 4, as a word on two lines does
     number   1   2  903   4   5     without 903 the chain is worth 16, with it 20 less two breaks of 12
 
-The price of a step depends on its two readings alone. So a best chain that ends with a reading goes on from a best one
-that ends with an earlier reading, and one pass over the readings finds them all. Not all earlier ones are asked, but
-the last few, the last one whose numbers go on to this one, the last one with the same number, and that at which the
-best chain of all ends: a better one may be missed. What a pace leaves open of a number, its variant, is told last.
+The price of a step depends only on its two readings. So a best chain that ends with a reading goes on from a best one
+that ends with an earlier reading, and one pass over the readings finds them all. Only some earlier ones are asked: the
+last few, the last one whose numbers go on to this one, the last one with the same number, and the one at which the best
+chain of all ends. So a better chain may be missed. What a pace leaves open of a number, its variant, is found last.
 
-What words weigh is in readings.py, what fits and what breaks cost in paces.py. A change of these, or of the choice
-here, changes docs/SIDES.md, and what was measured."""
+readings.py says what words weigh, and paces.py what fits and what breaks cost. If these, or the choice here, change,
+docs/SIDES.md changes, too, and so does what was measured."""
 
 import functools
 from typing import Dict, Iterator, List, Mapping, Tuple
@@ -37,9 +37,9 @@ FEWER = 2 ** -20  # of breaks that cost as much those of fewer fields are taken
 # ---- The library's numbers
 
 def judged_of(fields: Fields, counted: Counted) -> JudgedSide:
-    """What the library answers of the side. It looks at how far apart numbers stand, and may take jumps of a disc of
-    which little was read for numbers on both fields of a picture, and a disc with these that was played slowly for
-    film. Only a disc with numbers on both fields shows one on two fields beside each other."""
+    """The library's answer for the side. It looks at how far apart numbers are. On a disc of which little was read, it
+    may take jumps for numbers on both fields of a picture; it may take a disc that has those, and was played slowly,
+    for film. Only a disc with numbers on both fields shows one on two fields beside each other."""
     packed = fields.packed
     if counted == Counted.times:
         packed = complete_times(packed, fields.system)
@@ -60,15 +60,15 @@ def pace_of(judged: JudgedSide) -> Pace:
 
 
 def anchored(readings: List[Reading], pace: Pace, judged: JudgedSide) -> List[Reading]:
-    """The readings that are believed, each with its variant. These and those given ascend by field, and the library
-    answered of these fields."""
+    """The readings that are believed, each with its variant. These, like those given, ascend by field, and the library
+    answered for these fields."""
     sure = sure_in(judged.numbers)
     believed = chosen(readings, pace, sure)
     return _with_variants(believed, pace) if pace.variants > 1 else believed
 
 
 def sure_in(numbers: List[Number]) -> Dict[int, int]:
-    """The fields, from 1, of which the library believes a number, each with that."""
+    """The fields, from 1, of which the library believes a number, each with that number."""
     believed = State.believed
     return {field: number for field, (number, state) in enumerate(numbers, 1)
             if state is believed and number is not None}
@@ -77,8 +77,8 @@ def sure_in(numbers: List[Number]) -> Dict[int, int]:
 # ---- Between them
 
 def chosen(readings: List[Reading], pace: AnyPace, sure: Mapping[int, int]) -> List[Reading]:
-    """Of these readings those that are believed: in the fields of `sure` the one with the number that is sure, and
-    between these the best chain from one to the next. They ascend by field."""
+    """Those of these readings that are believed: in the fields of `sure` the one with the sure number, and between
+    these the best chain from one to the next. They ascend by field."""
     get, found, begin = sure.get, [], 0
     kept = [one for one in readings if get(one.field, one.number) == one.number]
     for first, last in _stretches([place for place, one in enumerate(kept) if one.field not in sure]):
@@ -103,7 +103,7 @@ def _is_noise(part, pace):
 
 
 def _stretches(places):
-    """The stretches of these places, which ascend: of each the first one, and the one behind the last."""
+    """The stretches of these places, which ascend: of each the first one, and the one after the last."""
     begins = [one for one, before in zip(places, [None] + places) if before is None or one - before > 1]
     ends = [one for one, after in zip(places, places[1:] + [None]) if after is None or after - one > 1]
     return zip(begins, [one + 1 for one in ends])

@@ -9,14 +9,14 @@ A capture that lost a picture or two looks just the same. What tells them apart 
 all gaps are judged together, once the numbers are believed. To the chain each gap is a break, which costs 3 or 4.
 
 A gap of two numbers is judged by its place in the minute. Gaps of one number need a rule (`_Rule`): a spacing, and a
-number from which the gaps are whole multiples of it away. A stretch shows its own rule if at least three of its gaps
-follow it, and two thirds of those that are due are there. It ends at a jump of WIDE fields, since two discs may be
-joined there, each with its own clock. A stretch that shows none takes that of another, or all such stretches show one
-together; else a short one's numbers stay `open`. By which of the two SPACINGS discs count isn't known here, so both are
-tried.
+number from which the gaps are whole multiples of the spacing away. A stretch shows its own rule if at least three of
+its gaps follow it, and two thirds of those that are due are there. A stretch ends at a jump of WIDE fields, since two
+discs may be joined there, each with its own clock. A stretch that shows no rule takes that of another, or all such
+stretches show one together; else the numbers of a short one stay `open`. It isn't known here by which of the two
+SPACINGS discs count, so both are tried.
 
-places.py collects the gaps, and makes breaks of those that aren't the clock's. missing.py says of the others' numbers
-whether they are left out, damaged or undecided. At another speed `off_at_speed` (believed.py) lets a gap of one number
+places.py collects the gaps, and makes breaks of those that aren't the clock's. missing.py says whether the numbers of
+the others are left out, damaged or undecided. At another speed `off_at_speed` (believed.py) lets a gap of one number
 pass without asking. A change here changes rule 9 of docs/SIDES.md; the simulated discs of the tests leave out numbers
 in both ways."""
 
@@ -30,14 +30,14 @@ OFF = 2  # numbers more or less than a whole multiple: a clock is never further 
 LEAST_PLACES = 3  # of numbers left out evenly, for the clock to be believed
 KEPT = (2, 3)  # the numbers left out evenly, at least, of so many that are due
 SHORT = 4000  # numbers too few to show that many places
-WIDE = 2000  # fields of a jump behind which the numbers are played anew: those of 1,000 numbers
+WIDE = 2000  # fields of a jump after which the numbers are played anew: those of 1,000 numbers
 MINUTE = 1800
 TENTH_MINUTE = 10 * MINUTE
 Pair = Tuple[Reading, Reading]
 
 
 class Gap(NamedTuple):
-    """Believed readings between which one or two pictures are too few for the numbers."""
+    """Two believed readings with one or two pictures too few between them for their numbers."""
     before: Reading
     after: Reading
     pictures: int
@@ -50,19 +50,19 @@ class Played(NamedTuple):
 
 
 class Clock(NamedTuple):
-    """Which gaps are the clock's. `judged` says of each number in a gap whether the clock left it out; `open` are the
-    numbers of gaps where too few were played to know it; `breaks` are the pairs of readings of all gaps that aren't
-    the clock's."""
+    """Which gaps are the clock's. `judged` says of each number in a gap whether the clock left it out. `open` are the
+    numbers of gaps where too few numbers were played to know. `breaks` are the pairs of readings of all gaps that
+    aren't the clock's."""
     judged: Dict[int, bool]
     open: Set[int]
     breaks: List[Pair]
 
 
 def clock_of(played: List[Played]) -> Clock:
-    """Judges the gaps. One of two numbers is the clock's at the start of a minute. One of one number is it where others
-    of its stretch are whole multiples of 1,000 or of 1,001 apart from it, at most 2 more or less, since a clock is
-    never further off, and where these are two thirds of those due. A stretch in which too few are due is judged by the
-    others, of which one may be of the same disc, or else with all that are left."""
+    """Judges the gaps. One of two numbers is the clock's if it is at the start of a minute. One of one number is the
+    clock's if others of its stretch are whole multiples of 1,000 or of 1,001 away from it, at most 2 more or less,
+    since a clock is never farther off, and if these are two thirds of those due. A stretch in which too few are due is
+    judged by the others, one of which may be of the same disc, or else together with all that are left."""
     judged, breaks = _judged_pairs([gap for one in played for gap in one.gaps if gap.pictures == 2])
     unknown: Set[int] = set()
     for singles, numbers, rule in _ruled(played):
@@ -108,7 +108,7 @@ def _ruled(played):
 
 
 class _Rule(NamedTuple):
-    """Numbers that are left out evenly: whole multiples of `spacing` apart from the one behind `anchor`. `phases` are
+    """Numbers that are left out evenly: whole multiples of `spacing` apart from the one after `anchor`. `phases` are
     the places in the thousand of those of the gaps in which only one number is."""
     spacing: int
     anchor: int

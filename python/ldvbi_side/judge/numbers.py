@@ -2,9 +2,9 @@
 joined of the minutes on lines 17 and 18 and of the second and picture on line 16. The steps are the same for both:
 
 1. The codes become readings: a number of a field, with its weight.
-2. The library says at which pace the numbers go on, and which it believes (`judged_of`); of times it first gives fields
-   without a minute one by vote.
-3. `anchored` has these, and chooses among the other readings, each in its own field.
+2. The library says at which pace the numbers go on, and which it believes (`judged_of`). For times, it first gives
+   fields without a minute one by vote.
+3. `anchored` takes these, and chooses among the other readings, each in its own field.
 4. `with_rest_between`, `with_speeds`, `with_turned` and `with_swaps` find what the chain takes for stills or breaks, or
    sets aside: what is left between two losses, stretches that were played at another speed or turned by hand, and
    fields that were written in each other's place. Speeds come before swaps: a swap is found between two numbers that
@@ -12,8 +12,8 @@ joined of the minutes on lines 17 and 18 and of the second and picture on line 1
 
 Each step returns new `Numbers`, and leaves those that it was given as they were. All later modules ask `Numbers.off` or
 `Numbers.fit` (believed.py) how two numbers stand to each other; these know the pace, the speeds and the swaps. So
-another order of fields is one more step here, and `off` has to know it, or its ends are breaks to all the others. A new
-pace belongs to paces.py, and places.py says in which fields its numbers are due. docs/SIDES.md has the rules."""
+another order of fields is one more step here. `off` has to know it, or all others take its ends for breaks. A new pace
+belongs in paces.py, and places.py says in which fields its numbers are due. docs/SIDES.md has the rules."""
 
 from typing import Dict, List, NamedTuple, Optional
 
@@ -28,8 +28,8 @@ CARRIED = 1  # seconds that are lost at most where a minute is carried over alth
 
 
 class Times(NamedTuple):
-    """The two parts of a side's times: `minutes` has of each field the values with their lines, `parts` the pictures
-    from the start of the minute, of which that has `whole`."""
+    """The two parts of a side's times. `minutes` has the values of each field with their lines. `parts` has the
+    pictures from the start of the minute; a minute has `whole` of them."""
     codes: Codes
     rate: int
     whole: int
@@ -37,7 +37,7 @@ class Times(NamedTuple):
     parts: Dict[int, int]
 
     def joined(self) -> List[Reading]:
-        """Each second and picture with the minutes of its field, or else of the one behind or before it."""
+        """Each second and picture with the minutes of its field, or else of the field after or before it."""
         readings, passes = [], self.codes.fields.passes
         known: Dict[Lines, Lines] = {}
         for field, part in sorted(self.parts.items()):
@@ -53,7 +53,7 @@ class Times(NamedTuple):
         return readings
 
     def with_voted(self, readings: List[Reading], judged: JudgedSide) -> List[Reading]:
-        """These readings, and the times of fields without a minute that the library gave one by vote."""
+        """These readings, and the times of fields without a minute to which the library gave one by vote."""
         known = {one.field for one in readings}
         more = [Reading(field, number, self.codes.weight(field, (16,)), (16,))
                 for field in self.parts.keys() - known for number, state in [judged.numbers[field - 1]]
@@ -66,19 +66,19 @@ class Times(NamedTuple):
         return due + (self.parts[field] - due + half) % self.whole - half
 
     def of_line(self, line: Line, fields: List[int]) -> List[Reading]:
-        """The times of these fields of a line, where the second and the picture alone were read."""
+        """The times of these fields of a line, in which only the second and the picture were read."""
         return [Reading(field, line.number_at(field), self.codes.weight(field, (16,)), (16,)) for field in fields
                 if field not in self.minutes and self.parts.get(field) == line.number_at(field) % self.whole]
 
     def completed_weight(self, field: int, number: int) -> int:
-        """The weight of line 16, less that of another minute which the field itself says."""
+        """The weight of line 16, less that of any other minute which the field itself says."""
         against = [self.codes.weight(field, lines) for minute, lines in self.minutes.get(field, {}).items()
                    if minute != number // self.whole]
         return max(self.codes.weight(field, (16,)) - max(against, default=0), 0)
 
 
 class Found(NamedTuple):
-    """The believed numbers of a side, the readings among which they were chosen, and of a CLV side the times."""
+    """The believed numbers of a side, the readings from which they were chosen, and, for a CLV side, the times."""
     numbers: Numbers
     readings: List[Reading]
     times: Optional[Times] = None

@@ -1,7 +1,7 @@
-"""Numbers that the chain sets aside, or takes for stills or breaks. Those between two losses weigh less than one break
-more costs. Others come in another order than the disc's: turned by hand; in stretches that were played at another
+"""Numbers that the chain sets aside, or takes for stills or breaks. Numbers between two losses weigh less than one more
+break costs. Others come in another order than the disc's: turned by hand; in stretches that were played at another
 speed, whose numbers go by in other steps, backwards, or three times each; and in fields that a capture has written in
-each other's place, so that a number stands one field before or behind its own."""
+each other's place, so that a number stands one field before or after its own."""
 
 import bisect
 import math
@@ -25,10 +25,10 @@ OTHER = 3  # digits of a single number between two losses that aren't those due:
 # ---- Between two losses
 
 def with_rest_between(numbers: Numbers, readings: List[Reading]) -> Numbers:
-    """These numbers, with those that are left between two breaks, as of a disc that lost much: read in pass 1 or on two
-    lines, they fit each other, and lie between the believed ones around. A single one counts between two losses if
-    three of its digits or more are others than the numbers around leave for its field: then it isn't one of these,
-    misread."""
+    """These numbers, and those that are left between two breaks, as on a disc that lost much. These were read in pass 1
+    or on two lines, fit each other, and lie between the believed ones around them. A single one counts between two
+    losses if at least three of its digits differ from the numbers that those around leave for its field: then it isn't
+    one of these, misread."""
     assert isinstance(numbers.pace, Pace)  # minutes alone have none of these
     more: List[Reading] = []
     for before, after, inside in _between(numbers, readings):
@@ -48,7 +48,7 @@ def _between(numbers, readings):
 
 
 def _is_another(numbers, before, one, after):
-    """Whether a number between two losses is none of those that are due in its field by the one before or behind,
+    """Whether a number between two losses is none of those that are due in its field by the one before or after,
     misread."""
     if numbers.off(before, one) >= 0 or numbers.off(one, after) >= 0:
         return False
@@ -67,8 +67,8 @@ def _digits(unit, number):
 # ---- Turned by hand
 
 def with_turned(numbers: Numbers, readings: List[Reading]) -> Numbers:
-    """These numbers, with those that a disc showed while it was turned by hand: near those before and behind it, among
-    breaks that are as near. The chain passes over them where two others fit by chance."""
+    """These numbers, and those that a disc showed while it was turned by hand: near those before and after them, among
+    breaks that are as near. The chain passes over them if two others fit by chance."""
     near = [one for one, *around in numbers.beside(numbers.aside(readings)) if _is_turned(one, around)
             ] if numbers.believed else []
     if not near:
@@ -162,7 +162,7 @@ def _worth(numbers, before, ones, after):
 
 
 def _loose(numbers, readings):
-    """The readings that fit neither the one before nor the one behind at the disc's own speed, and the believed ones
+    """The readings that fit neither the one before nor the one after at the disc's own speed, and the believed ones
     whose number stays."""
     believed = numbers.believed
     begins, values = [one.field - one.variant for one in believed], numbers.values
@@ -262,8 +262,8 @@ def _on_line(line, readings, is_both):
 # ---- Swapped fields
 
 def with_swaps(numbers: Numbers, readings: List[Reading], shown: Collection[int]) -> Numbers:
-    """These numbers, with each that was read in pass 1 or on two lines and stands one field off between two that fit,
-    where no number was read in the field in which it is due. `shown` are the fields in which a number was read."""
+    """These numbers, and each one that was read in pass 1 or on two lines and stands one field off between two that
+    fit, if no number was read in the field in which it is due. `shown` are the fields in which a number was read."""
     kind = numbers.pace.kind if numbers.pace else None
     aside = [one for one in numbers.aside(readings) if one.weight >= WEIGHTS[1]]
     if kind in ("video", "film"):
@@ -314,7 +314,7 @@ def _of_both(numbers, readings):
 
 
 def pairs_of(swaps: Mapping[int, int]) -> Dict[int, int]:
-    """The first fields of the pairs in their order, each with the field that shows a number, or with the first one."""
+    """The first fields of the pairs in order, each with the field that shows a number, or else with the first one."""
     pairs: Dict[int, int] = {}
     for field, due in sorted(swaps.items()):
         pairs.setdefault(min(field, due), field)

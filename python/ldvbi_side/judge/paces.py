@@ -1,5 +1,5 @@
-"""What numbers count, how far apart on the disc two of them stand, in fields, and what it costs where a capture has
-more or fewer. Numbers that are alike modulo a pace's `period` stand in the same way."""
+"""What numbers count, how far apart on the disc two of them are, in fields, and what it costs if a capture has more or
+fewer. Numbers that are equal modulo a pace's `period` are placed in the same way."""
 
 import functools
 from typing import Any, NamedTuple, Optional, Union
@@ -10,7 +10,7 @@ MINUTE_FIELDS = {"NTSC": (3590, 3596, 3600), "PAL": (3000, 3000, 3000)}
 
 
 class Unit(NamedTuple):
-    """What numbers count: `picture`, `time` (pictures from the disc's start) or `minute`; None where there are none."""
+    """What numbers count: `picture`, `time` (pictures from the disc's start) or `minute`; None if there are none."""
     name: Optional[str]
     rate: int
 
@@ -25,7 +25,7 @@ class Unit(NamedTuple):
 _PICTURES = ["%02d" % picture for picture in range(max(RATES.values()))]
 
 
-@functools.lru_cache(maxsize=1 << 10)  # the pictures of a second come one behind the other
+@functools.lru_cache(maxsize=1 << 10)  # the pictures of a second come one after the other
 def _second_text(seconds):
     """Seconds from the disc's start as hours, minutes and seconds, and a point."""
     return "%d:%02d:%02d." % (seconds // 3600, seconds // 60 % 60, seconds % 60)
@@ -38,16 +38,17 @@ def minute_text(minutes: int) -> str:
 
 
 def price(off: Optional[int]) -> int:
-    """What a break costs: 1 and the binary digits of the fields that are too many or too few. None costs nothing."""
+    """The cost of a break: 1 and the binary digits of the count of fields that are too many or too few. No break costs
+    nothing."""
     return 1 + abs(off).bit_length() if off else 0
 
 
 class Pace:
-    """The pace of pictures and times. What isn't known of a reading is its variant, from 0 on. There is one on a video
-    disc, where a picture has two fields. Where both fields of a picture have its number ("both"), the variant is the
-    field that was read. On film, whose pictures have 2 and 3 fields in turn, it is which pictures have 3: those with an
-    odd number (0), those with an even one (1), or none (2), as in a stretch of video. That changes at a cut of the film
-    only, which is a break of one field."""
+    """The pace of pictures and times. What isn't known of a reading is its variant, from 0 on. On a video disc there is
+    one, since a picture has two fields. If both fields of a picture have its number ("both"), the variant is the field
+    that was read. On film, whose pictures have 2 and 3 fields in turn, it says which pictures have 3: those with an odd
+    number (0), those with an even one (1), or none (2), as in a stretch of video. That changes only at a cut of the
+    film, which is a break of one field."""
 
     def __init__(self, kind: str) -> None:
         self.kind = kind
@@ -58,7 +59,7 @@ class Pace:
         self.steps = (0,) if kind == "video" else (0, -1, 1)  # from a row to those that go on with it
 
     def row(self, field: int, number: int) -> int:
-        """In which row a number is: one that goes on with it is in the same row, or a step beside it."""
+        """The row of a number: one that goes on with it is in the same row, or a step away."""
         return 2 * field - 5 * number if self.kind == "film" else field - 2 * number
 
     def between(self, number: int, step: int, variant: int, other: int) -> int:
@@ -68,27 +69,26 @@ class Pace:
         return 2 * step + (other - variant if self.kind == "both" else 0)
 
     def off(self, fields: int, number: int, step: int, variant: int = 0, other: int = 0) -> Optional[int]:
-        """The fields that are too many (or, negative, too few); 0 where they fit; None where the number stays."""
+        """How many fields are too many (or, negative, too few); 0 if they fit; None if the number stays."""
         if step == 0:
             return 0 if self.kind == "both" and fields == other - variant else None
         return fields - self.between(number, step, variant, other)
 
     def least_off(self, fields: int, number: int, step: int) -> int:
-        """The fields that are too many or too few at least, whatever the variants are, where the number doesn't stay.
-        """
+        """How many fields are too many or too few at least, whatever the variants are, if the number doesn't stay."""
         off = abs(fields - 2 * step)
         if self.kind == "film":
             return min(off, abs(2 * fields - 5 * step) // 2)
         return max(off - 1, 0) if self.kind == "both" else off
 
     def numbers_in(self, fields: int) -> int:
-        """How many numbers as many fields have at least, one after the other."""
+        """How many numbers this many fields have at least, one after the other."""
         return (2 * fields + 1) // 5 if self.kind == "film" else fields // 2
 
 
 class MinutePace:
-    """The pace of minutes, each of which stands on all its fields. It has about `fields` of them, at least `shortest`
-    and at most `longest`."""
+    """The pace of minutes, each of which stands on all its fields. A minute has about `fields` of them, at least
+    `shortest` and at most `longest`."""
     kind, variants, change, period, least, steps = "minute", 1, 0, 1, 1, (0, -1)
 
     def __init__(self, system: str) -> None:
@@ -106,20 +106,20 @@ class MinutePace:
         return fields - step * self.fields if step < 0 or self.least_wrong(fields, step) else 0
 
     def numbers_in(self, fields: int) -> int:
-        """How many minutes as many fields have at least, one after the other."""
+        """How many minutes this many fields have at least, one after the other."""
         return fields // self.fields
 
     def least_wrong(self, fields: int, step: int) -> int:
-        """The fields that are too many (or, negative, too few) at least, of two fields with minutes as far apart."""
+        """At least how many fields are too many (or, negative, too few), for two fields with minutes this far apart."""
         few, many = (step - 1) * self.shortest + 1, (step + 1) * self.longest - 1
         return min(fields - few, 0) or max(fields - many, 0)
 
 
 class ChapterPace:
-    """The pace of chapters, which have any length. The next chapter is no break. Each one passed over counts as a
-    picture would, and going back as all 80 would, since without a break of the pictures' numbers that can't be. One
-    chapter that is passed over in many fields may have been there, and not have been read. The numbers here are 100
-    times the breaks of those up to the field, and the chapter: at such a break any chapter may follow, for the least
+    """The pace of chapters, which have any length. The next chapter is no break. Each one that is passed over counts as
+    a picture would. Going back counts as all 80 would, since that can't be without a break of the pictures' numbers.
+    One chapter that is passed over in many fields may have been there without being read. The numbers here are 100
+    times the count of breaks up to the field, plus the chapter: at such a break any chapter may follow, for the least
     price."""
     kind, variants, change, period, steps = "chapter", 1, 0, 100, (0, -1)
     ALL = 80  # chapters, 0 to 79

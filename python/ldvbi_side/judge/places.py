@@ -13,21 +13,21 @@ from .clock import WIDE, Clock, Gap, Played, clock_of
 from .paces import MinutePace, Pace
 from .readings import Codes, Reading
 
-NEAR = (-3, -2, -1, 1, 2, 3)  # fields from a number to those before and behind it
+NEAR = (-3, -2, -1, 1, 2, 3)  # fields from a number to those before and after it
 LEAST = 8  # steps from one number to the next of a disc that shows it on each k-th picture alone
 Due = List[Tuple[int, int]]
 
 
 class Showing(NamedTuple):
-    """A number that is shown, as a count or as the answer has it, and its first and its last field."""
+    """A number that is shown, as a count or as the answer has it, and its first and last field."""
     number: Any
     first: int
     last: int
 
 
 class Break(NamedTuple):
-    """Two fields, one behind the other, whose numbers (counts, or as the answer has them) don't go on together: `lost`
-    where `fields` are too few between them, `held` where these are too many, `back` where the numbers go back."""
+    """Two fields, one after the other, whose numbers (counts, or as the answer has them) don't go on together: `lost`
+    if there are `fields` too few between them, `held` if there are these too many, `back` if the numbers go back."""
     kind: str
     after: int
     before: int
@@ -37,7 +37,7 @@ class Break(NamedTuple):
 
 
 class Still(NamedTuple):
-    """A number that stays, as a count or as the answer has it, and its first and its last field."""
+    """A number that stays, as a count or as the answer has it, and its first and last field."""
     number: Any
     first: int
     last: int
@@ -52,13 +52,13 @@ def showings_of(numbers: Iterable[Any], firsts: Iterable[int], lasts: Iterable[i
 
 
 class Places(NamedTuple):
-    """Where the numbers of a side are: `showings`, `breaks` and `stills` have them as counts. `joins` are the
-    readings between which another side begins; `due` are pairs of a number that isn't there and the field that it
-    belongs to; `without_field` are missing numbers whose field is unknown although no field was lost; `open` are those
-    in whose place other codes alone were seen, and `unshown` those that the disc doesn't
-    show. `clock` judges the numbers of an NTSC disc that may have been left out by its clock. `number_of` has the
-    number of each field that shows one or in which one is due. `confirmed` are the fields whose number was due, and
-    counts as shown since it is the nearest word of their lines."""
+    """Where the numbers of a side are. `showings`, `breaks` and `stills` have them as counts. `joins` are the readings
+    between which another side begins. `due` are pairs of a number that isn't there and the field that it belongs in.
+    `without_field` are missing numbers whose field is unknown although no field was lost. `open` are missing numbers in
+    whose place only other codes were seen, and `unshown` those that the disc doesn't show. `clock` judges the numbers
+    of an NTSC disc that its clock may have left out. `number_of` has the number of each field that shows one or in
+    which one is due. `confirmed` are the fields whose number was due and counts as shown, since it is the nearest word
+    of their lines."""
     numbers: Numbers
     showings: List[Showing]
     breaks: List[Break]
@@ -73,8 +73,8 @@ class Places(NamedTuple):
     confirmed: Tuple[int, ...] = ()
 
     def number_at(self, field: int) -> object:
-        """The number of the picture that a field belongs to, read or due: its own, or that of a field just before it;
-        else that of the field behind it. None where none of these has one."""
+        """The number of the picture that a field belongs to, read or due: its own, or that of a field just before it,
+        else that of the field after it. None if none of these has one."""
         longest = 3 if self.numbers.pace and self.numbers.pace.kind == "film" else 2
         for near in [field - back for back in range(longest)] + [field + 1]:
             if near in self.number_of:
@@ -83,7 +83,7 @@ class Places(NamedTuple):
 
 
 class _Step(NamedTuple):
-    """Two believed readings, one behind the other, of which `place` is that of the second. `kind` is `same` (one
+    """Two believed readings, one after the other, of which `place` is that of the second. `kind` is `same` (one
     showing of a number), `still` (it is shown again), `next` (they fit), `speed` (they fit at another speed), `join`
     (another side begins between them), `gap` (the clock may have left out what is between them) or `break`; `off` are
     the fields that are too many or too few."""

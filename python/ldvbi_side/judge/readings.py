@@ -17,14 +17,14 @@ NearestWord = Callable[[int, int, int], Optional[int]]
 
 
 class Fields(NamedTuple):
-    """The whole fields of a side as plain data: of each field the words, passes and causes of lines 16, 17 and 18, as
+    """The whole fields of a side as plain data: the words, passes and causes of lines 16, 17 and 18 of each field, as
     the document of `ldvbi extract` has them, and all of them as the library takes them, in `packed`. A recovered word
-    has pass 3, and the cause for which its line shows none of its own. `cut` is the field in which it was cut. `first`
-    says of each field whether it is the first one of its frame (`isFirstField` of ld-decode's metadata), or is None
-    where that isn't known. `expected` is the number of fields that the metadata has, or None; `is_strict` says that a
+    has pass 3, and the cause for which its line shows no word of its own. `cut` is the field in which the side was cut.
+    `first` says of each field whether it is the first one of its frame (`isFirstField` of ld-decode's metadata), or is
+    None if that isn't known. `expected` is the number of fields that the metadata has, or None. `is_strict` says that a
     side without lead-in or lead-out, or with an unread number, isn't whole, and `may_end` that it may end without
-    lead-out. `nearest_word` finds the nearest words of lines where their samples are at hand, and `try_levels` what
-    other levels would read."""
+    lead-out. `nearest_word` finds the nearest words of lines if their samples are at hand, and `try_levels` what other
+    levels would read."""
     system: str
     words: List[Tuple[int, int, int]]
     passes: List[Tuple[int, int, int]]
@@ -41,7 +41,7 @@ class Fields(NamedTuple):
 
 class Reading(NamedTuple):
     """A number that a field's lines say, the lines that say it, and what that weighs. `variant` is what a pace leaves
-    open of a number."""
+    open about a number."""
     field: int
     number: int
     weight: int
@@ -78,12 +78,12 @@ class Codes(NamedTuple):
     unknown: List[Unknown]
 
     def strays(self, found: ByField, why: str) -> List[Stray]:
-        """Each line of these fields of a kind as a stray one."""
+        """Each line of these fields of a kind, as stray."""
         return _strays(self.fields, found, why)
 
     def weight(self, field: int, lines: Iterable[int]) -> int:
-        """What the words of these lines of a field weigh together: a word of the line itself more than one of its
-        smoothed levels or a recovered one, more of which are wrong."""
+        """What the words of these lines of a field weigh together. A word of the line itself weighs more than one of
+        its smoothed levels or a recovered one, more of which are wrong."""
         return _WEIGHTS[self.fields.passes[field - 1], tuple(lines)]
 
     def sure_picture(self, field: int) -> Optional[int]:
@@ -108,8 +108,8 @@ class Codes(NamedTuple):
                 for field, values in found.items() for value, lines in values.items()]
 
     def words_of(self, kinds: Iterable[Kind]) -> List[Tuple[int, int, int, int]]:
-        """The different words of kinds that have a line to themselves: of each the word, its fields' count, the first
-        and the last of them, by the first field."""
+        """The different words of kinds that have a line to themselves, in the order of their first fields: each word,
+        the count of its fields, and the first and the last of these."""
         found: Dict[int, List[int]] = {}
         for kind in kinds:
             place = STANDARD_LINES[kind][0] - LINES[0]
@@ -124,7 +124,7 @@ class Codes(NamedTuple):
                       key=lambda one: one[2])
 
     def minutes(self) -> ByField:
-        """The minutes of CLV times: for each field the values with their lines. Those that no clock shows are left
+        """The minutes of CLV times: the values of each field with their lines. Minutes that no clock shows are left
         out."""
         found = {}
         for field, values in self.kinds[Kind.time].items():
@@ -148,8 +148,8 @@ _WEIGHTS = _Weights()
 
 
 def codes_of(fields: Fields) -> Codes:
-    """The codes of these fields. Where the side has codes of CAV and of CLV, it is of the format of which more fields
-    have some, and the codes of the other one are stray."""
+    """The codes of these fields. If the side has codes of both CAV and CLV, it has the format of which more fields have
+    codes, and the codes of the other format are stray."""
     kinds, aside = _collected(fields.words)
     stray = [_stray(fields, field, line, "line") for field, line, is_code in aside if is_code]
     unknown = [Unknown(field, line, *_said(fields, field, line)) for field, line, is_code in aside if not is_code]

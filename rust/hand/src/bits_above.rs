@@ -1,7 +1,7 @@
-//! Which of sixteen samples are above a level, by what the processor has for it; the source's own way, std::simd, is
-//! known to no stable compiler.
+//! Finds which of sixteen samples are above a level, with the processor's own instructions for it. The source uses
+//! std::simd, which no stable compiler has.
 
-/// One bit for each sample, the lowest for the first: set where it is above `low`.
+/// One bit for each sample, the lowest for the first. It is set if the sample is above `low`.
 #[cfg(target_arch = "x86_64")]
 #[inline(always)]
 pub(crate) fn bits_above(samples: [u16; 16], low: u16) -> u64 {
@@ -17,7 +17,7 @@ pub(crate) fn bits_above(samples: [u16; 16], low: u16) -> u64 {
     }
 }
 
-/// One bit for each sample, the lowest for the first: set where it is above `low`.
+/// One bit for each sample, the lowest for the first. It is set if the sample is above `low`.
 #[cfg(target_arch = "aarch64")]
 #[inline(always)]
 pub(crate) fn bits_above(samples: [u16; 16], low: u16) -> u64 {
@@ -32,7 +32,7 @@ pub(crate) fn bits_above(samples: [u16; 16], low: u16) -> u64 {
     }
 }
 
-/// One bit for each sample, the lowest for the first: set where it is above `low`.
+/// One bit for each sample, the lowest for the first. It is set if the sample is above `low`.
 #[cfg(any(test, not(any(target_arch = "x86_64", target_arch = "aarch64"))))]
 mod plain {
     pub(crate) fn bits_above(samples: [u16; 16], low: u16) -> u64 {
@@ -45,7 +45,7 @@ pub(crate) use plain::bits_above;
 
 #[cfg(test)]
 mod tests {
-    /// Each position among others that are low and that are high, for levels at the ends and beside powers of two.
+    /// Each position, among low ones and among high ones, for levels at the ends and near powers of two.
     #[test]
     fn is_the_plain_loop() {
         let mut edges = vec![0u16, 1, 2, 16384, 51200, 65533, 65534, 65535];

@@ -1,5 +1,5 @@
-//! The crate clap, called as the source calls the toolchain's port of it. There memory may be refused, so that what
-//! takes some answers a result; commands and matches borrow their texts; and a getter answers a value, no reference.
+//! The crate clap, called as the source calls the toolchain's port of it. There, memory may be refused, so calls that
+//! take some return a result; commands and matches borrow their texts; and a getter returns a value, not a reference.
 use std::convert::Infallible;
 
 pub(crate) use ::clap::{value_parser, ArgAction};
@@ -21,7 +21,7 @@ pub(crate) enum ErrorKind {
     Refused,
 }
 
-/// Help, the version, or why words are refused.
+/// Help, the version, or why the words are refused.
 pub(crate) struct Error(::clap::Error);
 
 impl Error {
@@ -38,7 +38,7 @@ impl Error {
     }
 }
 
-/// A command, with what it takes and the commands below it.
+/// A command, with its arguments and its subcommands.
 pub(crate) struct Builder(::clap::Command);
 
 impl Builder {
@@ -46,7 +46,7 @@ impl Builder {
         Builder(::clap::Command::new(name))
     }
 
-    /// The version is that of this crate, and says that this is not the proved build.
+    /// Gives the command this crate's version, which says that this is not the proved build.
     pub(crate) fn version(self, _version: &'static str) -> Self {
         Builder(self.0.version(concat!(env!("CARGO_PKG_VERSION"), " (plain Rust)")))
     }
@@ -75,13 +75,13 @@ impl Builder {
         Builder(self.0.subcommand_required(is_required))
     }
 
-    /// Reads words, of which the first is the program's name.
+    /// Reads words. The first is the program's name.
     pub(crate) fn try_get_matches_from(self, words: &[String]) -> Result<Matches, Error> {
         self.0.try_get_matches_from(words).map(Matches::of).map_err(Error)
     }
 }
 
-/// What was given to a command, and to the command below it.
+/// What was given to a command and to its subcommand.
 pub(crate) struct Matches {
     given: ::clap::ArgMatches,
     below: Option<(String, Box<Matches>)>,

@@ -1,4 +1,4 @@
-//! What is judged of a whole side: the numbers and the chapters of all its fields, and where each is found.
+//! The judgement of a whole side: the numbers and the chapters of all its fields, and where each is found.
 
 use crate::c::{self, LdvbiFieldReadings};
 use crate::lines::{done, number_of, reading};
@@ -6,7 +6,7 @@ use crate::side::{self, Counted, Sighting, Sightings};
 use crate::sides::{Field, Number, Place};
 use crate::words::{Reading, System};
 
-/// What is judged of a side by the readings of all its fields: 48 bytes of each, 5 MB of half an hour.
+/// What is judged of a side by the readings of all its fields. It takes 48 bytes a field, 5 MB for half an hour.
 /// [`Side::judged`](crate::Side::judged) makes it, and no call of it reads the side again.
 pub struct Judged {
     system: System,
@@ -41,17 +41,17 @@ impl Judged {
         self.readings.iter().map(|field| field.lines.map(reading))
     }
 
-    /// The number of each field, at the pace that is found: that of video or of film.
+    /// The number of each field, at the pace that is found, which is that of video or of film.
     pub fn numbers(&self, counted: Counted) -> impl ExactSizeIterator<Item = Number> + DoubleEndedIterator + '_ {
         self.judged(Some(counted)).iter().map(Number::of)
     }
 
-    /// The chapter of each field that has the code of one. Most fields have none, and are of the chapter before.
+    /// The chapter of each field that has a chapter code. Most fields have none: they are of the chapter before.
     pub fn chapters(&self) -> impl ExactSizeIterator<Item = Number> + DoubleEndedIterator + '_ {
         self.judged(None).iter().map(Number::of)
     }
 
-    /// The first field of the whole side whose number or chapter this is, believed or due.
+    /// The first field of the whole side of which this number or chapter is believed or due.
     pub fn seek(&self, place: Place) -> Option<Field> {
         let (counted, number) = place.counted(self.system)?;
         let index = c::ldvbi_first_of(self.judged(counted), number);
@@ -63,7 +63,7 @@ impl Judged {
         &self.readings
     }
 
-    /// What is judged of what is counted so, or, where nothing is named, of the chapters.
+    /// The judgement of the pictures or times, or of the chapters if nothing is named.
     fn judged(&self, counted: Option<Counted>) -> &[side::Number] {
         match counted {
             Some(Counted::Pictures) => &self.pictures,
@@ -73,13 +73,13 @@ impl Judged {
     }
 }
 
-/// The pace as the calls that judge take it, where it is to be found.
+/// The pace that has the calls that judge find it.
 pub(crate) const FIND_PACE: u32 = 3;
 
-/// What is in the room for a number before a call writes there.
+/// The value of a number's room before a call writes there.
 pub(crate) const NO_NUMBER: side::Number = side::Number { number: 0, state: 0 };
 
-/// Room for what so many fields show, and for their numbers.
+/// Room for what this many fields show, and for their numbers.
 pub(crate) fn rooms(fields: usize) -> (Vec<Sightings>, Vec<side::Number>) {
     let none = Sighting { number: 0, weight: 0 };
     let seen = Sightings { line_17: none, line_18: none, instead: 0 };

@@ -1,9 +1,9 @@
 //! The biphase code words of LaserDiscs (IEC 60857 and IEC 60856), from fields in ld-decode's TBC format.
 //!
-//! A [`Side`] is the samples of a capture in memory: its fields, the number of its disc that each one shows, where a
-//! picture, a time or a chapter is found, where a player stops, and whether the capture is whole. It keeps what is
-//! [`Judged`] of all its fields. A [`Feeder`] takes a stream in pieces. [`classify`] says what a word is, [`draw_line`]
-//! draws one.
+//! A [`Side`] is a capture whose samples are in memory. It has the capture's fields and the number that each one shows.
+//! It finds a picture, a time, a chapter, or where a player stops, and says whether the capture is whole. It keeps what
+//! is [`Judged`] of all its fields. A [`Feeder`] takes a stream in pieces. [`classify`] says what a word means, and
+//! [`draw_line`] draws one.
 //!
 //! ```
 //! use ldvbi::{classify, draw_line, Code, Counted, Levels, Number, Place, Side, SideOptions, System, Verdict, Word24};
@@ -28,7 +28,7 @@
 //! let [_, line_17, _] = side.fields().next().ok_or("no field")?;
 //! assert_eq!(line_17.outcome.word().map(classify), Some(Code::Picture(0)));
 //!
-//! // Of picture 20 another number was read. Fields are counted from 0.
+//! // The number of picture 20 was misread. Fields are counted from 0.
 //! assert_eq!(side.numbers(Counted::Pictures)[40], Number::Due(20));
 //! assert_eq!(side.seek(Place::Picture(20)).map(|field| field.index), Some(40));
 //! assert_eq!(side.seek(Place::Picture(79999)), None);
@@ -43,13 +43,13 @@
 //! # }
 //! ```
 //!
-//! Errors: [`Levels::new`] returns [`LevelsFault`], [`Word24::new`] [`WordFault`], and [`Error`] is that of bytes that
-//! are no side or no line. Two calls panic on what they can't take: [`draw_line`] on less than a line, and
+//! Errors: [`Levels::new`] returns [`LevelsFault`], and [`Word24::new`] returns [`WordFault`]. [`Error`] is returned if
+//! bytes are no side or no line. Two calls panic on what they can't take: [`draw_line`] on less than a line, and
 //! [`Word24::half`] from 48 on.
 //!
-//! The calls below this interface are the source of the library for C without its contracts, which were proved of it;
-//! what they promise is in docs/PROMISES.md. This interface itself is tested. With the feature `cli` the crate has the
-//! program `ldvbi` too, which needs more crates.
+//! The calls below this interface are the source of the library for C, without the contracts that were proved of it.
+//! docs/PROMISES.md has what they promise. This interface itself is tested. With the feature `cli` the crate also has
+//! the program `ldvbi`, which needs more crates.
 #![deny(unsafe_code)]
 // Names that contracts alone speak of
 #![allow(unused_labels, unused_variables)]
@@ -109,7 +109,7 @@ pub use crate::words::{
     classify, draw_line, format_of, Code, Format, Levels, LevelsFault, Outcome, Reading, System, Word24, WordFault,
 };
 
-/// What the program `ldvbi` needs of its crate, and no one else.
+/// What only the program `ldvbi` needs of its crate.
 #[cfg(feature = "cli")]
 #[doc(hidden)]
 pub mod program {

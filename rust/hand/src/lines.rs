@@ -1,27 +1,27 @@
-//! Lines, and fields that come in pieces: what they show.
+//! What lines show, and fields that come in pieces.
 
 use crate::c::{self, LdvbiFieldReadings, LdvbiReading};
 use crate::words::{Levels, Outcome, Reading, System, Word24};
 
-/// What was given that can't be right. Nothing was read then.
+/// Why what was given can't be right. Nothing was read.
 #[derive(Clone, Copy, Debug, PartialEq, Eq, thiserror::Error)]
 pub enum Error {
-    /// Of [`Side::new`](crate::Side::new): some bytes, but fewer than a field has.
+    /// From [`Side::new`](crate::Side::new): there are bytes, but fewer than a field has.
     #[error("a field has {field} bytes, and these are {bytes}")]
     NoField { bytes: usize, field: usize },
-    /// Of [`Side::line`](crate::Side::line): not one line. Of [`Side::nearest`](crate::Side::nearest): not 1 to 28.
+    /// From [`Side::line`](crate::Side::line): not one line. From [`Side::nearest`](crate::Side::nearest): not 1 to 28.
     #[error("a line has {line} bytes, and these are {bytes}")]
     NoLine { bytes: usize, line: usize },
 }
 
-/// Whether these bytes are lines of this system, and so many at most.
+/// Refuses bytes that aren't 1 to `most` lines of this system.
 pub(crate) fn check_lines(system: System, bytes: usize, most: usize) -> Result<(), Error> {
     let line = system.line_bytes();
     let is_right = bytes % line == 0 && (1..=most).contains(&(bytes / line));
     is_right.then_some(()).ok_or(Error::NoLine { bytes, line })
 }
 
-/// Takes the status of a call whose arguments are right: by their types, or since they were tested.
+/// Takes the status of a call whose arguments are right, by their types or because they were tested.
 pub(crate) fn done(status: u32) {
     assert_eq!(status, 0, "the library refused what it takes");
 }
@@ -56,7 +56,7 @@ pub(crate) fn reading(line: LdvbiReading) -> Reading {
     Reading { outcome, pass: line.pass }
 }
 
-/// A stream of fields that comes in pieces of any length. Of the field that isn't whole it holds three lines.
+/// A stream of fields that comes in pieces of any length. It holds three lines of the field that isn't whole yet.
 #[derive(Clone, Debug)]
 pub struct Feeder {
     system: System,
@@ -71,7 +71,7 @@ impl Feeder {
         Feeder { system, levels, rows: Vec::new(), at: 0 }
     }
 
-    /// Takes the next piece, and returns the readings of each field that is whole now, however the stream is cut.
+    /// Takes the next piece, and returns the readings of each field that is whole now, wherever the pieces are cut.
     pub fn feed(&mut self, mut piece: &[u8]) -> Vec<[Reading; 3]> {
         let (size, rows, mut whole) = (self.system.field_bytes(), rows_of(self.system), Vec::new());
         while !piece.is_empty() {
@@ -88,7 +88,7 @@ impl Feeder {
         whole
     }
 
-    /// The bytes that have come of the field that isn't whole. Where the stream ends so, it is cut.
+    /// How many bytes of the field that isn't whole have come. If the stream ends now, this field is cut.
     pub fn cut_bytes(&self) -> usize {
         self.at
     }

@@ -1,5 +1,5 @@
-//! The program `ldvbi`: it opens what the command line names, has the job done over that, and prints what went wrong.
-//! What it has of the system is in `system`.
+//! The program `ldvbi`. It opens what the command line names, has the job done on that, and prints what went wrong.
+//! What it uses of the system is in `system`.
 #![deny(unsafe_code)]
 #![no_main]
 
@@ -13,13 +13,13 @@ use std::fs::File;
 use std::io::{ErrorKind, Read, Write};
 use system::Stream;
 
-/// Prints the line of a fault, and answers the status. Where printing fails, nothing is left to say so with.
+/// Prints the line of a fault, and returns the status. If printing fails, there is no way left to say so.
 fn complain(fault: &str, status: u8) -> u8 {
     let _ = Stream::error().write_all(format!("ldvbi: {fault}\n").as_bytes());
     status
 }
 
-/// Runs the program, and answers its status.
+/// Runs the program, and returns its status.
 fn run() -> u8 {
     let words: Result<Vec<String>, _> = std::env::args_os().map(|word| word.into_string()).collect();
     let words = match words {
@@ -42,7 +42,7 @@ fn run() -> u8 {
     }
 }
 
-/// Prints help or the version, which was asked for, and answers the status.
+/// Prints help or the version, as asked, and returns the status.
 fn help(text: &str) -> u8 {
     match Stream::output().write_all(text.as_bytes()) {
         Ok(()) => 0,
@@ -50,7 +50,7 @@ fn help(text: &str) -> u8 {
     }
 }
 
-/// Opens what the job names, does the job, and answers the status.
+/// Opens what the job names, does the job, and returns the status.
 fn run_with_files(job: &Job) -> Result<u8, &'static str> {
     let meta = metadata_of(job)?;
     let mut input = match &job.input {
@@ -71,7 +71,7 @@ fn run_with_files(job: &Job) -> Result<u8, &'static str> {
     Ok(status(&ended))
 }
 
-/// The bytes of the metadata file that the job names, or of the one beside its input, if there is one.
+/// The bytes of the metadata file that the job names, else of the one beside its input, if there is one.
 fn metadata_of(job: &Job) -> Result<Option<Vec<u8>>, &'static str> {
     match (&job.meta, &job.input) {
         (Some(path), _) => metadata(File::open(path)).map(Some),
@@ -83,12 +83,12 @@ fn metadata_of(job: &Job) -> Result<Option<Vec<u8>>, &'static str> {
     }
 }
 
-/// Whether a file that can't be opened isn't there. A name below a file, error 20, has no kind in older compilers.
+/// Whether a file that can't be opened isn't there. Older compilers have no kind for error 20, a name below a file.
 fn is_absent(error: &std::io::Error) -> bool {
     error.kind() == ErrorKind::NotFound || cfg!(unix) && error.raw_os_error() == Some(20)
 }
 
-/// The bytes of a metadata file, up to one past those that are allowed. An interrupted read is made again.
+/// The bytes of a metadata file, up to one more than is allowed. An interrupted read is tried again.
 fn metadata(opened: std::io::Result<File>) -> Result<Vec<u8>, &'static str> {
     let mut file = opened.map_err(|_| "cannot read metadata")?;
     let (mut bytes, mut piece) = (Vec::new(), vec![0; 65536]);

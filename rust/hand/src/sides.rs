@@ -1,4 +1,4 @@
-//! Sides: what their fields show, which number each one has, where a place is found, and where a player stops.
+//! Sides: what their fields show, which number each field has, where a place is found, and where a player stops.
 
 use crate::c::{self, LdvbiFieldReadings, LdvbiSought};
 use crate::judged::{Judged, FIND_PACE, NO_NUMBER};
@@ -8,17 +8,17 @@ use crate::side::{self, Counted, BELIEVED};
 use crate::words::{Levels, Reading, System};
 use std::sync::{Arc, Mutex, PoisonError};
 
-/// The number of a field, judged by the fields around it: that of a picture, of a chapter, or of a time, as pictures
-/// from the disc's beginning, 30 (NTSC) or 25 (PAL) a second.
+/// The number of a field, judged by the fields around it: a picture number, a chapter, or a time as pictures from the
+/// disc's beginning, 30 (NTSC) or 25 (PAL) a second.
 #[derive(Clone, Copy, Debug, PartialEq, Eq)]
 pub enum Number {
-    /// The field shows none, and none is due.
+    /// The field shows no number, and none is due.
     Nothing,
-    /// The field shows it, and enough around it supports that.
+    /// The field shows this number, and enough around it supports that.
     Believed(u32),
-    /// The field shows it, none of the field is believed, and none is due.
+    /// The field shows this number, but none is believed of the field, and none is due.
     Doubtful(u32),
-    /// None of the field is believed, and the believed ones before and behind it count to this one. Never a chapter.
+    /// No number of the field is believed, but the believed ones before and after it count to this. Never a chapter.
     Due(u32),
 }
 
@@ -28,7 +28,7 @@ impl Number {
         [Number::Nothing, Number::Believed(n), Number::Doubtful(n), Number::Due(n)][judged.state as usize]
     }
 
-    /// The number, where it is believed or due.
+    /// The number, if it is believed or due.
     pub fn known(self) -> Option<u32> {
         match self {
             Number::Believed(number) | Number::Due(number) => Some(number),
@@ -37,19 +37,19 @@ impl Number {
     }
 }
 
-/// What is sought on a side.
+/// A place that is sought on a side.
 #[derive(Clone, Copy, Debug, PartialEq, Eq)]
 pub enum Place {
     /// A picture of a CAV disc, from 0 to 79999.
     Picture(u32),
-    /// A picture of a CLV disc: hours, minutes, seconds, and the picture of the second, from 0.
+    /// A picture of a CLV disc: hours, minutes, seconds, and the picture within the second, from 0.
     Time(u32, u32, u32, u32),
     /// A chapter, from 0 to 79.
     Chapter(u32),
 }
 
 impl Place {
-    /// What counts it, or nothing of a chapter, and its number; `None` of a time that no disc of this system has.
+    /// What counts it (nothing for a chapter), and its number; `None` for a time that no disc of this system has.
     pub(crate) fn counted(self, system: System) -> Option<(Option<Counted>, u32)> {
         let rate = if system == System::Ntsc { 30 } else { 25 };
         match self {
@@ -73,17 +73,17 @@ pub struct Field {
 }
 
 /// The samples of a side, field after field, as in a TBC file that is read or mapped. Words of worn lines are
-/// recovered, as pass 3. Of a field lines 16, 17 and 18 are read, and no others:
+/// recovered, as pass 3. Only lines 16, 17 and 18 of a field are read:
 ///
 /// | Call | Reads |
 /// |---|---|
 /// | `new`, `cut_bytes`, `line`, `nearest` | nothing of the side |
-/// | `fields`, `stops` | each field that their iterator comes to, every time |
-/// | `seek` of a picture or a time | at most 1,000 fields; the whole side if it isn't found so |
+/// | `fields`, `stops` | each field that the iterator comes to, each time |
+/// | `seek` of a picture or a time | at most 1,000 fields; if it isn't found there, the whole side |
 /// | `seek` of a chapter, `numbers`, `chapters`, `whole`, `gaps`, `judged` | the whole side, once |
 ///
-/// What is judged of the whole side is kept, 48 bytes of a field, and clones and threads share it. Map a file with
-/// `MADV_RANDOM`: else the system reads far more of it. docs/RUST.md says what the calls cost.
+/// What is judged of the whole side is kept, 48 bytes a field, and clones and threads share it. Map a file with
+/// `MADV_RANDOM`: without it, the system reads far more of the file. docs/RUST.md says what the calls cost.
 #[derive(Clone)]
 pub struct Side<'a> {
     bytes: &'a [u8],
@@ -103,8 +103,8 @@ impl std::fmt::Debug for Side<'_> {
 }
 
 impl<'a> Side<'a> {
-    /// A side of these bytes. Those behind the last whole field are left out: that field is cut. No bytes are a side
-    /// without a field, but fewer than a field has are [`Error::NoField`].
+    /// A side of these bytes. Bytes past the last whole field are left out: they are a cut field. No bytes at all are a
+    /// side without a field, but fewer bytes than a field has are [`Error::NoField`].
     pub fn new(bytes: &'a [u8], system: System, levels: Levels) -> Result<Side<'a>, Error> {
         match (bytes.len(), system.field_bytes()) {
             (bytes, field) if 0 < bytes && bytes < field => Err(Error::NoField { bytes, field }),
@@ -122,37 +122,37 @@ impl<'a> Side<'a> {
         self.read(0).map(|field| field.lines.map(reading))
     }
 
-    /// What a line shows by itself, in pass 1 or 2. [`Error::NoLine`] where the bytes aren't those of a line.
+    /// What a line shows by itself, in pass 1 or 2. [`Error::NoLine`] if the bytes aren't those of a line.
     pub fn line(&self, bytes: &[u8]) -> Result<Reading, Error> {
         check_lines(self.system, bytes.len(), 1)?;
         Ok(crate::line::read_bytes_twice(bytes, self.system, self.levels))
     }
 
-    /// The nearest word of 1 to 28 lines, one behind the other, that all have one word or none, as lines 17 and 18 of a
-    /// field. [`Error::NoLine`] where the bytes aren't those of so many lines.
+    /// The nearest word of 1 to 28 lines, one after the other, that all have the same word or none, such as lines 17
+    /// and 18 of a field. [`Error::NoLine`] if the bytes aren't those of 1 to 28 lines.
     pub fn nearest(&self, lines: &[u8]) -> Result<Near, Error> {
         check_lines(self.system, lines.len(), 28)?;
         Ok(nearest_of_lines(self.system, self.levels, lines, lines.len() / self.system.line_bytes()))
     }
 
-    /// What is judged of the whole side. The first call reads and judges it. Calls of other threads wait for that, and
-    /// all later ones have what it kept.
+    /// What is judged of the whole side. The first call reads and judges it. Calls from other threads wait for that.
+    /// All later calls return what it kept.
     pub fn judged(&self) -> Arc<Judged> {
         let mut kept = self.kept.lock().unwrap_or_else(PoisonError::into_inner);
         kept.get_or_insert_with(|| Arc::new(Judged::of(self.system, self.read(0).collect()))).clone()
     }
 
-    /// The number of each field, at the pace that is found: that of video or of film.
+    /// The number of each field, at the pace that is found, which is that of video or of film.
     pub fn numbers(&self, counted: Counted) -> Vec<Number> {
         self.judged().numbers(counted).collect()
     }
 
-    /// The chapter of each field that has the code of one. Most fields have none, and are of the chapter before.
+    /// The chapter of each field that has a chapter code. Most fields have none: they are of the chapter before.
     pub fn chapters(&self) -> Vec<Number> {
         self.judged().chapters().collect()
     }
 
-    /// The fields from this one on at which a player stops: line 16 or 17 shows a stop in pass 1, or both do.
+    /// The fields, from this one on, at which a player stops: line 16 or 17 shows a stop in pass 1, or both do.
     pub fn stops(&self, from: usize) -> impl Iterator<Item = Field> + 'a {
         self.read(from).enumerate().filter_map(move |(i, field)| {
             let mut stop = [0];
@@ -161,11 +161,11 @@ impl<'a> Side<'a> {
         })
     }
 
-    /// The first field whose number or chapter this is, believed or due.
+    /// The first field of which this number or chapter is believed or due.
     ///
-    /// A picture or a time is sought by halving, as by `ldvbi_seek` of the library for C, at the pace of the fields
-    /// that are read; where that finds none, and for a chapter, the whole side is judged. So if a capture goes back, and
-    /// has a number more than once, it may be another field with it than the first: that is [`Judged::seek`]'s.
+    /// A picture or a time is sought by halving, as `ldvbi_seek` of the library for C does, at the pace of the fields
+    /// that are read. If that finds none, and for a chapter, the whole side is judged. So if a capture goes back and
+    /// has a number more than once, this may be a later field with the number. [`Judged::seek`] always finds the first.
     pub fn seek(&self, place: Place) -> Option<Field> {
         let (counted, number) = place.counted(self.system)?;
         match counted.and_then(|counted| self.halved(counted, number)) {
@@ -192,7 +192,7 @@ impl<'a> Side<'a> {
         fields.map(move |field| recover(system, levels, &field[rows_of(system)]))
     }
 
-    /// The system.
+    /// The television system.
     pub(crate) fn system(&self) -> System {
         self.system
     }

@@ -1,18 +1,18 @@
-//! What the program has of the system: how it begins, its three streams as they are, and memory that was refused.
+//! What the program uses of the system: how it begins, its three streams as they are, and what ends it without memory.
 use std::alloc::{GlobalAlloc, Layout, System};
 use std::fs::File;
 use std::io::{self, Read, Write};
 use std::mem::ManuallyDrop;
 
-/// The program begins here and not in Rust's own `main`, which opens what is closed of the three streams: a closed
-/// input would be read as an empty one, and what is written to a closed output would count as written.
+/// The program begins here, not in Rust's own `main`, which opens each of the three streams that is closed. Then a
+/// closed input would be read as an empty one, and what is written to a closed output would count as written.
 #[no_mangle]
 pub extern "C" fn main(_count: i32, _words: *const *const u8) -> i32 {
     ignore_closed_pipes();
     i32::from(crate::run())
 }
 
-/// A write to a pipe that nobody reads fails, and doesn't end the process.
+/// A write to a pipe that nobody reads fails. It doesn't end the process.
 fn ignore_closed_pipes() {
     #[cfg(unix)]
     {
@@ -27,7 +27,7 @@ fn ignore_closed_pipes() {
     }
 }
 
-/// One of the three streams. Nothing is held back: each call asks the system once.
+/// One of the three streams. Nothing is buffered: each call asks the system once.
 pub(crate) struct Stream(ManuallyDrop<File>);
 
 impl Stream {
@@ -77,8 +77,8 @@ impl Write for Stream {
     }
 }
 
-/// The system's memory. Where it is refused, the program says so and ends: memory is taken for the words and the
-/// metadata alone, before anything is read from the input or written.
+/// The system's memory. If it is refused, the program says so and ends. Memory is taken only for the words and the
+/// metadata, before anything is read from the input or written.
 struct Memory;
 
 fn granted(memory: *mut u8) -> *mut u8 {

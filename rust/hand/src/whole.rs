@@ -1,4 +1,4 @@
-//! Whole sides: where the numbers and the fields of a capture don't go on together, and whether it is whole.
+//! Whole sides: whether a capture is whole, and where its numbers and fields don't go on together.
 
 use crate::c;
 use crate::judged::rooms;
@@ -6,19 +6,19 @@ use crate::lines::{done, number_of};
 use crate::side::{self, Counted, Finding, Tally};
 use crate::sides::Side;
 
-/// What a whole side is judged by.
+/// How a whole side is judged.
 #[derive(Clone, Copy, Debug, PartialEq, Eq)]
 pub struct SideOptions {
     /// What the disc counts.
     pub counted: Counted,
-    /// Whether the disc has its numbers on both fields of a picture. `None`: it is found.
+    /// Whether the disc has its numbers on both fields of a picture. `None` finds it.
     pub on_both: Option<bool>,
-    /// Whether the capture may end before the disc does. If not, one that shows no lead-out isn't whole.
+    /// Whether the capture may end before the disc does. If not, a capture that shows no lead-out isn't whole.
     pub may_end: bool,
 }
 
 impl SideOptions {
-    /// For a disc that counts so: `on_both` is found, and the capture has to show the disc's lead-out.
+    /// The options for a disc that counts this: `on_both` is found, and the capture has to show the disc's lead-out.
     pub fn new(counted: Counted) -> SideOptions {
         SideOptions { counted, on_both: None, may_end: false }
     }
@@ -27,11 +27,11 @@ impl SideOptions {
 /// Whether the capture of a side is whole.
 #[derive(Clone, Copy, Debug, PartialEq, Eq)]
 pub enum Verdict {
-    /// There is no reason against it.
+    /// No reason speaks against it.
     Yes,
-    /// There is a reason that is seen on the capture: one of the first six.
+    /// The capture shows a reason why it isn't: one of the first six.
     No,
-    /// There are other reasons alone.
+    /// There are only other reasons.
     CannotTell,
 }
 
@@ -40,27 +40,27 @@ pub enum Verdict {
 pub enum Reason {
     /// Fields of the disc are lost.
     IsLost,
-    /// More fields are there than the numbers count to.
+    /// There are more fields than the numbers count to.
     IsHeld,
     /// The numbers go back.
     GoesBack,
     /// Another side begins.
     IsJoined,
-    /// Fewer fields stand before the first number than the numbers before it take.
+    /// There are fewer fields before the first number than the numbers before it take.
     BeginsLate,
-    /// Of video with numbers on one field of a picture: between two numbers that go on a field shows one that belongs
-    /// into a field beside it.
+    /// On video with numbers on one field of a picture: between two numbers that go on, a field shows one that belongs
+    /// in a field beside it.
     IsSwapped,
-    /// Numbers that go on one by one, each to within a field, don't all go on from each other; or no gap is open, and
-    /// the last number, less the stills, doesn't go on from the first.
+    /// Numbers go on one by one, each to within a field, but not all from each other; or no gap is open, and the last
+    /// number, less the stills, doesn't go on from the first.
     IsOff,
     /// No number is believed.
     NoNumbers,
     /// No lead-out is seen after the last number.
     EndUnseen,
-    /// Over 100 fields stand before the first number, which isn't the disc's first.
+    /// Over 100 fields are before the first number, which isn't the disc's first.
     BeginUnseen,
-    /// A tenth or more of the numbers that were read is in doubt.
+    /// A tenth or more of the numbers that were read are in doubt.
     ManyDoubtful,
     /// A gap is open.
     IsOpen,
@@ -82,18 +82,18 @@ const REASONS: [(u32, Reason); 12] = [
     (side::IS_OPEN, Reason::IsOpen),
 ];
 
-/// What is said of the capture of a side.
+/// The answer for the capture of a side.
 #[derive(Clone, Debug, PartialEq, Eq)]
 pub struct Whole {
     /// Whether it is whole.
     pub verdict: Verdict,
-    /// Why not. None just if it is whole.
+    /// Why it isn't, or why that can't be told. Empty exactly if it is whole.
     pub reasons: Vec<Reason>,
     /// The first and the last field with a believed number, counted from 0, if there is one.
     pub ends: Option<(usize, usize)>,
     /// The first field of [`Reason::IsSwapped`], counted from 0.
     pub swap: Option<usize>,
-    /// What its gaps come to.
+    /// The counts of its gaps.
     pub tally: Tally,
 }
 
@@ -115,16 +115,16 @@ impl Whole {
     }
 }
 
-/// What a gap is.
+/// The kind of a gap.
 #[derive(Clone, Copy, Debug, PartialEq, Eq)]
 pub enum GapKind {
     /// Fields of the disc are lost.
     Lost,
-    /// More fields are there than the numbers count to.
+    /// There are more fields than the numbers count to.
     Held,
     /// The numbers go back.
     Back,
-    /// The same number an even count of fields later: the player stood still. Never of times.
+    /// The same number an even count of fields later: the player stood still. Never for times.
     Still,
     /// Lead-in or lead-out stands between: another side begins.
     Joined,
@@ -133,21 +133,21 @@ pub enum GapKind {
     Open,
 }
 
-/// Two neighbouring believed numbers that don't go on, and what lies between them.
+/// Two neighbouring believed numbers that don't go on, and what is between them.
 #[derive(Clone, Copy, Debug, PartialEq, Eq)]
 pub struct Gap {
-    /// What it is.
+    /// Its kind.
     pub kind: GapKind,
-    /// The field before it that has a number, counted from 0.
+    /// The field with the number before it, counted from 0.
     pub after: usize,
-    /// The field after it that has one.
+    /// The field with the number after it.
     pub before: usize,
     /// The number of the field before it.
     pub from: u32,
     /// The number of the field after it.
     pub to: u32,
-    /// The fields lost or too many, at least; those of a still; of an open gap, how many more or less there are than
-    /// the numbers count to; else 0.
+    /// At least how many fields are lost or too many; how many a still has; for an open gap, how many more or fewer
+    /// there are than the numbers count to; else 0.
     pub fields: u64,
     /// How many fields between the two show a number between theirs, on both lines in pass 1.
     pub shown: u64,
@@ -169,18 +169,18 @@ impl Gap {
 }
 
 impl Side<'_> {
-    /// Whether the capture is whole. The whole side is read and judged, at the pace that is found.
+    /// Says whether the capture is whole. The whole side is read and judged, at the pace that is found.
     pub fn whole(&self, options: SideOptions) -> Whole {
         Whole::of(&self.judge_side(options).0)
     }
 
-    /// Where the numbers and the fields don't go on together, in order. The whole side is read and judged, at the pace
-    /// that is found.
+    /// The places where the numbers and the fields don't go on together, in order. The whole side is read and judged,
+    /// at the pace that is found.
     pub fn gaps(&self, options: SideOptions) -> Vec<Gap> {
         self.judge_side(options).1.iter().map(Gap::of).collect()
     }
 
-    /// Reads and judges the side: what is said of it, and all its gaps.
+    /// Reads and judges the side. Returns the answer for it and all its gaps.
     fn judge_side(&self, options: SideOptions) -> (Finding, Vec<side::Gap>) {
         let judged = self.judged();
         let readings = judged.readings();

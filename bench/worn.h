@@ -1,8 +1,48 @@
 /* Worn lines with their truth: words that are drawn and then damaged sample by sample, and words as a player plays
-   them; and signals that are no words, as stand on lines 16, 17 and 18 of other discs and tapes. A sample is a number
-   here, 0 for black and 1 for white, until the whole line is made. */
-#include "library.h"
+   them. A sample is a number here, 0 for black and 1 for white, until the whole line is made. */
+#define _DEFAULT_SOURCE
+#include <ldvbi.h>
 #include <math.h>
+#include <stddef.h>
+#include <stdio.h>
+#include <stdlib.h>
+#include <string.h>
+#include <sys/mman.h>
+
+typedef struct {
+    uint32_t system, black, white;
+    size_t samples, lines, start;
+    uint64_t numerator, denominator; /* samples of a microsecond */
+} Television;
+
+static const Television televisions[] = {
+    {LDVBI_NTSC, 16384, 51200, 910, 263, 150, 315, 22},
+    {LDVBI_PAL, 16384, 54016, 1135, 313, 190, 709379, 40000},
+};
+
+static int wrong;
+
+#define CHECK(test)                                                      \
+    do {                                                                 \
+        if (!(test)) {                                                   \
+            fprintf(stderr, "%s:%d: %s\n", __FILE__, __LINE__, #test);   \
+            wrong++;                                                     \
+        }                                                                \
+    } while (0)
+
+/* This many bytes, all 0xAA, with no page behind the last. */
+static uint8_t *guarded(size_t size)
+{
+    size_t pages = (size + 4095) / 4096 * 4096;
+    uint8_t *begin = mmap(NULL, pages + 4096, PROT_READ | PROT_WRITE, MAP_PRIVATE | MAP_ANONYMOUS, -1, 0);
+
+    if (begin == MAP_FAILED || mprotect(begin + pages, 4096, PROT_NONE) != 0) {
+        perror("mmap");
+        exit(2);
+    }
+    memset(begin, 0xAA, pages);
+    return begin + pages - size;
+}
 
 enum { WIDEST = 1135, HALVES = 48, TAPS = 20 };
 
@@ -136,21 +176,6 @@ static void draw_word(const Television *tv, uint32_t word, size_t start, int mov
     hold(tv, (double)begin, (double)tv->samples, 0, line);
 }
 
-static void smear(const Television *tv, int columns, double *line)
-{
-    double sharp[WIDEST];
-    int last = (int)tv->samples - 1, reach = columns / 2;
-
-    memcpy(sharp, line, sizeof *line * tv->samples);
-    for (int column = 0; column <= last; column++) {
-        double sum = 0;
-
-        for (int near = column - reach; near <= column + reach; near++)
-            sum += sharp[near < 0 ? 0 : near > last ? last : near];
-        line[column] = sum / (2 * reach + 1);
-    }
-}
-
 /* Lets through what is below 3.5 MHz, so that edges are slow, and ring by some 9 % before and behind. */
 static void limit_band(const Television *tv, double *line)
 {
@@ -233,75 +258,4 @@ static void draw_worn(const Television *tv, const Wear *wear, uint32_t word, uin
     for (int i = 0; i < wear->dropouts; i++)
         put_dropout(tv, wear, start, line);
     put_line(tv, line, bytes);
-}
-
-/* ---- Signals that are no words */
-
-enum Shape { NOTHING, WHITE, RAMP, EVEN_NOISE, VIDEO, STEPS, BITS, CAPTIONS, BIPHASE, SINE };
-
-/* A signal from 10 to 62 microseconds of its line. */
-typedef struct {
-    const char *name;
-    enum Shape shape;
-    double noise; /* its standard deviation */
-    double rate;  /* megahertz of bits (0: those of teletext in the system) or of a sine (0: any from 0.1 to 1.6) */
-    int count;    /* bits; or columns of video of which each has the mean */
-    double level; /* of bits, or microseconds of a half cell of biphase bits (0: any from 0.45 to 0.55) */
-    int smeared;  /* columns of whose samples each is the mean */
-} Kind;
-
-/* Bits of so many columns, each held at its level: some of which the first sixteen come by turns, captions behind three
-   start bits, of which the last is high, or those of biphase, which change in their middle. */
-static void put_bits(const Television *tv, const Kind *kind, double begin, double columns, double *line)
-{
-    for (int bit = 0; bit < kind->count; bit++) {
-        double from = begin + bit * columns, middle = begin + (2 * bit + 1) * columns;
-        int is_fixed = kind->shape == BITS ? bit < 16 : kind->shape == CAPTIONS && bit < 3;
-        double level = !is_fixed ? below(2) : kind->shape == BITS ? bit % 2 == 0 : bit == 2;
-
-        if (kind->shape != BIPHASE) {
-            hold(tv, from, from + columns, level * kind->level, line);
-        } else {
-            hold(tv, middle - columns, middle, 1 - level, line);
-            hold(tv, middle, middle + columns, level, line);
-        }
-    }
-}
-
-/* The level of a column by itself, which is so far behind the signal's begin; of captions that of the run-in. */
-static double level_of(const Kind *kind, double place, double end, double columns, double phase)
-{
-    return kind->shape == WHITE ? 1
-        : kind->shape == RAMP ? place / end
-        : kind->shape == EVEN_NOISE ? evenly()
-        : kind->shape == VIDEO ? 0.5 + 0.35 * sqrt(kind->count) * normally()
-        : kind->shape == SINE ? 0.5 + 0.5 * sin(turn_of_circle * place / columns + phase)
-        : kind->shape == CAPTIONS && place < 7 * columns ? 0.25 * (1 - cos(turn_of_circle * place / columns))
-        : 0;
-}
-
-/* A line's signal, without its noise. Noise of even levels is on all of the line. */
-static void draw_signal(const Television *tv, const Kind *kind, double *line)
-{
-    double microsecond = samples_of_microsecond(tv), teletext = tv->system == LDVBI_PAL ? 6.9375 : 5.7273;
-    double rate = kind->rate > 0 ? kind->rate : kind->shape == SINE ? 0.1 + 1.5 * evenly() : teletext;
-    double columns = microsecond / rate, phase = kind->shape == SINE ? turn_of_circle * evenly() : 0;
-    size_t begin = kind->shape == EVEN_NOISE ? 0 : (size_t)(10 * microsecond), end = (size_t)(62 * microsecond);
-
-    end = kind->shape == EVEN_NOISE || end > tv->samples ? tv->samples : end;
-    hold(tv, 0, (double)tv->samples, 0, line);
-    for (size_t column = begin; column < end; column++)
-        line[column] = level_of(kind, (double)(column - begin), (double)(end - begin), columns, phase);
-    for (size_t column = begin, next; kind->shape == STEPS && column < end; column = next) {
-        next = column + 5 + below(36);
-        hold(tv, (double)column, (double)next, evenly(), line);
-    }
-    if (kind->shape == BIPHASE)
-        columns = microsecond * (kind->level > 0 ? kind->level : 0.45 + 0.1 * evenly());
-    if (kind->shape == BITS || kind->shape == CAPTIONS || kind->shape == BIPHASE)
-        put_bits(tv, kind, (double)begin + (kind->shape == CAPTIONS ? 7 * columns : 0), columns, line);
-    if (kind->smeared > 1)
-        smear(tv, kind->smeared, line);
-    if (kind->shape == VIDEO)
-        hold(tv, 0, (double)begin, 0, line);
 }

@@ -1,0 +1,264 @@
+"""A folder of its own for a test, in which it runs the command: as a call in this process, or as a process that shows
+more. Why a call is refused, and what a database answers. A folder of sides of every kind for the tests of `scan`."""
+
+import contextlib
+import functools
+import gzip
+import io
+import json
+import os
+import pty
+import shlex
+import sqlite3
+import subprocess
+import sys
+import time
+
+from compact import cells_of, words_of
+import ldvbi
+from ldvbi import System
+from ldvbi.document import head_of, RECORD, tail_of
+from ldvbi_side.__main__ import main
+from streams import NTSC, PAL, pictures, PROGRAM, write_stream
+
+COMMAND = [sys.executable, "-m", "ldvbi_side"]
+LEVELS = ["--system", "NTSC", "--black", "16384", "--white", "51200"]
+SIZE = ldvbi.field_bytes("NTSC")
+DEADLINE = 300  # seconds: for what hangs, not for what is slow
+NO_METADATA = "side.tbc: no side.tbc.json or side.tbc.db beside it; give --meta, or --system, --black and --white"
+IN_PLACE = "%s would be written in the place of an input or of another output"
+# White is less than the middle of the metadata's levels.
+DARK = ("NTSC", 16384, 30000)
+# A folder with a side of every kind, in the order of the table: the side's name, its fields, of which a document and
+# what is packed has none, and its row behind the name: whole, lost, unread, format, from, to, last, lead-in, lead-out,
+# fields, try, and how `why` begins; - is nothing. The metadata has NTSC and white 51200.
+SIDES = """
+    a/broken.vbi.json | - | fault | - | - | - | - | - | - | - | - | - | - | not JSON:
+    a/cut.tbc | 1..30 O | no | 0 | 0 | cav | 1 | 30 | 30 | 0 | 1 | 61 | - | field 62 is cut
+    a/database.tbc | 1..30 O | yes | 0 | 0 | cav | 1 | 30 | 30 | 0 | 1 | 61 | - | -
+    a/joined.tbc | Lx2 1..30 Ox2 Lx2 1..25 Ox2 | no | 0 | 0 | cav | 1 | 30 | 25 | 4 | 4 | 118 | - | lead-in again in
+    a/levels.tbc | 1..30 | can't tell | 0 | 0 | neither | - | - | - | 0 | 0 | 60 | --white 30000
+        | no picture number and no time
+    a/lost.tbc | 1..11 14..30 O | no | 2 | 0 | cav | 1 | 30 | 30 | 0 | 1 | 57 | - | 4 fields lost; 2 pictures lost
+    b/minutes.vbi.json | - | yes | 0 | 0 | clv | 0:00 | 0:02 | 0:02 | 0 | 1 | 9001 | - | -
+    b/missing.tbc | 1..30 | fault | - | - | - | - | - | - | - | - | - | -
+        | no missing.tbc.json or missing.tbc.db beside it
+    b/no codes.tbc | Bx60 | can't tell | 0 | 0 | neither | - | - | - | 0 | 0 | 60 | - | no picture number and no time
+    b/packed.tbc | - | fault | - | - | - | - | - | - | - | - | - | - | it is compressed (gzip): unpack it first
+    b/system.tbc | 1..30 O | no | 0 | 0 | neither | - | - | - | 0 | 0 | 90 | --system PAL --black 16384 --white 51200
+        | field 91 is cut
+    b/unread.tbc | 1..30 23=B O | yes | 0 | 1 | cav | 1 | 30 | 30 | 0 | 1 | 61 | - | -
+    b/whole.tbc | 1..30 O | yes | 0 | 0 | cav | 1 | 30 | 30 | 0 | 1 | 61 | - | -
+"""
+ROWS = {name: row for name, _, *row in cells_of(SIDES)}
+
+
+def reason(call, *words, kind=ValueError, **more):
+    """Why a call raised a ValueError, or another error."""
+    try:
+        call(*words, **more)
+    except kind as error:
+        return str(error)
+    return None
+
+
+def buffered():
+    """The environment in which what is printed is held back for a while, as nearly everywhere."""
+    return {name: value for name, value in os.environ.items() if name != "PYTHONUNBUFFERED"}
+
+
+def in_database(path, *statements):
+    """What a database, which may be a new one, answers to these statements: texts, or pairs of one and its values."""
+    with contextlib.closing(sqlite3.connect(path)) as database:
+        answers = [database.execute(*([one] if isinstance(one, str) else one)).fetchall() for one in statements]
+        database.commit()
+    return answers
+
+
+@functools.lru_cache(maxsize=None)
+def document_of(data):
+    """The document that the program makes of the pictures 0 to 11."""
+    words = [PROGRAM, "extract", *LEVELS, "-"]
+    return subprocess.run(words, input=data, stdout=subprocess.PIPE, check=True).stdout
+
+
+class Room:
+    """`path` is that of a TBC file in the folder, which isn't there yet."""
+
+    def __init__(self, folder):
+        self.folder, self.cleanup = folder, contextlib.ExitStack()
+        self.path = self.named("side.tbc")
+
+    def __enter__(self):
+        return self
+
+    def __exit__(self, *_):
+        self.cleanup.close()
+
+    def named(self, name):
+        return os.path.join(self.folder, name)
+
+    def names(self, folder=""):
+        return sorted(os.listdir(self.named(folder)))
+
+    def write(self, name, data):
+        """Makes a file of these bytes, or of this text; the answer is its path."""
+        with open(self.named(name), "wb") as file:
+            file.write(data.encode() if isinstance(data, str) else data)
+        return self.named(name)
+
+    def read(self, name):
+        with open(self.named(name), "rb") as file:
+            return file.read()
+
+    def text(self, name):
+        return self.read(name).decode()
+
+    def files(self):
+        """What is in each file."""
+        return {name: self.read(name) for name in self.names()}
+
+    def draw_side(self):
+        write_stream(self.path, NTSC, pictures(12))
+        self.document = document_of(self.read("side.tbc"))
+        self.write("side.vbi.json", self.document)
+
+    def metadata(self, name, *, count=None, field=(), **more):
+        """Metadata of an NTSC side, with so many fields, the second ones of which begin a frame; each has these members
+        besides, and the parameters have the others."""
+        known = {"videoParameters": {"system": "NTSC", "black16bIre": 16384, "white16bIre": 51200, **more}}
+        if count is not None:
+            known["fields"] = [{"isFirstField": place % 2 == 1, **dict(field)} for place in range(count)]
+        self.write(name, json.dumps(known))
+
+    # ---- the command
+
+    @staticmethod
+    def words(*given):
+        """The words of a run: those that are given, or those of a text, in which LEVELS stands for options."""
+        words = shlex.split(given[0]) if len(given) == 1 and " " in given[0] else given
+        return [part for word in words for part in (LEVELS if word == "LEVELS" else [word])]
+
+    def run_command(self, *words, **more):
+        """The status of a run in the folder, and what it writes to standard output and standard error. One with nothing
+        on standard input, and with the streams and the environment that are usual, is a call."""
+        if more:
+            pipes = {"stdin": subprocess.DEVNULL, "stdout": subprocess.PIPE, "stderr": subprocess.PIPE, **more}
+            run = subprocess.run([*pipes.pop("command", COMMAND), *self.words(*words)], cwd=self.folder,
+                                 timeout=DEADLINE, check=False, **pipes)
+            return run.returncode, run.stdout, (run.stderr or b"").decode()
+        out, err = io.TextIOWrapper(io.BytesIO(), "utf-8", "surrogateescape"), io.StringIO()
+        before = os.getcwd()
+        os.chdir(self.folder)
+        try:
+            with contextlib.redirect_stdout(out), contextlib.redirect_stderr(err):
+                status = main(self.words(*words))
+        except SystemExit as stop:
+            status = stop.code
+        finally:
+            os.chdir(before)
+        out.flush()
+        return status, out.buffer.getvalue(), err.getvalue()
+
+    def run_words(self, *words, **more):
+        """The same with texts, of names that are none, too."""
+        status, text, said = self.run_command(*words, **more)
+        return status, text.decode("utf-8", "surrogateescape"), said
+
+    def printed(self, *words, said=""):
+        """What a run prints that has the status 0."""
+        status, text, errors = self.run_command(*words)
+        assert (status, errors) == (0, said)
+        return text
+
+    def refused(self, text, *words):
+        assert self.run_command(*words) == (2, b"", "ldvbi-side: %s\n" % text)
+
+    def extracted(self, name, options=tuple(LEVELS)):
+        """What the program writes of a TBC file."""
+        status, document, _ = self.run_command("extract", *options, self.named(name), command=[PROGRAM])
+        assert status in (0, 3)
+        return document
+
+    # ---- processes
+
+    def started(self, *words, command=tuple(COMMAND), **more):
+        """A run that goes on."""
+        process = subprocess.Popen([*command, *self.words(*words)], cwd=self.folder, stdin=subprocess.DEVNULL,
+                                   **{"stdout": subprocess.PIPE, "stderr": subprocess.PIPE, "env": buffered(), **more})
+        for stream in filter(None, (process.stdout, process.stderr)):
+            self.cleanup.callback(stream.close)
+        return process
+
+    def opened_by(self, process, name):
+        """A pipe to write to, as soon as a run has opened it. A run that ends without that is a failure."""
+        while True:
+            try:
+                pipe = os.open(self.named(name), os.O_WRONLY | os.O_NONBLOCK)
+            except OSError:
+                assert process.poll() is None
+                time.sleep(0.01)
+            else:
+                os.set_blocking(pipe, True)
+                return open(pipe, "wb")
+
+    def ended(self, process, status, text=b""):
+        """Checks how a run ends, what it printed by then, and that it says nothing."""
+        assert (*process.communicate(timeout=DEADLINE), process.returncode) == (text, b"", status)
+
+    def stopped(self, process, number, status):
+        """Checks how a run ends that gets this signal, again until it ends: one that comes right before a run begins to
+        wait for its input is heeded only behind that."""
+        for _ in range(DEADLINE):
+            process.send_signal(number)
+            try:
+                process.wait(1)
+                break
+            except subprocess.TimeoutExpired:
+                pass
+        self.ended(process, status)
+
+    def on_terminal(self, status, *words, is_output_on_it=False):
+        """What a run writes to the terminal, and what to standard output where that is none."""
+        ours, theirs = pty.openpty()
+        process = self.started(*words, stderr=theirs, stdout=theirs if is_output_on_it else subprocess.PIPE)
+        os.close(theirs)
+        text = process.stdout.read() if process.stdout else b""
+        shown = b""
+        with contextlib.suppress(OSError):  # once nobody writes to it any more
+            for part in iter(functools.partial(os.read, ours, 65536), b""):
+                shown += part
+        os.close(ours)
+        assert process.wait(DEADLINE) == status
+        return shown.decode(), text
+
+    # ---- folders of sides
+
+    def add(self, name, fields="1..30 O", rest=0, setup=NTSC):
+        """A TBC file of these fields, or lines, with its metadata beside it, in a folder that is made."""
+        os.makedirs(os.path.dirname(self.named(name)), exist_ok=True)
+        write_stream(self.named(name), setup, words_of(fields) if isinstance(fields, str) else fields, rest)
+        self.metadata(name + ".json")
+
+    def add_each(self):
+        more = {"a/cut.tbc": {"rest": 12345}, "a/levels.tbc": {"setup": DARK}, "b/system.tbc": {"setup": PAL}}
+        for name, fields, *_ in cells_of(SIDES):
+            if fields != "-":
+                self.add(name, fields, **more.get(name, {}))
+        words = [(0x87FFFF, 0xF0DD00 + field // 3000) for field in range(9000)] + [(0x80EEEE, 0x80EEEE)]
+        records = [RECORD % (field, 0, *two, "blank", "word", "word", 0, 1, 1) for field, two in enumerate(words, 1)]
+        self.write("b/minutes.vbi.json", head_of(2, System.PAL, 16384, 54016) + ",\n".join(records) + tail_of(None))
+        self.write("a/broken.vbi.json", '{"version":2,"videoParameters":{')
+        self.write("b/packed.tbc", gzip.compress(b"video"))
+        os.rename(self.named("b/missing.tbc.json"), self.named("b/packed.tbc.json"))
+        form = "CREATE TABLE capture (system TEXT, black_16b_ire INTEGER, white_16b_ire INTEGER)"
+        in_database(self.named("a/database.tbc.db"), form, "INSERT INTO capture VALUES ('NTSC', 16384, 51200)")
+        os.unlink(self.named("a/database.tbc.json"))
+
+    def scan(self, *words):
+        """The status of a scan in the folder, and what it writes to standard output and standard error."""
+        return self.run_words("scan", *self.words(*words))
+
+    def row(self, *words):
+        """The row of the first side, as CSV."""
+        return self.scan("--csv", *self.words(*words))[1].split("\n", 1)[1].rstrip("\n")
