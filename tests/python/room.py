@@ -75,6 +75,21 @@ def in_database(path, *statements):
     return answers
 
 
+def children(process):
+    """The processes that this one started, but for the one that watches over them."""
+    with open("/proc/%d/task/%d/children" % (process, process), encoding="ascii") as file:
+        found = [int(one) for one in file.read().split()]
+    return [one for one in found if b"spawn_main" in command_of(one)]
+
+
+def command_of(process):
+    try:
+        with open("/proc/%d/cmdline" % process, "rb") as file:
+            return file.read()
+    except OSError:
+        return b""
+
+
 @functools.lru_cache(maxsize=None)
 def document_of(data):
     """The document that the program makes of the pictures 0 to 11."""

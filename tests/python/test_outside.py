@@ -86,7 +86,7 @@ def dropped(call):
 
 def test_one_that_is_dropped_is_sent_again(signals):
     heed()
-    dropped(lambda: (os.kill(os.getpid(), signal.SIGHUP), sum(range(10))))
+    dropped(lambda: (signal.raise_signal(signal.SIGHUP), sum(range(10))))
     with pytest.raises(outside.Stopped) as raised:
         time.sleep(10)
     assert raised.value.status == 129
@@ -95,7 +95,7 @@ def test_one_that_is_dropped_is_sent_again(signals):
 def test_one_that_is_dropped_is_noticed(signals):
     heed()
     outside.raise_lost()
-    dropped(lambda: (os.kill(os.getpid(), signal.SIGTERM), sum(range(10))))
+    dropped(lambda: (signal.raise_signal(signal.SIGTERM), sum(range(10))))
     with pytest.raises(outside.Stopped) as raised:
         outside.raise_lost()
     assert (raised.value.status, signal.getitimer(signal.ITIMER_REAL)) == (143, (0, 0))
@@ -108,15 +108,15 @@ def test_a_second_one(signals):
     ended = []
     with mock.patch("os._exit", ended.append):
         with pytest.raises(outside.Stopped):
-            os.kill(os.getpid(), signal.SIGINT)
-        os.kill(os.getpid(), signal.SIGINT)
+            signal.raise_signal(signal.SIGINT)
+        signal.raise_signal(signal.SIGINT)
         assert ended == []
         with mock.patch("time.monotonic", lambda now=time.monotonic() + 2: now):
-            os.kill(os.getpid(), signal.SIGTERM)
+            signal.raise_signal(signal.SIGTERM)
         assert ended == [143]
         outside.end_in_order()
-        dropped(lambda: (os.kill(os.getpid(), signal.SIGTERM), sum(range(10))))
-        os.kill(os.getpid(), signal.SIGHUP)
+        dropped(lambda: (signal.raise_signal(signal.SIGTERM), sum(range(10))))
+        signal.raise_signal(signal.SIGHUP)
         assert ended == [143, 129]
 
 

@@ -24,10 +24,10 @@ class Finder:
         if name == "ldvbi_side.draw.page":
             sys.meta_path.remove(self)
             thing = Thing()
-            reference = weakref.ref(thing, lambda _: (os.kill(os.getpid(), signal.SIGINT), sum(range(10))))
+            reference = weakref.ref(thing, lambda _: (signal.raise_signal(signal.SIGINT), sum(range(10))))
             del thing
             if "SECOND" in os.environ:
-                os.kill(os.getpid(), signal.SIGINT)
+                signal.raise_signal(signal.SIGINT)
 sys.meta_path.insert(0, Finder())
 """
 ENDLESS = ("CREATE TABLE capture (system, black_16b_ire, white_16b_ire)",
@@ -99,7 +99,7 @@ ENDING = """import atexit, os, signal, sys
 import ldvbi_side.command.main
 from ldvbi_side.__main__ import main
 if %d:
-    ldvbi_side.command.main.main = lambda _: (os.kill(os.getpid(), signal.SIGINT), sum(range(10)))
+    ldvbi_side.command.main.main = lambda _: (signal.raise_signal(signal.SIGINT), sum(range(10)))
 atexit.register(os.kill, os.getpid(), %d)
 sys.argv[1:] = ["side.vbi.json", "--seek", "3"]
 sys.exit(main())"""

@@ -17,23 +17,8 @@ from ldvbi_side.command.processes import Ended, SideBySide
 from ldvbi_side.command.progress import heard_by, Progress, SidesProgress
 from ldvbi_side.command.scan import scan
 import pytest
-from room import DEADLINE
+from room import children, command_of, DEADLINE
 from streams import line_with, NTSC, PROGRAM
-
-
-def children(process):
-    """The processes that this one started, but for the one that watches over them."""
-    with open("/proc/%d/task/%d/children" % (process, process), encoding="ascii") as file:
-        found = [int(one) for one in file.read().split()]
-    return [one for one in found if b"spawn_main" in command_of(one)]
-
-
-def command_of(process):
-    try:
-        with open("/proc/%d/cmdline" % process, "rb") as file:
-            return file.read()
-    except OSError:
-        return b""
 
 
 def until(found):

@@ -2,7 +2,6 @@
 status is as documented, nothing is said, and nothing unfinished is left. `STOPPED_RUNS` has how many runs there are."""
 
 import contextlib
-import multiprocessing
 import os
 import random
 import signal
@@ -16,7 +15,7 @@ from compact import words_of
 from ldvbi_side import outside
 from ldvbi_side.command.processes import SideBySide
 import pytest
-from room import buffered, DEADLINE, in_database
+from room import buffered, children, DEADLINE, in_database
 from streams import NTSC, worn_line
 from test_into import FORM
 
@@ -137,7 +136,7 @@ def test_while_a_process_is_started(room):
 
         def stopped(*words, number=number, starts=starts):
             process = starts(*words)
-            os.kill(os.getpid(), number)
+            signal.raise_signal(number)  # of this thread: another one of pytest's wouldn't hold it back
             sum(range(10))
             return process
 
@@ -146,4 +145,4 @@ def test_while_a_process_is_started(room):
                 SideBySide(waits, [1], 1, lambda task, _, ended=ended: ended.append(task)) as messages:
             next(iter(messages))
         assert raised.value.status == 128 + number
-        assert (ended, multiprocessing.active_children()) == ([], [])
+        assert (ended, children(os.getpid())) == ([], [])
