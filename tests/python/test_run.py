@@ -1,86 +1,38 @@
-"""The command: metadata beside TBC files, tables; and the files that it writes, never in the place of an
-input."""
+"""The command: metadata beside TBC files, tables, and the files that it writes, never in the place of an input. And
+where what is around it isn't as usual: streams that are closed or a terminal's, signals at any time, no reader, names
+and files of others."""
 
+import fcntl
+import functools
 import json
 import os
 import re
+import shutil
+import signal
+import sys
+import termios
+import time
 
-from compact import words_of
+from compact import cells_of, words_of
 import pytest
-from room import IN_PLACE
+from room import buffered, DEADLINE, IN_PLACE, in_database, SIZE
 from streams import line_with, NTSC, PAL, pictures, PROGRAM, TOP, write_stream
 
-ANOTHER = "another system, or another file's metadata?"
-
-
-def test_it_is_needed(drawn):
-    """By what judges, of a document, too; one sentence says how to get it."""
-    absent = dict(os.environ, LDVBI_LIBRARY="/absent")
-    for words in ("side.vbi.json --csv", "side.vbi.json --summary --svg svg --map map --html html",
-                  "side.vbi.json", "side.tbc LEVELS --document", "join side.vbi.json side.vbi.json"):
-        status, text, said = drawn.run_command(words, env=absent)
-        assert (status, text, said.count("\n")) == (2, b"", 1)
-        assert said.startswith("ldvbi-side: no library to read and judge with (/absent: ")
-    assert drawn.run_command("--help", env=absent) == drawn.run_command("--help")
-    status, text, said = drawn.run_words("--version", env=absent)
-    assert (status, text.count("\n"), said) == (0, 2, "")
-    assert "\nno library to read and judge with (/absent: " in text
-
-
-# The metadata beside the TBC file, which is taken where options leave something open.
-def test_it_is_taken(drawn):
-    """By it the second fields begin frames, where it has as many."""
-    drawn.metadata("side.tbc.json", count=12)
-    drawn.metadata("other.json", count=12, black16bIre=60000, white16bIre=60001)
-    drawn.metadata("without.json")
-    drawn.metadata("more.json", count=14)
-    more = "%s: 12 fields, more.json says 14, so its isFirstField isn't used: " + ANOTHER
-    for words, status, text, said in (
-            ("side.tbc --seek 4", 0, b"field 5, frame 2\n", None),
-            ("side.tbc --white 51200 --document", 0, drawn.document, None),
-            ("side.tbc LEVELS --seek 4", 0, b"field 5, frame 3\n", None),
-            ("side.tbc --meta other.json LEVELS --seek 4", 0, b"field 5, frame 2\n", None),
-            ("side.tbc --meta other.json --seek 4", 1, b"", "not found: no number of the side is believed"),
-            ("side.vbi.json --seek 12", 1, b"", "not found: the numbers end at 11, in field 12"),
-            ("side.vbi.json --meta side.tbc.json --seek 4", 0, b"field 5, frame 2\n", None),
-            ("side.vbi.json --meta without.json --seek 4", 0, b"field 5, frame 3\n",
-             "without.json has no isFirstField for each field"),
-            ("side.tbc --meta more.json --seek 4", 0, b"field 5, frame 3\n", more % "side.tbc"),
-            ("side.vbi.json --meta more.json --seek 3", 0, b"field 4, frame 2\n", more % "side.vbi.json")):
-        assert drawn.run_command(words) == (status, text, "ldvbi-side: %s\n" % said if said else "")
-    os.rename(drawn.named("side.tbc.json"), drawn.named("side.tbc.db"))
-    assert drawn.printed("side.tbc --document") == drawn.document
-
-
-def test_counts_are_compared(drawn):
-    drawn.write("side.tbc", drawn.read("side.tbc") + b"x" * 7)
-    drawn.metadata("side.tbc.json", numberOfSequentialFields=11)
-    _, text, said = drawn.run_command("side.tbc", "--json")
-    known = json.loads(text)
-    assert (known["metadataFields"], known["frameBegin"], said.split("\n")[0]) == (
-        11, 1, "ldvbi-side: side.tbc: 12 fields and 7 bytes, side.tbc.json says 11: " + ANOTHER)
-
-
-def test_what_a_summary_says_to_try(drawn):
-    """Metadata of another system lies beside the side: by the options that are named it is read."""
-    write_stream(drawn.named("side.tbc"), NTSC, pictures(60))
-    drawn.metadata("side.tbc.json", system="PAL", fieldWidth=1135, fieldHeight=313, white16bIre=54016)
-    found = re.search(r"^try: (.*), without --meta \(120 lines read, now [01] of 80\)$",
-                      drawn.run_words("side.tbc", "--summary")[1], re.M)
-    assert found[1] == "--system NTSC --black 16384 --white 54016"
-    assert "line 17: 60 words, " in drawn.run_words("side.tbc " + found[1])[1]
-
-
-def test_strict(drawn):
-    write_stream(drawn.named("side.tbc"), NTSC, words_of("1..4"))
-    for words, status, wanted in (
-            ("", 4, b"whole: can't tell: no lead-out: the disc may go on after picture 4"),
-            ("--open-end", 0, b"whole: yes"), ("--strict", 1, b"whole: no: no lead-in; no lead-out"),
-            ("--strict --open-end", 1, b"whole: no: no lead-in")):
-        found = drawn.run_command("side.tbc LEVELS --summary " + words)
-        assert (found[0], found[1].split(b"\n")[0]) == (status, wanted)
-
-
+# Runs, and their status, what they print and what they say, or -; by the metadata second fields begin frames
+TAKEN = """
+    side.tbc --seek 4 | 0 | field 5, frame 2 | - || side.tbc LEVELS --seek 4 | 0 | field 5, frame 3 | -
+    side.tbc --meta other.json LEVELS --seek 4 | 0 | field 5, frame 2 | -
+    side.tbc --meta other.json --seek 4 | 1 | - | not found: no number of the side is believed
+    side.vbi.json --seek 12 | 1 | - | not found: the numbers end at 11, in field 12
+    side.vbi.json --meta side.tbc.json --seek 4 | 0 | field 5, frame 2 | -
+    side.vbi.json --meta none.json --seek 4 | 0 | field 5, frame 3 | none.json has no isFirstField for each field
+    side.tbc --meta more.json --seek 4 | 0 | field 5, frame 3
+        | side.tbc: 12 fields, more.json says 14, so its isFirstField isn't used: ANOTHER
+    side.vbi.json --meta more.json --seek 3 | 0 | field 4, frame 2
+        | side.vbi.json: 12 fields, more.json says 14, so its isFirstField isn't used: ANOTHER
+    cut.tbc --meta count.json --seek 4 | 0 | field 5, frame 3
+        | cut.tbc: 12 fields and 7 bytes, count.json says 11: ANOTHER
+"""
 FIELDS = """field,frame,format,picture,chapter,time,stop,doubt,status,users,unknown
 1,1,cav,1,,,,,,,
 2,1,neither,,1,,,,,,
@@ -92,34 +44,6 @@ BAD_LINES = """field,line,cause,offset,nearest,distance,rival
 1,17,change 170,29120,82CFFF,500,3300
 1,18,hold 200,30940,ANY,39500,39500
 """
-
-
-def test_fields(drawn):
-    write_stream(drawn.named("side.tbc"), NTSC, words_of("-/#1/#1 -/c1/c1 S/S/#2 B -/#3/#79999"))
-    drawn.write("side.vbi.json", drawn.extracted("side.tbc"))
-    with open(drawn.named("side.vbi.json"), "rb") as file:
-        for words, more in (("side.tbc LEVELS", {}), ("side.vbi.json", {}), ("-", {"stdin": file})):
-            assert drawn.run_words(words + " --csv", **more) == (0, FIELDS, "")
-
-
-def test_bad_lines(drawn):
-    """Line 16 has 10 high columns, its last: these are 10 off the black row, and a word that ends there has 322 high
-    columns before its last half cell of 15. Line 17 is 5 off its word, and a cell of 28 more off another. Line 18 has
-    59 high columns before the last place for a word, 351 of whose 687 are high at most; several words have so many.
-    Without samples, or recovered words, no line is measured."""
-    write_stream(drawn.named("side.tbc"), NTSC, [[
-        line_with(0, NTSC, [(900, 909, True)]), line_with(0x82CFFF, NTSC, [(170, 174, False)]),
-        line_with(0, NTSC, [(164, 909, True)])]], 12345)
-    drawn.write("side.vbi.json", drawn.extracted("side.tbc"))
-    said = "ldvbi-side: %s: the last field is cut: field 2 has 12345 of 478660 bytes\n"
-    for name, more, wanted in (("side.tbc", " LEVELS", BAD_LINES), ("side.tbc", " LEVELS --no-recover", None),
-                               ("side.vbi.json", "", None)):
-        status, text, errors = drawn.run_words(name + more + " --bad-lines")
-        text = re.sub(",[8-F][0-9A-F]{5},39500,", ",ANY,39500,", text)
-        assert (status, text, errors) == (3, wanted or re.sub("[^,]*,[^,]*,\\d+$", ",,", BAD_LINES, flags=re.M), said %
-                                          name)
-
-
 # A side, and its chapters as ffprobe has them: number, time base, begin and end, in fields and in seconds, and name
 CHAPTERS = (
     (NTSC, "L 1..6 7:13/2=-/c1/c1", ("0,1001/60000,2,0.033367,6,0.100100,Chapter 0",
@@ -127,43 +51,92 @@ CHAPTERS = (
     (PAL, "L 1..6 7:13/2=-/c21/c21", ("0,1/50,2,0.040000,6,0.120000,Chapter 0",
                                       "1,1/50,6,0.120000,13,0.260000,Chapter 21")),
     (NTSC, "Bx4", ()))
-QUIET = ("-v", "error")
 
 
-@pytest.mark.parametrize("words, option, status", (
-    ("--document", "-o", 0), ("--csv", "--output", 0), ("", "-o", 1),
-    ("--seek 3", "--output", 0)))
-def test_outputs_into_a_file(drawn, words, option, status):
-    printed = drawn.run_command("side.tbc LEVELS " + words)
-    assert drawn.run_command("side.tbc LEVELS %s %s out" % (words, option)) == (status, b"", "")
-    assert (status, drawn.read("out"), "") == printed
-    os.unlink(drawn.named("out"))
+def test_the_library_is_needed(drawn):
+    """By what judges, of a document, too; one sentence says how to get it."""
+    absent = dict(os.environ, LDVBI_LIBRARY="/absent")
+    for words in ("side.vbi.json --csv", "side.tbc LEVELS --document", "join side.vbi.json side.vbi.json"):
+        status, text, said = drawn.run_command(words, env=absent)
+        assert (status, text, said.count("\n")) == (2, b"", 1)
+        assert said.startswith("ldvbi-side: no library to read and judge with (/absent: ")
+    assert drawn.run_command("--help", env=absent) == drawn.run_command("--help")
+    status, text, said = drawn.run_words("--version", env=absent)
+    assert (status, text.count("\n"), said) == (0, 2, "")
+    assert "\nno library to read and judge with (/absent: " in text
+
+
+def test_metadata_is_taken(drawn):
+    """That beside the TBC file is where options leave something open; and a number of fields is compared."""
+    drawn.metadata("side.tbc.json", count=12)
+    drawn.metadata("other.json", count=12, black16bIre=60000, white16bIre=60001)
+    drawn.metadata("none.json")
+    drawn.metadata("more.json", count=14)
+    drawn.metadata("count.json", numberOfSequentialFields=11)
+    drawn.write("cut.tbc", drawn.read("side.tbc") + b"x" * 7)
+    for words, status, text, said in cells_of(TAKEN):
+        said = said.replace("ANOTHER", "another system, or another file's metadata?")
+        assert drawn.run_words(words) == (int(status), *("" if one == "-" else begin + one + "\n" for begin, one in (
+            ("", text), ("ldvbi-side: ", said))))
+    known = json.loads(drawn.run_command("cut.tbc --meta count.json --json")[1])
+    assert (known["metadataFields"], known["frameBegin"]) == (11, 1)
+    assert drawn.printed("side.tbc --white 51200 --document") == drawn.document
+    os.rename(drawn.named("side.tbc.json"), drawn.named("side.tbc.db"))
+    assert drawn.printed("side.tbc --document") == drawn.document
+
+
+def test_what_a_summary_says_to_try(drawn):
+    """Metadata of another system lies beside the side: by the options that are named it is read."""
+    write_stream(drawn.path, NTSC, pictures(60))
+    drawn.metadata("side.tbc.json", system="PAL", fieldWidth=1135, fieldHeight=313, white16bIre=54016)
+    found = re.search(r"^try: (.*), without --meta \(120 lines read, now [01] of 80\)$", drawn.run_words("side.tbc")[1],
+                      re.M)
+    assert found[1] == "--system NTSC --black 16384 --white 54016"
+    assert "line 17: 60 words, " in drawn.run_words("side.tbc " + found[1])[1]
+
+
+def test_fields(drawn):
+    write_stream(drawn.path, NTSC, words_of("-/#1/#1 -/c1/c1 S/S/#2 B -/#3/#79999"))
+    assert drawn.run_words("side.tbc LEVELS --csv") == (0, FIELDS, "")
+
+
+def test_bad_lines(drawn):
+    """Line 16 has 10 high columns, its last: these are 10 off the black row, and a word that ends there has 322 high
+    columns before its last half cell of 15. Line 17 is 5 off its word, and a cell of 28 more off another. Line 18 has
+    59 high columns before the last place for a word, 351 of whose 687 are high at most; several words have so many."""
+    write_stream(drawn.path, NTSC, [[
+        line_with(0, NTSC, [(900, 909, True)]), line_with(0x82CFFF, NTSC, [(170, 174, False)]),
+        line_with(0, NTSC, [(164, 909, True)])]], 12345)
+    status, text, said = drawn.run_words("side.tbc LEVELS --bad-lines")
+    assert (status, re.sub(",[8-F][0-9A-F]{5},39500,", ",ANY,39500,", text)) == (3, BAD_LINES)
+    assert said == "ldvbi-side: side.tbc: the last field is cut: field 2 has 12345 of 478660 bytes\n"
+    # of a document without samples no line is drawn
+    drawn.write("side.vbi.json", drawn.extracted("side.tbc"))
+    drawn.run_command("side.vbi.json --html side.html")
+    assert "Bad lines," not in drawn.text("side.html")
 
 
 def test_a_map(drawn):
-    assert drawn.printed("side.vbi.json --map side.map") == b""
-    rows = drawn.read("side.map").split(b"\n")
-    assert rows[:5] == [b"kind,number,field,frame,how", b"system,NTSC,1,1,side", b"black,16384,1,1,side",
-                        b"white,51200,1,1,side", b"fields,12,1,1,side"]
-    assert [rows[9], rows[-1]] == [b"picture,4,5,3,read", b""]
-    assert drawn.printed("side.tbc LEVELS --map two --seek 4") == b"field 5, frame 3\n"
-    assert drawn.printed("side.tbc LEVELS --map three --document --svg svg") == drawn.document
-    assert [drawn.read("two"), drawn.read("three")] == [drawn.read("side.map")] * 2
+    assert drawn.printed("side.tbc LEVELS --map side.map --document --svg svg") == drawn.document
+    rows = drawn.text("side.map").split("\n")
+    assert [*rows[:5], rows[9], rows[-1]] == [
+        "kind,number,field,frame,how", "system,NTSC,1,1,side", "black,16384,1,1,side", "white,51200,1,1,side",
+        "fields,12,1,1,side", "picture,4,5,3,read", ""]
     assert b"<svg" in drawn.read("svg")
 
 
-def test_chapters(drawn):
+@pytest.mark.parametrize("setup, words, wanted", CHAPTERS)
+def test_chapters(drawn, setup, words, wanted):
     """As ffmpeg and ffprobe read them; the labels have the same times and names."""
-    for (system, black, white), words, wanted in CHAPTERS:
-        write_stream(drawn.named("side.tbc"), (system, black, white), words_of(words))
-        for name in ("side.ffmeta", "side.txt"):
-            drawn.printed("side.tbc --system %s --black %d --white %d --chapters %s" % (system, black, white, name))
-        _, found, said = drawn.run_command(*QUIET, "-show_chapters", "-of", "csv", "side.ffmeta", command=["ffprobe"])
-        assert (found.decode(), said) == ("".join("chapter,%s\n" % row for row in wanted), "")
-        _, found, _ = drawn.run_command(*QUIET, "-i", "side.ffmeta", "-f", "ffmetadata", "-", command=["ffmpeg"])
-        assert re.sub("encoder=.*\n", "", found.decode()) == drawn.text("side.ffmeta").replace("\n\n", "\n")
-        assert drawn.text("side.txt").splitlines() == ["\t".join(row.split(",")[place] for place in (3, 5, 6)) for row
-                                                       in wanted]
+    write_stream(drawn.path, setup, words_of(words))
+    for name in ("side.ffmeta", "side.txt"):
+        drawn.printed("side.tbc --system %s --black %d --white %d --chapters %s" % (*setup, name))
+    found = drawn.run_words("-v error -show_chapters -of csv side.ffmeta", command=["ffprobe"])
+    assert found == (0, "".join("chapter,%s\n" % row for row in wanted), "")
+    _, found, _ = drawn.run_words("-v error -i side.ffmeta -f ffmetadata -", command=["ffmpeg"])
+    assert re.sub("encoder=.*\n", "", found) == drawn.text("side.ffmeta").replace("\n\n", "\n")
+    assert drawn.text("side.txt").splitlines() == ["\t".join(row.split(",")[place] for place in (3, 5, 6))
+                                                   for row in wanted]
 
 
 def test_the_pictures_of_the_documents(drawn):
@@ -177,19 +150,6 @@ def test_the_pictures_of_the_documents(drawn):
         assert drawn.read(name) == drawn.read(os.path.join(docs, "pictures", name))
 
 
-def test_pages(drawn):
-    columns = bytearray(drawn.read("side.tbc"))
-    begin = 2 * ((2 * 263 + 16) * 910 + 170)
-    columns[begin:begin + 10] = columns[:10]  # five black columns in line 17 of field 3
-    drawn.write("side.tbc", bytes(columns))
-    assert drawn.printed("side.tbc LEVELS --html side.html") == b""
-    for text in ("<summary>field 3, line 17: change ", "side.tbc, field 3, line 17</text>"):
-        assert text in drawn.text("side.html")
-    drawn.write("side.vbi.json", drawn.extracted("side.tbc"))
-    assert drawn.printed("side.vbi.json --html two.html") == b""
-    assert "Bad lines," not in drawn.text("two.html")
-
-
 @pytest.mark.parametrize("words", ("side.vbi.json", "join side.vbi.json side.vbi.json", "scan side.vbi.json"))
 def test_standard_output_in_the_place_of_an_input(drawn, words):
     with open(drawn.named("side.vbi.json"), "ab") as file:
@@ -198,21 +158,198 @@ def test_standard_output_in_the_place_of_an_input(drawn, words):
     assert drawn.read("side.vbi.json") == drawn.document
 
 
-# White of 65535, the highest sample; the next one is refused.
-def test_the_highest_white(drawn):
-    write_stream(drawn.named("side.tbc"), ("NTSC", 16384, 65535), pictures(12))
-    levels = ["--system", "NTSC", "--black", "16384", "--white", "65535"]
-    document = drawn.extracted("side.tbc", levels)
-    assert [field["vbi"]["vbiData"] for field in json.loads(document)["fields"]] == pictures(12)
-    drawn.write("side.vbi.json", document)
-    said = "ldvbi-side: side.tbc: white16bIre is 65535.25, rounded to 65535\n"
-    for white, note in ((None, ""), (65535, ""), (65535.25, said)):
-        drawn.metadata("side.tbc.json", **({"white16bIre": white} if white else {}))
-        words = ["side.tbc", *([] if white else levels)]
-        assert drawn.printed(*words, "--document", said=note) == document
-        assert drawn.run_command(*words, "--csv")[1] == drawn.printed("side.vbi.json", "--csv")
-    for white, option in ((65535.5, []), (65536, []), (51200, ["--white", "65536"])):
-        drawn.metadata("side.tbc.json", white16bIre=white)
-        status, printed, said = drawn.run_command("side.tbc", "--csv", *option)
-        said = said.splitlines()[-1]
-        assert (status, printed, said) == (2, b"", "ldvbi-side: side.tbc: white is not from 0 to 65535")
+SIGNALS = ((signal.SIGTERM, 143), (signal.SIGHUP, 129), (signal.SIGINT, 130))
+WAITING = "with open('pipe') as file:\n    file.read()\n"
+ENDLESS = ("CREATE TABLE capture (system, black_16b_ire, white_16b_ire)",
+           "INSERT INTO capture VALUES ('NTSC', 16384, 51200)",
+           "CREATE VIEW drop_outs AS WITH RECURSIVE n(i) AS (SELECT 1 UNION ALL SELECT i + 1 FROM n) "
+           "SELECT i AS field_id, 16 AS field_line, 1 AS startx, 2 AS endx FROM n WHERE i < 0")
+# A run that is interrupted once it has printed its words
+INTERRUPTED = """
+import sys, ldvbi_side.__main__, ldvbi_side.command.main
+def interrupted(words):
+    print(words)
+    raise KeyboardInterrupt
+ldvbi_side.command.main.main = interrupted
+sys.exit(ldvbi_side.__main__.main(['words']))
+"""
+# Runs the command with a signal that comes while Python ends, and perhaps with one that it stops at
+ENDING = """import atexit, os, signal, sys
+import ldvbi_side.command.main
+from ldvbi_side.__main__ import main
+if %d:
+    ldvbi_side.command.main.main = lambda _: (signal.raise_signal(signal.SIGINT), sum(range(10)))
+atexit.register(os.kill, os.getpid(), %d)
+sys.argv[1:] = ["side.vbi.json", "--seek", "3"]
+sys.exit(main())"""
+# Runs with standard streams that are closed. Where nothing is printed nothing is wrong, and what nobody hears is in no
+# other file.
+CLOSED = (
+    ((1,), "side.tbc --svg side.svg", 0, b"", "ldvbi-side: side.tbc: black16bIre is 16383.5, rounded to 16384\n"),
+    ((0, 1, 2), "side.tbc --csv --map side.map", 2, b"", ""),
+    ((2,), "side.tbc --seek 3 --map side.map", 0, b"field 4, frame 2\n", ""), ((2,), "absent", 2, b"", ""),
+    ((2,), "--black", 2, b"", ""), ((2,), "side.vbi.json --\udcff", 2, b"", ""), ((2,), "ü\udcff", 2, b"", ""),
+    ((0, 2), "scan --csv absent", 2, b"SIDES\nabsent,fault,,,,,,,,,,,No such file or directory\n", ""),
+    ((0,), "-", 2, b"", "ldvbi-side: standard input: Bad file descriptor\n"),
+    ((0,), "side.vbi.json --seek 3", 0, b"field 4, frame 2\n", ""))
+
+
+@pytest.mark.parametrize("numbers, words, wanted", [(*row[:2], row[2:]) for row in CLOSED])
+def test_closed_streams(drawn, numbers, words, wanted):
+    drawn.metadata("side.tbc.json", black16bIre=16383.5)
+    status, text, said = drawn.run_command(words, preexec_fn=lambda: [os.close(number) for number in numbers])
+    assert (status, re.sub(b"^side,.*", b"SIDES", text), said) == wanted
+    for name, begin in (("side.svg", b"<svg"), ("side.map", b"kind,number")):
+        assert name not in words or drawn.read(name).startswith(begin)
+
+
+@pytest.mark.parametrize("words", ("absent", "--black"))
+@pytest.mark.parametrize("more", ({}, {"PYTHONUNBUFFERED": "1"}))
+def test_a_full_device(drawn, words, more):
+    """Which takes no messages."""
+    with open("/dev/full", "wb") as full:
+        assert drawn.run_command(words, env={**buffered(), **more}, stderr=full) == (2, b"", "")
+
+
+@pytest.mark.parametrize("number", (signal.SIGINT, signal.SIGTERM, signal.SIGHUP))
+def test_while_python_ends(drawn, number):
+    """All has been written then, or the command was stopped, and the status is that of the first signal."""
+    for is_stopped, wanted in ((False, (-number, "field 4, frame 2\n", "")), (True, (130, "", ""))):
+        assert drawn.run_words("-c", ENDING % (is_stopped, number), command=[sys.executable]) == wanted
+
+
+@pytest.mark.parametrize("number, status, words", (*((*one, "--csv -o out") for one in SIGNALS), (*SIGNALS[2], "")))
+def test_while_it_waits(drawn, number, status, words):
+    os.mkfifo(drawn.named("meta.json"))
+    before = drawn.names()
+    process = drawn.started("side.tbc --meta meta.json " + words)
+    with drawn.opened_by(process, "meta.json"):
+        assert len(drawn.names()) == len(before) + bool(words)
+        drawn.stopped(process, number, status)
+    assert drawn.names() == before
+
+
+@pytest.mark.parametrize("name, number, status, more", (
+    ("ldvbi_side/__init__.py", signal.SIGINT, 130, {"command": [sys.executable, "ldvbi-side"]}),
+    ("argparse.py", signal.SIGTERM, 143, {})))
+def test_while_it_is_loaded(drawn, name, number, status, more):
+    """The package, or one of Python's modules, which the command wants, isn't loaded before there is a text in the
+    pipe."""
+    os.mkfifo(drawn.named("pipe"))
+    os.mkdir(drawn.named("ldvbi_side"))
+    shutil.copy(os.path.join(TOP, "python", "ldvbi-side"), drawn.folder)
+    drawn.write(name, WAITING)
+    process = drawn.started("side.vbi.json", **more)
+    with drawn.opened_by(process, "pipe"):
+        drawn.stopped(process, number, status)
+
+
+def test_what_is_ignored_stays_so(drawn):
+    """As nohup has it."""
+    os.mkfifo(drawn.named("pipe"))
+    drawn.metadata("meta.json")
+    process = drawn.started("side.tbc --meta pipe --seek 3",
+                            preexec_fn=functools.partial(signal.signal, signal.SIGHUP, signal.SIG_IGN))
+    with drawn.opened_by(process, "pipe") as file:
+        process.send_signal(signal.SIGHUP)
+        time.sleep(0.2)
+        file.write(drawn.read("meta.json"))
+    drawn.ended(process, 0, b"field 4, frame 2\n")
+
+
+def test_in_a_function_whose_exceptions_are_dropped(drawn):
+    """As those that SQLite calls, while it reads a view that has no end. Nothing is said of that."""
+    in_database(drawn.named("side.tbc.db"), *ENDLESS)
+    process = drawn.started("side.tbc --meta side.tbc.db --into copy.db")
+    time.sleep(1)
+    assert process.poll() is None
+    begun = time.monotonic()
+    process.send_signal(signal.SIGTERM)
+    drawn.ended(process, 143, b"")
+    assert time.monotonic() - begun < 1
+    assert "copy.db" not in drawn.names()
+
+
+def test_progress(drawn):
+    """None of documents, where nobody looks, or between the lines of a document."""
+    for words in ("--summary", "--document", "--document -o out"):
+        shown, text = drawn.on_terminal(int(words == "--summary"), "side.tbc LEVELS " + words)
+        assert shown.startswith("\r0 of 12 fields, 0 %\x1b[K")
+        assert shown.endswith("\r12 of 12 fields, 100 %\x1b[K\r\x1b[K")
+        assert drawn.run_command("side.tbc LEVELS " + words)[1:] == (text, "")
+    assert drawn.read("out") == drawn.document
+    assert drawn.on_terminal(0, "side.vbi.json --seek 3")[0] == ""
+    shown, _ = drawn.on_terminal(0, "side.tbc LEVELS --document", is_output_on_it=True)
+    assert shown.replace("\r\n", "\n").encode() == drawn.document
+
+
+def long_document(drawn):
+    """The process that prints one."""
+    write_stream(drawn.path, NTSC, [[0, 0, 0]], 1000 * SIZE)
+    return drawn.started("side.tbc LEVELS --document")
+
+
+def test_while_nobody_reads(drawn):
+    """The pipe is full, and what can't be written any more must not be waited for."""
+    process = long_document(drawn)
+    waiting = [-2, -1]
+    while waiting[-1] != waiting[-2] or waiting[-1] < 4096:
+        time.sleep(0.1)
+        assert process.poll() is None
+        count = fcntl.ioctl(process.stdout.fileno(), termios.FIONREAD, bytes(4))
+        waiting.append(int.from_bytes(count, sys.byteorder))
+    process.send_signal(signal.SIGINT)
+    assert (process.wait(DEADLINE), process.stderr.read()) == (130, b"")
+    assert drawn.extracted("side.tbc").startswith(process.stdout.read())
+
+
+def test_no_reader(drawn):
+    """Ctrl-C ends the reader of a pipe, too: what was printed has nowhere to go then. And one that has seen it."""
+    for status, words, more in ((130, ("-c", INTERRUPTED), {"command": [sys.executable]}),
+                                (2, ("side.vbi.json", "--csv"), {})):
+        ours, theirs = os.pipe()
+        os.close(ours)
+        assert drawn.run_command(*words, stdout=theirs, env=buffered(), **more) == (status, None, "")
+        os.close(theirs)
+    process = long_document(drawn)
+    process.stdout.read(100)
+    process.stdout.close()
+    assert (process.stderr.read(), process.wait(DEADLINE)) == (b"", 2)
+
+
+@pytest.mark.parametrize("encoding, shown", (("ascii", b"\\xfc\\udcff"), ("utf-8", b"\xc3\xbc\xff")))
+def test_names_on_standard_output(drawn, encoding, shown):
+    """In a locale of ASCII, say, a letter that it lacks is escaped; a name that is no text is printed as it is."""
+    name = os.fsdecode(b"\xc3\xbc\xff.vbi.json")
+    drawn.write(name, drawn.document)
+    status, text, said = drawn.run_command("scan", "--csv", name, env=dict(os.environ, PYTHONIOENCODING=encoding))
+    assert (status, text.split(b"\n")[1].partition(b".vbi.json,no,")[0], said) == (1, shown, "")
+
+
+def test_names_in_messages(drawn):
+    drawn.refused("\\x1b[31m\\n\\udcff: No such file or directory", os.fsdecode(b"\x1b[31m\n\xff"))
+    drawn.refused("a file without a name: No such file or directory", "")
+
+
+def test_names_that_begin_as_options_do(drawn):
+    drawn.write("-x", drawn.document)
+    for status, words in ((1, "-- -x"), (0, "join -- -x -x"), (1, "scan -- -x")):
+        assert drawn.run_command(words)[::2] == (status, "")
+
+
+def test_a_database_of_others(drawn):
+    in_database(drawn.named("side.tbc.db"), "BEGIN",  # else the disk is waited for 300 times
+                *('CREATE TABLE "\x1b[31m\n%03d" (system TEXT)' % number for number in range(300)))
+    for words in ("side.tbc", "scan --csv side.tbc"):
+        found = "".join(drawn.run_words(words)[1:])
+        assert "no table capture; there are: \\x1b[31m" in found
+        assert found.replace("\n", "").isprintable() and len(found) < 750
+
+
+def test_what_has_no_end(drawn):
+    for words in ("/dev/zero", "side.tbc --meta /dev/zero", "scan --csv /dev/zero"):
+        assert drawn.run_command(words)[0] == 2
+    with open("/dev/zero", "rb") as zeros:
+        assert drawn.run_command("-", stdin=zeros) == (
+            2, b"", "ldvbi-side: standard input is no document; make one of a TBC file: ldvbi extract --meta "
+            "side.tbc.json | ldvbi-side -\n")
