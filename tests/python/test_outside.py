@@ -1,6 +1,6 @@
 """What can't be shown as it is, and files of others: texts for messages, terminals and pages, documents without an end,
-names that are as long as names may be, and pages that another program wrote. Files that appear when they are whole, and
-outputs that would be written in the place of an input."""
+signals that are dropped, and pages that another program wrote. Files that appear when they are whole, with parts under
+names of their own as long as names may be, and outputs that would be written in the place of an input."""
 
 import contextlib
 import io
@@ -8,6 +8,7 @@ import json
 import os
 import re
 import signal
+import stat
 import sys
 import time
 import weakref
@@ -16,25 +17,27 @@ from unittest import mock
 import discs
 from ldvbi_side import outside
 from ldvbi_side.answer.said import said_of
+from ldvbi_side.command import outputs
+from ldvbi_side.command.outputs import drop_part, refuse_inputs, whole_file, whole_path
 from ldvbi_side.draw.index import Fault, head_of, index_of, PART
-from ldvbi_side.draw.page import MARK, page_of
+from ldvbi_side.draw.page import MARK
 from ldvbi_side.outside import bytes_of_document, legible, printable, shown
 import pytest
-from room import reason
+from room import IN_PLACE, reason
 
 # A name with Escape, a line's end, bytes that aren't UTF-8 and characters that are set aside; letters of any kind stay.
 NAME = os.fsdecode(b"\x1b[31m\n\xff\x7f\xc2\x9f") + "\ufffe\uffff\U0001ffff ü\u0416\u65e5\U0001f4bf<&>"
+LETTERS, SIGN = " ü\u0416\u65e5\U0001f4bf<&>", "\ufffd"
 
 
-def test_rows():
-    letters, sign = " ü\u0416\u65e5\U0001f4bf<&>", "\ufffd"
-    for call, text, wanted in (
-            (legible, NAME, r"\x1b[31m\n\udcff\x7f\x9f\ufffe\uffff\U0001ffff" + letters),
-            (legible, "a" * 600, "a" * 600), (legible, "a" * 400 + "b" * 400, "a" * 397 + "..." + "b" * 200),
-            (printable, NAME, "?[31m" + "?" * 7 + letters), (shown, NAME, sign + "[31m" + sign * 7 + letters),
-            # marks without a width belong to writing
-            (shown, "a\u200db\ue000\ufffd\n", "a\u200db\ue000\ufffd" + sign)):
-        assert call(text) == wanted
+@pytest.mark.parametrize("call, text, wanted", (
+    (legible, NAME, r"\x1b[31m\n\udcff\x7f\x9f\ufffe\uffff\U0001ffff" + LETTERS),
+    (legible, "a" * 600, "a" * 600), (legible, "a" * 400 + "b" * 400, "a" * 397 + "..." + "b" * 200),
+    (printable, NAME, "?[31m" + "?" * 7 + LETTERS), (shown, NAME, SIGN + "[31m" + SIGN * 7 + LETTERS),
+    # marks without a width belong to writing
+    (shown, "a\u200db\ue000\ufffd\n", "a\u200db\ue000\ufffd" + SIGN)))
+def test_texts(call, text, wanted):
+    assert call(text) == wanted
 
 
 def read_document(data):
@@ -56,20 +59,7 @@ class Thing:
     """What a weak reference can be to."""
 
 
-# In a callback whose exceptions Python drops.
 NUMBERS = signal.SIGINT, signal.SIGTERM, signal.SIGHUP, signal.SIGALRM
-
-
-@pytest.fixture
-def signals():
-    # a shell has what runs behind its back ignore SIGINT
-    before = {number: signal.signal(number, signal.SIG_DFL) for number in NUMBERS}
-    hook = sys.unraisablehook
-    yield
-    outside.heeded()
-    sys.unraisablehook = hook
-    for number in NUMBERS:
-        signal.signal(number, before[number])
 
 
 def heed():
@@ -77,34 +67,59 @@ def heed():
     outside.end_in_order()
 
 
-def dropped(call):
+@pytest.fixture
+def signals():
+    """What begins to heed signals, as the command does."""
+    # a shell has what runs behind its back ignore SIGINT
+    before = {number: signal.signal(number, signal.SIG_DFL) for number in NUMBERS}
+    hook = sys.unraisablehook
+    yield heed
+    outside.heeded()
+    sys.unraisablehook = hook
+    for number in NUMBERS:
+        signal.signal(number, before[number])
+
+
+def dropped(number):
+    """A signal comes in a callback whose exceptions Python drops."""
     thing = Thing()
-    reference = weakref.ref(thing, lambda _: call())
+    reference = weakref.ref(thing, lambda _: (signal.raise_signal(number), sum(range(10))))
     del thing
     return reference
 
 
 def test_one_that_is_dropped_is_sent_again(signals):
-    heed()
-    dropped(lambda: (signal.raise_signal(signal.SIGHUP), sum(range(10))))
+    signals()
+    dropped(signal.SIGHUP)
     with pytest.raises(outside.Stopped) as raised:
         time.sleep(10)
     assert raised.value.status == 129
 
 
 def test_one_that_is_dropped_is_noticed(signals):
-    heed()
+    signals()
     outside.raise_lost()
-    dropped(lambda: (signal.raise_signal(signal.SIGTERM), sum(range(10))))
+    dropped(signal.SIGTERM)
     with pytest.raises(outside.Stopped) as raised:
         outside.raise_lost()
     assert (raised.value.status, signal.getitimer(signal.ITIMER_REAL)) == (143, (0, 0))
     outside.raise_lost()
 
 
+@pytest.mark.parametrize("write", (whole_file, lambda path: whole_path(path, [])))
+def test_nothing_is_written_where_one_was_dropped(signals, room, write):
+    signals()
+    with pytest.raises(outside.Stopped), write(room.named("page.html")) as part:
+        room.write("page.html", "old")
+        if isinstance(part, str):
+            room.write(part, "new")
+        dropped(signal.SIGTERM)
+    assert room.files() == {"page.html": b"old"}
+
+
 def test_a_second_one(signals):
     """It ends the process at once where the first was dropped, or came more than a second ago."""
-    heed()
+    signals()
     ended = []
     with mock.patch("os._exit", ended.append):
         with pytest.raises(outside.Stopped):
@@ -115,16 +130,16 @@ def test_a_second_one(signals):
             signal.raise_signal(signal.SIGTERM)
         assert ended == [143]
         outside.end_in_order()
-        dropped(lambda: (signal.raise_signal(signal.SIGTERM), sum(range(10))))
+        dropped(signal.SIGTERM)
         signal.raise_signal(signal.SIGHUP)
         assert ended == [143, 129]
 
 
 def test_other_exceptions_that_are_dropped(signals):
-    heed()
+    signals()
     with contextlib.redirect_stderr(io.StringIO()) as said:
-        dropped(lambda: 1 // 0)
-    assert "ZeroDivisionError" in said.getvalue()
+        dropped("no number")
+    assert "TypeError" in said.getvalue()
     outside.raise_lost()
 
 
@@ -135,61 +150,189 @@ WRONG = {
     "format": (1,), "counts": ([], {"lost": 1}),
     "leadIn": (None, True), "leadOut": ("1",), "try": (1, []), "side": (1,), "options": (None, 1, [1])}
 META = '<meta name="%s" content="%%s">' % MARK
+NO_PAGES = ("", "<", "<![", "<![if x", "<![[foo]]><body>", "<!doctype [<!", "<" * 100000, "\0" * 100000,
+            '<meta name="ldvbi-side">', "<meta name=x>", b"<title>\xff\xfe</title>", *(META % one for one in (
+                "[" * 100000, "{&quot;version&quot;:NaN}", "1" * 5000, "[]", "{&quot;version&quot;: 3}")))
 
 
 @pytest.fixture
-def pages(room):
-    room.said = said_of(discs.typed(discs.pictures(range(1, 9))))
-    return room
+def said():
+    return said_of(discs.typed(discs.pictures(range(1, 9))))
 
 
-def page_saying(pages, said):
+def page_saying(room, said):
     content = json.dumps(said).replace("&", "&amp;").replace('"', "&quot;")
-    return pages.write("page.html", "<title>side</title>%s<body>" % META % content)
+    return room.write("page.html", "<title>side</title>%s<body>" % META % content)
 
 
-def refused(pages, page, why="no page that --html wrote"):
-    assert reason(index_of, pages.named("index.html"), [page]) == "%s is %s" % (page, why)
+def refused(room, page, why="no page that --html wrote"):
+    assert reason(index_of, room.named("index.html"), [page]) == "%s is %s" % (page, why)
 
 
-def test_what_pages_of_others_say(pages):
+def test_what_pages_of_others_say(room, said):
     """However long their head is, of which a part is read at once."""
-    assert head_of(page_saying(pages, pages.said)) == ("side", pages.said)
+    assert head_of(page_saying(room, said)) == ("side", said)
     for name, value in ((name, value) for name, values in WRONG.items() for value in values):
-        refused(pages, page_saying(pages, dict(pages.said, **{name: value})))
-    for name in pages.said.keys() - {"version", "system", "unit"}:
-        refused(pages, page_saying(pages, {one: value for one, value in pages.said.items() if one != name}))
-    pages.said["reasons"] = [{"why": "x", "whole": "no", "text": "a reason" * 20000}]
-    assert len(json.dumps(pages.said)) > 2 * PART
-    assert head_of(page_saying(pages, pages.said)) == ("side", pages.said)
+        refused(room, page_saying(room, dict(said, **{name: value})))
+    for name in said.keys() - {"version", "system", "unit"}:
+        refused(room, page_saying(room, {one: value for one, value in said.items() if one != name}))
+    said["reasons"] = [{"why": "x", "whole": "no", "text": "a reason" * 20000}]
+    assert len(json.dumps(said)) > 2 * PART
+    assert head_of(page_saying(room, said)) == ("side", said)
 
 
-def test_what_is_no_page(pages):
-    for text in ("", "<", "<![", "<![if x", "<![[foo]]><body>", "<!doctype [<!", "<" * 100000, "\0" * 100000, META %
-                 ("[" * 100000), META % "{&quot;version&quot;:NaN}", META % ("1" * 5000), META % "[]", META %
-                 "{&quot;version&quot;: 3}", '<meta name="ldvbi-side">', "<meta name=x>", b"<title>\xff\xfe</title>"):
-        refused(pages, pages.write("page.html", text))
+def test_what_is_no_page(room):
+    for text in NO_PAGES:
+        refused(room, room.write("page.html", text))
     for known in ("{}", "{&quot;version&quot;: 1}"):
-        refused(pages, pages.write("page.html", META % known), "a page of another version: write it again")
-    os.mkfifo(pages.named("pipe.html"))
-    for page in ("/dev/zero", pages.named("pipe.html")):
-        refused(pages, page, "no file")
+        refused(room, room.write("page.html", META % known), "a page of another version: write it again")
+    os.mkfifo(room.named("pipe.html"))
+    for page in ("/dev/zero", room.named("pipe.html")):
+        refused(room, page, "no file")
 
 
-def test_names(pages):
-    """A page is text in UTF-8 without control characters, whatever its side and its own file are called. Its link goes
-    on from the index."""
+def test_names_in_an_index(room, said):
+    """A link goes on from the index, whatever its file is called; and no name is more than a text."""
     for folder in ("pages", "indexes"):
-        os.mkdir(pages.named(folder))
-    side = discs.side(discs.pictures(range(1, 9)))
-    page = pages.write(os.fsdecode(b"pages/\xff <\x1b>.html"), page_of(side, NAME, ["whole: yes", "name: " + NAME]))
-    text = pages.read(page).decode()
-    wanted = shown(NAME).replace("&", "&amp;").replace("<", "&lt;").replace(">", "&gt;")
-    for part in ("<title>%s</title>", "<h1>%s</h1>", "<dd>%s</dd>"):
-        assert part % wanted in text
-    index = index_of(pages.named("indexes/all.html"), [page], [Fault("/x", NAME + "x", "a fault of " + NAME)])
-    assert '<a href="../pages/%%FF%%20%%3C%%1B%%3E.html">%s</a>' % wanted in index
-    assert re.search("<tr><td>%sx</td><td class=.*>fault</td>.*<td>a fault of %s</td></tr>" %
-                     (re.escape(wanted), re.escape(wanted)), index)
-    for one in (text, index):
-        assert all(letter.isprintable() for letter in one.replace("\n", ""))
+        os.mkdir(room.named(folder))
+    name = os.fsdecode(b"pages/\xff <\x1b>.html")
+    os.rename(page_saying(room, said), room.named(name))
+    index = index_of(room.named("indexes/all.html"), [room.named(name)], [Fault("/x", NAME, "a fault of " + NAME)])
+    assert '<a href="../pages/%FF%20%3C%1B%3E.html">side</a>' in index
+    wanted = re.escape(shown(NAME).replace("&", "&amp;").replace("<", "&lt;").replace(">", "&gt;"))
+    assert re.search("<tr><td>%s</td><td class=.*>fault</td>.*<td>a fault of %s</td></tr>" % (wanted, wanted), index)
+
+
+LONGEST = 255  # bytes of a name
+
+
+@pytest.mark.parametrize("letter", ("a", "ü", os.fsdecode(b"\xff"), "\U0001f4bf"))
+def test_each_length(room, letter):
+    """A part has the name of its file as long as both fit, and else as much of it as fits: no two files of a folder
+    have one part."""
+    beside = len(".ldvbi-.12345678-%d.part" % os.getpid())
+    own = rb"\.[0-9a-f]{8}-%d\.part" % os.getpid()
+    parts, size = set(), len(os.fsencode(letter))
+    for length in range(LONGEST - 60, LONGEST + 1):
+        name = "b" * (length % size) + letter * (length // size)
+        part = os.fsencode(os.path.basename(outputs._part_of(room.named(name))))
+        fits = length + beside <= LONGEST
+        kept = re.escape(os.fsencode(name)) if fits else b".{%d}" % (LONGEST - beside - 9) + rb"\.[0-9a-f]{8}"
+        assert re.fullmatch(rb"\.ldvbi-" + kept + own, part, re.DOTALL)
+        assert len(part) == min(length + beside, LONGEST)
+        parts.add(part)
+    assert len(parts) == 61
+
+
+@pytest.mark.parametrize("name", ("n" * LONGEST, "n" * (LONGEST - 40), "ü" * 125 + "b", os.fsdecode(b"\xff" * 254)))
+def test_each_is_written(room, name):
+    path = room.named(name)
+    with whole_file(path) as file:
+        file.write("whole")
+    with whole_path(path, []) as part, open(part, "wb") as file:
+        file.write(b"path")
+    assert room.files() == {name: b"path"}
+    for kept, part in (("os.unlink", whole_file(path)), ("shutil.rmtree", whole_path(path, []))):
+        with pytest.raises(KeyboardInterrupt), mock.patch(kept), part:
+            raise KeyboardInterrupt
+        assert len(room.names()) == 2
+        drop_part(path, os.getpid())
+        assert room.names() == [name]
+
+
+def test_what_processes_left_that_are_gone(room):
+    """Those of this machine alone, and nothing that only looks so; a process may be somebody else's."""
+    part = os.path.basename(outputs._part_by("page.html", os.getpid()))
+    gone = 4194305  # no process has such a number
+    kept = [part, *(part.replace("-%d.part" % os.getpid(), end) for end in ("-1.part", "-x.part")),
+            ".ldvbi-page.html.00000000-%d.part" % gone, "page.html.%d.part" % gone, ".ldvbi-%s" % gone]
+    left = os.path.basename(outputs._part_by("page.html", gone))
+    os.mkdir(room.named(left.replace("page", "base")))
+    for name in (*kept, left, left.replace("page", "base") + "/part"):
+        room.write(name, "")
+    with mock.patch("os.kill", side_effect=PermissionError):
+        outputs.drop_parts(room.folder)
+        assert left in room.names()
+    outputs.drop_parts(room.folder)
+    assert room.names() == sorted(kept)
+
+
+def test_a_fault_is_of_the_file_that_was_asked_for(room):
+    full = OSError(28, "No space left on device")
+    with pytest.raises(OSError) as caught, whole_file(room.path):
+        raise full
+    assert caught.value.filename == room.path
+    hidden = OSError(28, "No space left on device", room.named(".part"))
+    with mock.patch("os.mkdir", side_effect=hidden), pytest.raises(OSError) as caught, whole_path(room.path, ()):
+        pytest.fail("there is no folder to write to")
+    assert caught.value.filename == room.path
+    assert room.names() == []
+
+
+@pytest.mark.parametrize("older, mode", ((None, None), ("old", 0o640)))
+def test_it_appears_at_the_end(room, older, mode):
+    """Where there was none, and where one is replaced, whose mode it has. It is on the disk before it has its name:
+    what is synced has all of the text, and the file none of it yet."""
+    done, mask = [], os.umask(0)
+    os.umask(mask)
+    if older:
+        os.chmod(room.write(room.path, older), mode)
+
+    def sync(descriptor):
+        with open("/proc/self/fd/%d" % descriptor, encoding="utf-8") as file:
+            done.append((file.read(), room.text(room.path) if os.path.exists(room.path) else None))
+
+    def replace(part, target, real=os.replace):
+        done.append(target)
+        real(part, target)
+
+    with mock.patch("os.fsync", sync), mock.patch("os.replace", replace), whole_file(room.path) as file:
+        file.write("new ü\n")
+    assert (done, room.files()) == ([("new ü\n", older), room.path], {"side.tbc": "new ü\n".encode()})
+    assert stat.S_IMODE(os.stat(room.path).st_mode) == (mode or 0o666 & ~mask)
+
+
+def test_links_and_what_is_no_file(room):
+    """A link stays one, and what is no file is written to."""
+    os.symlink("target", room.named("link"))
+    os.mkfifo(room.named("pipe"))
+    pipe = os.open(room.named("pipe"), os.O_RDWR)  # so that nobody waits for the other end
+    room.cleanup.callback(os.close, pipe)
+    for name in ("link", "pipe"):
+        with whole_file(room.named(name)) as file:
+            file.write("new")
+    assert (os.path.islink(room.named("link")), room.read("target")) == (True, b"new")
+    assert (os.read(pipe, 99), stat.S_ISFIFO(os.stat(room.named("pipe")).st_mode)) == (b"new", True)
+
+
+def test_no_place_for_it(room):
+    """The part of another run is there, for one."""
+    part = room.write(outputs._part_by(room.path, os.getpid()), "old")
+    os.symlink("two", room.named("one"))
+    os.symlink("one", room.named("two"))
+    before = room.names()
+    for call in (whole_file, lambda path: whole_path(path, [])):
+        for name, kind, of_call in (("one", OSError, None), (part + "/side.html", NotADirectoryError, None),
+                                    ("side.tbc", FileExistsError, None), ("absent/side.html", FileNotFoundError, None),
+                                    ("", IsADirectoryError, whole_file)):
+            if of_call in (None, call):
+                with pytest.raises(kind) as raised, call(room.named(name)):
+                    pytest.fail("there is a file")
+                assert raised.value.filename in (room.named(name), part)
+    assert (room.names(), room.read(part)) == (before, b"old")
+
+
+def test_which_are_refused(room):
+    side, meta, new = room.write("side.tbc", "old"), room.write("side.tbc.json", "old"), room.named("new")
+    hard, soft, again = room.named("hard"), room.named("soft"), room.named("./new")
+    os.link(side, hard)
+    os.symlink("side.tbc.json", soft)
+    rows = [(None, [new, None], [side, meta]), (None, [None, meta, new], [side, None]),
+            (None, [meta], [side, "absent"]), (None, ["/dev/null", "/dev/null"], ["/dev/null"]),
+            (None, [1], [0, side]), (None, [99], [99]),  # 99 is no open file
+            (meta, [soft, meta], []), (new, [new, new], []), (again, [new, again], [])]
+    rows += [(output, [None, output], [side, meta]) for output in (side, meta, hard, soft, os.path.relpath(side))]
+    with open(side, "ab") as file:
+        number = file.fileno()
+        for name, written_to, inputs in [*rows, (side, [number, side], []), (number, [number], [side])]:
+            assert reason(refuse_inputs, written_to, inputs) == (name and IN_PLACE % name)
