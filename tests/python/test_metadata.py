@@ -3,48 +3,62 @@
 import contextlib
 import json
 import os
-import re
 import sqlite3
 import threading
 from unittest import mock
 
+from compact import cells_of
 from ldvbi import database, metadata
 from ldvbi.metadata import beside, read_metadata
 import pytest
 from room import in_database, reason
 
 CAPTURE = "CREATE TABLE capture (capture_id INTEGER PRIMARY KEY, system TEXT, field_width INTEGER, " \
-          "black_16b_ire NUMERIC, white_16b_ire NUMERIC)"
-INSERT = "INSERT INTO capture (system, black_16b_ire, white_16b_ire) VALUES (?, ?, ?)"
+          "black_16b_ire NUMERIC, white_16b_ire NUMERIC, field_height INTEGER, number_of_sequential_fields INTEGER)"
+INSERT = "INSERT INTO capture (system, black_16b_ire, white_16b_ire, field_width, field_height, " \
+         "number_of_sequential_fields) VALUES (?, ?, ?, ?, ?, ?)"
+PAL = ("PAL", 1, 2, None, None, None)
 NO_METADATA = "FILE is no metadata with videoParameters"
-SIZES = {"NTSC": {"fieldWidth": 910, "fieldHeight": 263}, "PAL": {"fieldWidth": 1135, "fieldHeight": 313}}
-# The parameters of files, and the system that they say
-TAKEN = (({"system": "NTSC"}, "NTSC"), ({"isSourcePal": True}, "PAL"), ({"isSourcePal": False}, "NTSC"),
-         ({"system": "PAL", "isSourcePal": True}, "PAL"), ({"system": "PAL", **SIZES["PAL"]}, "PAL"),
-         ({"system": "NTSC", "fieldWidth": 910.0, "fieldHeight": 263}, "NTSC"))
-REFUSED = (("no system given", {}), ("unknown system", {"system": "pal"}),
-           ("unknown system", {"isSourcePal": 0}), ("unknown system", {"system": "PAL", "isSourcePal": None}),
-           ("system and isSourcePal disagree", {"system": "PAL", "isSourcePal": False}),
-           ("fieldWidth is not 1135", {"system": "PAL", "fieldWidth": 910}),
-           ("fieldHeight is not 263", {"system": "NTSC", "fieldHeight": 313}),
-           ("no black level given", {"system": "PAL"}),
-           ("black level is no number", {"system": "PAL", "black16bIre": True}),
-           ("black level is no number", {"system": "PAL", "black16bIre": "1"}),
-           (NO_METADATA, {"system": "PAL", "black16bIre": float("nan")}),
-           ("no white level given", {"system": "PAL", "black16bIre": 1}),
-           ("white level is no number", {"system": "PAL", "black16bIre": 1, "white16bIre": []}),
-           (NO_METADATA, {"system": "PAL", "black16bIre": 1, "white16bIre": float("inf")}))
+# Parameters, and the system that they say, or why they are refused; the levels are there, unless they are said to be -
+PARAMETERS = """
+    {"system": "NTSC"} | NTSC || {"isSourcePal": true} | PAL || {"isSourcePal": false} | NTSC
+    {"system": "PAL", "isSourcePal": true} | PAL || {"system": "PAL", "fieldWidth": 1135, "fieldHeight": 313} | PAL
+    {"system": "NTSC", "fieldWidth": 910.0, "fieldHeight": 263} | NTSC
+    {} | no system given || {"system": "pal"} | unknown system || {"isSourcePal": 0} | unknown system
+    {"system": "PAL", "isSourcePal": null} | unknown system
+    {"system": "PAL", "isSourcePal": false} | system and isSourcePal disagree
+    {"system": "PAL", "fieldWidth": 910} | fieldWidth is not 1135
+    {"system": "NTSC", "fieldHeight": 313} | fieldHeight is not 263
+    {"system": "PAL", "black16bIre": "-"} | no black level given
+    {"system": "PAL", "white16bIre": "-"} | no white level given
+    {"system": "PAL", "black16bIre": true} | black level is no number
+    {"system": "PAL", "black16bIre": "1"} | black level is no number
+    {"system": "PAL", "white16bIre": []} | white level is no number
+    {"system": "PAL", "black16bIre": NaN} | NO METADATA || {"system": "PAL", "white16bIre": Infinity} | NO METADATA
+"""
 OTHER = "CREATE TABLE %s (system TEXT, black_16b_ire INTEGER)"
-TABLES = (("FILE: no table capture; there are: fields, video", [OTHER % "video", OTHER % "fields"]),
-          ("FILE: no table capture; there are: none", ["PRAGMA user_version = 1"]),
-          ("FILE: no table capture; there are: video", [OTHER % "video", "CREATE VIEW capture AS SELECT * FROM video"]),
-          ("FILE: table capture has no column white_16b_ire; there are: system, black_16b_ire", [OTHER % "capture"]),
-          ("FILE: table capture has no row, not one", [CAPTURE]),
-          ("FILE: table capture has more rows, not one", [CAPTURE] + [(INSERT, ("PAL", 1, 2))] * 2),
-          *((text, [CAPTURE, (INSERT, row)]) for text, row in (
-              ("unknown system", ("PAL_M", 1, 2)), ("unknown system", (None, 1, 2)),
-              ("black level is no number", ("PAL", None, 2)), ("white level is no number", ("PAL", 1, "x")),
-              ("white level is no number", ("PAL", 1, float("inf"))))))
+DATABASES = (
+    ("FILE: no table capture; there are: fields, video", OTHER % "video", OTHER % "fields"),
+    ("FILE: no table capture; there are: none", "PRAGMA user_version = 1"),
+    ("FILE: no table capture; there are: video", OTHER % "video", "CREATE VIEW capture AS SELECT * FROM video"),
+    ("FILE: table capture has no column white_16b_ire; there are: system, black_16b_ire", OTHER % "capture"),
+    ("FILE: table capture has no row, not one", CAPTURE),
+    ("FILE: table capture has more rows, not one", CAPTURE, (INSERT, PAL), (INSERT, PAL)),
+    *((text, CAPTURE, (INSERT, row + PAL[len(row):])) for text, row in (
+        ("unknown system", ("PAL_M",)), ("unknown system", (None,)), ("black level is no number", ("PAL", None)),
+        ("white level is no number", ("PAL", 1, "x")), ("white level is no number", ("PAL", 1, float("inf"))),
+        ("fieldHeight is not 313", ("PAL", 1, 2, 1135, 263)))))
+# How many fields there are, and which of them begin a frame; without a list the head has the count
+FIELDS = """
+    {"fields":[{"seqNo":1,"isFirstField":false},{"seqNo":2,"isFirstField":true}]} | 2 [False, True]
+    {"fields":[{"isFirstField":true},{}]} | 2 None || {"fields":[{"isFirstField":true},5]} | 2 None
+    {"fields":[{"isFirstField":true},{"isFirstField":1}]} | 2 None
+    {"fields":[{"isFirstField":true},{"isFirstField":null}]} | 2 None
+    {COUNT12}} | 12 None || {COUNT0}} | 0 None || {COUNT-1}} | None None || {COUNT1.5}} | None None
+    {COUNTtrue}} | None None || {COUNTnull}} | None None || {COUNT12},"fields":[]} | 12 None
+    {COUNT-1},"fields":[]} | None None || {COUNT12},"fields":[{},{}]} | 2 None || {} | None None || [] | None None
+    {"fields":5} | None None || x | None None || {"videoParameters":5} | None None
+"""
 
 
 def settings_of(path, *given):
@@ -59,44 +73,52 @@ def parameters(room, **known):
     return room.write("side.tbc.json", json.dumps({"videoParameters": known}))
 
 
+def make(room, *statements, name="side.tbc.db"):
+    with contextlib.suppress(FileNotFoundError):
+        os.unlink(room.named(name))
+    in_database(room.named(name), *statements)
+    return room.named(name)
+
+
 def test_json_taken_and_refused(room):
-    for known, system in TAKEN:
-        path = parameters(room, **known, black16bIre=16384, white16bIre=51200)
-        assert settings_of(path) == (system, 16384, 51200, ())
-    for text, known in REFUSED:
-        refused(text, parameters(room, **known))
+    for text, wanted in cells_of(PARAMETERS):
+        known = {"black16bIre": 16384, "white16bIre": 51200, **json.loads(text)}
+        path = parameters(room, **{name: value for name, value in known.items() if value != "-"})
+        if wanted in ("NTSC", "PAL"):
+            assert settings_of(path) == (wanted, 16384, 51200, ())
+        else:
+            refused(wanted.replace("NO METADATA", NO_METADATA), path)
     for data in (b"", b"{", b"{}", b"[]", b'{"videoParameters":3}', b"\xff", b"[" * 100000, b"SQLite format 2"):
         refused(NO_METADATA, room.write("other", data))
     with pytest.raises(FileNotFoundError):
         settings_of(room.named("absent"))
 
 
-def test_levels_with_decimals(room):
+@pytest.mark.parametrize("value, rounded", ((16383.5, 16384), (16384.0, 16384), (16384.5, 16385), (16384.49, 16384),
+                                            (1e99, int(1e99)), (-0.5, 0), (-0.51, -1), (65535.5, 65536), (7, 7)))
+def test_levels_with_decimals(room, value, rounded):
     """A half goes upwards, also from an even number. Whether a level fits into a sample isn't asked here."""
-    for black, white, *rounded in (
-            (16383.5, 54016.25, 16384, 54016), (16384.0, 54016, 16384, 54016), (16384.0, 1e99, 16384, int(1e99)),
-            (16384.5, 1, 16385, 1), (16384.49, 1, 16384, 1), (16383.51, 1, 16384, 1), (-0.5, 1, 0, 1),
-            (-0.51, 1, -1, 1), (65535.5, 1, 65536, 1)):
-        path = parameters(room, system="PAL", black16bIre=black, white16bIre=white)
-        notes = ("%s16bIre is %s, rounded to %d" % (name, value, level) for name, value, level in
-                 zip(("black", "white"), (black, white), rounded) if value != level)
-        assert settings_of(path) == ("PAL", *rounded, tuple(notes))
+    for levels, wanted in (((value, 1), (rounded, 1)), ((1, value), (1, rounded))):
+        notes = ["%s16bIre is %s, rounded to %d" % (name, value, rounded)
+                 for name, level in zip(("black", "white"), levels) if level == value != rounded]
+        path = parameters(room, system="PAL", black16bIre=levels[0], white16bIre=levels[1])
+        assert settings_of(path) == ("PAL", *wanted, tuple(notes))
 
 
 def test_given_instead(room):
     """Each of three, also of a file that has all of them, and whose sizes are those of its system."""
     path = parameters(room, system="SECAM", black16bIre="?", white16bIre=None)
-    assert settings_of(path, "NTSC", 1, 2) == ("NTSC", 1, 2, ())
-    assert settings_of(None, "NTSC", 0, 2) == ("NTSC", 0, 2, ())
+    for file in (path, None):
+        assert settings_of(file, "NTSC", 0, 2) == ("NTSC", 0, 2, ())
     refused("white level is no number", path, "NTSC", 1)
-    for system, other in (("NTSC", "PAL"), ("PAL", "NTSC")):
+    for system, other, width in (("NTSC", "PAL", 1135), ("PAL", "NTSC", 910)):
         path = parameters(room, system=system, black16bIre=100, white16bIre=200)
         for given, wanted in (((other,), (other, 100, 200)), ((None, 0), (system, 0, 200)),
                               ((None, None, 0), (system, 100, 0)), ((system, 3, 4), (system, 3, 4))):
             assert settings_of(path, *given) == (*wanted, ())
-        path = parameters(room, system=system, black16bIre=100, white16bIre=200, **SIZES[system])
+        path = parameters(room, system=system, black16bIre=100, white16bIre=200, fieldWidth=2045 - width)
         assert settings_of(path, system, 3) == (system, 3, 200, ())
-        refused("fieldWidth is not %d" % SIZES[other]["fieldWidth"], path, other)
+        refused("fieldWidth is not %d" % width, path, other)
 
 
 def test_a_pipe():
@@ -110,73 +132,48 @@ def test_a_pipe():
 
 
 def test_fields(room):
-    """How many fields there are, and which of them begin a frame; without a list the head has the count."""
-    head, first = '{"videoParameters":{"numberOfSequentialFields":%s}%s}', '{"fields":[{"isFirstField":true},%s]}'
-    rows = [('{"fields":[{"seqNo":1,"isFirstField":false},{"seqNo":2,"isFirstField":true}]}', (2, [False, True]))]
-    rows += [(first % one, (2, None)) for one in ("{}", "5", '{"isFirstField":1}', '{"isFirstField":null}')]
-    for count, known in (("12", 12), ("0", 0), ("-1", None), ("1.5", None), ("true", None), ("null", None)):
-        rows += [(head % (count, ""), (known, None)), (head % (count, ',"fields":[]'), (known, None)),
-                 (head % (count, ',"fields":[{},{}]'), (2, None))]
-    rows += [(text, (None, None)) for text in ("{}", "[]", '{"fields":5}', "x", "[" * 100000, '{"videoParameters":5}')]
-    for text, wanted in rows:
-        assert read_metadata(room.write("meta.json", text))[2:4] == wanted
+    for text, wanted in (*cells_of(FIELDS), ["[" * 100000, "None None"]):
+        text = text.replace("COUNT", '"videoParameters":{"numberOfSequentialFields":')
+        assert "%s %s" % read_metadata(room.write("meta.json", text))[2:4] == wanted
 
 
 def test_what_lies_beside_a_file(room):
     assert beside(room.path) is None
     for end in (".db", ".json"):
-        assert beside(room.path) == (None if end == ".db" else room.path + ".db")
         room.write("side.tbc" + end, b"")
         assert beside(room.path) == room.path + end
 
 
-def make(room, *statements, name="side.tbc.db"):
-    with contextlib.suppress(FileNotFoundError):
-        os.unlink(room.named(name))
-    in_database(room.named(name), *statements)
-    return room.named(name)
-
-
-def test_database_taken_and_refused(room):
-    path = make(room, CAPTURE, (INSERT, ("PAL", 16384, 54016)))
-    assert settings_of(path) == ("PAL", 16384, 54016, ())
-    assert settings_of(path, "NTSC", 1, 0) == ("NTSC", 1, 0, ())
-    path = make(room, CAPTURE, (INSERT, ("NTSC", 16383.6, 51200.0)))
-    assert settings_of(path) == ("NTSC", 16384, 51200, ("black16bIre is 16383.6, rounded to 16384",))
-    for text, statements in TABLES:
+def test_databases_taken_and_refused(room):
+    """Size and count may be there, or not."""
+    for row, given, wanted, fields in (
+            (PAL, (), ("PAL", 1, 2, ()), None), (PAL, ("NTSC", 1, 0), ("NTSC", 1, 0, ()), None),
+            (("PAL", 1, 2, 1135, 313, 640), (), ("PAL", 1, 2, ()), 640),
+            (("NTSC", 16383.6, 51200.0, *PAL[3:]), (), ("NTSC", 16384, 51200, (
+                "black16bIre is 16383.6, rounded to 16384",)), None)):
+        path = make(room, CAPTURE, (INSERT, row))
+        assert (settings_of(path, *given), read_metadata(path)[2:4]) == (wanted, (fields, None))
+    for text, *statements in DATABASES:
         refused(text, make(room, *statements))
-
-
-def test_size_and_count_where_they_are_there(room):
-    more = CAPTURE[:-1] + ", field_height INTEGER, number_of_sequential_fields INTEGER)"
-    insert = "INSERT INTO capture (system, black_16b_ire, white_16b_ire, field_width, field_height, " \
-             "number_of_sequential_fields) VALUES ('PAL', 1, 2, ?, ?, ?)"
-    for row, fields in (((1135, 313, 640), 640), ((None, None, None), None)):
-        path = make(room, more, (insert, row))
-        assert [settings_of(path), read_metadata(path)[2:4]] == [("PAL", 1, 2, ()), (fields, None)]
-    refused("fieldHeight is not 313", make(room, more, (insert, (1135, 263, 640))))
-    assert read_metadata(make(room, CAPTURE, (INSERT, ("PAL", 1, 2)))).fields is None
 
 
 @pytest.mark.parametrize("name", ("side?mode=rw#1 %41.db", "side.tbc.json", "ü.db"))
 def test_nothing_is_written(room, name):
     """Whatever the name of the file is."""
-    path = make(room, CAPTURE, (INSERT, ("PAL", 1, 2)), name=name)
-    before = room.read(name)
+    path = make(room, CAPTURE, (INSERT, PAL), name=name)
+    before = room.files()
     os.chmod(path, 0o400)
     assert settings_of(path) == ("PAL", 1, 2, ())
-    assert (room.read(name), room.names()) == (before, [name])
-    os.unlink(path)
+    assert room.files() == before
 
 
 def test_an_unfinished_change_is_left_alone(room):
     """A database whose writer ended before it was done: the journal that is needed to undo the change is here."""
-    path = make(room, CAPTURE, (INSERT, ("PAL", 1, 2)), name="open.db")
-    with contextlib.closing(sqlite3.connect(path, isolation_level=None)) as database:
-        database.execute("PRAGMA cache_size = 1")
-        database.execute("BEGIN")
-        for number in range(2000):
-            database.execute(INSERT, ("PAL", number, "x" * 100))
+    path = make(room, CAPTURE, (INSERT, PAL), name="open.db")
+    with contextlib.closing(sqlite3.connect(path, isolation_level=None)) as writer:
+        writer.execute("PRAGMA cache_size = 1")
+        writer.execute("BEGIN")
+        writer.executemany(INSERT, [("x" * 100, *PAL[1:])] * 2000)
         copies = {name.replace("open", "copy"): room.read(name) for name in ("open.db", "open.db-journal")}
     for name, data in copies.items():
         room.write(name, data)
@@ -184,24 +181,11 @@ def test_an_unfinished_change_is_left_alone(room):
     assert {name: room.read(name) for name in copies} == copies
 
 
-def test_a_broken_file(room):
-    path = make(room, CAPTURE, (INSERT, ("PAL", 1, 2)))
-    room.write("side.tbc.db", room.read("side.tbc.db")[:16] + b"\xff" * 3000 + room.read("side.tbc.db")[3016:])
-    assert re.search("^%s: SQLite can't read it: (file is not a database|.*malformed)" % path,
-                     reason(settings_of, path))
-
-
-def test_what_has_no_end(room):
-    """A view of the file may be such; and so may be what another process does that writes to it."""
-    endless = "WITH RECURSIVE n(i) AS (SELECT 1 UNION ALL SELECT i + 1 FROM n) SELECT i AS field_id, 16 AS " \
-              "field_line, 1 AS startx, 2 AS endx FROM n WHERE i < 0"
-    path = make(room, CAPTURE, (INSERT, ("PAL", 1, 2)), "CREATE VIEW drop_outs AS " + endless)
-    with mock.patch.object(database, "MOST_STEPS", 5 * database.STEPS):
-        assert reason(read_metadata, path) == path + ": SQLite can't read it: interrupted"
-    path = make(room, CAPTURE, (INSERT, ("PAL", 1, 2)))
+def test_what_another_process_writes_is_waited_for(room):
+    path = make(room, CAPTURE, (INSERT, PAL))
     with contextlib.closing(sqlite3.connect(path)) as other:
         other.execute("BEGIN EXCLUSIVE")
         with mock.patch.object(database, "WAIT", 0.2):
-            assert reason(read_metadata, path) == path + ": SQLite can't read it: database is locked"
+            refused("FILE: SQLite can't read it: database is locked", path)
         with mock.patch.object(database.time, "sleep", lambda _: other.rollback()):
-            assert read_metadata(path).parameters["system"] == "PAL"
+            assert settings_of(path) == ("PAL", 1, 2, ())
