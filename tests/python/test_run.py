@@ -158,21 +158,11 @@ def test_standard_output_in_the_place_of_an_input(drawn, words):
     assert drawn.read("side.vbi.json") == drawn.document
 
 
-SIGNALS = ((signal.SIGTERM, 143), (signal.SIGHUP, 129), (signal.SIGINT, 130))
 WAITING = "with open('pipe') as file:\n    file.read()\n"
 ENDLESS = ("CREATE TABLE capture (system, black_16b_ire, white_16b_ire)",
            "INSERT INTO capture VALUES ('NTSC', 16384, 51200)",
            "CREATE VIEW drop_outs AS WITH RECURSIVE n(i) AS (SELECT 1 UNION ALL SELECT i + 1 FROM n) "
            "SELECT i AS field_id, 16 AS field_line, 1 AS startx, 2 AS endx FROM n WHERE i < 0")
-# A run that is interrupted once it has printed its words
-INTERRUPTED = """
-import sys, ldvbi_side.__main__, ldvbi_side.command.main
-def interrupted(words):
-    print(words)
-    raise KeyboardInterrupt
-ldvbi_side.command.main.main = interrupted
-sys.exit(ldvbi_side.__main__.main(['words']))
-"""
 # Runs the command with a signal that comes while Python ends, and perhaps with one that it stops at
 ENDING = """import atexit, os, signal, sys
 import ldvbi_side.command.main
@@ -216,17 +206,6 @@ def test_while_python_ends(drawn, number):
     """All has been written then, or the command was stopped, and the status is that of the first signal."""
     for is_stopped, wanted in ((False, (-number, "field 4, frame 2\n", "")), (True, (130, "", ""))):
         assert drawn.run_words("-c", ENDING % (is_stopped, number), command=[sys.executable]) == wanted
-
-
-@pytest.mark.parametrize("number, status, words", (*((*one, "--csv -o out") for one in SIGNALS), (*SIGNALS[2], "")))
-def test_while_it_waits(drawn, number, status, words):
-    os.mkfifo(drawn.named("meta.json"))
-    before = drawn.names()
-    process = drawn.started("side.tbc --meta meta.json " + words)
-    with drawn.opened_by(process, "meta.json"):
-        assert len(drawn.names()) == len(before) + bool(words)
-        drawn.stopped(process, number, status)
-    assert drawn.names() == before
 
 
 @pytest.mark.parametrize("name, number, status, more", (
@@ -304,13 +283,11 @@ def test_while_nobody_reads(drawn):
 
 
 def test_no_reader(drawn):
-    """Ctrl-C ends the reader of a pipe, too: what was printed has nowhere to go then. And one that has seen it."""
-    for status, words, more in ((130, ("-c", INTERRUPTED), {"command": [sys.executable]}),
-                                (2, ("side.vbi.json", "--csv"), {})):
-        ours, theirs = os.pipe()
-        os.close(ours)
-        assert drawn.run_command(*words, stdout=theirs, env=buffered(), **more) == (status, None, "")
-        os.close(theirs)
+    """From the begin on, or once it has seen a part."""
+    ours, theirs = os.pipe()
+    os.close(ours)
+    assert drawn.run_command("side.vbi.json --csv", stdout=theirs, env=buffered()) == (2, None, "")
+    os.close(theirs)
     process = long_document(drawn)
     process.stdout.read(100)
     process.stdout.close()
@@ -329,12 +306,6 @@ def test_names_on_standard_output(drawn, encoding, shown):
 def test_names_in_messages(drawn):
     drawn.refused("\\x1b[31m\\n\\udcff: No such file or directory", os.fsdecode(b"\x1b[31m\n\xff"))
     drawn.refused("a file without a name: No such file or directory", "")
-
-
-def test_names_that_begin_as_options_do(drawn):
-    drawn.write("-x", drawn.document)
-    for status, words in ((1, "-- -x"), (0, "join -- -x -x"), (1, "scan -- -x")):
-        assert drawn.run_command(words)[::2] == (status, "")
 
 
 def test_a_database_of_others(drawn):
