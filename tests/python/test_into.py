@@ -19,10 +19,10 @@ import pytest
 from room import in_database, reason
 
 WORDS, SAID = (8572927, 0, 15803205), "as read"
-# Fields, and what becomes of them, with escapes as Python has them: WORDS is a list of the words, and WORDS, has spaces
-# in it. The numbers alone are others, where there are three items; any other value gives way to a list. A field without
-# them gets them behind all else, written as its first member is, and so does a member vbi. Names are what they mean,
-# others are no matter, and what stands twice is no matter where nothing looks at it.
+# Fields, and what becomes of them, or why they are refused, with escapes as Python has them. WORDS is a list of the
+# words, and WORDS, has spaces in it. The numbers alone are others, where there are three items; any other value gives
+# way to a list. A field without them gets them behind all else, written as its first member is, and so does a member
+# vbi. Names are what they mean, others are no matter, and what stands twice is no matter where nothing looks at it.
 FORMS = r"""
     {"vbi": {"vbiData": [ 1 , 2.5,\n-1e3 ]}} | {"vbi": {"vbiData": [ 8572927 , 0,\n15803205 ]}}
     {"vbi":{"vbiData":[null,true,0]},"b":1.50} | {"vbi":{"vbiData":WORDS},"b":1.50}
@@ -39,8 +39,6 @@ FORMS = r"""
     {"a":"vbi","vbi":{"a":[{"vbiData":5}],"vbiData":[]}} | {"a":"vbi","vbi":{"a":[{"vbiData":5}],"vbiData":WORDS}}
     {"a":1,"a":2} | {"a":1,"a":2,"vbi":{"vbiData":WORDS}}
     {"seqNo":7,"%d":"%s"} | {"seqNo":7,"%d":"%s","vbi":{"vbiData":WORDS}}
-"""
-REFUSED = r"""
     5 | it is no object || [] | it is no object || null | it is no object || {"seqNo":8} | its seqNo is 8
     {"seqNo":"7"} | its seqNo is "7" || {"seqNo":null} | its seqNo is null || {"vbi":null} | its vbi is no object
     {"vbi":[1,2,3]} | its vbi is no object || {"vbi":{"vbiData":[]},"vbi":{"vbiData":[]}} | it has more than one vbi
@@ -80,12 +78,7 @@ def copied(room, text, words):
 @pytest.mark.parametrize("old, new", rows_of(FORMS))
 def test_where_they_go(old, new):
     new = new.replace("WORDS, ", "[8572927, 0, 15803205]").replace("WORDS", "[8572927,0,15803205]")
-    assert with_words(old) == new
-
-
-@pytest.mark.parametrize("text, wanted", rows_of(REFUSED))
-def test_refused(text, wanted):
-    assert reason(with_words, text) == wanted
+    assert (reason(with_words, old) or with_words(old)) == new
 
 
 @pytest.mark.parametrize("old, new", rows_of(MEMBERS))

@@ -19,15 +19,14 @@ LEAVES = some.one_of(some.none(), some.booleans(), some.integers(-2 ** 60, 2 ** 
 VALUES = some.recursive(LEAVES, lambda inner: some.lists(inner, max_size=3) | some.dictionaries(
     some.text(max_size=3), inner, max_size=3), max_leaves=9)
 BLANKS = some.sampled_from(["", "\n", " \t\r\n  "])
-# What has to stand at a place: texts that have something else there, and the place
-NO_JSON = {
-    "[": [("", "x", "5", "\ufeff[]", 0)], "]": [("[1}", 2)], "}": [('{"a":1]', 6)],
-    "a name": [("{", "{5:1}", "{'a':1}", 1), ('{"a":1,}', '{"a":1,5', 7)],
-    "a colon": [('{"a"}', 4), ('{"a" 1}', 5)],
-    "a comma or an end": [("[1", "[01]", "[1.]", "[1e+]", 2), ('{"a":1', 6), ('{"a":1 2}', 7)],
-    "a value": [("[tru]", "[nul", "[-]", '["a]', 1), ('["\\x"]', 2), ("[1,]", '["a\n"]', "[1,", 3), ("[[1,]]", 4),
-                ('{"a":}', 5)],
-    "the end": [("[1]]", "[] []", 3)]}
+# What has to stand at a place, and texts that have something else there
+NO_JSON = (
+    ("[", 0, "", "x", "5", "\ufeff[]"), ("]", 2, "[1}"), ("}", 6, '{"a":1]'), ("the end", 3, "[1]]", "[] []"),
+    ("a name", 1, "{", "{5:1}", "{'a':1}"), ("a name", 7, '{"a":1,}', '{"a":1,5'), ("a colon", 4, '{"a"}'),
+    ("a colon", 5, '{"a" 1}'), ("a comma or an end", 2, "[1", "[01]", "[1.]", "[1e+]"),
+    ("a comma or an end", 6, '{"a":1'), ("a comma or an end", 7, '{"a":1 2}'),
+    ("a value", 1, "[tru]", "[nul", "[-]", '["a]'), ("a value", 2, '["\\x"]'), ("a value", 3, "[1,]", '["a\n"]', "[1,"),
+    ("a value", 4, "[[1,]]"), ("a value", 5, '{"a":}'))
 
 
 class Made:
@@ -108,9 +107,8 @@ def refused(text, wanted, *pieces):
         assert reason(scanned, text, piece, kind=NotJson) == wanted
 
 
-@pytest.mark.parametrize("wanted, texts, place", [
-    (wanted, texts, place) for wanted, rows in NO_JSON.items() for *texts, place in rows])
-def test_what_is_no_json(wanted, texts, place):
+@pytest.mark.parametrize("wanted, place, texts", [(*row[:2], row[2:]) for row in NO_JSON])
+def test_what_is_no_json(wanted, place, texts):
     for text in texts:
         refused(text, "not JSON at character %d, where %s has to stand" % (place, wanted), 1, 2, 3, 7, 1 << 18)
 
