@@ -55,10 +55,6 @@ def test_how_much_is_read():
         assert reason(read_document, b"{" + bytes(1000)) == "it is longer than any document"
 
 
-class Thing:
-    """What a weak reference can be to."""
-
-
 NUMBERS = signal.SIGINT, signal.SIGTERM, signal.SIGHUP, signal.SIGALRM
 
 
@@ -81,11 +77,8 @@ def signals():
 
 
 def dropped(number):
-    """A signal comes in a callback whose exceptions Python drops."""
-    thing = Thing()
-    reference = weakref.ref(thing, lambda _: (signal.raise_signal(number), sum(range(10))))
-    del thing
-    return reference
+    """A signal comes in a callback whose exceptions Python drops: of a weak reference to a set that is gone."""
+    return weakref.ref(set(), lambda _: (signal.raise_signal(number), sum(range(10))))
 
 
 def test_one_that_is_dropped_is_sent_again(signals):
@@ -324,15 +317,13 @@ def test_no_place_for_it(room):
 
 def test_which_are_refused(room):
     side, meta, new = room.write("side.tbc", "old"), room.write("side.tbc.json", "old"), room.named("new")
-    hard, soft, again = room.named("hard"), room.named("soft"), room.named("./new")
-    os.link(side, hard)
-    os.symlink("side.tbc.json", soft)
-    rows = [(None, [new, None], [side, meta]), (None, [None, meta, new], [side, None]),
-            (None, [meta], [side, "absent"]), (None, ["/dev/null", "/dev/null"], ["/dev/null"]),
-            (None, [1], [0, side]), (None, [99], [99]),  # 99 is no open file
-            (meta, [soft, meta], []), (new, [new, new], []), (again, [new, again], [])]
-    rows += [(output, [None, output], [side, meta]) for output in (side, meta, hard, soft, os.path.relpath(side))]
+    near, again = os.path.relpath(side), room.named("./new")
     with open(side, "ab") as file:
         number = file.fileno()
-        for name, written_to, inputs in [*rows, (side, [number, side], []), (number, [number], [side])]:
+        for name, written_to, inputs in (
+                (None, [new, None], [side, meta]), (None, [None, meta, new], [side, None]),
+                (None, [meta], [side, "absent"]), (None, ["/dev/null", "/dev/null"], ["/dev/null"]),
+                (None, [1], [0, side]), (None, [99], [99]),  # 99 is no open file
+                (new, [new, new], []), (again, [new, again], []), (near, [None, near], [side, meta]),
+                (side, [number, side], []), (number, [number], [side])):
             assert reason(refuse_inputs, written_to, inputs) == (name and IN_PLACE % name)
