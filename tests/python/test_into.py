@@ -1,22 +1,26 @@
 """Words into ld-decode's metadata: where they go in a field of JSON, a copy that is the same else, and the rows of a
-database, in the form that newer versions of ld-decode have, as far as it is known here."""
+database, in the form that newer versions of ld-decode have, as far as it is known here. And the option --into: which
+words it copies, where it writes, and what it leaves alone."""
 
 import contextlib
 import io
+import itertools
 import json
 import os
 import random
 import re
+import resource
 import sqlite3
 from unittest import mock
 
-from compact import cells_of
+from compact import cells_of, word_of, words_of as drawn_words
 from ldvbi.metadata import read_metadata
 from ldvbi_side.into.field import place_of_words
 from ldvbi_side.into.rows import Rows
 from ldvbi_side.into.text import Places
 import pytest
-from room import in_database, reason
+from room import COMMAND, in_database, reason, SIZE
+from streams import NTSC, pictures, worn_line, write_stream
 
 WORDS, SAID = (8572927, 0, 15803205), "as read"
 # Fields, and what becomes of them, or why they are refused, with escapes as Python has them. WORDS is a list of the
@@ -243,22 +247,151 @@ def test_a_copy_of_rows_is_read_back(room, statement, text):
         refused(room, "its copy has other " + text)
 
 
-@pytest.mark.parametrize("change, wanted", (
-    ("disk_loc = 0", [False, True] * 2), ("field_id = 9 - field_id", [True, False] * 2),
-    ("is_first_field = NULL WHERE field_id = 2", None)))
-def test_they_are_read(room, change, wanted):
-    """In the order of the fields, where each has one."""
-    assert read_metadata(make(room, "UPDATE field_record SET " + change, count=4))[2:4] == (4, wanted)
+OWN = '"my ""own"" fields"'
+TWO = "INSERT INTO %s VALUES (4, 0, 0, 0, 0), (4, 1, 0, 1, 0)"
 
 
-@pytest.mark.parametrize("name", ("field_record", "fields", '"my ""own"" fields"'))
-def test_which_table_has_them(room, name):
-    """One alone, whatever its name is; else the count is that of the table capture."""
-    rows = ("INSERT INTO %s VALUES (4, 0, 0, 0, 0), (4, 1, 0, 1, 0)" % name,
-            "UPDATE capture SET number_of_sequential_fields = 640")
-    form = FORM.replace("field_record", name)
-    for more, changed, wanted, count in (((), form, (2, [False, True]), 2),
-                                         (["CREATE TABLE b AS SELECT * FROM " + name], form, (640, None), 0),
-                                         ((), form.replace("is_first_field", "first"), (640, None), 0)):
-        path = make(room, *rows, *more, count=0, form=changed)
-        assert (read_metadata(path)[2:4], len(Rows(path))) == (wanted, count)
+@pytest.mark.parametrize("count, form, more, wanted, of_rows", (
+    (4, FORM, [], (4, [False, True] * 2), 4),
+    (4, FORM, ["UPDATE field_record SET field_id = 9 - field_id"], (4, [True, False] * 2), 4),
+    (4, FORM, ["UPDATE field_record SET is_first_field = NULL WHERE field_id = 2"], (4, None), 4),
+    (0, FORM.replace("field_record", OWN), [TWO % OWN], (2, [False, True]), 2),
+    (0, FORM, [TWO % "field_record", "CREATE TABLE b AS SELECT * FROM field_record"], (640, None), 0),
+    (0, FORM.replace("is_first_field", "first"), [TWO % "field_record"], (640, None), 0)))
+def test_the_fields_are_read(room, count, form, more, wanted, of_rows):
+    """In their order, where each says whether it is a first one; and from one table alone, whatever its name is, else
+    the count is that of the table capture."""
+    path = make(room, *more, "UPDATE capture SET number_of_sequential_fields = 640", count=count, form=form)
+    assert (read_metadata(path)[2:4], len(Rows(path))) == (wanted, of_rows)
+
+
+# A side with two worn lines, of which one says another number than its field. A document has the words that it has.
+FIELDS = "1..12 3.16=c0 9.18=#79999 14=-/c7/c7"
+WORN = ((11, 17, 0xF00006), (13, 18, 0xF79999))
+SOURCES = ("side.tbc", "side.tbc --no-recover", "side.tbc --recovered", "two.vbi.json", "recovered.vbi.json")
+REFUSED_RUNS = """
+    side.tbc --meta 13.json | side.tbc has 12 whole fields, and 13.json has 13
+    side.vbi.json --meta 11.db | side.vbi.json has 12 whole fields, and 11.db has 11
+    side.tbc --meta five.json | five.json: field 1: its vbi is no object
+    side.tbc LEVELS --meta broken.json | broken.json is no metadata with videoParameters
+    side.tbc LEVELS | side.tbc: no side.tbc.json or side.tbc.db beside it; give the metadata to copy by --meta
+    side.vbi.json | side.vbi.json: no metadata is looked for beside a name that doesn't end with .tbc; give the metadata
+         to copy by --meta
+    side.vbi.json --meta 12.json --recovered | side.vbi.json is a document, and --recovered is for a TBC file
+    side.tbc --meta 12.db --into used | used-journal is there: used is in use, or was left unfinished
+    side.tbc --meta 12.db --into /dev/null | /dev/null is no file
+"""
+
+
+@pytest.fixture
+def copies(drawn):
+    drawn.metadata("side.tbc.json", count=12)
+    make(drawn)
+    return drawn
+
+
+def words_of(copies, name):
+    """The words of each field of a copy, or of a document; and which words a copy has, as it says itself."""
+    if name.endswith(".db"):
+        rows, said = asked(copies, "SELECT vbi0, vbi1, vbi2 FROM vbi ORDER BY field_id", ALL_WORDS[1], name=name)
+        return list(map(list, rows)), *said[0]
+    known = json.loads(copies.read(name))
+    return [field["vbi"]["vbiData"] for field in known["fields"]], known.get("ldvbiWords")
+
+
+def test_the_words_of_the_document(copies):
+    """An older copy keeps its mode. All else stays as it was: numbers as they are written, ends of lines, letters."""
+    copies.metadata("side.tbc.json", count=12, sampleRate=14318181.818181818,
+                    field={"vbi": {"vbiData": [0, 0, 0], "note": "ü\U0001d11e"}})
+    text = copies.text("side.tbc.json").replace(", ", ",\r\n").replace("\\u00fc", "ü")
+    copies.write("side.tbc.json", text)
+    before, (wanted, _) = copies.files(), words_of(copies, "side.vbi.json")
+    for name, texts in (("copy.db", ("side.tbc --meta side.tbc.db", "side.tbc LEVELS --meta side.tbc.db",
+                                     "side.vbi.json --meta side.tbc.db")),
+                        ("copy.json", ("side.tbc", "side.tbc LEVELS", "side.tbc --no-recover", "side.tbc --seek 3",
+                                       "side.tbc --document", "side.vbi.json --meta side.tbc.json"))):
+        os.chmod(copies.write(name, b"old"), 0o640)
+        for words in texts:
+            shown = {"side.tbc --seek 3": b"field 4, frame 2\n", "side.tbc --document": copies.document}.get(words, b"")
+            assert copies.printed("%s --into %s" % (words, name)) == shown
+            assert words_of(copies, name) == (wanted, "believed")
+            before.setdefault(name, copies.read(name))
+        assert os.stat(copies.named(name)).st_mode & 0o777 == 0o640
+    assert copies.files() == before
+    text = text.replace("{", '{"ldvbiWords": "believed", ', 1)
+    for words in wanted:
+        text = text.replace("[0,\r\n0,\r\n0]", json.dumps(words).replace(", ", ",\r\n"), 1)
+    assert copies.text("copy.json") == text
+
+
+@pytest.mark.parametrize("option, said", (("", "believed"), (" --as-read", "as read")))
+def test_believed_read_and_recovered_words(copies, option, said):
+    """Numbers and chapters that are set aside aren't believed, and a code out of place is no number."""
+    fields = drawn_words(FIELDS, 30)
+    for field, line, word in WORN:
+        fields[field - 1][line - 16] = worn_line(word, NTSC, 10, 10)
+    write_stream(copies.path, NTSC, fields)
+    copies.metadata("side.tbc.json", count=24)
+    make(copies, count=24)
+    copies.printed("side.tbc --document -o two.vbi.json")
+    copies.printed("side.tbc --document --recovered -o recovered.vbi.json")
+    for words, (name, meta) in itertools.product(SOURCES, (("copy.json", "side.tbc.json"), ("copy.db", "side.tbc.db"))):
+        copies.printed("%s --meta %s --into %s%s" % (words, meta, name, option))
+        found = words_of(copies, name)
+        doubtful, six, far = (word if is_there else "-" for word, is_there in (
+            ("#79999", option), ("#6", "recovered" in words), ("#79999", option and "recovered" in words)))
+        wanted = {3: "c0 #2 #2", 9: "- #5 " + doubtful, 11: "- %s #6" % six, 13: "- #7 " + far,
+                  14: "- c7 c7" if option else "- - -"}
+        assert found[1] == said
+        assert {field: found[0][field - 1] for field in wanted} == {
+            field: [0 if one == "-" else int(word_of(one), 16) for one in three.split()]
+            for field, three in wanted.items()}
+
+
+def test_refused_runs(drawn):
+    for name, more in (("12", {}), ("13", {"count": 13}), ("five", {"field": {"vbi": 5}})):
+        drawn.metadata(name + ".json", **{"count": 12, **more})
+    drawn.write("broken.json", b"{")
+    for count in (11, 12):
+        make(drawn, count=count, name="%d.db" % count)
+    drawn.write("used-journal", b"")
+    before = drawn.files()
+    for words, text in cells_of(REFUSED_RUNS):
+        drawn.refused(text, words + " --into copy" * ("--into" not in words))
+    through_pipe = ["sh", "-c", 'cat 12.json | "$@"', "sh", *COMMAND]
+    assert drawn.run_command("side.vbi.json --meta /dev/stdin --into copy", command=through_pipe)[2] == (
+        "ldvbi-side: /dev/stdin is no file that can be copied\n")
+    assert drawn.files() == before
+
+
+@pytest.mark.parametrize("old, new, other", (
+    ("15728640, 15728640", "15728640, 15728641", "words in field 1"), ('"believed"', '"as read"', "ldvbiWords"),
+    ('"fields": [', '"fields": [{"vbi": {"vbiData": [1, 2, 3]}}, ', "13 fields")))
+def test_the_copy_is_read_back(copies, old, new, other):
+    """Nothing is left of one that isn't as it was to be written. What is no file isn't read back."""
+    before, copy_of_text = copies.names(), Places.copy
+
+    def altered(self, file, written, *more):
+        text = io.StringIO()
+        copy_of_text(self, file, text, *more)
+        written.write(text.getvalue().replace(old, new, 1))
+
+    with mock.patch.object(Places, "copy", altered):
+        copies.refused("side.tbc.json: its copy has other " + other, "side.tbc --into copy.json")
+        assert copies.run_command("side.tbc --into /dev/null")[0] == 0
+    assert copies.names() == before
+
+
+@pytest.mark.parametrize("meta, copy_name", (("side.tbc.json", "copy.json"), ("side.tbc.db", "copy.db")))
+def test_no_document_is_held_as_a_whole(copies, meta, copy_name):
+    """The process may hold no more memory than this, beside the pages of the TBC file, which are the system's."""
+    write_stream(copies.named("side.tbc"), NTSC, pictures(4), 20000 * SIZE)
+    copies.metadata("side.tbc.json", count=20004,
+                    field={"dropOuts": {"startx": list(range(90))}, "vbi": {"vbiData": [0, 0, 0]}})
+    make(copies, count=20004)
+    # what records each line holds more with each of them
+    env = {name: value for name, value in os.environ.items() if name != "COVERAGE_PROCESS_START"}
+    assert os.path.getsize(copies.named("side.tbc.json")) > 8 << 20
+    assert copies.run_command("side.tbc", "--meta", meta, "--into", copy_name, env=env, preexec_fn=lambda: (
+        resource.setrlimit(resource.RLIMIT_DATA, 2 * (50 << 20,)))) == (0, b"", "")
+    assert len(words_of(copies, copy_name)[0]) == 20004
