@@ -125,6 +125,9 @@ def test_what_is_taken_for_a_document():
     assert is_document("a.json", b"")
     assert is_document("a", b' \n{ "version": 2')
     assert not is_document("a.tbc", b'{"fields"')
+    assert reason(read_document, b"[1]") == "not a document of version 2 or 3"
+    for data in (written()[:-3], b"\xef\xbb\xbf" + written(), written().decode().encode("utf-16")):
+        assert reason(read_document, data).startswith("not JSON: ")
 
 
 @pytest.mark.parametrize("text, path, values", cells_of(BROKEN))
@@ -161,13 +164,7 @@ def test_recovered_words():
         assert reason(read_document, whole(word, [cause] * 3, of_pass)).startswith(SHORT["FIELD"])
 
 
-@pytest.mark.parametrize("data", (written()[:-3], b"\xef\xbb\xbf" + written(), written().decode().encode("utf-16")))
-def test_what_is_not_json(data):
-    assert reason(read_document, data).startswith("not JSON: ")
-
-
 def test_as_its_json():
-    assert reason(read_document, b"[1]") == "not a document of version 2 or 3"
     sizes = (3, None), (2500, Cut(2501, 17))
     for system, version, (count, cut) in itertools.product(ldvbi.System, (2, 3), sizes):
         data = written(version, count, cut, system)

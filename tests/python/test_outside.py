@@ -81,22 +81,20 @@ def dropped(number):
     return weakref.ref(set(), lambda _: (signal.raise_signal(number), sum(range(10))))
 
 
-def test_one_that_is_dropped_is_sent_again(signals):
-    signals()
-    dropped(signal.SIGHUP)
-    with pytest.raises(outside.Stopped) as raised:
-        time.sleep(10)
-    assert raised.value.status == 129
-
-
-def test_one_that_is_dropped_is_noticed(signals):
+def test_one_that_is_dropped(signals):
+    """It is noticed where that is asked, and else sent again."""
     signals()
     outside.raise_lost()
-    dropped(signal.SIGTERM)
-    with pytest.raises(outside.Stopped) as raised:
-        outside.raise_lost()
-    assert (raised.value.status, signal.getitimer(signal.ITIMER_REAL)) == (143, (0, 0))
-    outside.raise_lost()
+    for number, status, wait in ((signal.SIGTERM, 143, outside.raise_lost),
+                                 (signal.SIGHUP, 129, lambda: time.sleep(10))):
+        dropped(number)
+        with pytest.raises(outside.Stopped) as raised:
+            wait()
+        assert raised.value.status == status
+        if status == 143:
+            assert signal.getitimer(signal.ITIMER_REAL) == (0, 0)
+            outside.raise_lost()
+            outside.end_in_order()
 
 
 @pytest.mark.parametrize("write", (whole_file, lambda path: whole_path(path, [])))

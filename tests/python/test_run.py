@@ -279,15 +279,13 @@ def test_no_reader(drawn):
 
 
 @pytest.mark.parametrize("encoding, shown", (("ascii", b"\\xfc\\udcff"), ("utf-8", b"\xc3\xbc\xff")))
-def test_names_on_standard_output(drawn, encoding, shown):
-    """In a locale of ASCII, say, a letter that it lacks is escaped; a name that is no text is printed as it is."""
+def test_names(drawn, encoding, shown):
+    """In a locale of ASCII, say, a letter that it lacks is escaped; a name that is no text is printed as it is, but not
+    in messages."""
     name = os.fsdecode(b"\xc3\xbc\xff.vbi.json")
     drawn.write(name, drawn.document)
     status, text, said = drawn.run_command("scan", "--csv", name, env=dict(os.environ, PYTHONIOENCODING=encoding))
     assert (status, text.split(b"\n")[1].partition(b".vbi.json,no,")[0], said) == (1, shown, "")
-
-
-def test_names_in_messages(drawn):
     drawn.refused("\\x1b[31m\\n\\udcff: No such file or directory", os.fsdecode(b"\x1b[31m\n\xff"))
     drawn.refused("a file without a name: No such file or directory", "")
 

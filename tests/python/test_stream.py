@@ -64,8 +64,10 @@ def test_the_samples_of_rows(room):
 
 
 def test_sources(room):
-    """Buffers, and paths as objects."""
-    stream(room, 3).close()
+    """Buffers, paths as objects, and a file of which each read brings less."""
+    read = os.pread
+    with mock.patch.object(os, "pread", lambda file, length, begin: read(file, min(length, 1000), begin)):
+        assert numbers_of(stream(room, 3)) == [0, 1, 2]
     data = room.read("side.tbc")
     for source in (pathlib.Path(room.path), data, bytearray(data), memoryview(data).cast("H")):
         assert numbers_of(ldvbi.Stream(source, *NTSC)) == [0, 1, 2]
@@ -142,12 +144,6 @@ def test_a_file_that_becomes_shorter(room, kept):
     for call in (lambda: list(side), lambda: side[left], lambda: side.rows(-1), lambda: list(side.records())):
         assert reason(call) == room.path + " became shorter while it was read"
     assert numbers_of(side[:left]) == list(range(left))
-
-
-def test_reads_that_bring_less(room):
-    read = os.pread
-    with mock.patch.object(os, "pread", lambda file, length, begin: read(file, min(length, 1000), begin)):
-        assert numbers_of(stream(room, 3)) == [0, 1, 2]
 
 
 @pytest.fixture
