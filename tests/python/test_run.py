@@ -16,7 +16,7 @@ import time
 from compact import cells_of, words_of
 import pytest
 from room import buffered, DEADLINE, IN_PLACE, in_database, SIZE
-from streams import line_with, NTSC, PAL, pictures, PROGRAM, TOP, write_stream
+from streams import line_with, NTSC, PAL, PROGRAM, TOP, write_stream
 
 # Runs, and their status, what they print and what they say, or -; by the metadata second fields begin frames
 TAKEN = """
@@ -36,8 +36,7 @@ TAKEN = """
 FIELDS = """field,frame,format,picture,chapter,time,stop,doubt,status,users,unknown
 1,1,cav,1,,,,,,,
 2,1,neither,,1,,,,,,
-3,2,cav,2,,,stop,,,,
-5,3,cav,3,,,,"picture 79999 on line 18, pass 1: lines",,,
+4,2,cav,2,,,stop,"picture 79999 on line 18, pass 1: lines",,,
 """
 # A side, and its chapters as ffprobe has them: number, time base, begin and end, in fields and in seconds, and name
 CHAPTERS = (
@@ -80,18 +79,8 @@ def test_metadata_is_taken(drawn):
     assert drawn.printed("side.tbc --document") == drawn.document
 
 
-def test_what_a_summary_says_to_try(drawn):
-    """Metadata of another system lies beside the side: by the options that are named it is read."""
-    write_stream(drawn.path, NTSC, pictures(60))
-    drawn.metadata("side.tbc.json", system="PAL", fieldWidth=1135, fieldHeight=313, white16bIre=54016)
-    found = re.search(r"^try: (.*), without --meta \(120 lines read, now [01] of 80\)$", drawn.run_words("side.tbc")[1],
-                      re.M)
-    assert found[1] == "--system NTSC --black 16384 --white 54016"
-    assert "line 17: 60 words, " in drawn.run_words("side.tbc " + found[1])[1]
-
-
 def test_fields(drawn):
-    write_stream(drawn.path, NTSC, words_of("-/#1/#1 -/c1/c1 S/S/#2 B -/#3/#79999"))
+    write_stream(drawn.path, NTSC, words_of("-/#1/#1 -/c1/c1 B S/#2/#79999"))
     assert drawn.run_words("side.tbc LEVELS --csv") == (0, FIELDS, "")
 
 
