@@ -3,7 +3,9 @@ signals that are dropped, and pages that another program wrote. Files that appea
 names of their own as long as names may be, and outputs that would be written in the place of an input."""
 
 import contextlib
+import functools
 import io
+import itertools
 import json
 import os
 import re
@@ -27,6 +29,7 @@ from room import IN_PLACE, reason
 
 # A name with Escape, a line's end, bytes that aren't UTF-8 and characters that are set aside; letters of any kind stay.
 NAME = os.fsdecode(b"\x1b[31m\n\xff\x7f\xc2\x9f") + "\ufffe\uffff\U0001ffff ü\u0416\u65e5\U0001f4bf<&>"
+WRITERS = whole_file, functools.partial(whole_path, ends=[])
 LETTERS, SIGN = " ü\u0416\u65e5\U0001f4bf<&>", "\ufffd"
 
 
@@ -82,22 +85,25 @@ def dropped(number):
 
 
 def test_one_that_is_dropped(signals):
-    """It is noticed where that is asked, and else sent again."""
+    """It is noticed where that is asked, and else sent again; no other exception is."""
     signals()
+    with contextlib.redirect_stderr(io.StringIO()) as said:
+        dropped("no number")
+    assert "TypeError" in said.getvalue()
     outside.raise_lost()
-    for number, status, wait in ((signal.SIGTERM, 143, outside.raise_lost),
-                                 (signal.SIGHUP, 129, lambda: time.sleep(10))):
-        dropped(number)
-        with pytest.raises(outside.Stopped) as raised:
-            wait()
-        assert raised.value.status == status
-        if status == 143:
-            assert signal.getitimer(signal.ITIMER_REAL) == (0, 0)
-            outside.raise_lost()
-            outside.end_in_order()
+    dropped(signal.SIGTERM)
+    with pytest.raises(outside.Stopped) as noticed:
+        outside.raise_lost()
+    assert (noticed.value.status, signal.getitimer(signal.ITIMER_REAL)) == (143, (0, 0))
+    outside.raise_lost()
+    outside.end_in_order()
+    dropped(signal.SIGHUP)
+    with pytest.raises(outside.Stopped) as sent:
+        time.sleep(10)
+    assert sent.value.status == 129
 
 
-@pytest.mark.parametrize("write", (whole_file, lambda path: whole_path(path, [])))
+@pytest.mark.parametrize("write", WRITERS)
 def test_nothing_is_written_where_one_was_dropped(signals, room, write):
     signals()
     with pytest.raises(outside.Stopped), write(room.named("page.html")) as part:
@@ -124,14 +130,6 @@ def test_a_second_one(signals):
         dropped(signal.SIGTERM)
         signal.raise_signal(signal.SIGHUP)
         assert ended == [143, 129]
-
-
-def test_other_exceptions_that_are_dropped(signals):
-    signals()
-    with contextlib.redirect_stderr(io.StringIO()) as said:
-        dropped("no number")
-    assert "TypeError" in said.getvalue()
-    outside.raise_lost()
 
 
 # What a page of others says, by member
@@ -302,14 +300,12 @@ def test_no_place_for_it(room):
     os.symlink("two", room.named("one"))
     os.symlink("one", room.named("two"))
     before = room.names()
-    for call in (whole_file, lambda path: whole_path(path, [])):
-        for name, kind, of_call in (("one", OSError, None), (part + "/side.html", NotADirectoryError, None),
-                                    ("side.tbc", FileExistsError, None), ("absent/side.html", FileNotFoundError, None),
-                                    ("", IsADirectoryError, whole_file)):
-            if of_call in (None, call):
-                with pytest.raises(kind) as raised, call(room.named(name)):
-                    pytest.fail("there is a file")
-                assert raised.value.filename in (room.named(name), part)
+    for call, (name, kind) in (*itertools.product(WRITERS, (
+            ("one", OSError), (part + "/side.html", NotADirectoryError), ("side.tbc", FileExistsError),
+            ("absent/side.html", FileNotFoundError))), (whole_file, ("", IsADirectoryError))):
+        with pytest.raises(kind) as raised, call(room.named(name)):
+            pytest.fail("there is a file")
+        assert raised.value.filename in (room.named(name), part)
     assert (room.names(), room.read(part)) == (before, b"old")
 
 
