@@ -3,7 +3,6 @@
 import io
 import itertools
 import json
-import random
 import sys
 import tracemalloc
 from unittest import mock
@@ -19,6 +18,11 @@ LEAVES = some.one_of(some.none(), some.booleans(), some.integers(-2 ** 60, 2 ** 
 VALUES = some.recursive(LEAVES, lambda inner: some.lists(inner, max_size=3) | some.dictionaries(
     some.text(max_size=3), inner, max_size=3), max_leaves=9)
 BLANKS = some.sampled_from(["", "\n", " \t\r\n  "])
+DEEP = "[" * 125 + "]" * 125  # in the object of a list
+ITEMS = some.sampled_from([{"a": [{"b": 1}, {"c": 2}]}, {"a": "},{"}, {"a": {}}, {}, 5, [{}, {}],
+                           {"a": [[], "ü", {"b": [None]}]}, {"a": json.loads(DEEP)}])
+# How a list ends, soundly and otherwise
+ENDS = ("]", ",]", ",5", "}", "", ',{"a":[%s]},{}]' % DEEP, ",{},1e999,{},{}]", ",{},[1.],{},{}]")
 # What has to stand at a place, and texts that have something else there
 NO_JSON = (
     ("[", 0, "", "x", "5", "\ufeff[]"), ("]", 2, "[1}"), ("}", 6, '{"a":1]'), ("the end", 3, "[1]]", "[] []"),
@@ -64,22 +68,16 @@ def test_whatever_the_pieces_are(whole, indent, is_ascii, before, behind):
             assert (own, json.loads(own)) == (text[begin:begin + len(own)], value)
 
 
-def test_several_together():
+@given(some.lists(ITEMS, max_size=9), some.sampled_from(ENDS), some.sampled_from([None, 1]),
+       some.sampled_from([None, (",", ":")]), some.sampled_from([100, 1 << 18]))
+def test_several_together(items, end, indent, separators, piece):
     """The values of a list are those that come one by one, whichever are read together; and so are its faults."""
-    choose = random.Random(6)
-    inner = [{"a": [{"b": 1}, {"c": 2}]}, {"a": "},{"}, {"a": {}}, {}, 5, [{}, {}], {"a": [[], "ü", {"b": [None]}]}]
-    deep = "[" * 125 + "]" * 125  # in the object of a list
-    faults = [",]", ",5", "}", "", ',{"a":[%s]},{}]' % deep, ",{},1e999,{},{}]", ",{},[1.],{},{}]"]
-    for count in range(96):
-        whole = [choose.choice(inner) if count % 3 else {"a": count} for _ in range(300)]
-        whole += [{"a": json.loads(deep)}] * (count % 2) + [{}]
-        text = json.dumps(whole, indent=choose.choice([None, 1]), separators=choose.choice([None, (",", ":")]))
-        text = text if count % 4 else text[:-1] + faults[count // 4 % len(faults)]
-        for piece in (100, 1 << 18):
-            one, found = Scanner(io.StringIO(text, newline=""), piece), []
-            why = reason(lambda: (found.extend(itertools.chain.from_iterable(one.values())), one.end()))
-            assert why == reason(scanned, text, piece)
-            assert (why is None, found if why is None else None) == (count % 4 > 0, whole if why is None else None)
+    text = json.dumps(40 * items, indent=indent, separators=separators)[:-1] + end
+    one, found = Scanner(io.StringIO(text, newline=""), piece), []
+    why = reason(lambda: (found.extend(itertools.chain.from_iterable(one.values())), one.end()))
+    assert why == reason(scanned, text, piece)
+    assert (why is None) == (end == "]")
+    assert why or found == 40 * items
 
 
 def test_no_more_is_held_than_a_value_and_a_piece():
