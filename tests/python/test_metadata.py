@@ -1,6 +1,7 @@
 """System and levels from ld-decode's metadata, JSON and SQLite."""
 
 import contextlib
+import itertools
 import json
 import os
 import sqlite3
@@ -98,11 +99,9 @@ def test_json_taken_and_refused(room):
                                             (1e99, int(1e99)), (-0.5, 0), (-0.51, -1), (65535.5, 65536), (7, 7)))
 def test_levels_with_decimals(room, value, rounded):
     """A half goes upwards, also from an even number. Whether a level fits into a sample isn't asked here."""
-    for levels, wanted in (((value, 1), (rounded, 1)), ((1, value), (1, rounded))):
-        notes = ["%s16bIre is %s, rounded to %d" % (name, value, rounded)
-                 for name, level in zip(("black", "white"), levels) if level == value != rounded]
-        path = parameters(room, system="PAL", black16bIre=levels[0], white16bIre=levels[1])
-        assert settings_of(path) == ("PAL", *wanted, tuple(notes))
+    path = parameters(room, system="PAL", black16bIre=1, white16bIre=value)
+    notes = () if value == rounded else ("white16bIre is %s, rounded to %d" % (value, rounded),)
+    assert settings_of(path) == ("PAL", 1, rounded, notes)
 
 
 def test_given_instead(room):
@@ -111,14 +110,14 @@ def test_given_instead(room):
     for file in (path, None):
         assert settings_of(file, "NTSC", 0, 2) == ("NTSC", 0, 2, ())
     refused("white level is no number", path, "NTSC", 1)
-    for system, other, width in (("NTSC", "PAL", 1135), ("PAL", "NTSC", 910)):
+    for (system, width), (other, other_width) in itertools.permutations((("NTSC", 910), ("PAL", 1135))):
         path = parameters(room, system=system, black16bIre=100, white16bIre=200)
         for given, wanted in (((other,), (other, 100, 200)), ((None, 0), (system, 0, 200)),
                               ((None, None, 0), (system, 100, 0)), ((system, 3, 4), (system, 3, 4))):
             assert settings_of(path, *given) == (*wanted, ())
-        path = parameters(room, system=system, black16bIre=100, white16bIre=200, fieldWidth=2045 - width)
+        path = parameters(room, system=system, black16bIre=100, white16bIre=200, fieldWidth=width)
         assert settings_of(path, system, 3) == (system, 3, 200, ())
-        refused("fieldWidth is not %d" % width, path, other)
+        refused("fieldWidth is not %d" % other_width, path, other)
 
 
 def test_a_pipe():
