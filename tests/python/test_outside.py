@@ -195,26 +195,12 @@ def test_names_in_an_index(room, said):
 LONGEST = 255  # bytes of a name
 
 
-@pytest.mark.parametrize("letter", ("a", "ü", os.fsdecode(b"\xff"), "\U0001f4bf"))
-def test_each_length(room, letter):
-    """A part has the name of its file as long as both fit, and else as much of it as fits: no two files of a folder
-    have one part."""
-    beside = len(".ldvbi-.12345678-%d.part" % os.getpid())
-    own = rb"\.[0-9a-f]{8}-%d\.part" % os.getpid()
-    parts, size = set(), len(os.fsencode(letter))
-    for length in range(LONGEST - 60, LONGEST + 1):
-        name = "b" * (length % size) + letter * (length // size)
-        part = os.fsencode(os.path.basename(outputs._part_of(room.named(name))))
-        fits = length + beside <= LONGEST
-        kept = re.escape(os.fsencode(name)) if fits else b".{%d}" % (LONGEST - beside - 9) + rb"\.[0-9a-f]{8}"
-        assert re.fullmatch(rb"\.ldvbi-" + kept + own, part, re.DOTALL)
-        assert len(part) == min(length + beside, LONGEST)
-        parts.add(part)
-    assert len(parts) == 61
-
-
 @pytest.mark.parametrize("name", ("n" * LONGEST, "n" * (LONGEST - 40), "ü" * 125 + "b", os.fsdecode(b"\xff" * 254)))
 def test_each_is_written(room, name):
+    """A part has its file's name where that fits, and else as much of it as does, and digits that are its own."""
+    fits = "n" * (LONGEST - len(outputs._part_by("", 1)))
+    assert re.fullmatch(r"\.ldvbi-%s\.[0-9a-f]{8}-1\.part" % fits, outputs._part_by(fits, 1))
+    assert outputs._part_by(name[:-1] + "x", 1) != outputs._part_by(name, 1)
     path = room.named(name)
     with whole_file(path) as file:
         file.write("whole")
