@@ -52,14 +52,10 @@ def schema_of(kind):
     return schema
 
 
-def is_valid(kind, document):
-    return Draft202012Validator(schema_of(kind)).is_valid(document)
-
-
-def changed(document, change):
-    """A document after a change by jq."""
-    return json.loads(subprocess.run(["jq", change], input=json.dumps(document).encode(), stdout=subprocess.PIPE,
-                                     check=True).stdout)
+def is_valid(kind, document, change="."):
+    """Whether a document is valid, after a change by jq."""
+    found = subprocess.run(["jq", change], input=json.dumps(document).encode(), stdout=subprocess.PIPE, check=True)
+    return Draft202012Validator(schema_of(kind)).is_valid(json.loads(found.stdout))
 
 
 def answers():
@@ -112,7 +108,7 @@ def test_recovered_words(room):
     document = json.loads(room.run_command("side.tbc LEVELS --document --recovered")[1])
     assert [field["vbiPass"] for field in document["fields"]] == [[1, 2, 0], [0, 3, 3]]
     for change in (".", *RECOVERED):
-        assert is_valid("recovered", changed(document, change)) == (change == "."), change
+        assert is_valid("recovered", document, change) == (change == "."), change
 
 
 def test_scans(room):
@@ -125,4 +121,4 @@ def test_scans(room):
     assert (status, [one["fault"] is not None for one in table["sides"]]) == (2, [True, True, False, False])
     assert is_valid("scan", json.loads(room.scan("--json side.tbc")[1]))
     for change in (".", *re.split(r"\s{2,}|\|\| ", SCAN)):
-        assert is_valid("scan", changed(table, change)) == (change == "."), change
+        assert is_valid("scan", table, change) == (change == "."), change

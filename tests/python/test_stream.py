@@ -118,21 +118,19 @@ def test_nothing_stays_open(room):
         with open("/proc/self/maps", encoding="utf-8") as maps:
             return sum(room.path in line for line in maps), len(os.listdir("/proc/self/fd"))
 
-    before = held()
+    maps, files = held()
     side = stream(room, 3)
-    assert held() == (0, before[1] + 1)
+    assert held() == (0, files + 1)
     assert ldvbi.seek(side, 2) == None  # which maps the file
     assert held()[0] == 1
     side.close()
-    assert held() == before
     begun = ldvbi.fields(room.path, *NTSC)
     next(begun)
-    assert held() == (0, before[1] + 1)
+    assert held() == (0, files + 1)
     del begun
-    assert held() == before
     for path in (room.folder, "/dev/null"):
         assert reason(ldvbi.Stream, path, *NTSC, kind=(IsADirectoryError, ValueError)) is not None
-    assert held() == before
+    assert held() == (maps, files)
 
 
 @pytest.mark.parametrize("kept", ((COUNT - 1) * SIZE + 18 * LINE - 1, 70 * SIZE + 15 * LINE))
