@@ -274,6 +274,7 @@ REFUSED_RUNS = """
     side.vbi.json --meta 11.db | side.vbi.json has 12 whole fields, and 11.db has 11
     side.tbc --meta five.json | five.json: field 1: its vbi is no object
     side.tbc LEVELS --meta broken.json | broken.json is no metadata with videoParameters
+    side.vbi.json --meta broken.json | broken.json is no metadata with videoParameters
     side.tbc LEVELS | side.tbc: no side.tbc.json or side.tbc.db beside it; give the metadata to copy by --meta
     side.vbi.json | side.vbi.json: no metadata is looked for beside a name that doesn't end with .tbc; give the metadata
          to copy by --meta
