@@ -26,8 +26,7 @@ def changed(known, change):
     return found
 
 
-# The comparison itself finds what is wrong with an answer.
-# Changes after which less is as it should be, of what is counted by this name
+# Changes after which less is as it should be, of what the comparison counts by this name
 LESS = {"wrong found": "doubtful.clear()", "first fields": "showings.pop()", "chapter table": "chapters.pop(0)",
         "stops": "stops.append({'field': 1})",
         "missing": "missing.append(dict(first=1000000, last=1000000, why='lost'))"}
@@ -42,12 +41,10 @@ def test_each_change():
         return Comparison(truth, changed(known, change), lambda *one: told.append(one[0])).counts, told
 
     before, told = counts("")
-    assert told == []
-    assert [before[name] for name in ("missing", "first fields", "stops", "chapter table")] == [1] * 4
+    assert (told, [before[name] for name in LESS][1:]) == ([], [1] * 4)
     for name, change in LESS.items():
         found, told = counts(change)
-        assert found[name] < before[name]
-        assert told
+        assert found[name] < before[name] and told
     found, told = counts("lost.append(dict(after=5, before=7, fields=9, by='number')); "
                          "unread.append(dict(number=1, field=300))")
     assert [found[name] - found[name + " found"] - before[name] + before[name + " found"] for name in
@@ -110,7 +107,6 @@ ROWS = """
 """
 
 
-# What holds of every answer is found to be broken in one that is changed.
 def test_each():
     """The answer of a side has no fault, and after the change one with this text."""
     for sides, *changes in cells_of(ROWS):
@@ -125,30 +121,29 @@ def test_each():
                 assert [one for one in faults if fault in one]
 
 
-SEEDS = range(14)  # two of each layout
 PICTURES = 120
 # What is true of sides with a fault, and whether they have a lead-out
 TRUE = {"sound": ("yes", True), "both": ("yes", True), "film cut": ("yes", True), "no lead-out": ("yes", False),
         "cut off": ("no", False), "begun late": ("no", True), "twice": ("no", True), "one lost": ("no", True)}
 
 
-def sides_of(fault, seeds=SEEDS, pictures=PICTURES):
-    """Sides of this fault, and those with minutes alone."""
-    sides = [faulty(random.Random(seed), fault, seed, pictures) for seed in seeds]
-    return [side for side in sides if side.layout != "clv-minutes"], [
-        side for side in sides if side.layout == "clv-minutes"]
-
-
-def test_faults():
+@pytest.mark.parametrize("fault, wanted", TRUE.items())
+def test_faults(fault, wanted):
     """Minutes alone don't show one field more or less, nor the ends of their disc, nor how long a minute is that
     doesn't stand between two others. A capture that was cut off is whole only if it may end."""
-    for fault, wanted in TRUE.items():
-        sides, of_minutes = sides_of(fault)
-        assert {(true_of(side), lead_out_of(side) is not None) for side in sides} == {wanted}
-        assert [true_of(side) for side in of_minutes] == ["either"] * len(of_minutes)
-        assert len(of_minutes) == (0 if fault in ("both", "film cut") else 2)
-    assert {true_of(side, may_end=True) for side in sides_of("cut off")[0]} == {"yes"}
-    for side in sides_of("sound", range(len(KINDS)), 5000)[1]:
+    sides = [faulty(random.Random(seed), fault, seed, PICTURES) for seed in range(14)]  # two of each layout
+    others = [side for side in sides if side.layout != "clv-minutes"]
+    assert {(true_of(side), lead_out_of(side) is not None) for side in others} == {wanted}
+    if fault == "cut off":
+        assert {true_of(side, may_end=True) for side in others} == {"yes"}
+    of_minutes = [true_of(side) for side in sides if side.layout == "clv-minutes"]
+    assert of_minutes == ["either"] * (0 if fault in ("both", "film cut") else 2)
+
+
+def test_a_whole_minute():
+    seed = KINDS.index("clv-minutes")
+    for one in range(seed, seed + 3 * len(KINDS), len(KINDS)):
+        side = faulty(random.Random(one), "sound", one, 5000)
         assert true_of(side) == ("either" if lead_in_of(side) is None else "yes")
 
 
