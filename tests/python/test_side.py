@@ -20,8 +20,9 @@ AROUND = ", by the numbers around it: "
 CLOCK, NOWHERE = "no clock shows it", "no field shows it"
 # Of sides what is found of what is asked for: field and frame, or why it isn't
 SOUGHT = (
-    ("Lx2 1..20", {"020": "41 21", "21": "the numbers end at 20, in field 41", "0": "the numbers begin at 1, in field 3",
-                   "0:00:00.00": "the side counts pictures, not times", "0:00": "the side counts pictures, not minutes"}),
+    ("Lx2 1..20", {
+        "020": "41 21", "21": "the numbers end at 20, in field 41", "0": "the numbers begin at 1, in field 3",
+        "0:00:00.00": "the side counts pictures, not times", "0:00": "the side counts pictures, not minutes"}),
     # from 1:08:58
     ("t103450..103549", {"1:08:59.25": CLOCK, "1:08:60": CLOCK, "1:60": CLOCK, "1:9:1.3": "157 79",
                          "1:10": "the numbers end at 1:09:01.24, in field 199",
@@ -179,9 +180,9 @@ SUMMARIES = (
     ("1..30 5=-/#3^/#3^ 7=-/#4^/?", """whole: yes
         line 17: 60 words, 0 of them read only after smoothing, 2 recovered; 0 bad (0.00 %), 0 blank
         line 18: 59 words, 0 of them read only after smoothing, 1 recovered; 1 bad (1.67 %), 0 blank"""),
-    ("1..10 10x3 11..30 21..30 3=? 7=? 11=? 15=? 41=?", """unread: 5 (picture 2 after field 1, picture 4 after field 5, picture 6 after field 9,
+    ("1..10 10x3 11..30 21..30 3=? 7=? 11=? 15=? 41=?", """jumps: 1 (picture 30 to 21 in field 67)
+        unread: 5 (picture 2 after field 1, picture 4 after field 5, picture 6 after field 9,
         |picture 8 after field 13 and 1 more)
-        jumps: 1 (picture 30 to 21 in field 67)
         stills: 1 (picture 10 in fields 19 to 25)
         shown again: 2 (picture 10 in field 21, pictures 21 to 30 in field 67)"""),
     ("1..3 3x2 4..53!10,31,32,33 54x6 55..100!61,62 91..95 71..100", """

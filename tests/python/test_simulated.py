@@ -1,7 +1,6 @@
 """Simulated sides beside their truth: bounds for the seeds 2000 to 2041, six sides of each kind, and for sides that
 were played in other ways, three of each kind, with few pictures where the kind lets them be few."""
 
-import functools
 import re
 from collections import Counter
 
@@ -9,8 +8,7 @@ from measure import measured
 import pytest
 from simulate import KINDS, PLAYED
 
-pytestmark = [pytest.mark.unrecorded, pytest.mark.xdist_group("simulated")]
-SEEDS = range(2000, 2042)
+pytestmark = pytest.mark.unrecorded
 # Of sides that were played in other ways, worn ones, and those of a player at hand: the pictures of a side, and how
 # many of three at least have exact missing numbers, exact first fields, and just the reasons why they aren't whole
 WORN = {"skips": (None, 2, 2, 0), "worn": (300, 3, 3, 3), "swapped": (200, 3, 3, 2), "speeds": (1100, 3, 3, 2),
@@ -39,11 +37,15 @@ def measure(kinds, sides):
     return totals, sum(totals.values(), Counter()), told
 
 
-@functools.lru_cache(maxsize=None)
 def played(kinds):
-    return measure(PLAYED, [(seed, {"kind": kind, "count": count, "sound": kind != "minutes" or seed == 0})
-                            for kind, (count, *_) in globals()[kinds].items()
-                            for seed in PLAYED_SEEDS.get(kind, range(3))])
+    """What is found of each of these kinds, and of all. No answer contradicts the words of its side."""
+    sides = [(seed, {"kind": kind, "count": count, "sound": kind != "minutes" or seed == 0})
+             for kind, (count, *_) in kinds.items() for seed in PLAYED_SEEDS.get(kind, range(3))]
+    totals, of_all, told = measure(PLAYED, sides)
+    within(of_all, "sides: %d; faults: 0" % (3 * len(kinds)))
+    for kind, (_, *least) in kinds.items():
+        within(totals[kind], "missing: %d..; first fields: %d..; reasons: %d.." % tuple(least))
+    return totals, of_all
 
 
 def test_bounds():
@@ -51,7 +53,7 @@ def test_bounds():
     has another number than on the disc. It is seldom left open whether a side is whole, but of few minutes alone.
     Single fields of a disc with a number on both fields of its pictures, or of film, are no gap."""
     # of a third each answer is looked at
-    totals, of_all, told = measure(KINDS, [(seed, {"sound": seed % 3 == 0}) for seed in SEEDS])
+    totals, of_all, told = measure(KINDS, [(seed, {"sound": seed % 3 == 0}) for seed in range(2000, 2042)])
     within(of_all, """
         faults: 0; wrong: 474 0; wrong chapters: 478 0; right: 102912; right found: ..1; right chapters: 76765;
         right chapters found: 0; numbers: 45601.. 0; due: 2801.. 0; unread numbers: 2701.. 0;
@@ -64,18 +66,9 @@ def test_bounds():
         within(counts, "sides: 6; wrong: 1..; right: 1..; numbers: 1..")
 
 
-@pytest.mark.parametrize("kinds", ["WORN", "BY_HAND"])
-def test_each_kind_that_was_played(kinds):
-    """No answer contradicts the words of its side."""
-    totals, of_all, told = played(kinds)
-    within(of_all, "sides: %d; faults: 0" % (3 * len(globals()[kinds])))
-    for kind, (_, *least) in globals()[kinds].items():
-        within(totals[kind], "missing: %d..; first fields: %d..; reasons: %d.." % tuple(least))
-
-
 def test_worn_sides():
     """Where few times have their minute, the library believes few of them."""
-    totals, of_all, told = played("WORN")
+    totals, of_all = played(WORN)
     within(of_all, """
         wrong: 71 0; right: 23001..; right found: ..10; numbers: 13701.. ..1; due: 801.. ..1;
         unread numbers: 781.. ..1; lost places: 96; backs: 27 ..2; swaps: 4 ..1; speeds: 3 0""")
@@ -86,7 +79,7 @@ def test_worn_sides():
 
 def test_sides_of_a_player_at_hand():
     """Of film that is turned by hand numbers may be called unread that were never shown; of no other kind."""
-    totals, of_all, told = played("BY_HAND")
+    totals, of_all = played(BY_HAND)
     within(of_all, """
         whole: 15; wrong: 41.. 0; right found: ..20; numbers: 1.. 0; unread numbers: 1.. ..6;
         lost numbers: 1.. ..1""")
