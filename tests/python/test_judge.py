@@ -17,13 +17,12 @@ from streams import NTSC, PAL, write_fields, write_stream
 
 NOTHING = Number(None, State.nothing)
 LETTERS = {State.believed: "b", State.doubtful: "d", State.due: "u"}
-MINUTE = "1797b - 1798b - 1799u - 1800b - 1801b - 1802b -"
 # Sides, and the numbers and states of their fields: believed, doubtful, due (u) or nothing (-)
 STATES = (
     ("1 2 Bx2 4 -/#79999/- B 6 7 2:14/2=B", "1b - 2b - 3u - 4b - 5u - 6b - 7b -"),
     ("NTSC f1..3", "1b - - 2b - 3b - -", "pictures", "film"),
     ("NTSC f1..3", "1d - - 2d - 3d - -", Counted.pictures, Pace.video), ("NTSC f1..3", "1b - - 2b - 3b - -"),
-    ("NTSC t1797..1802 5=B", MINUTE, "times"), ("NTSC t1797..1802 5=B", MINUTE, Counted.times, 1),
+    ("NTSC t1797..1802 5=B", "1797b - 1798b - 1799u - 1800b - 1801b - 1802b -", "times"),
     ("t1497..1502 5=B", "1497b - 1498b - 1499u - 1500b - 1501b - 1502b -", 2, 3))
 
 
@@ -122,33 +121,9 @@ def test_times_that_are_completed(room):
     assert ldvbi.judge_side(wanted, "PAL", "times").numbers == after
 
 
-# Sides that are judged by all defaults, their verdicts and reasons, and their gaps: the kind, the fields around it, the
-# numbers there, by how many fields, and how many numbers between are shown there
-SIDES = (
-    ("L 1..30", "cannot_tell end_unseen"), ("1..15 B 16..30 O", "not_whole is_held is_off", "held 28-31 15-16 1 0"),
-    ("1..30 8..30 O", "not_whole goes_back is_off", "back 58-60 30-8 0 0"),
-    ("1..30 O L 1..30 O", "not_whole is_joined is_off", "joined 58-62 30-1 0 0"),
-    ("1..30 21:22=B 23=-/#11/#11 +23=-/#11/#11 +24=B 21=-/#11/#11 O", "whole", "still 20-22 11-11 2 0"),
-    ("L 5..30 O", "not_whole begins_late"), ("L Bx102 40..60 O", "cannot_tell begin_unseen"),
-    ("1..30 ~21 O", "not_whole is_swapped"), ("L Bx9 O", "cannot_tell no_numbers"),
-    ("1..20 2:6/2=-/#777/#777 O", "cannot_tell many_doubtful"),
-    ("1..30 -/#70/#70 B -/#80/#80 B 200..230 O", "not_whole is_lost is_off", "lost 58-64 30-200 334 2"),
-    ("NTSC t1..60!30 O", "cannot_tell is_open", "open 56-58 29-31 2 0"))
-
-
 def judged_side(text, *words, **more):
     one = made(text, side)
     return ldvbi.judge_side(one.readings, one.system, *words, **more)
-
-
-def test_sides_rows():
-    for text, wanted, *gaps in SIDES:
-        found = judged_side(text, "times" if text.startswith("NTSC t") else "pictures")
-        assert [found.verdict.name, *(one.name for one in Reason if one in found.reasons)] == wanted.split()
-        assert ["%s %d-%d %d-%d %d %d" %
-                (gap.kind.name, gap.after, gap.before, gap.from_, gap.to, gap.fields, gap.shown) for gap in
-                found.gaps] == gaps
-        assert found.tally.gaps == len(gaps)
 
 
 def test_what_stands_beside():
@@ -158,10 +133,13 @@ def test_what_stands_beside():
         "gaps": 1, "lost": 2, "lost_numbers": 1, "unread": 1}
     assert found.gaps == (Gap(27, 29, 2, 0, 14, 16, GapKind.lost),)
     assert found.numbers == judged("L 1..30!15 22=? O")
-    found = judged_side("Bx9")
-    assert (found.first, found.last, found.swap, found.gaps) == (None, None, None, ())
     # the field that shows picture 11, which belongs into the one before
-    assert judged_side("1..30 ~21 O").swap == 21
+    found = judged_side("1..30 ~21 O")
+    assert (found.verdict, found.reasons, found.swap) == (Verdict.not_whole, Reason.is_swapped, 21)
+    found = judged_side("1..30 -/#70/#70 B -/#80/#80 B 200..230 O")
+    assert found.gaps == (Gap(58, 64, 334, 2, 30, 200, GapKind.lost),)
+    found = judged_side("L Bx9 O")
+    assert (found.first, found.last, found.swap, found.gaps, found.reasons) == (None, None, None, (), Reason.no_numbers)
 
 
 def test_what_is_asked():
@@ -182,12 +160,10 @@ def test_many_gaps():
 
 
 def test_ends():
-    """One line in pass 1, or two lines, on lines 17 and 18."""
+    """One line in pass 1, or two lines, on lines 17 and 18. Of stops test_sides.py has more."""
     states = ldvbi.judge_ends(made("L O -/88FFFF/- -/-/80EEEE* -/88FFFF*/80EEEE* 88FFFF/-/- 1", side).readings)
     assert [state.name for state in states] == ["lead_in", "lead_out", "lead_in", "doubtful", "doubtful", "none",
                                                 "none", "none"]
-    stops = ldvbi.judge_stops(made("B S/S/- S*/-/- -/-/S -/S/-", side).readings)
-    assert [state.name for state in stops] == ["nothing", "believed", "doubtful", "nothing", "believed"]
 
 
 def side_of(fields, setup=PAL, rest=0):
