@@ -1,6 +1,5 @@
-"""Sides made by hand, each with its truth: rows of sides.txt and sides_whole.txt, and those that take more than a row.
-Whether a side is whole, and the reasons where it isn't or where that can't be told, in order of weight. And how many
-calls the analysis of noise takes."""
+"""Sides made by hand, each with its truth: rows of sides.txt, and those that take more than a row. All reasons why a
+side isn't whole, or why that can't be told, in order of weight. And how many calls the analysis of noise takes."""
 
 import cProfile
 import os
@@ -23,8 +22,7 @@ from ldvbi_side.seek import seek, wanted_of
 import pytest
 
 MOST = 16  # fields whose calls a field of noise may take
-ROWS = [row for name in ("sides.txt", "sides_whole.txt")
-        for row in table_in(os.path.join(os.path.dirname(__file__), name))]
+ROWS = list(table_in(os.path.join(os.path.dirname(__file__), "sides.txt")))
 
 
 @pytest.mark.parametrize("cells, more", ROWS, ids=["%d %s" % (place, row[0][0]) for place, row in enumerate(ROWS, 1)])
