@@ -18,7 +18,6 @@ from ldvbi_side.answer.whole import counted_by, reasons_of
 from ldvbi_side.judge.paces import Unit
 from ldvbi_side.judge.places import Break
 from ldvbi_side.judge.readings import Stray
-from ldvbi_side.seek import seek, wanted_of
 import pytest
 
 MOST = 16  # fields whose calls a field of noise may take
