@@ -50,21 +50,6 @@ def test_what_stands_beside_entries():
     assert [one["pass"] for one in found["stray"]] == [2, 3]
 
 
-@pytest.mark.parametrize("system, rate", (("PAL", 25), ("NTSC", 30)))
-def test_a_turn_of_minutes_whose_neighbours_differ(system, rate):
-    """The time stands on the second field of its picture, or on the first, and its minute was read in the other fields
-    alone: the field before says the last minute, the field behind the next one."""
-    turn = 60 * rate
-    for lacking, order, field in ((turn - 1, "{1} {0}", 20), (turn, "{0} {1}", 21)):
-        pairs = []
-        for number in range(turn - 10, turn + 10):
-            minute = "@0:%d" % (number // turn)
-            time = "s%d.%d/M/%s" % (number // rate % 60, number % rate, "-" if number == lacking else minute)
-            pairs.append(order.format(time, "-/M/" + minute))
-        check("{0} {3} | {0} {1} | completed {3} | no unread doubtful | numbers 20 0:00:59.{2} to "
-              "0:01:00.09".format(system, " ".join(pairs), rate - 10, field))
-
-
 def test_loops():
     for length in range(4, 12):
         for fields in (rows("t50..139"), rows("50..139")):
@@ -135,23 +120,6 @@ def test_bad_lines():
                     {"field": 2, "line": 17, "cause": "hold 200", "column": 200, "offset": 507780, "bytes": 1820},
                     {"field": 2, "line": 18, "cause": "unfinished", "column": None, "offset": 509600, "bytes": 1820}]
     assert [(one["offset"], one["bytes"]) for one in pal] == [(744560, 2270), (746830, 2270), (749100, 2270)]
-
-
-@pytest.mark.parametrize("step", ("2", "3", "-1", "-2", "-3", "1/3"))
-def test_each_speed(step):
-    """All numbers are believed, those passed over are lost, and the speed is why the side isn't whole."""
-    stretch = [90 + place // 3 if step == "1/3" else 90 + int(step) * place
-               for place in range(60 if step == "1/3" else 21)]
-    numbers = [*range(90), *stretch, *range(stretch[-1] + 1, stretch[-1] + 41)]
-    gaps, count = sum(other - one > 1 for one, other in zip(numbers, numbers[1:])), len(set(numbers))
-    for kind in ("PAL t", "PAL ", "NTSC t", "NTSC "):
-        check("%s | %s %s | no breaks lost doubtful unread stills swapped | speeds %s 181-%d | count %d | showings x%d"
-              " | missing x%d | whys %s | reasons speed%s" % (
-                  kind, kind[:-1].strip(), " ".join(kind[-1].strip() + str(number) for number in numbers), step,
-                  179 + 2 * len(stretch), count, len(numbers), gaps, "lost" if gaps else "",
-                  ", missing" if gaps else ""))
-    check("both | NTSC %s | speeds x1 | speeds %s .. | no breaks doubtful stills | count %d" % (
-        " ".join("b%d" % number for number in numbers), step, count))
 
 
 # ---- Whether a side is whole
