@@ -7,7 +7,7 @@ import os
 import random
 import struct
 
-from compact import check, made, of_member
+from compact import check_row, made, of_member
 from discs import plain
 from hypothesis import given, settings, strategies as some
 import ldvbi
@@ -70,7 +70,7 @@ def test_pictures():
     assert of_member(found, "aside") == "9"
     # where none is due, and of a document
     for text, nearest in (("1..20 ?x2", lambda *place: 0xF00021), (DUE, None)):
-        check("none | %s | no confirmed" % text, nearest_word=nearest)
+        check_row("none", text, "no confirmed", nearest_word=nearest)
     # sought, and in the map
     found = asked(DUE, {(9, 17, 17): 0xF00005}, analysed).answer
     assert seek(found, wanted_of("5")) == {"field": 9, "frame": 5, "read": True, "other": None}

@@ -5,7 +5,7 @@ import cProfile
 import os
 import random
 
-from compact import check, check_row, made, of_member, rows, table_in
+from compact import check_row, made, of_member, rows, table_in
 from discs import answer, picture, plain, side, typed
 import ldvbi
 from ldvbi import Kind, Reason
@@ -148,8 +148,8 @@ def test_what_else_is_known():
     for more, said in (({"expected": 68}, "yes"), ({"expected": 67}, "yes"),
                        ({"expected": 69}, "no: 68 fields of 69 that the metadata has"),
                        ({"cut": Cut(69, 5)}, "no: field 69 is cut")):
-        check("known | Lx4 1..30 Ox4 | said %s" % said, **more)
-    check("a cut field alone | B | said no: field 2 is cut; no picture number and no time", cut=Cut(2, 5))
+        check_row("known", "Lx4 1..30 Ox4", "said " + said, **more)
+    check_row("a cut field alone", "B", "said no: field 2 is cut; no picture number and no time", cut=Cut(2, 5))
     known = made("NTSC t0..20 t22..40", typed)
     assert [counted_by(known, why) for why in ("undecided", "lost")] == [1, 0]
 
