@@ -111,7 +111,7 @@ def rows(text, rate=25):
 
 def words_of(text, rate=25):
     """The words of the lines of each field of a side, which `streams` draws."""
-    return [[item(part)[0] for part in row.split()] for row in rows(text, rate)]
+    return [[item(part).word for part in row.split()] for row in rows(text, rate)]
 
 
 def made(text, make=answer, **more):

@@ -4,7 +4,7 @@ import gc
 import re
 
 from compact import cells_of, made
-from discs import plain, side, typed
+from discs import side, typed
 from ldvbi.readings import Cut, Levels
 from ldvbi_side.answer.entries import Best, FewWords, Swapped, Tried
 from ldvbi_side.answer.lines import SIZES
@@ -287,7 +287,6 @@ def test_codes_are_judged_by_nothing():
 
 def test_plain_data():
     one = made("NTSC/0 -/#1/#1* ?/!/~", side, cut=Cut(3, 99))
-    assert one.plain() == made("NTSC/0 -/#1/#1* ?/!/~", plain, cut=Cut(3, 99))
     assert one.answer["cutField"] == {"seqNo": 3, "bytes": 99}
     assert one.answer is one.answer
     assert SIZES == {"NTSC": (910 * 2, 263), "PAL": (1135 * 2, 313)}
