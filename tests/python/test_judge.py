@@ -60,10 +60,8 @@ def test_first_of():
 # The same readings in each form that they come in: readings, a stream, and what the library wrote.
 def test_each(room):
     words = [0xF00003, 0x803DDD, 0, 0x803DDD, 0xF00005, 0x803DDD, 0xF00006, 0x803DDD]
-    believed = [Number(number, State.believed) for number in (3, 5, 6)]
-    chapter = Number(3, State.believed)
-    wanted = ([believed[0], NOTHING, (4, State.due), NOTHING, believed[1], NOTHING, believed[2], NOTHING],
-              [NOTHING, chapter] * 4)
+    three, five, six = (Number(number, State.believed) for number in (3, 5, 6))
+    wanted = [three, NOTHING, (4, State.due), NOTHING, five, NOTHING, six, NOTHING], [NOTHING, three] * 4
     write_stream(room.path, NTSC, [[0, word, word] for word in words], 5)
     readings = list(ldvbi.fields(room.path, *NTSC))
     plain = [tuple(map(tuple, field)) for field in readings]
@@ -99,26 +97,20 @@ def test_refused():
             assert reason(call, readings, *words) == text
 
 
-def packed(text):
-    return b"".join(ldvbi.PACKED_FIELD.pack(*sum(map(tuple, field), ())) for field in made(text, side).readings)
-
-
 def test_times_that_are_completed(room):
     """Times without their minute, in each form. What the library completes has tests/library/completed.py. It is judged
     as what was read: by itself no field here would be believed."""
-    read = "t1496..1497 s59.23/-/- B s59.24/-/- B s0.0/-/- B s0.1/-/- B s0.2/-/-"
-    wanted = packed("t1496..1497 s59.23/@0:00/- B s59.24/@0:00/- B s0.0/@0:01/- B s0.1/@0:01/- B s0.2/@0:01/-")
-    fields = made(read, side).readings
-    write_stream(room.path, PAL, words_of(read))
+    text = "t1496..1497 s59.23/-/- B s59.24/-/- B s0.0/-/- B s0.1/-/- B s0.2/-/-"
+    fields, none = made(text, side).readings, made("u1..9", side).readings
+    wanted = made("t1496..1497 s59.23/@0:00/- B s59.24/@0:00/- B s0.0/@0:01/- B s0.1/@0:01/- B s0.2/@0:01/-", side)
+    write_stream(room.path, PAL, words_of(text))
     with ldvbi.Stream(room.path, *PAL) as stream:
-        for form in (fields, packed(read), iter(fields), bytearray(packed(read)), stream):
-            assert ldvbi.complete_times(form, ldvbi.System.PAL) == wanted
-    assert ldvbi.complete_times(packed("u1..9"), "PAL") == packed("u1..9")
-    assert ldvbi.complete_times([], "NTSC") == b""
-    before, after = (ldvbi.judge(one, "PAL", "times") for one in (fields, wanted))
+        for form in (fields, fields.data, iter(fields), bytearray(fields.data), stream):
+            assert ldvbi.complete_times(form, ldvbi.System.PAL) == wanted.readings.data
+    assert (ldvbi.complete_times(none, "PAL"), ldvbi.complete_times([], "NTSC")) == (none.data, b"")
+    before, after = (ldvbi.judge(one, "PAL", "times") for one in (fields, wanted.readings))
     assert [one.state for one in before[::2]] == [State.doubtful] * 2 + [State.nothing] * 5
     assert after[::2] == [Number(number, State.believed) for number in range(1496, 1503)]
-    assert ldvbi.judge_side(wanted, "PAL", "times").numbers == after
 
 
 def judged_side(text, *words, **more):
