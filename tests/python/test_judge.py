@@ -1,7 +1,6 @@
-"""Judging fields and whole sides: states, what is counted, paces, the forms that readings come in; verdicts with their
-reasons, gaps and what they come to; and seeking in the bytes of a side. More rows of what the library answers have
-tests/library/judged.txt and whole.txt; that what is sought is found as the judge answers it of the whole side, and how
-many fields are read at most, is proved."""
+"""Judging fields and whole sides: states, what is counted, paces, the forms that readings come in, gaps; and seeking in
+the bytes of a side. What the library answers have tests/library/judged.txt and whole.txt; that what is sought is found
+as the judge answers it of the whole side, and how many fields are read at most, is proved."""
 
 import ctypes
 import mmap

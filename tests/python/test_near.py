@@ -103,8 +103,7 @@ def test_samples(room, setup):
 
 @pytest.mark.parametrize("kind", ("cav-ntsc", "cav-film"))
 def test_each_number_stands_in_its_field(drawn, kind):
-    """A disc with noise on each line, whose deviation is nearly as much as white is above black. Many words aren't
-    recovered, but the numbers around leave no other than the nearest one."""
+    """With noise for which many words aren't recovered the numbers around leave no other than the nearest one."""
     rng, form = random.Random(kind), struct.Struct("<910H")
 
     def noisy(word):
@@ -123,9 +122,8 @@ def test_each_number_stands_in_its_field(drawn, kind):
 
 @pytest.mark.parametrize("setup", (NTSC, PAL))
 def test_each_call(room, setup):
-    """The last of 100 fields, as each call reads it. Line 16 is recovered without dropouts: its word is 11 columns off
-    (PAL: 14), and another one 17 or more. On line 17 three of the turned columns are enough, two are not; dropouts come
-    in any order, may overlap, and may be far beyond the line."""
+    """The last of 100 fields. Line 16 is recovered without dropouts: its word is 11 columns off (PAL: 14), another one
+    17 or more. On line 17 three of the turned columns are enough; dropouts come in any order, and may be far beyond."""
     _, (begin, end), (second, last) = TURNED[setup[0]]
     lines = [worn_line(0x85D0A1, setup, 5, 11 + 3 * (setup == PAL)), worn(setup), line_with(0xF54321, setup)]
     write_stream(room.path, setup, [[]] * 99 + [lines])
@@ -156,9 +154,8 @@ def test_each_field_has_its_own(room):
 
 
 def test_erased_columns_cost_nothing(room):
-    """Of 13 and 16 columns, in hundredths. Another line, and another field, is as it is. Of cell 5 half of the 28
-    columns are turned, 297 among them: another word is as near, also where white is an odd number above black. A signal
-    goes on for one more cell behind the word: this row is nearer by 14 columns."""
+    """Of 13 and 16 columns, in hundredths. Of cell 5 half of the 28 columns are turned, 297 among them: another word is
+    as near. A signal goes on for one more cell behind the word: this row is nearer by 14 columns."""
     write_stream(room.path, NTSC, [[0, worn(NTSC), worn(NTSC)], [0, worn(NTSC), 0]])
     with ldvbi.Stream(room.path, *NTSC, True, [(0, 17, 411, 414), (0, 17, 413, 417), (0, 18, 838, 2000)]) as side:
         assert [measured(side, *place) for place in ((1, 17), (1, 18), (2, 17))] == [

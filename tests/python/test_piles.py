@@ -1,6 +1,5 @@
-"""Numbers that none of several captures reads, and that their lines say as one pile: worn lines, whose distances are
-counted on paper. And which levels, and which system, are named for a side of which hardly any line is read, and where
-none are."""
+"""Numbers that none of several captures reads, and that their lines say as one pile, with distances counted on paper.
+And which levels, and which system, are named for a side of which hardly any line is read."""
 
 import itertools
 import random
@@ -20,9 +19,7 @@ import pytest
 from simulated_discs import picture
 from streams import NTSC, PAL, pictures, worn_line, write_stream
 
-# Of each system more than half of the columns of a cell, of which the word with this bit turned is nearer, by a column
-# or two: too few to say it
-HALF = {"NTSC": 15, "PAL": 18}
+HALF = {"NTSC": 15, "PAL": 18}  # columns of a cell: with so many turned the other word is nearer, by one or two
 
 
 def worn(word, setup, *cells):
@@ -84,9 +81,8 @@ def test_more_than_a_pile_has(room):
 
 
 def test_whose_lines_are_asked(room):
-    """Those of two captures or more in which the number is due, and nowhere read, and which aren't blank. Another
-    number isn't due, whatever the lines say. One capture isn't asked alone, in which the pictures are played twice, and
-    picture 5 is worn elsewhere each time."""
+    """Those of two captures or more in which the number is due, and nowhere read, and which aren't blank; not those of
+    one alone that has the pictures twice. Another number isn't due, whatever the lines say."""
     a, b = each_elsewhere(room, NTSC, 2)
     blank, clean = capture(room, "blank", lines={5: [0, 0]}), capture(room, "clean")
     fields = [[0, *2 * [picture(number) * part]] for number in range(1, 21) for part in (1, 0)]
@@ -116,8 +112,7 @@ def test_words_of_pass_1(room):
 @pytest.mark.parametrize("dropouts, wanted", ((None, "neighbours"), ([(39, 18, 0, 5)], "together")))
 def test_a_copy_of_a_capture(room, dropouts, wanted):
     """In one capture the word with a bit of cell 9 turned is nearer by a column, in the other one it is farther by 9.
-    These are 8, and with a copy of that 17: it says nothing more. Where dropouts are known in all, somewhere, 6 are
-    enough."""
+    These are 8, and with a copy of that 17. Where dropouts are known in all, somewhere, 6 are enough."""
     one = capture(room, "a", NTSC, {5: [worn(picture(5), NTSC, (9, 15)), 0]}, dropouts)
     other, copy, unknown = (capture(room, name, NTSC, {5: [worn(picture(5), NTSC, (5, 14), (9, 10)), 0]}, known) for
                             name, known in (("b", dropouts), ("c", dropouts), ("d", None)))
@@ -209,10 +204,9 @@ def best(room, setup, drawn, fields, line_of=steep):
 
 
 def test_levels_and_systems(room):
-    """A sample is high above the middle of the levels. So where codes are at 40 % of white no line has a high one; at
-    60 % steep codes are read, and soft ones aren't, whose halves are above the middle too short a time. Nothing is
-    tried where enough is read: steep codes at 60 and 80 % of white, and black that is too high by a fifth. None is
-    named for a side without any code, for one of noise, and for one whose lines are grey."""
+    """A sample is high above the middle of the levels: with codes at 40 % of white none is; at 60 % steep codes are
+    read, and soft ones aren't, whose halves are above the middle too short a time. Nothing is tried where enough is
+    read, and none is named for a side without any code, for one of noise, and for one whose lines are grey."""
     rng, none = random.Random(1), [0, 120, None, None]
     for drawn, setup, line_of, wanted in (
             (at_share(NTSC, 40), NTSC, steep, [0, 120, "--white 30000", 120]),

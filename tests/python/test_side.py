@@ -16,10 +16,9 @@ from ldvbi_side.seek import seek, text_of, wanted_of, why_not
 import pytest
 from room import reason
 
-# Of sides what is found of what is asked for: field and frame, or why it isn't. A time is sought where it was read, and
-# not in the field before, in which it is only due; of a second the first field that has any of it counts, of a minute
-# the first one, also if it wasn't read. A doubtful field answers for no other number. Where chapters go back none
-# follows. The side with 1:09 begins at 1:08:58.
+# Of sides what is found of what is asked for: field and frame, or why it isn't. A time is sought where it was read, not
+# where it is only due; of a second or a minute the first field that has any of it counts. A doubtful field answers for
+# no other number. The side with 1:09 begins at 1:08:58.
 SOUGHT = """
     Lx2 1..20 | 020: 41 21 | 21: the numbers end at 20, in field 41 | 0: the numbers begin at 1, in field 3
         | 0:00:00.00: the side counts pictures, not times | 0:00: the side counts pictures, not minutes

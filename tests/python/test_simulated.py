@@ -1,7 +1,6 @@
-"""Simulated sides beside their truth: bounds for the seeds 2000 to 2041, six sides of each kind, and for sides that
-were played in other ways, three of each kind, with few pictures where the kind lets them be few. The comparison with
-the truth, and what holds of every answer: both find what is wrong with a changed answer. And whether simulated sides
-with one fault are whole (bench/sides/verdicts.py)."""
+"""Simulated sides beside their truth: bounds for six sides of each kind, and for sides that were played in other ways.
+The comparison with the truth, and what holds of every answer, find what is wrong with a changed answer. And whether
+simulated sides with one fault are whole (bench/sides/verdicts.py)."""
 
 import copy
 import random
