@@ -111,7 +111,7 @@ def rows(text, rate=25):
 
 def words_of(text, rate=25):
     """The words of the lines of each field of a side, which `streams` draws."""
-    return [[item(part)[0] for part in row.split()] for row in rows(text, rate)]
+    return [[item(part).word for part in row.split()] for row in rows(text, rate)]
 
 
 def made(text, make=answer, **more):
@@ -212,14 +212,8 @@ def table_in(path):
                 yield cells, more
 
 
-def check(table, **more):
-    """Each row has a name, a side, and members of its answer, behind a | each. What is known or asked besides, `Fields`
-    has."""
-    for cells in cells_of(table):
-        check_row(*cells, **more)
-
-
 def check_row(name, side, *members, **more):
+    """A row has a name, a side, and members of its answer. What is known or asked besides, `Fields` has."""
     found = analyse(made(side, plain)._replace(**more))
     for member in members:
         asked, _, wanted = member.partition(" ")

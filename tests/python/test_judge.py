@@ -1,14 +1,12 @@
-"""Judging fields and whole sides: states, what is counted, paces, the forms that readings come in; verdicts with their
-reasons, gaps and what they come to; and seeking in the bytes of a side. More rows of what the library answers have
-tests/library/judged.txt and whole.txt; that what is sought is found as the judge answers it of the whole side, and how
-many fields are read at most, is proved."""
+"""Judging fields and whole sides: states, what is counted, paces, the forms that readings come in, gaps; and seeking in
+the bytes of a side. What the library answers have tests/library/judged.txt and whole.txt; that what is sought is found
+as the judge answers it of the whole side, and how many fields are read at most, is proved."""
 
 import ctypes
 import mmap
-import os
 
 from compact import made, words_of
-from discs import minutes, second, side
+from discs import side
 import ldvbi
 from ldvbi import Both, Counted, Gap, GapKind, Number, Pace, Reason, State, Verdict
 import pytest
@@ -16,17 +14,14 @@ from room import reason
 from simulate import simulated
 from streams import NTSC, PAL, write_fields, write_stream
 
-SEEDS = int(os.environ.get("SEEK_SIDES", "20"))
 NOTHING = Number(None, State.nothing)
 LETTERS = {State.believed: "b", State.doubtful: "d", State.due: "u"}
-MINUTE = "1797b - 1798b - 1799u - 1800b - 1801b - 1802b -"
 # Sides, and the numbers and states of their fields: believed, doubtful, due (u) or nothing (-)
 STATES = (
     ("1 2 Bx2 4 -/#79999/- B 6 7 2:14/2=B", "1b - 2b - 3u - 4b - 5u - 6b - 7b -"),
-    ("1..2 -/#3*/- B", "1d - 2d - 3d -"), ("NTSC f1..3", "1b - - 2b - 3b - -", "pictures", "film"),
-    ("NTSC f1..3", "1d - - 2d - 3d - -", "pictures", Pace.video), ("NTSC f1..3", "1b - - 2b - 3b - -"),
-    ("f1..3", "1d - - 2d - 3d - -", Counted.pictures, Pace.find), ("NTSC t1797..1802 5=B", MINUTE, "times"),
-    ("NTSC t1797..1802 5=B", MINUTE, Counted.times, 1),
+    ("NTSC f1..3", "1b - - 2b - 3b - -", "pictures", "film"),
+    ("NTSC f1..3", "1d - - 2d - 3d - -", Counted.pictures, Pace.video), ("NTSC f1..3", "1b - - 2b - 3b - -"),
+    ("NTSC t1797..1802 5=B", "1797b - 1798b - 1799u - 1800b - 1801b - 1802b -", "times"),
     ("t1497..1502 5=B", "1497b - 1498b - 1499u - 1500b - 1501b - 1502b -", 2, 3))
 
 
@@ -42,8 +37,8 @@ def test_states_rows():
 
 
 def test_paces():
-    for text, pace, *words in (("NTSC f1..3", Pace.film), ("NTSC f1..3", Pace.film, "pictures"),
-                               ("NTSC f1..3", Pace.video, Counted.times), ("f1..3", Pace.video, 1)):
+    for text, pace, *words in (("NTSC f1..3", Pace.film), ("NTSC f1..3", Pace.video, Counted.times),
+                               ("f1..3", Pace.video, 1)):
         one = made(text, side)
         assert ldvbi.find_pace(one.readings, one.system, *words) is pace
 
@@ -57,17 +52,15 @@ def test_one_field():
 
 def test_first_of():
     numbers = judged("1..3 -/#79999/- B 5..7 30 3..6")
-    found = {number: ldvbi.first_of(numbers, number) for number in (None, *range(9), 30, 79999)}
-    assert found == {None: None, 0: None, 1: 0, 2: 2, 3: 4, 4: 6, 5: 8, 6: 10, 7: 12, 8: None, 30: None, 79999: None}
+    assert [ldvbi.first_of(numbers, number) for number in (None, *range(9), 30, 79999)] == [
+        None, None, 0, 2, 4, 6, 8, 10, 12, None, None, None]
 
 
 # The same readings in each form that they come in: readings, a stream, and what the library wrote.
 def test_each(room):
     words = [0xF00003, 0x803DDD, 0, 0x803DDD, 0xF00005, 0x803DDD, 0xF00006, 0x803DDD]
-    believed = [Number(number, State.believed) for number in (3, 5, 6)]
-    chapter = Number(3, State.believed)
-    wanted = ([believed[0], NOTHING, (4, State.due), NOTHING, believed[1], NOTHING, believed[2], NOTHING],
-              [NOTHING, chapter] * 4)
+    three, five, six = (Number(number, State.believed) for number in (3, 5, 6))
+    wanted = [three, NOTHING, (4, State.due), NOTHING, five, NOTHING, six, NOTHING], [NOTHING, three] * 4
     write_stream(room.path, NTSC, [[0, word, word] for word in words], 5)
     readings = list(ldvbi.fields(room.path, *NTSC))
     plain = [tuple(map(tuple, field)) for field in readings]
@@ -93,7 +86,6 @@ def test_none(one):
 def test_refused():
     line = (0, 0, 0, 0)
     for readings, text in ((None, "readings are not those of fields, but of the type NoneType"),
-                           (5, "readings are not those of fields, but of the type int"),
                            (b"12345", "packed readings have 24 bytes to a field, and these are 5"),
                            ([[line] * 3, [line] * 2], "readings[1] is not three readings"),
                            ([[line, line, (0, 0, 0)]], "readings[0] is not three readings"),
@@ -104,81 +96,25 @@ def test_refused():
             assert reason(call, readings, *words) == text
 
 
-BLANK = (1, 0, 0, 0)
-
-
-def fields_of(numbers, without=()):
-    """The readings of the two fields of each of these PAL times: some without their minute."""
-    fields = []
-    for number in numbers:
-        seconds, part = divmod(number, 25)
-        minute = minutes(*divmod(seconds // 60, 60))
-        lines = [(0, 1, 0, int(word, 16)) for word in (second(seconds % 60, part), minute)]
-        fields += [[lines[0], BLANK if number in without else lines[1], BLANK], [BLANK] * 3]
-    return fields
-
-
-def packed(fields):
-    return b"".join(ldvbi.PACKED_FIELD.pack(*sum(map(tuple, field), ())) for field in fields)
-
-
-# Times without their minute, in each form. What the library completes has tests/library/completed.py.
-def test_minutes():
-    numbers = range(1496, 1504)
-    whole, none = packed(fields_of(numbers)), packed(fields_of(numbers, numbers))
-    for fields, wanted in ((fields_of(numbers, (1498, 1499, 1500)), whole), (fields_of(numbers, numbers), none)):
-        for form in (fields, packed(fields), iter(fields), bytearray(packed(fields))):
-            assert ldvbi.complete_times(form, ldvbi.System.PAL) == wanted
-    assert ldvbi.complete_times([], "NTSC") == b""
-
-
-def test_judged():
-    """What is completed is judged as what was read: by itself no field here would be believed."""
-    fields = fields_of(range(1496, 1504), range(1498, 1504))
-    before, after = (ldvbi.judge(one, "PAL", "times") for one in (fields, ldvbi.complete_times(fields, "PAL")))
-    assert [one.state for one in before[::2]] == [State.doubtful] * 2 + [State.nothing] * 6
-    assert after[::2] == [Number(number, State.believed) for number in range(1496, 1504)]
-    assert ldvbi.judge_side(ldvbi.complete_times(fields, "PAL"), "PAL", "times").numbers == after
-
-
-def test_a_stream(room):
-    write_stream(room.path, NTSC, [[0x8AE710, 0xF0DD02, 0xF0DD02], [0, 0, 0], [0x8AE711, 0, 0xF12345]])
-    with ldvbi.Stream(room.path, *NTSC) as stream:
-        completed = ldvbi.complete_times(stream, "NTSC")
-        assert completed[:48] == b"".join(stream.packed(0, 2))
-    assert completed[48:] == packed([[(0, 1, 0, 0x8AE711), (0, 1, 0, 0xF0DD02), (0, 1, 0, 0xF12345)]])
-
-
-# Sides that are judged by all defaults, their verdicts and reasons, and their gaps: the kind, the fields around it, the
-# numbers there, by how many fields, and how many numbers between are shown there
-SIDES = (
-    ("L 1..30 21=? O", "whole"), ("L 1..30", "cannot_tell end_unseen"),
-    ("1..15 B 16..30 O", "not_whole is_held is_off", "held 28-31 15-16 1 0"),
-    ("1..30 8..30 O", "not_whole goes_back is_off", "back 58-60 30-8 0 0"),
-    ("1..30 O L 1..30 O", "not_whole is_joined is_off", "joined 58-62 30-1 0 0"),
-    ("1..30 21:22=B 23=-/#11/#11 +23=-/#11/#11 +24=B 21=-/#11/#11 O", "whole", "still 20-22 11-11 2 0"),
-    ("L 5..30 O", "not_whole begins_late"), ("L Bx102 40..60 O", "cannot_tell begin_unseen"),
-    ("1..30 ~21 O", "not_whole is_swapped"), ("L Bx9 O", "cannot_tell no_numbers"),
-    ("1..20 2:6/2=-/#777/#777 O", "cannot_tell many_doubtful"),
-    ("1..30 -/#70/#70 B -/#80/#80 B 200..230 O", "not_whole is_lost is_off", "lost 58-64 30-200 334 2"))
-TIMES = (("NTSC t1..60!30 O", "cannot_tell is_open", "open 56-58 29-31 2 0"),
-         ("1..30 O", "cannot_tell no_numbers"))
+def test_times_that_are_completed(room):
+    """Times without their minute, in each form. What the library completes has tests/library/completed.py. It is judged
+    as what was read: by itself no field here would be believed."""
+    text = "t1496..1497 s59.23/-/- B s59.24/-/- B s0.0/-/- B s0.1/-/- B s0.2/-/-"
+    fields, none = made(text, side).readings, made("u1..9", side).readings
+    wanted = made("t1496..1497 s59.23/@0:00/- B s59.24/@0:00/- B s0.0/@0:01/- B s0.1/@0:01/- B s0.2/@0:01/-", side)
+    write_stream(room.path, PAL, words_of(text))
+    with ldvbi.Stream(room.path, *PAL) as stream:
+        for form in (fields, fields.data, iter(fields), bytearray(fields.data), stream):
+            assert ldvbi.complete_times(form, ldvbi.System.PAL) == wanted.readings.data
+    assert (ldvbi.complete_times(none, "PAL"), ldvbi.complete_times([], "NTSC")) == (none.data, b"")
+    before, after = (ldvbi.judge(one, "PAL", "times") for one in (fields, wanted.readings))
+    assert [one.state for one in before[::2]] == [State.doubtful] * 2 + [State.nothing] * 5
+    assert after[::2] == [Number(number, State.believed) for number in range(1496, 1503)]
 
 
 def judged_side(text, *words, **more):
     one = made(text, side)
     return ldvbi.judge_side(one.readings, one.system, *words, **more)
-
-
-@pytest.mark.parametrize("counted, rows", (("pictures", SIDES), ("times", TIMES)))
-def test_sides_rows(counted, rows):
-    for text, wanted, *gaps in rows:
-        found = judged_side(text, counted)
-        assert [found.verdict.name, *(one.name for one in Reason if one in found.reasons)] == wanted.split()
-        assert ["%s %d-%d %d-%d %d %d" %
-                (gap.kind.name, gap.after, gap.before, gap.from_, gap.to, gap.fields, gap.shown) for gap in
-                found.gaps] == gaps
-        assert found.tally.gaps == len(gaps)
 
 
 def test_what_stands_beside():
@@ -188,16 +124,18 @@ def test_what_stands_beside():
         "gaps": 1, "lost": 2, "lost_numbers": 1, "unread": 1}
     assert found.gaps == (Gap(27, 29, 2, 0, 14, 16, GapKind.lost),)
     assert found.numbers == judged("L 1..30!15 22=? O")
-    assert found.numbers[21] == (11, State.due)
-    found = judged_side("Bx9")
-    assert (found.first, found.last, found.swap, found.gaps) == (None, None, None, ())
     # the field that shows picture 11, which belongs into the one before
-    assert judged_side("1..30 ~21 O").swap == 21
+    found = judged_side("1..30 ~21 O")
+    assert (found.verdict, found.reasons, found.swap) == (Verdict.not_whole, Reason.is_swapped, 21)
+    found = judged_side("1..30 -/#70/#70 B -/#80/#80 B 200..230 O")
+    assert found.gaps == (Gap(58, 64, 334, 2, 30, 200, GapKind.lost),)
+    found = judged_side("L Bx9 O")
+    assert (found.first, found.last, found.swap, found.gaps, found.reasons) == (None, None, None, (), Reason.no_numbers)
 
 
 def test_what_is_asked():
     assert judged_side("1..30", may_end=True).verdict is Verdict.whole
-    for both, is_so in ((Both.find, True), ("on_both", True), (1, True), ("on_one", False), (Both.on_one, False)):
+    for both, is_so in ((Both.find, True), ("on_both", True), (1, True), (Both.on_one, False)):
         found = judged_side("b1..30 O", both=both)
         assert (found.on_both, found.verdict is Verdict.whole) == (is_so, is_so)
     for pace, wanted in (("film", Pace.film), (Pace.video, Pace.video), (3, Pace.film)):
@@ -213,12 +151,10 @@ def test_many_gaps():
 
 
 def test_ends():
-    """One line in pass 1, or two lines, on lines 17 and 18."""
+    """One line in pass 1, or two lines, on lines 17 and 18. Of stops test_sides.py has more."""
     states = ldvbi.judge_ends(made("L O -/88FFFF/- -/-/80EEEE* -/88FFFF*/80EEEE* 88FFFF/-/- 1", side).readings)
     assert [state.name for state in states] == ["lead_in", "lead_out", "lead_in", "doubtful", "doubtful", "none",
                                                 "none", "none"]
-    stops = ldvbi.judge_stops(made("B S/S/- S*/-/- -/-/S -/S/-", side).readings)
-    assert [state.name for state in stops] == ["nothing", "believed", "doubtful", "nothing", "believed"]
 
 
 def side_of(fields, setup=PAL, rest=0):
@@ -236,41 +172,33 @@ MISREAD = "1..299 299=-/#79999/#7"  # picture 150
 SOUGHT = (
     ("f100..299", NTSC, (206,), (265, *FILM)), ("f100..299", NTSC, (206, "pictures", "film"), (265, *FILM)),
     ("t3000..3399", PAL, (3111, "times"), (222, *VIDEO)), (MISREAD, PAL, (150,), (298, State.due, Pace.video)),
-    (MISREAD, PAL, (79999,), None), ("", PAL, (5,), None), ("5..6", PAL, (5,), None), ("5..7", PAL, (6,), (2, *VIDEO)))
+    (MISREAD, PAL, (79999,), None), ("", PAL, (5,), None), ("5..6", PAL, (5,), None), ("5..7", PAL, (6,), (2, *VIDEO)),
+    *(("Lx30 1..399 Ox300", PAL, (number,), (28 + 2 * number, *VIDEO)) for number in (1, 2, 3, 30, 199, 200, 398, 399)),
+    *(("Lx30 1..399 Ox300", PAL, (number,), None) for number in (0, 400, 79999, 2 ** 32 - 1)))
 
 
-@pytest.mark.parametrize("text, setup, asked, wanted", SOUGHT)
-def test_seeking_rows(text, setup, asked, wanted):
-    found = ldvbi.seek(side_of(text, setup), *asked)
-    assert (found and (found.field, found.number.state, found.pace)) == wanted
-
-
-def test_a_side_that_runs_on():
-    side = side_of("Lx30 1..399 Ox300")
-    for number in (1, 2, 3, 30, 199, 200, 398, 399):
-        assert ldvbi.seek(side, number)[:3] == (28 + 2 * number, Number(number, State.believed), Pace.video)
-    for number in (0, 400, 79999, 2 ** 32 - 1):
-        assert ldvbi.seek(side, number) is None
-
-
-def test_a_cut_side_and_a_closed_one():
-    side = side_of("5..7", rest=700000)
-    assert ldvbi.seek(side, 7)[0] == 4
-    side.close()
-    assert reason(ldvbi.seek, side, 7) == "the stream is closed"
+def test_seeking():
+    for text, setup, asked, wanted in SOUGHT:
+        found = ldvbi.seek(side_of(text, setup), *asked)
+        assert (found and (found.field, found.number.state, found.pace)) == wanted
+        assert found is None or found.number.number == asked[0]
+    cut = side_of("5..7", rest=700000)
+    assert ldvbi.seek(cut, 7)[0] == 4
+    cut.close()
+    assert reason(ldvbi.seek, cut, 7) == "the stream is closed"
 
 
 def test_most_numbers_of_simulated_sides_are_found():
     found, known = 0, 0
-    for seed in range(SEEDS):
-        side = simulated(seed, count=250)
-        setup = NTSC if side.document["videoParameters"]["system"] == "NTSC" else PAL
-        stream = side_of([field["vbi"]["vbiData"] for field in side.document["fields"]], setup)
-        counted = "times" if side.layout.startswith("clv") else "pictures"
+    for seed in range(20):
+        one = simulated(seed, count=250)
+        setup = NTSC if one.document["videoParameters"]["system"] == "NTSC" else PAL
+        stream = side_of([field["vbi"]["vbiData"] for field in one.document["fields"]], setup)
+        counted = "times" if one.layout.startswith("clv") else "pictures"
         answers = ldvbi.judge(stream, setup[0], counted)
-        for number in {number for number in side.numbers[::37] if number is not None}:
-            place = ldvbi.seek(stream, number, counted)
-            found += place is not None
-            known += place is not None or ldvbi.first_of(answers, number) is not None
+        for number in set(one.numbers[::37]) - {None}:
+            is_found = ldvbi.seek(stream, number, counted) is not None
+            found += is_found
+            known += is_found or ldvbi.first_of(answers, number) is not None
     assert known > 20
     assert found >= 0.97 * known

@@ -1,15 +1,14 @@
-"""The nearest word of lines, and the word that piles say, as the library answers them, of which tests/library has more
-rows (lines.py, nearest.py, worn.py); due numbers that are the nearest words of their lines, and count as read; and what
-the command reads of noisy and worn sides. Dropouts: columns of lines that count for no nearest word, in the module's
-calls, in ld-decode's metadata, and where the command recovers words. Distances are counted on paper."""
+"""The nearest word of lines (tests/library has more rows: lines.py, nearest.py, worn.py); due numbers that are the
+nearest words of their lines, and count as read. Dropouts: columns of lines that count for no nearest word, in the
+module's calls, in ld-decode's metadata, and where the command recovers words. Distances are counted on paper."""
 
 import json
 import os
 import random
 import struct
 
-from compact import check, made, of_member
-from discs import plain, second
+from compact import check_row, made, of_member
+from discs import plain
 from hypothesis import given, settings, strategies as some
 import ldvbi
 from ldvbi.dropouts import told_dropouts
@@ -20,9 +19,18 @@ from ldvbi_side.near import measured, nearest_word_in
 from ldvbi_side.seek import seek, wanted_of
 from ldvbi_side.side import side_of_tbc
 import pytest
-from room import in_database, LEVELS
+from room import in_database
 from simulated_discs import disc, picture
 from streams import line_with, NTSC, PAL, pictures, worn_line, write_stream
+
+WORD = 0xF12345
+# Of the 29 columns of cell 9 (PAL: 35) 13 (16) are turned over: those in its first half cell, and in the second. So the
+# word is 13 (16) off, and the one with this bit turned 16 (19). It is recovered where it is ahead by 6.
+TURNED = {"NTSC": (13, (411, 417), (426, 431)), "PAL": (16, (513, 520), (530, 537))}
+
+
+def worn(setup, word=WORD):
+    return worn_line(word, setup, 9, TURNED[setup[0]][0])
 
 
 def test_the_nearest_word():
@@ -33,21 +41,6 @@ def test_the_nearest_word():
     assert isinstance(near, ldvbi.Near)
     assert near == (0xF12345, 150, 2 * column, 58 * column, 30 * column)
     assert ldvbi.nearest(2 * line_with(0, NTSC), *NTSC) == (None, 0, 0, 672 * column, 0)
-
-
-def test_what_piles_say():
-    """Of the 29 columns of cell 9 so many are turned over in each line: with 12 another word is farther by 5, with 13
-    by 3, with 14 by 1. Dropouts may be known, also where there are none."""
-    for line, turned, dropouts, word in ((17, (12, 14), (), 0xF00005), (17, (12, 14), None, None),
-                                         (17, (12, 12), None, 0xF00005), (16, (12, 13), (), None)):
-        lines = b"".join(worn_line(0xF00005, NTSC, 9, columns) for columns in turned)
-        assert ldvbi.recover_pile(lines, *NTSC, line, dropouts) == word
-    # two lines differ in cell 9: without the columns of the one the other says what it is
-    for setup, cell in ((NTSC, (407, 436)), (PAL, (509, 545))):
-        lines = line_with(0xF04005, setup) + line_with(0xF00005, setup)
-        for dropouts, word in (((), None), ([(0, *cell)], 0xF00005), ([(1, *cell)], 0xF04005),
-                               ([(1, 0, 9), (0, *cell), (1, 2000, 2 ** 40)], 0xF00005)):
-            assert ldvbi.recover_pile(lines, *setup, 17, dropouts) == word
 
 
 DUE = "1..20 9=?"  # picture 5, in field 9
@@ -74,35 +67,32 @@ def test_pictures():
     # beside a wrong word, which is set aside all the same
     found = asked("1..20 9=-/#79999/?", {(9, 17, 17): 0xF79999, (9, 18, 18): 0xF00005})
     check_confirmed(found, True)
-    assert [(one["field"], one["number"]) for one in found["doubtful"]] == [(9, 79999)]
+    assert of_member(found, "aside") == "9"
     # where none is due, and of a document
     for text, nearest in (("1..20 ?x2", lambda *place: 0xF00021), (DUE, None)):
-        check("none | %s | no confirmed" % text, nearest_word=nearest)
-
-
-def test_sought_and_mapped():
+        check_row("none", text, "no confirmed", nearest_word=nearest)
+    # sought, and in the map
     found = asked(DUE, {(9, 17, 17): 0xF00005}, analysed).answer
     assert seek(found, wanted_of("5")) == {"field": 9, "frame": 5, "read": True, "other": None}
-    assert [row for row in map_rows(found) if row[0] == "picture"][3:6] == [
-        ("picture", 4, 7, 4, "read"), ("picture", 5, 9, 5, "near"), ("picture", 6, 11, 6, "read")]
+    assert [row[4] for row in map_rows(found) if row[0] == "picture"][3:6] == ["read", "near", "read"]
 
 
 def test_times():
     """Time 0:01:00.00 stands in field 21. Minutes alone aren't confirmed."""
-    for word, is_confirmed in ((second(0, 0), True), (second(0, 1), False), (second(1, 0), False), ("F0DD01", False)):
-        found = asked("t1490..1509 21=?/M/?", {(21, 16, 16): int(word, 16)})
+    for word, is_confirmed in ((0x8AE000, True), (0x8AE001, False), (0x8AE100, False), (0xF0DD01, False)):
+        found = asked("t1490..1509 21=?/M/?", {(21, 16, 16): word})
         assert of_member(found, "confirmed") == ("21" if is_confirmed else "")
-        assert (["0:01:00.00", 21, 21] in found["showings"]) == is_confirmed
+        assert of_member(found, "@21") == ("0:01:00.00" if is_confirmed else "")
     words = {(field, 18, 18): 0xF0DD10 for field in range(1, 6001)}
     assert asked("m9x3000 m11x3000", words)["confirmed"] == []
 
 
-@pytest.mark.parametrize("setup, columns", ((NTSC, 13), (PAL, 16)))
-def test_samples(room, setup, columns):
+@pytest.mark.parametrize("setup", (NTSC, PAL))
+def test_samples(room, setup):
     """Of 20 pictures picture 5 has this line alone, which shows no word. It is ahead by 2 or 3 columns, which are too
     few to recover it where no number is due."""
     fields = [field for number in range(1, 21) for field in ([0, picture(number), 0], [0, 0x800DDD, 0x800DDD])]
-    fields[8] = [0, worn_line(0xF00005, setup, 9, columns), 0]
+    fields[8] = [0, worn(setup, 0xF00005), 0]
     write_stream(room.path, setup, fields)
     for recover in (True, False):
         one = side_of_tbc(room.path, ldvbi.System[setup[0]], *setup[1:], recover=recover)
@@ -111,81 +101,35 @@ def test_samples(room, setup, columns):
         check_confirmed(one.answer, recover)
 
 
-SETUPS = {"cav-ntsc": NTSC, "cav-pal": PAL, "cav-film": NTSC, "clv-pal": PAL}
-PICTURES = 24
+@pytest.mark.parametrize("kind", ("cav-ntsc", "cav-film"))
+def test_each_number_stands_in_its_field(drawn, kind):
+    """With noise for which many words aren't recovered the numbers around leave no other than the nearest one."""
+    rng, form = random.Random(kind), struct.Struct("<910H")
 
+    def noisy(word):
+        return form.pack(*(min(max(round(rng.gauss(sample, 0.95 * (NTSC[2] - NTSC[1]))), 0), 65535)
+                           for sample in form.unpack(ldvbi.draw_line(word, *NTSC))))
 
-def noisy(rng, word, setup, noise):
-    """A drawn line, to each sample of which noise is added, that has this share of white - black as its deviation."""
-    line = ldvbi.draw_line(word, *setup)
-    _, black, white = setup
-    deviation = noise * (white - black)
-    samples = [min(max(round(rng.gauss(sample, deviation)), 0), 65535)
-               for sample in struct.unpack("<%dH" % (len(line) // 2), line)]
-    return struct.pack("<%dH" % len(samples), *samples)
-
-
-@pytest.mark.parametrize("kind, noise", (*((kind, 0.5) for kind in SETUPS), ("cav-ntsc", 0.95), ("cav-film", 0.95)))
-def test_each_number_stands_in_its_field(drawn, kind, noise):
-    """Discs of a kind, of which each line has noise. With that of half of the way from black to white all is read, and
-    all of it by recovered words. With nearly as much as from black to white many words aren't recovered, but the
-    numbers around leave no other than the nearest one."""
-    rng, setup = random.Random(kind), SETUPS[kind]
-    rows = disc(rng, kind, PICTURES)
-    write_stream(drawn.named("side.tbc"), setup, [
-        [noisy(rng, word, setup, noise) if word else 0 for word in words] for _, words, _ in rows])
-    words = "side.tbc --system %s --black %d --white %d --json" % setup
-    found = json.loads(drawn.printed(words))
-    shown = {field: number for number, field, _ in found["showings"]}
-    wanted = {field: number for field, (number, *_) in enumerate(rows, 1) if number is not None}
-    if kind.startswith("cav"):
-        assert shown == wanted
+    fields = disc(rng, kind, 24)
+    write_stream(drawn.path, NTSC, [[noisy(word) if word else 0 for word in words] for _, words, _ in fields])
+    found = json.loads(drawn.printed("side.tbc LEVELS --json"))
+    wanted = {field: number for field, (number, *_) in enumerate(fields, 1) if number is not None}
+    assert {field: number for number, field, _ in found["showings"]} == wanted
     between = [one for one in found["missing"] if one["before"] != min(wanted)]
-    assert (list(shown), between, found["unread"], found["doubtful"]) == (list(wanted), [], [], [])
-    if noise == 0.5:
-        assert json.loads(drawn.printed(words + " --no-recover"))["showings"] == []
-    else:
-        assert len(found["confirmed"]) > 1
-
-
-# Of a side with worn lines, whose metadata has no dropouts.
-def test_with_recovered_words(drawn):
-    """Line 17 of field 1 is worn: its word is 11 columns off, and any other one 29 - 11. Line 18 of field 3 is 13
-    columns off, which is too much. The document says what the stream does."""
-    write_stream(drawn.named("side.tbc"), NTSC, [[0, worn_line(0xF12345, NTSC, 9, 11), 0], [0x82CFFF, 0, 0xF00002],
-                                               [0, 0, worn_line(0xF54321, NTSC, 9, 13)]], 7)
-    drawn.metadata("side.tbc.json")
-    wanted = drawn.extracted("side.tbc", [*LEVELS, "--recover"])
-    assert wanted.count(b'"word":') == 1
-    said = "ldvbi-side: side.tbc: the last field is cut: field 4 has 7 of 478660 bytes\n"
-    for words in ("side.tbc LEVELS", "side.tbc", "side.tbc --svg side.svg"):
-        assert drawn.run_command(words + " --document --recovered") == (3, wanted, said)
-    drawn.write("again.json", wanted)
-    found = [json.loads(drawn.run_command(name + " --json")[1]) for name in ("side.tbc", "again.json")]
-    assert found[0] == found[1]
-
-
-WORD = 0xF12345
-# Of the 29 columns of cell 9 (PAL: 35) 13 (16) are turned over: those in its first half cell, and in the second. So the
-# word is 13 (16) off, and the one with this bit turned 16 (19). It is recovered where it is ahead by 6.
-TURNED = {"NTSC": (13, (411, 417), (426, 431)), "PAL": (16, (513, 520), (530, 537))}
-
-
-def worn(setup):
-    return worn_line(WORD, setup, 9, TURNED[setup[0]][0])
+    assert (between, found["unread"], found["doubtful"]) == ([], [], [])
+    assert len(found["confirmed"]) > 1
 
 
 @pytest.mark.parametrize("setup", (NTSC, PAL))
 def test_each_call(room, setup):
-    """The last of 100 fields, as each call reads it. Line 16 is recovered without dropouts: its word is 11 columns off
-    (PAL: 14), and another one 17 or more. On line 17 three of the turned columns are enough, two are not; dropouts come
-    in any order, may overlap, and may be far beyond the line."""
+    """The last of 100 fields. Line 16 is recovered without dropouts: its word is 11 columns off (PAL: 14), another one
+    17 or more. On line 17 three of the turned columns are enough; dropouts come in any order, and may be far beyond."""
     _, (begin, end), (second, last) = TURNED[setup[0]]
     lines = [worn_line(0x85D0A1, setup, 5, 11 + 3 * (setup == PAL)), worn(setup), line_with(0xF54321, setup)]
     write_stream(room.path, setup, [[]] * 99 + [lines])
     field = room.read("side.tbc")[-ldvbi.field_bytes(setup[0]):]
     for recover, dropouts, is_found in ((False, None, False), (True, None, False), *((True, *row) for row in (
-            ([], False), ([(17, begin, end)], True), ([(17, second, last), (17, begin, end)], True),
+            ([], False), ([(17, second, last), (17, begin, end)], True),
             ([(17, begin, begin + 1)], False), ([(17, begin, begin + 2)], True),
             ([(17, begin, begin)] * 9, False), ([(16, begin, end), (18, begin, last)], False),
             ([(17, 1050, 2 ** 40), (17, begin, end), (17, 0, 5)], True), ([(17, 0, 2 ** 40)], False)))):
@@ -210,33 +154,26 @@ def test_each_field_has_its_own(room):
 
 
 def test_erased_columns_cost_nothing(room):
-    """Of 13 and 16 columns, in hundredths. Another line, and another field, is as it is. Of cell 5 half of the 28
-    columns are turned, 297 among them: another word is as near, also where white is an odd number above black."""
+    """Of 13 and 16 columns, in hundredths. Of cell 5 half of the 28 columns are turned, 297 among them: another word is
+    as near. A signal goes on for one more cell behind the word: this row is nearer by 14 columns."""
     write_stream(room.path, NTSC, [[0, worn(NTSC), worn(NTSC)], [0, worn(NTSC), 0]])
     with ldvbi.Stream(room.path, *NTSC, True, [(0, 17, 411, 414), (0, 17, 413, 417), (0, 18, 838, 2000)]) as side:
         assert [measured(side, *place) for place in ((1, 17), (1, 18), (2, 17))] == [
             (WORD, 600, 1600), (WORD, 1300, 1600), (WORD, 1300, 1600)]
-    for white in (51200, 51201):
-        setup = ("NTSC", 16384, white)
-        write_stream(room.path, setup, [[0, worn_line(WORD, setup, 5, 14), 0]])
-        for columns, nearest in (((500, 520), None), ((297, 298), WORD), ((296, 297), None),
-                                 ((295, 297), WORD ^ 0x40000)):
+    half = ((500, 520), None), ((297, 298), WORD), ((296, 297), None), ((295, 297), WORD ^ 0x40000)
+    goes_on = ((500, 540), None), ((837, 846), WORD), ((837, 845), None)
+    odd = ("NTSC", 16384, 51201)
+    for setup, line, rows in ((NTSC, worn_line(WORD, NTSC, 5, 14), half), (odd, worn_line(WORD, odd, 5, 14), half),
+                              (NTSC, line_with(WORD, NTSC, [(837, 850, True)]), goes_on)):
+        write_stream(room.path, setup, [[0, line, 0]])
+        for columns, nearest in rows:
             with ldvbi.Stream(room.path, *setup, True, [(0, 17, *columns)]) as side:
                 assert nearest_word_in(side, 1, 17, 17) == nearest
-
-
-def test_a_signal_that_goes_on(room):
-    """It does for one more cell behind the word: this row is nearer by 14 columns."""
-    write_stream(room.path, NTSC, [[0, line_with(WORD, NTSC, [(837, 850, True)]), 0]])
-    for columns, nearest in (((500, 540), None), ((837, 846), WORD), ((837, 845), None)):
-        with ldvbi.Stream(room.path, *NTSC, True, [(0, 17, *columns)]) as side:
-            assert nearest_word_in(side, 1, 17, 17) == nearest
 
 
 # Members `dropOuts` of a field, and its dropouts
 TOLD = (({"fieldLine": [1, 16, 17, 18, 19], "startx": [1, 2, 3, 0, 5], "endx": [9, 2, 1000000, 9, 9]},
          [(16, 2, 2), (17, 3, 1000000), (18, 0, 9)]),
-        ({"fieldLine": [15, 19, 263], "startx": [1, -2, "x"], "endx": [9, None]}, []),
         ({"fieldLine": [17], "startx": [1], "endx": [9], "more": 1}, [(17, 1, 9)]),
         *((one, []) for one in ({}, [], None, 5, "x", {"fieldLine": [[17], 17], "startx": [1, 1], "endx": [2, 2]},
                                 {"fieldLine": "17", "startx": "1", "endx": "2"})))
@@ -249,12 +186,6 @@ INSERT INTO capture VALUES ('NTSC', 16384, 51200);
 CREATE TABLE fields (field_id, is_first_field); INSERT INTO fields VALUES (7, 0), (5, 0), (6, 1)"""
 DROP_OUTS = "CREATE TABLE drop_outs (capture_id, field_id, field_line, startx, endx)"
 INSERT = "INSERT INTO drop_outs VALUES (1, %s)"
-
-
-def dropouts(room, told):
-    """The dropouts of a JSON text with these values of `dropOuts`, each in the field of its place."""
-    fields = [{"seqNo": place + 1, "dropOuts": one} for place, one in enumerate(told)]
-    return read_metadata(room.write("meta.json", json.dumps({"videoParameters": {}, "fields": fields}))).dropouts
 
 
 @settings(max_examples=400)
@@ -271,13 +202,13 @@ def test_what_is_told(told):
 
 
 def test_json(room):
-    """Also beside fields that are none, and of the last member `fields` alone; `--into` has each field told."""
-    for told, wanted in TOLD:
-        assert dropouts(room, [told]) == [(0, *one) for one in wanted]
+    """Of each field in its place, also beside fields that are none, and of the last member `fields` alone; `--into` has
+    each field told."""
+    fields = json.dumps({"videoParameters": {}, "fields": [{"seqNo": 1, "dropOuts": told} for told, _ in TOLD]})
     every = [(place, *one) for place, (_, wanted) in enumerate(TOLD) for one in wanted]
-    assert dropouts(room, [told for told, _ in TOLD]) == every
+    assert read_metadata(room.write("meta.json", fields)).dropouts == every
     assert read_metadata(room.named("meta.json"), lambda *_: None).dropouts == every
-    one = '{"dropOuts":%s}' % json.dumps(TOLD[2][0])
+    one = '{"dropOuts":%s}' % json.dumps(TOLD[1][0])
     for text, wanted in (('{"fields":[5,{},%s]}', [(2, 17, 1, 9)]), ('{"fields":[%s],"fields":[{}]}', []),
                          ('{"fields":[%s],"fields":{}}', []), ('{"fields":[%s]', []), ("[%s]", [])):
         assert read_metadata(room.write("meta.json", text % one)).dropouts == wanted
@@ -285,37 +216,33 @@ def test_json(room):
 
 def test_database(room):
     """A field has the place of its field_id among those of the fields; what no field has is left out."""
-    for rows, wanted in ((["5, 17, 3, 9", "7, 16, 0, 0", "7, 18, 1, 2", "5, 15, 1, 2", "8, 17, 1, 2",
-                           "NULL, 17, 1, 2"], [(0, 17, 3, 9), (2, 16, 0, 0), (2, 18, 1, 2)]),
-                         (["5, 17, 3, 9", "5, 18, -1, 9", "6, 17, 1, 2", "7, 17, 1.5, 2"], [(1, 17, 1, 2)]),
-                         (["5, 17, 'x', 9", "6, 17, 1, NULL", "7, 17, 3, 2"], []), ([], [])):
-        assert of_database(room, DROP_OUTS, *(INSERT % row for row in rows)) == wanted
-    for more in ((), (DROP_OUTS.replace("startx", "x"), INSERT % "5, 17, 3, 9"),
-                 (DROP_OUTS, INSERT % "5, 17, 3, 9", "CREATE TABLE more AS SELECT * FROM fields")):
-        assert of_database(room, *more) == []
-
-
-def of_database(room, *statements):
-    path = room.named("meta.db")
-    if os.path.exists(path):
+    inserts = tuple(INSERT % row for row in ("5, 17, 3, 9", "7, 16, 0, 0", "7, 18, 1, 2", "5, 15, 1, 2", "8, 17, 1, 2",
+                                             "NULL, 17, 1, 2"))
+    bad = tuple(INSERT % row for row in ("5, 17, 'x', 9", "5, 18, -1, 9", "6, 17, 1, NULL", "7, 17, 1.5, 2"))
+    for statements, wanted in (
+            ((DROP_OUTS, *inserts), [(0, 17, 3, 9), (2, 16, 0, 0), (2, 18, 1, 2)]),
+            ((DROP_OUTS, *bad, INSERT % "6, 18, 1, 2"), []), ((DROP_OUTS, *bad[1:2], inserts[1]), [(2, 16, 0, 0)]),
+            ((DROP_OUTS,), []), ((), []), ((DROP_OUTS.replace("startx", "x"), inserts[0]), []),
+            ((DROP_OUTS, inserts[0], "CREATE TABLE more AS SELECT * FROM fields"), [])):
+        path = room.write("meta.db", b"")
         os.unlink(path)
-    in_database(path, *FORM.split(";"), *statements)
-    return read_metadata(path).dropouts
+        in_database(path, *FORM.split(";"), *statements)
+        assert read_metadata(path).dropouts == wanted
 
 
 # side.tbc has pictures 0 to 10, and in field 12 a line 17 alone, which is worn.
 @pytest.fixture
 def command(drawn):
-    write_stream(drawn.named("side.tbc"), NTSC, [*pictures(11), [0, worn(NTSC), 0]])
+    write_stream(drawn.path, NTSC, [*pictures(11), [0, worn(NTSC), 0]])
     drawn.told = {"dropOuts": {"fieldLine": [17], "startx": [411], "endx": [417]}}
     drawn.metadata("side.tbc.json", count=12, field=drawn.told)
     drawn.metadata("without.json", count=12)
     return drawn
 
 
-def near(command, *words):
+def near(command, *words, said=""):
     """How many lines 17 have a recovered word."""
-    return json.loads(command.printed("side.tbc", "--json", *words))["lines"]["17"]["near"]
+    return json.loads(command.printed("side.tbc", "--json", *words, said=said))["lines"]["17"]["near"]
 
 
 def test_they_are_used(command):
@@ -332,15 +259,12 @@ def test_they_are_used(command):
         "isFirstField": True, **command.told, "vbi": {"vbiData": [0, WORD, 0]}}
 
 
-@pytest.mark.parametrize("more, unused",
-                         (((), "isFirstField and dropOuts aren't"), (("--no-recover",), "isFirstField isn't")))
-def test_those_of_another_count_of_fields(command, more, unused):
+def test_those_of_another_count_of_fields(command):
     command.metadata("side.tbc.json", count=14, field=command.told)
     said = "ldvbi-side: side.tbc: 12 fields, side.tbc.json says 14, so its %s used: another system, or " \
-           "another file's metadata?\n" % unused
-    found = command.printed("side.tbc", "--json", *more, said=said)
-    assert json.loads(found)["lines"]["17"]["near"] == 0
-    if not more:
-        for words in (["--document"], ["--document", "--svg", "side.svg"]):
-            found = command.printed("side.tbc", "--recovered", *words, said=said)
-            assert found.count(b"[null,null,null]") == 12
+           "another file's metadata?\n"
+    assert near(command, "--no-recover", said=said % "isFirstField isn't") == 0
+    said %= "isFirstField and dropOuts aren't"
+    assert near(command, said=said) == 0
+    for words in (["--document"], ["--document", "--svg", "side.svg"]):
+        assert command.printed("side.tbc", "--recovered", *words, said=said).count(b"[null,null,null]") == 12

@@ -1,6 +1,5 @@
-"""Numbers that none of several captures reads, and that their lines say as one pile: worn lines, whose distances are
-counted on paper. And which levels, and which system, are named for a side of which hardly any line is read, and where
-none are."""
+"""Numbers that none of several captures reads, and that their lines say as one pile, with distances counted on paper.
+And which levels, and which system, are named for a side of which hardly any line is read."""
 
 import itertools
 import random
@@ -10,7 +9,6 @@ from discs import times
 import ldvbi
 from ldvbi import draw_line as steep
 from ldvbi.readings import Levels
-from ldvbi_side.answer.entries import Best
 from ldvbi_side.command.join import NOTHING_SHOWS
 from ldvbi_side.join.captures import capture_of
 from ldvbi_side.join.joined import join
@@ -21,10 +19,7 @@ import pytest
 from simulated_discs import picture
 from streams import NTSC, PAL, pictures, worn_line, write_stream
 
-# Of each system more than half of the columns of a cell, of which the word with this bit turned is nearer, by a column
-# or two: too few to say it
-HALF = {"NTSC": 15, "PAL": 18}
-PICTURES = range(1, 21)
+HALF = {"NTSC": 15, "PAL": 18}  # columns of a cell: with so many turned the other word is nearer, by one or two
 
 
 def worn(word, setup, *cells):
@@ -41,11 +36,11 @@ def half_worn(number, setup, cell):
     return worn(picture(number), setup, (cell, HALF[setup[0]]))
 
 
-def capture(room, name, setup, lines, dropouts=None, numbers=PICTURES):
+def capture(room, name, setup=NTSC, lines=(), dropouts=None, numbers=range(1, 21)):
     """A capture of pictures, with the number in the first field of each. `lines` has lines 17 and 18 of some."""
     fields = []
     for number in numbers:
-        fields += [[0, *lines.get(number, [picture(number)] * 2)], [0, 0, 0]]
+        fields += [[0, *dict(lines).get(number, [picture(number)] * 2)], [0, 0, 0]]
     return capture_of_fields(room, name, setup, fields, dropouts)
 
 
@@ -62,10 +57,9 @@ def how(*captures):
     return {number: how for number, _, _, _, how in join(list(captures)).taken if how != "read"}
 
 
-def each_elsewhere(room, setup, count, number=5):
-    """Captures of which each has another cell of a picture worn."""
-    return [capture(room, str(cell), setup, {number: [half_worn(number, setup, cell), 0]})
-            for cell in range(5, 5 + count)]
+def each_elsewhere(room, setup, count, due=5, said=5):
+    """Captures of which each has another cell of line 17 worn where a picture is due."""
+    return [capture(room, str(cell), setup, {due: [half_worn(said, setup, cell), 0]}) for cell in range(5, 5 + count)]
 
 
 @pytest.mark.parametrize("setup", (NTSC, PAL))
@@ -80,54 +74,37 @@ def test_each_is_worn_elsewhere(room, setup):
 
 def test_more_than_a_pile_has(room):
     """The first 28 lines are asked, and not those that say another number behind them."""
-
-    def captures(number):
-        return [capture(room, "%d.%d" % (number, cell), NTSC, {5: [half_worn(number, NTSC, cell), worn(
-            picture(number), NTSC, (1, 1), (cell, 15))]}) for cell in range(5, 19)]
-
-    ones, others = captures(5), captures(8)
+    ones, others = ([capture(room, "%d.%d" % (number, cell), NTSC, {5: [half_worn(number, NTSC, cell), worn(
+        picture(number), NTSC, (1, 1), (cell, 15))]}) for cell in range(5, 19)] for number in (5, 8))
     assert how(*ones, *others) == {5: "together"}
     assert how(*others, *ones) == {5: "neighbours"}
 
 
 def test_whose_lines_are_asked(room):
-    """Those of two captures or more in which the number is due, and nowhere read, and which aren't blank."""
+    """Those of two captures or more in which the number is due, and nowhere read, and which aren't blank; not those of
+    one alone that has the pictures twice. Another number isn't due, whatever the lines say."""
     a, b = each_elsewhere(room, NTSC, 2)
-    blank = capture(room, "blank", NTSC, {5: [0, 0]})
-    clean = capture(room, "clean", NTSC, {})
-    lost = capture_of_fields(room, "lost", NTSC, [[0, *2 * [picture(number) * part]] for number in PICTURES
-                                                 if number != 5 for part in (1, 0)])
-    assert how(a, b, blank, lost) == {5: "together"}
-    for others in ([blank], [blank, blank], [lost]):
-        assert how(a, *others)[5] == "neighbours"
-    assert how(blank, blank) == {5: "neighbours"}
-    assert how(a, b, clean) == {}
-    near = capture(room, "near", NTSC, {5: [worn(picture(5), NTSC, (9, 12)), 0]})
-    assert how(a, near, b) == {5: "near"}
-
-
-def test_one_capture_that_has_a_field_twice(room):
-    """It isn't asked alone: here the first 20 pictures are played twice, and picture 5 is worn elsewhere each time."""
-    fields = [[0, *2 * [picture(number) * part]] for number in PICTURES for part in (1, 0)]
+    blank, clean = capture(room, "blank", lines={5: [0, 0]}), capture(room, "clean")
+    fields = [[0, *2 * [picture(number) * part]] for number in range(1, 21) for part in (1, 0)]
+    lost = capture_of_fields(room, "lost", NTSC, fields[:8] + fields[10:])
     twice = 2 * fields
     twice[8], twice[48] = ([0, half_worn(5, NTSC, cell), 0] for cell in (5, 6))
-    other = capture_of_fields(room, "other", NTSC, fields[:6])
-    assert how(capture_of_fields(room, "twice", NTSC, twice), other) == {5: "neighbours"}
-
-
-def test_another_number(room):
-    """It isn't due, whatever the lines say."""
-    ones = [capture(room, str(cell), NTSC, {12: [half_worn(13, NTSC, cell), 0]}) for cell in (5, 6)]
-    assert how(*ones) == {12: "neighbours"}
+    near = capture(room, "near", lines={5: [worn(picture(5), NTSC, (9, 12)), 0]})
+    for captures, wanted in (
+            ((a, b, blank, lost), "together"), ((a, blank), "neighbours"), ((a, blank, blank), "neighbours"),
+            ((a, lost), "neighbours"), ((blank, blank), "neighbours"), ((a, b, clean), None), ((a, near, b), "near"),
+            ((capture_of_fields(room, "twice", NTSC, twice), capture(room, "other", numbers=(1, 2, 3))), "neighbours")):
+        assert how(*captures).get(5) == wanted
+    assert how(*each_elsewhere(room, NTSC, 2, 12, 13)) == {12: "neighbours"}
 
 
 def test_words_of_pass_1(room):
     """One that says another number is enough, whatever the other lines say."""
     half = [half_worn(5, NTSC, cell) for cell in (5, 6, 7)]
     for first, second, wanted in ((0, 0, "together"), (0, picture(79999), "neighbours"),
-                               (picture(79999), picture(79998), "neighbours"),
-                               (picture(79999), picture(79999), "neighbours")):
-        ones = [capture(room, str(place), NTSC, {5: [line, half[place]]})
+                                  (picture(79999), picture(79998), "neighbours"),
+                                  (picture(79999), picture(79999), "neighbours")):
+        ones = [capture(room, str(place), lines={5: [line, half[place]]})
                 for place, line in enumerate((first, second, 0))]
         assert how(*ones) == {5: wanted}
 
@@ -135,33 +112,29 @@ def test_words_of_pass_1(room):
 @pytest.mark.parametrize("dropouts, wanted", ((None, "neighbours"), ([(39, 18, 0, 5)], "together")))
 def test_a_copy_of_a_capture(room, dropouts, wanted):
     """In one capture the word with a bit of cell 9 turned is nearer by a column, in the other one it is farther by 9.
-    These are 8, and with a copy of that 17: it says nothing more. Where dropouts are known in all, somewhere, 6 are
-    enough."""
+    These are 8, and with a copy of that 17. Where dropouts are known in all, somewhere, 6 are enough."""
     one = capture(room, "a", NTSC, {5: [worn(picture(5), NTSC, (9, 15)), 0]}, dropouts)
     other, copy, unknown = (capture(room, name, NTSC, {5: [worn(picture(5), NTSC, (5, 14), (9, 10)), 0]}, known) for
                             name, known in (("b", dropouts), ("c", dropouts), ("d", None)))
-    assert how(one, other) == {5: wanted}
-    assert how(one, other, copy) == {5: wanted}
+    assert (how(one, other), how(one, other, copy)) == ({5: wanted}, {5: wanted})
     assert how(one, unknown) == {5: "neighbours"}
 
 
 def test_a_detour(room):
     """Its fields aren't asked: there the other capture has other numbers."""
-    one = capture(room, "a", NTSC, {160: [half_worn(160, NTSC, 5), 0]}, None,
-                       (*range(1, 51), *range(151, 171), *range(71, 101)))
-    other = capture(room, "b", NTSC, {160: [half_worn(160, NTSC, 6), 0]}, None, range(121, 181))
-    whole = capture(room, "c", NTSC, {}, None, range(1, 101))
+    one, other = (capture(room, name, NTSC, {160: [half_worn(160, NTSC, cell), 0]}, None, numbers)
+                  for name, cell, numbers in (("a", 5, (*range(1, 51), *range(151, 171), *range(71, 101))),
+                                              ("b", 6, range(121, 181))))
     assert how(one, other) == {160: "together"}
-    assert how(one, other, whole) == {160: "neighbours"}
+    assert how(one, other, capture(room, "c", numbers=range(1, 101))) == {160: "neighbours"}
 
 
 def test_times(room):
     """A time stands on line 16 of its first field."""
-    rows = [[0 if word == "-" else int(word, 16) for word in row.split(" ")] for row in times(range(20))]
     ones = []
     for cell in (13, 14):
-        fields = [list(row) for row in rows]
-        fields[8][0] = worn(rows[8][0], PAL, (cell, HALF["PAL"]))
+        fields = [[int(word.replace("-", "0"), 16) for word in row.split(" ")] for row in times(range(20))]
+        fields[8][0] = worn(fields[8][0], PAL, (cell, HALF["PAL"]))
         ones.append(capture_of_fields(room, str(cell), PAL, fields))
     assert how(*ones) == {"0:00:00.04": "together"}
 
@@ -169,30 +142,24 @@ def test_times(room):
 def test_their_columns_count_for_nothing(room):
     """In cell 9 another word is nearer by a column in each capture. Without three that are wrong it is farther by two,
     and by six in three captures."""
-
-    def captures(dropouts):
-        return [capture(room, str(cell), NTSC, {5: [worn(picture(5), NTSC, (9, 15), (cell, 15)), 0]}, dropouts)
+    for dropouts, wanted in (([(8, 17, 411, 413)], "together"), ([(8, 17, 411, 411)], "neighbours"),
+                             ([(8, 18, 411, 413)], "neighbours"), ([(9, 17, 411, 413)], "neighbours")):
+        ones = [capture(room, str(cell), NTSC, {5: [worn(picture(5), NTSC, (9, 15), (cell, 15)), 0]}, dropouts)
                 for cell in (5, 12, 19)]
-
-    assert how(*captures([(8, 17, 411, 413)])) == {5: "together"}
-    for dropouts in ([(8, 17, 411, 411)], [(8, 18, 411, 413)], [(9, 17, 411, 413)], None):
-        assert how(*captures(dropouts)) == {5: "neighbours"}
+        assert how(*ones) == {5: wanted}
 
 
-def test_samples():
+def test_levels_that_differ(room):
+    """Samples by other levels, and captures whose levels have nothing in common; whichever is the first."""
     samples = struct.pack("<6H", 20000, 40000, 30000, 20001, 0, 65535)
-    assert struct.unpack("<6H", _levelled(samples, Levels(20000, 40000), Levels(10000, 60000))) == (
-        10000, 60000, 35000, 10003, 0, 65535)
-    assert struct.unpack("<6H", _levelled(samples, Levels(10000, 60000), Levels(20000, 40000))) == (
-        24000, 32000, 28000, 24000, 16000, 42214)
-    assert _levelled(samples, Levels(10000, 60000), Levels(10000, 60000)) is samples
-
-
-@pytest.mark.parametrize("some", itertools.permutations((("NTSC", 1000, 9000), ("NTSC", 30000, 60000), NTSC)))
-def test_captures(room, some):
-    """Whose levels have nothing in common; whichever is the first."""
-    ones = [capture(room, str(cell), setup, {5: [half_worn(5, setup, cell), 0]}) for cell, setup in enumerate(some, 5)]
-    assert how(*ones) == {5: "together"}
+    one, wide = Levels(20000, 40000), Levels(10000, 60000)
+    assert struct.unpack("<6H", _levelled(samples, one, wide)) == (10000, 60000, 35000, 10003, 0, 65535)
+    assert struct.unpack("<6H", _levelled(samples, wide, one)) == (24000, 32000, 28000, 24000, 16000, 42214)
+    assert _levelled(samples, wide, wide) is samples
+    for some in itertools.permutations((("NTSC", 1000, 9000), ("NTSC", 30000, 60000), NTSC)):
+        ones = [capture(room, str(cell), setup, {5: [half_worn(5, setup, cell), 0]})
+                for cell, setup in enumerate(some, 5)]
+        assert how(*ones) == {5: "together"}
 
 
 def test_what_is_printed(drawn):
@@ -223,32 +190,23 @@ def soft(word, *setup, width=7):
     return struct.pack("<%dH" % len(samples), *(sum(padded[at:at + width]) // width for at in range(len(samples))))
 
 
-def levels(room, setup):
-    """The answer's levels of the side, read by this setup."""
-    system, black, white = setup
-    side = side_of_tbc(room.path, ldvbi.System[system], black, white)
+def best(room, setup, drawn, fields, line_of=steep):
+    """What is said of a side that is drawn with one setup, and read by the other: how many of its lines are read, of
+    how many, and by which options how many. None where enough is read."""
+    write_stream(room.path, drawn, [[line_of(word, *drawn) for word in field] for field in fields])
+    side = side_of_tbc(room.path, ldvbi.System[setup[0]], *setup[1:])
     room.cleanup.callback(side.samples.close)
-    assert side.levels == (black, white)
-    return side.analysis.answer.levels
+    assert side.levels == setup[1:]
+    if not side.analysis.answer.levels:
+        return None
+    tried = side.analysis.answer.levels.tried
+    return [tried.read, tried.lines, tried.best and options_of(tried), tried.best and tried.best.read]
 
 
-def draw(room, setup, line_of=steep):
-    write_stream(room.path, setup, [[line_of(word, *setup) for word in field] for field in pictures(60)])
-
-
-def best(room, setup):
-    """What is said of the side that was drawn: how many of its lines are read, of how many, and by which options how
-    many."""
-    tried = levels(room, setup).tried
-    best = tried.best
-    return [tried.read, tried.lines, best and options_of(tried), best and best.read]
-
-
-def test_rows(room):
-    """A sample is high above the middle of the levels. So where codes are at 40 % of white no line has a high one; at
-    60 % steep codes are read, and soft ones aren't, whose halves are above the middle too short a time. Nothing is
-    tried where enough is read: steep codes at 60 and 80 % of white, and black that is too high by a fifth. None is
-    named for a side without any code, for one of noise, and for one whose lines are grey."""
+def test_levels_and_systems(room):
+    """A sample is high above the middle of the levels: with codes at 40 % of white none is; at 60 % steep codes are
+    read, and soft ones aren't, whose halves are above the middle too short a time. Nothing is tried where enough is
+    read, and none is named for a side without any code, for one of noise, and for one whose lines are grey."""
     rng, none = random.Random(1), [0, 120, None, None]
     for drawn, setup, line_of, wanted in (
             (at_share(NTSC, 40), NTSC, steep, [0, 120, "--white 30000", 120]),
@@ -265,34 +223,26 @@ def test_rows(room):
             # the highest white that there is
             (HIGHEST, HIGHEST, steep, None),
             (HIGHEST, ("NTSC", 1000, 5000), steep, [0, 120, "--white 65535", 120])):
-        draw(room, drawn, line_of)
-        assert (best(room, setup) if wanted else levels(room, setup)) == wanted
+        assert best(room, setup, drawn, pictures(60), line_of) == wanted
 
 
 def test_the_other_system(room):
     """Its fields are of another size, so of its lines hardly any are where they are looked for."""
-    for setup, other in ((NTSC, PAL), (PAL, NTSC)):
-        draw(room, setup)
-        tried = levels(room, other).tried
-        assert tried.best == Best(setup[0], None, None, 120)
-        assert 20 * tried.read < tried.lines
-    draw(room, at_share(NTSC, 40))
-    assert best(room, PAL)[2:] == ["--system NTSC --black 16384 --white 30000", 120]
+    for setup, drawn, options in ((PAL, NTSC, "--system NTSC --black 16384 --white 54016"),
+                                  (NTSC, PAL, "--system PAL --black 16384 --white 51200"),
+                                  (PAL, at_share(NTSC, 40), "--system NTSC --black 16384 --white 30000")):
+        read, lines, *found = best(room, setup, drawn, pictures(60))
+        assert found == [options, 120]
+        assert 20 * read < lines
 
 
-def test_one_of_two_fields_has_a_number(room):
-    """Fields are looked at in pairs, all over the side: half of 200 lines are read."""
-    fields = [field if number % 2 else [0, 0, 0] for number, field in enumerate(pictures(1001))]
-    drawn = at_share(NTSC, 40)
-    write_stream(room.path, drawn, fields)
-    assert best(room, NTSC) == [0, 200, "--white 30000", 100]
-
-
-def test_a_few_lines_are_no_reason(room):
-    """One line of 20 that other levels read is named, one of 21 isn't, nor that of a field without a code."""
-    drawn = at_share(NTSC, 40)
-    for blank, wanted in ((19, "--white 30000"), (20, None)):
-        write_stream(room.path, drawn, [[0, 0, 0]] * blank + pictures(1))
-        assert best(room, NTSC)[2] == wanted
-    write_stream(room.path, NTSC, [[0, 0, 0]])
-    assert best(room, NTSC) == [0, 2, None, None]
+def test_of_which_fields_lines_are_tried(room):
+    """Fields are looked at in pairs, all over the side: half of 200 lines are read where one of two fields has a
+    number. One line of 20 that other levels read is named, one of 21 isn't, nor that of a field without a code."""
+    for drawn, fields, wanted in (
+            (at_share(NTSC, 40), [field if place % 2 else [0, 0, 0] for place, field in enumerate(pictures(1001))],
+             [0, 200, "--white 30000", 100]),
+            (at_share(NTSC, 40), [[0, 0, 0]] * 19 + pictures(1), [0, 40, "--white 30000", 2]),
+            (at_share(NTSC, 40), [[0, 0, 0]] * 20 + pictures(1), [0, 42, None, None]),
+            (NTSC, [[0, 0, 0]], [0, 2, None, None])):
+        assert best(room, NTSC, drawn, fields) == wanted

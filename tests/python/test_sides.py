@@ -1,12 +1,11 @@
-"""Sides made by hand, each with its truth: rows of sides.txt and sides_whole.txt, and those that take more than a row.
-Whether a side is whole, and the reasons where it isn't or where that can't be told, in order of weight. And how many
-calls the analysis of noise takes."""
+"""Sides made by hand, each with its truth: rows of sides.txt, and those that take more than a row. All reasons why a
+side isn't whole, or why that can't be told, in order of weight. And how many calls the analysis of noise takes."""
 
 import cProfile
 import os
 import random
 
-from compact import check, check_row, made, of_member, rows, table_in
+from compact import check_row, made, of_member, rows, table_in
 from discs import answer, picture, plain, side, typed
 import ldvbi
 from ldvbi import Kind, Reason
@@ -19,14 +18,10 @@ from ldvbi_side.answer.whole import counted_by, reasons_of
 from ldvbi_side.judge.paces import Unit
 from ldvbi_side.judge.places import Break
 from ldvbi_side.judge.readings import Stray
-from ldvbi_side.seek import seek, wanted_of
 import pytest
 
-WHEEL = [40, 40, 41, 42, 42, 43, 45, 46, 47, 47, 48, 49, 49, 48, 47, 48, 49, 50]  # 44 is passed over
-TURNED = "1..40 %s 50 49 48 48 50 51 52..90" % " ".join(map(str, WHEEL))
 MOST = 16  # fields whose calls a field of noise may take
-ROWS = [row for name in ("sides.txt", "sides_whole.txt")
-        for row in table_in(os.path.join(os.path.dirname(__file__), name))]
+ROWS = list(table_in(os.path.join(os.path.dirname(__file__), "sides.txt")))
 
 
 @pytest.mark.parametrize("cells, more", ROWS, ids=["%d %s" % (place, row[0][0]) for place, row in enumerate(ROWS, 1)])
@@ -36,20 +31,11 @@ def test_row(cells, more):
 
 # ---- Numbers
 
-@pytest.mark.parametrize("every, pace", ((2, "film"), (5, "video"), (10, "video")))
-def test_pictures_in_a_row_with_two_fields_each(every, pace):
-    """The library believes their numbers at the pace of video. The last picture's fields don't count: none comes behind
-    it."""
-    text = " ".join("%d%s" % (number, " C" * (number % every == 0)) for number in range(1, 6 * every + 32))
-    assert made("NTSC " + text)["pace"] == pace
-
-
 def test_what_stands_beside_entries():
     one = made("1..600 799=79999")["doubtful"][0]
     assert (one["before"], one["after"]) == ({"field": 797, "number": 399}, {"field": 801, "number": 401})
     assert [(one["before"], one["after"]) for one in made("1..30 1.18=#7 59.18=#7")["doubtful"]] == [
         (None, {"number": 2, "field": 3}), ({"number": 29, "field": 57}, None)]
-    assert made("PAL/1 1..30 -1 S/-/-")["stops"] == [{"field": 60, "frame": 30, "number": None, "lines": [16]}]
     # the metadata has two fields more than were read
     for more in ([True, True], [False, True]):
         assert answer(rows("1..30"), first=[True, False] * 30 + more)["lost"] == []
@@ -57,66 +43,32 @@ def test_what_stands_beside_entries():
         {"chapter": 0, "field": 2, "last": 20, "after": None, "number": 1, "frame": 1},
         {"chapter": 1, "field": 22, "last": 40, "after": 20, "number": 11, "frame": 11}]
     assert made("t0..29")["chapters"][0]["number"] == "0:00:00.00"
-    found = made("1..10 5=S/S/#3 7=S/-/#4 16=S^/S*/S 2=S*/-/- 4=-/S^/-")
-    assert found["stops"] == [{"field": 5, "frame": 3, "number": 3, "lines": [16, 17]},
-                              {"field": 7, "frame": 4, "number": 4, "lines": [16]},
-                              {"field": 16, "frame": 8, "number": 8, "lines": [16, 17, 18]}]
+    found = made("PAL/1 1..10 5=S/S/#3 16=S^/S*/S 2=S*/-/- 4=-/S^/- -1 S/-/-")
+    assert found["stops"] == [{"field": 4, "frame": 2, "number": 3, "lines": [16, 17]},
+                              {"field": 15, "frame": 7, "number": 8, "lines": [16, 17, 18]},
+                              {"field": 20, "frame": 10, "number": None, "lines": [16]}]
     assert [one["pass"] for one in found["stray"]] == [2, 3]
-    assert made("Bx10")["levels"]["tried"] is None
-
-
-@pytest.mark.parametrize("system, rate", (("PAL", 25), ("NTSC", 30)))
-def test_a_turn_of_minutes_whose_neighbours_differ(system, rate):
-    """The time stands on the second field of its picture, or on the first, and its minute was read in the other fields
-    alone: the field before says the last minute, the field behind the next one."""
-    turn = 60 * rate
-    for lacking, order, field in ((turn - 1, "{1} {0}", 20), (turn, "{0} {1}", 21)):
-        pairs = []
-        for number in range(turn - 10, turn + 10):
-            minute = "@0:%d" % (number // turn)
-            time = "s%d.%d/M/%s" % (number // rate % 60, number % rate, "-" if number == lacking else minute)
-            pairs.append(order.format(time, "-/M/" + minute))
-        check("{0} {3} | {0} {1} | completed {3} | no unread doubtful | numbers 20 0:00:59.{2} to "
-              "0:01:00.09".format(system, " ".join(pairs), rate - 10, field))
-
-
-def test_unread_times_of_a_worn_disc():
-    """It isn't one that has its seconds on each fifth picture alone."""
-    fields = [7, 9, 17, 19, 23, 31, 33, 35, 45, 49, 57, 59, 61, 69, 71, 81, 83, 91, 101, 103]
-    found = made("t0..59 " + " ".join("%d.16=-" % field for field in fields))
-    assert [one["field"] for one in found["unread"]] == fields
-
-
-@pytest.mark.parametrize("between", ("Ox10 Lx10", "Ox10", "L", "O"))
-def test_joined_sides(between):
-    for begin in (560, 75, 62, 1):
-        check("%d | Lx10 1..59 %s %d..%d | no lost missing breaks | reasons joined" % (
-            begin, between, begin, begin + 59))
 
 
 def test_loops():
-    """In fields 95 to 99 stand the times 98 and 99; a round ends before 98 comes again."""
-    fields = rows("t50..139")
-    found = answer(fields[:100] + 12 * fields[95:100] + fields[100:])["breaks"]
-    assert {(one["from"], one["to"]) for one in found} == {("0:00:03.24", "0:00:03.23")}
     for length in range(4, 12):
         for fields in (rows("t50..139"), rows("50..139")):
             found = answer(fields[:100] + 9 * fields[100 - length:100] + fields[100:])["breaks"]
             assert {one["kind"] for one in found} == {"back"}
             assert sum(one["fields"] for one in found) == 9 * length
+            # in fields 95 to 99 stand the times 98 and 99; a round ends before 98 comes again
+            assert length != 5 or len({(one["from"], one["to"]) for one in found}) == 1
 
 
 def test_no_number_is_due_where_both_lines_say_another():
     """The numbers of a stretch that fit the ones around it by chance say nothing of the others. In the last side 42
-    stands twice and 44 is passed over, so that 45 comes in the field in which it is due. All that was shown is
-    believed."""
-    sides = ["1..40 %s 51..90" % " ".join(map(str, WHEEL[:begin] + WHEEL[begin - 2:])) for begin in range(2, 13)]
+    stands twice and 44 is passed over, so that 45 comes in the field in which it is due."""
+    wheel = "40 40 41 42 42 43 45 46 47 47 48 49 49 48 47 48 49 50".split()  # 44 is passed over
+    sides = ["1..40 %s 51..90" % " ".join(wheel[:begin] + wheel[begin - 2:]) for begin in range(2, 13)]
     for text in sides + ["1..42 42 42 43 43 45 48..79"]:
         found = made(text)
         assert [one for one in found["unread"] if "F" in rows(text)[one["field"] - 1]] == []
     assert {one["why"] for one in found["missing"]} - {"lost", "undecided"} == set()
-    shown = [place for place, row in enumerate(rows(TURNED), 1) if " F" in row]
-    assert [field for _, field, _ in made(TURNED)["showings"]] == shown
 
 
 def calls(fields):
@@ -143,32 +95,22 @@ def test_the_worst_sides():
 
 # ---- Parts
 
-def test_chapters():
-    for wrong in (0, 1, 4, 7, 79):
-        check("{0} | 1..20 2:20/2=-/c2/c2 22:40/2=-/c3/c3 30=-/c{0}/c{0} | chapters 2@2-20, 3@22-40 "
-              "| doubtful 30/17 {0} chapter, 30/18 {0} chapter".format(wrong))
-    beside = " ".join(("-/#%d/c%d" if number % 2 else "S/S/c%.0s%d") % (number, number // 10)
-                      for number in range(1, 41))
-    check("beside a picture, or a stop | %s | chapters 0@1-9, 1@10-19, 2@20-29, 3@30-39, 4@40" % beside)
-
-
 def test_the_stops_that_the_library_believes():
     chance, items = random.Random(82), ["-", "?", "S", "S", "S*", "S^", "#7", "8BA0A1"]
     text = " ".join("/".join(chance.choice(items) for _ in range(3)) for _ in range(500))
-    states = enumerate(ldvbi.judge_stops(made(text, side).readings), 1)
-    stops = [field for field, state in states if state == ldvbi.State.believed]
+    stops = [field for field, state in enumerate(ldvbi.judge_stops(made(text, side).readings), 1)
+             if state == ldvbi.State.believed]
     assert len(stops) > 200
     assert [one["field"] for one in made(text)["stops"]] == stops
 
 
-@pytest.mark.parametrize("text, wanted", (
-    ("-/#1/#1* ?/!/~ S/S*/?", [[1, 0, 0, 1, 0, 1, 0], [1, 1, 0, 0, 0, 0, 1], [0, 1, 0, 0, 1, 1, 0]]),
-    ("-/#1^/#1 ?/!/#2^ -/S*/#3^", [[0, 0, 0, 2, 0, 1, 0], [0, 1, 1, 0, 0, 0, 1], [1, 0, 2, 0, 0, 0, 0]])))
-def test_counts_of_lines(text, wanted):
-    lines = made(text)["lines"]
-    assert [list(lines), list(lines["16"])] == [["16", "17", "18"], [
-        "pass1", "pass2", "near", "blank", "unfinished", "change", "hold"]]
-    assert [list(one.values()) for one in lines.values()] == wanted
+def test_counts_of_lines():
+    """In pass 1, in pass 2, recovered, blank, unfinished, change and hold."""
+    assert " ".join(made("B")["lines"]["16"]) == "pass1 pass2 near blank unfinished change hold"
+    for text, wanted in (("-/#1/#1* ?/!/~ S/S*/?", "16 1001010 17 1100001 18 0100110"),
+                         ("-/#1^/#1 ?/!/#2^ -/S*/#3^", "16 0002010 17 0110001 18 1020000")):
+        found = ("%s %d%d%d%d%d%d%d" % (line, *one.values()) for line, one in made(text)["lines"].items())
+        assert " ".join(found) == wanted
 
 
 def test_bad_lines():
@@ -178,38 +120,6 @@ def test_bad_lines():
                     {"field": 2, "line": 17, "cause": "hold 200", "column": 200, "offset": 507780, "bytes": 1820},
                     {"field": 2, "line": 18, "cause": "unfinished", "column": None, "offset": 509600, "bytes": 1820}]
     assert [(one["offset"], one["bytes"]) for one in pal] == [(744560, 2270), (746830, 2270), (749100, 2270)]
-
-
-@pytest.mark.parametrize("systems, text, number, field, shown", (
-    ("PAL NTSC", "t0..19 ~11", "0:00:00.05", 11, 12), ("PAL NTSC", "t0..19 ~12", "0:00:00.06", 12, 12),
-    ("PAL NTSC", "1..20 ~11", 6, 11, 12), ("PAL NTSC", "1..20 ~12", 7, 12, 12),
-    ("PAL", "1..20 11=-/#6/- ~11", 6, 11, 12), ("PAL", "1..20 11=-/#6*/#6* ~11", 6, 11, 12),
-    ("NTSC", "b1..30 ~10", 6, 10, 10), ("PAL/11,13", "1..20 ~11", 6, 11, 12)))
-def test_swapped_fields(systems, text, number, field, shown):
-    """A number is believed where it was read. Time n stands in field 2n + 1, picture n in field 2n - 1; of numbers on
-    both fields 5 stands in 9 and 10. In the last row first fields are swapped with their numbers."""
-    for system in systems.split():
-        check("{0} {1} | {0} {1} | swapped {2}@{3} | @{4} {2} | reasons swapped | "
-              "no doubtful missing unread breaks lost repeated".format(system, text, number, field, shown))
-    found = seek(made("t0..19 ~11", typed), wanted_of("0:00:00.05"))
-    assert (found["field"], found["read"]) == (12, True)
-
-
-@pytest.mark.parametrize("step", ("2", "3", "-1", "-2", "-3", "1/3"))
-def test_each_speed(step):
-    """All numbers are believed, those passed over are lost, and the speed is why the side isn't whole."""
-    stretch = [90 + place // 3 if step == "1/3" else 90 + int(step) * place
-               for place in range(60 if step == "1/3" else 21)]
-    numbers = [*range(90), *stretch, *range(stretch[-1] + 1, stretch[-1] + 41)]
-    gaps, count = sum(other - one > 1 for one, other in zip(numbers, numbers[1:])), len(set(numbers))
-    for kind in ("PAL t", "PAL ", "NTSC t", "NTSC "):
-        check("%s | %s %s | no breaks lost doubtful unread stills swapped | speeds %s 181-%d | count %d | showings x%d"
-              " | missing x%d | whys %s | reasons speed%s" % (
-                  kind, kind[:-1].strip(), " ".join(kind[-1].strip() + str(number) for number in numbers), step,
-                  179 + 2 * len(stretch), count, len(numbers), gaps, "lost" if gaps else "",
-                  ", missing" if gaps else ""))
-    check("both | NTSC %s | speeds x1 | speeds %s .. | no breaks doubtful stills | count %d" % (
-        " ".join("b%d" % number for number in numbers), step, count))
 
 
 # ---- Whether a side is whole
@@ -238,8 +148,8 @@ def test_what_else_is_known():
     for more, said in (({"expected": 68}, "yes"), ({"expected": 67}, "yes"),
                        ({"expected": 69}, "no: 68 fields of 69 that the metadata has"),
                        ({"cut": Cut(69, 5)}, "no: field 69 is cut")):
-        check("known | Lx4 1..30 Ox4 | said %s" % said, **more)
-    check("a cut field alone | B | said no: field 2 is cut; no picture number and no time", cut=Cut(2, 5))
+        check_row("known", "Lx4 1..30 Ox4", "said " + said, **more)
+    check_row("a cut field alone", "B", "said no: field 2 is cut; no picture number and no time", cut=Cut(2, 5))
     known = made("NTSC t0..20 t22..40", typed)
     assert [counted_by(known, why) for why in ("undecided", "lost")] == [1, 0]
 

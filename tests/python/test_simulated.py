@@ -1,16 +1,25 @@
-"""Simulated sides beside their truth: bounds for the seeds 2000 to 2041, six sides of each kind, and for sides that
-were played in other ways, three of each kind, with few pictures where the kind lets them be few."""
+"""Simulated sides beside their truth: bounds for six sides of each kind, and for sides that were played in other ways.
+The comparison with the truth, and what holds of every answer, find what is wrong with a changed answer. And whether
+simulated sides with one fault are whole (bench/sides/verdicts.py)."""
 
-import functools
+import copy
+import random
 import re
 from collections import Counter
 
-from measure import measured
+from compact import cells_of, made
+from comparison import Comparison
+from discs import plain
+from ldvbi_side.answer.analysis import analyse
+from measure import fields_of, measured
 import pytest
-from simulate import KINDS, PLAYED
+from simulate import KINDS, PLAYED, played_through, simulated
+from simulated_faults import FAULTS, faulty, lead_in_of, lead_out_of, rearranged, with_lead_out
+from sound import faults_of
+from truth import Truth
+from verdicts import column_of, kind_of, readable_in, true_of
 
-pytestmark = [pytest.mark.unrecorded, pytest.mark.xdist_group("simulated")]
-SEEDS = range(2000, 2042)
+pytestmark = pytest.mark.unrecorded
 # Of sides that were played in other ways, worn ones, and those of a player at hand: the pictures of a side, and how
 # many of three at least have exact missing numbers, exact first fields, and just the reasons why they aren't whole
 WORN = {"skips": (None, 2, 2, 0), "worn": (300, 3, 3, 3), "swapped": (200, 3, 3, 2), "speeds": (1100, 3, 3, 2),
@@ -39,11 +48,15 @@ def measure(kinds, sides):
     return totals, sum(totals.values(), Counter()), told
 
 
-@functools.lru_cache(maxsize=None)
 def played(kinds):
-    return measure(PLAYED, [(seed, {"kind": kind, "count": count, "sound": kind != "minutes" or seed == 0})
-                            for kind, (count, *_) in globals()[kinds].items()
-                            for seed in PLAYED_SEEDS.get(kind, range(3))])
+    """What is found of each of these kinds, and of all. No answer contradicts the words of its side."""
+    sides = [(seed, {"kind": kind, "count": count, "sound": kind != "minutes" or seed == 0})
+             for kind, (count, *_) in kinds.items() for seed in PLAYED_SEEDS.get(kind, range(3))]
+    totals, of_all, told = measure(PLAYED, sides)
+    within(of_all, "sides: %d; faults: 0" % (3 * len(kinds)))
+    for kind, (_, *least) in kinds.items():
+        within(totals[kind], "missing: %d..; first fields: %d..; reasons: %d.." % tuple(least))
+    return totals, of_all
 
 
 def test_bounds():
@@ -51,7 +64,7 @@ def test_bounds():
     has another number than on the disc. It is seldom left open whether a side is whole, but of few minutes alone.
     Single fields of a disc with a number on both fields of its pictures, or of film, are no gap."""
     # of a third each answer is looked at
-    totals, of_all, told = measure(KINDS, [(seed, {"sound": seed % 3 == 0}) for seed in SEEDS])
+    totals, of_all, told = measure(KINDS, [(seed, {"sound": seed % 3 == 0}) for seed in range(2000, 2042)])
     within(of_all, """
         faults: 0; wrong: 474 0; wrong chapters: 478 0; right: 102912; right found: ..1; right chapters: 76765;
         right chapters found: 0; numbers: 45601.. 0; due: 2801.. 0; unread numbers: 2701.. 0;
@@ -64,18 +77,9 @@ def test_bounds():
         within(counts, "sides: 6; wrong: 1..; right: 1..; numbers: 1..")
 
 
-@pytest.mark.parametrize("kinds", ["WORN", "BY_HAND"])
-def test_each_kind_that_was_played(kinds):
-    """No answer contradicts the words of its side."""
-    totals, of_all, told = played(kinds)
-    within(of_all, "sides: %d; faults: 0" % (3 * len(globals()[kinds])))
-    for kind, (_, *least) in globals()[kinds].items():
-        within(totals[kind], "missing: %d..; first fields: %d..; reasons: %d.." % tuple(least))
-
-
 def test_worn_sides():
     """Where few times have their minute, the library believes few of them."""
-    totals, of_all, told = played("WORN")
+    totals, of_all = played(WORN)
     within(of_all, """
         wrong: 71 0; right: 23001..; right found: ..10; numbers: 13701.. ..1; due: 801.. ..1;
         unread numbers: 781.. ..1; lost places: 96; backs: 27 ..2; swaps: 4 ..1; speeds: 3 0""")
@@ -86,7 +90,7 @@ def test_worn_sides():
 
 def test_sides_of_a_player_at_hand():
     """Of film that is turned by hand numbers may be called unread that were never shown; of no other kind."""
-    totals, of_all, told = played("BY_HAND")
+    totals, of_all = played(BY_HAND)
     within(of_all, """
         whole: 15; wrong: 41.. 0; right found: ..20; numbers: 1.. 0; unread numbers: 1.. ..6;
         lost numbers: 1.. ..1""")
@@ -95,3 +99,166 @@ def test_sides_of_a_player_at_hand():
         within(totals[name], "backs: 11.. ..%d" % (totals[name]["backs"] * 11 // 100))
     for name, table in (("sides", "lost: 0.. 0"), ("minutes", "lost: 0.. 0; lost places: 1.. 0")):
         within(totals[name], table)
+
+
+# ---- The comparison, and what holds of every answer
+
+def changed(known, change):
+    """An answer after these statements, in which its members have their names."""
+    found = copy.deepcopy(known)
+    exec(change, found)
+    return found
+
+
+# Changes after which less is as it should be, of what the comparison counts by this name
+LESS = {"wrong found": "doubtful.clear()", "first fields": "showings.pop()", "chapter table": "chapters.pop(0)",
+        "stops": "stops.append({'field': 1})",
+        "missing": "missing.append(dict(first=1000000, last=1000000, why='lost'))"}
+
+
+def test_each_change():
+    side = simulated(2000, "cav-pal", 0.02, 300)
+    truth, known = Truth(side), analyse(fields_of(side))
+
+    def counts(change):
+        told = []
+        return Comparison(truth, changed(known, change), lambda *one: told.append(one[0])).counts, told
+
+    before, told = counts("")
+    assert (told, [before[name] for name in LESS][1:]) == ([], [1] * 4)
+    for name, change in LESS.items():
+        found, told = counts(change)
+        assert found[name] < before[name] and told
+    found, told = counts("lost.append(dict(after=5, before=7, fields=9, by='number')); "
+                         "unread.append(dict(number=1, field=300))")
+    assert [found[name] - found[name + " found"] - before[name] + before[name + " found"] for name in
+            ("lost", "due")] == [1, 1]
+    assert told == ["due in the wrong field", "lost"]
+
+
+# Sides, which are simulated where a kind is named; behind them changes of their answers, each with the fault that is
+# found then. On film a number is sure to fit where the pictures beside it aren't read.
+ROWS = """
+    cav-both; cav-film; clv-ntsc; clv-minutes | doubtful.clear() | believed and set aside, or neither
+        | showings.pop() | believed and set aside, or neither | doubtful.append(doubtful[0]) | set aside twice
+    cav-pal | chapters[0]["chapter"] = 78 | believed and set aside, or neither
+    clv-pal | doubtful = [one for one in doubtful if one["kind"] != "time"] | believed and set aside, or neither
+    joined | stray.clear() | believed and set aside, or neither
+    1..29 19=-/#10/#77; t1000..1029 19.17=@0:09 | conflicts[0]["taken"] = None | field 19: lines that differ
+        | conflicts.pop() | field 19: lines that differ
+    cav-ntsc; cav-film; clv-pal | unread.append(dict(number=numbers["least"], read=None, field=chapters[0]["field"]))
+        | which has another code
+    cav-pal; cav-film; clv-pal
+        | next(one for one in doubtful if one["why"] == "neighbours" and one["kind"] != "time")["after"] = None
+        | has other numbers around
+    losses | lost.clear() | too few fields
+        | next(one for one in missing if one["why"] == "lost")["count"] = 1000 | too few fields
+    Lx3 1..29 Ox4 100..129 14=70000 | lost.append(dict(after=1, before=2, fields=None, by="parity"))
+        | lost beside the numbers, behind field 1 | lost.append(dict(after=60, before=66, fields=9, by="number"))
+        | lost between two sides, behind field 60 | stills.append(dict(number=2, first=6, last=8))
+        | another number in the still from field 6 on | unread.append(dict(number=6, field=14, read=7))
+        | due in field 14, which says another number
+    101..130 | lost[0]["fields"] = 203 | 203 fields are lost before field 1
+    NTSC 1..29 -21:24 | whole, reasons = "yes", [] | something is lacking, and whole is: yes
+    1..29 -21:24 | lost = breaks = missing = reasons = []; whole = "yes" | the library says that the side
+    NTSC t0..20 t22..40 | whole, reasons = "yes", [] | a number is undecided, and the side is whole
+    NTSC 1 | whole = "no" | whole is no, and the reasons are
+    NTSC B | whole = "yes" | whole is yes, and the reasons are
+    3..6 | whole = "can't tell" | whole is can't tell, and the reasons are
+    a minute from afar: t1000..1099 | showings[0][0] = "7:00:40.00" | field 1 has a minute that no field near it says
+    one that is said 50 pictures on, where by this number the next one has begun: t1450..1549
+        | showings[0][0] = "0:01:59.20" | field 1 says another minute, and no field near it outweighs that
+    1..29 19=-/#70000/#70000* | [one.update(number=10) for one in doubtful] | field 19 fits and is doubtful
+        | [one.update(read=None) for one in unread] | a number was read in field 19
+    NTSC f1..29 23:30=B 26=-/#70000/#70000* | [one.update(number=11) for one in doubtful]
+        | field 26 fits and is doubtful | [one.update(read=None) for one in unread] | a number was read in field 26
+    t1000..1029 19.16=s0.17 | [one.update(number="40.09") for one in doubtful] | field 19 fits and is doubtful
+        | [one.update(read=None) for one in unread] | a number was read in field 19
+    numbers that a player passed over while nothing was seen: 1..29 Bx40 34..59 | missing[0]["why"] = "unread"
+        | number 31 is unread, and nothing was seen there
+    times on each second picture: t1000..1059 3:120/4.16=-
+        | unread.append(dict(number="0:00:40.01", field=3, read=None))
+        | number 1001 is unread, and the disc hasn't got it
+    1..59 -/#60/#60x2 61..99 | pace = "both" | the pace is both, and 1 numbers stand on two fields
+    a picture between two stills: 1..29 -/#30/#30x42 -/#31/#31 -/#32/#32x41 B 33..59
+        | assert [one["number"] for one in stills] == [30, 32]; showings = [one for one in showings if one[0] != 31];
+        doubtful += [dict(field=101, line=line, kind="picture", number=31, why="alone", word="F00031",
+        before=dict(field=100, number=30), after=dict(field=102, number=32), **{"pass": 1}) for line in (17, 18)]
+        | field 101 has a picture between two stills, and it is doubtful
+    a minute without a third of its fields: n0..4x3000 -7001:8000 | lost.clear()
+        | minute 2 has 2000 fields, and none is lost
+    two sides may be joined there, which is another law's: n0..4x3000 -7001:8000 5101=O
+"""
+
+
+def test_each():
+    """The answer of a side has no fault, and after the change one with this text."""
+    for sides, *changes in cells_of(ROWS):
+        for text in sides.rpartition(": ")[2].split("; "):
+            of_kind = (0, 600) if text == "losses" else (0.02, 200)
+            is_kind = text in (*KINDS, *PLAYED)
+            fields = fields_of(simulated(2000, text, *of_kind)) if is_kind else made(text, plain)
+            known = analyse(fields)
+            assert faults_of(fields, known) == []
+            for change, fault in zip(changes[::2], changes[1::2]):
+                faults = faults_of(fields, changed(known, change))
+                assert [one for one in faults if fault in one]
+
+
+PICTURES = 120
+# What is true of sides with a fault, and whether they have a lead-out
+TRUE = {"sound": ("yes", True), "both": ("yes", True), "film cut": ("yes", True), "no lead-out": ("yes", False),
+        "cut off": ("no", False), "begun late": ("no", True), "twice": ("no", True), "one lost": ("no", True)}
+
+
+@pytest.mark.parametrize("fault, wanted", TRUE.items())
+def test_faults(fault, wanted):
+    """Minutes alone don't show one field more or less, nor the ends of their disc, nor how long a minute is that
+    doesn't stand between two others. A capture that was cut off is whole only if it may end."""
+    sides = [faulty(random.Random(seed), fault, seed, PICTURES) for seed in range(14)]  # two of each layout
+    others = [side for side in sides if side.layout != "clv-minutes"]
+    assert {(true_of(side), lead_out_of(side) is not None) for side in others} == {wanted}
+    if fault == "cut off":
+        assert {true_of(side, may_end=True) for side in others} == {"yes"}
+    of_minutes = [true_of(side) for side in sides if side.layout == "clv-minutes"]
+    assert of_minutes == ["either"] * (0 if fault in ("both", "film cut") else 2)
+
+
+def test_a_whole_minute():
+    seed = KINDS.index("clv-minutes")
+    for one in range(seed, seed + 3 * len(KINDS), len(KINDS)):
+        side = faulty(random.Random(one), "sound", one, 5000)
+        assert true_of(side) == ("either" if lead_in_of(side) is None else "yes")
+
+
+@pytest.mark.parametrize("layout, changes, gone, wanted", (
+    ("cav-pal", (0, 1, 0, 1), 0, "yes"), ("clv-pal", (0, 1, 0, 1), 0, "no"), ("cav-pal", (1, 0), 2, "no"),
+    ("cav-both", (1, 0), 2, "either"), *((layout, range(-8, 0), 0, "no") for layout in KINDS[:-1])))
+def test_fields_that_stand_otherwise(layout, changes, gone, wanted):
+    """A still is whole of a disc with pictures, a jump back isn't; fields that are swapped within a picture show only
+    if one of them has no number. Rows have the fields that are put before a first field with a number, counted from
+    there, and how many of those from it on are gone."""
+    side = played_through(1, layout, PICTURES)
+    at = next(field for field in range(100, 110) if side.numbers[field] is not None and side.first[field])
+    fields = [*range(at), *(at + change for change in changes), *range(at + gone, len(side.order))]
+    assert true_of(with_lead_out(rearranged(side, fields))) == wanted
+
+
+def test_no_number_can_be_read():
+    side = with_lead_out(played_through(1, "cav-pal", PICTURES))
+    for record in side.document["fields"]:
+        record["vbi"]["vbiData"], record["vbiPass"] = [0, 0, 0], [0, 0, 0]
+    assert readable_in(Truth(side)) == []
+    assert true_of(side, may_end=True) == "either"
+
+
+def test_each_answer_beside_each_truth():
+    assert [[column_of(said, true) for true in ("yes", "no", "either")] for said in ("yes", "no", "can't tell")] == [
+        ["right", "false yes", "either"], ["false no", "right", "either"],
+        ["can't tell of a yes", "can't tell of a no", "either"]]
+
+
+def test_a_seed_has_one_kind():
+    assert {kind_of(seed) for seed in range(3000)} & set(FAULTS) == set(FAULTS)
+    one, again = ([kind_of(seed, ("twice", "one lost")) for seed in range(9)] for _ in (1, 2))
+    assert one == again
