@@ -127,14 +127,14 @@ def place_of(part):
     return [*found, str(len(points)), *(str(round(float(end))) for end in ends)]
 
 
-# Sides, and what the drawing has of some classes, in this order and no more of it: the words, or with @ the places; with
-# + one that begins so, with - none, and behind # how many. In the first side pictures 7 and 8 are skipped, 11 comes
-# three times, 14 has no codes, 17 reads 79999, 20 reads 0, 23 reads 5, and behind 26 come 24 to 27. The pictures begin
-# with field 3; chapter 1 with 13, the 13th of them. In the second one, 40 fields of 24 pixels each, from 0:59:59.15 on,
-# the minutes of two fields are wrong, those of a third no clock shows, the picture of a fourth no clock shows. Whether
-# the three times before the last four are lost isn't known, since the library doesn't believe as few as these. In the
-# third one 20 fields share a pixel: one damaged line is seen nevertheless. Minutes stand on all their fields, of which
-# 48 have 20 pixels each, and the last one stays to the end.
+# Sides, and what the drawing has of some classes, in this order and no more of it: the words, or with @ the places;
+# with + one that begins so, with - none, and behind # how many. In the first side pictures 7 and 8 are skipped, 11
+# comes three times, 14 has no codes, 17 reads 79999, 20 reads 0, 23 reads 5, and behind 26 come 24 to 27. The pictures
+# begin with field 3; chapter 1 with 13, the 13th of them. In the second one, 40 fields of 24 pixels each, from
+# 0:59:59.15 on, the minutes of two fields are wrong, those of a third no clock shows, the picture of a fourth no clock
+# shows. Whether the three times before the last four are lost isn't known, since the library doesn't believe as few as
+# these. In the third one 20 fields share a pixel: one damaged line is seen nevertheless. Minutes stand on all their
+# fields, of which 48 have 20 pixels each, and the last one stays to the end.
 DRAWN = """
     NTSC Lx2 1..6 9..10 11x3 12..13 B C 15..16 79999 18..19 0 21..22 5 24..26 24..27 Ox2 28:62/2=-/c1/c1 7=S/S/#3
       10=-/S/c0 12=-/M/c0
@@ -261,23 +261,18 @@ def test_texts_are_apart():
 
 # Marks by their first and last field, of 960 that have a pixel each, of which a mark has two at least: what is drawn of
 # them, by the first and the last field, how many more there are in it, and up to which field these go
-JOINED = (
+@pytest.mark.parametrize("marks, wanted", (
     ("1-1 2-2 3-3", "1-3 2 3"), ("1-1 2-2 3-3 4-4 6-6", "1-4 3 4, 6-6"), ("1-1 3-3 5-5", "1-1, 3-3, 5-5"),
     ("1-9 10-19 20-29", "1-9, 10-19, 20-29"), ("1-100 5-6 20-30", "1-100 2 30"), ("1-100 5-90 20-30", "1-100 2 90"),
-    ("1-100 5-6 100-200", "1-200 2 200"), ("1-100 5-6 101-101", "1-100 1 6, 101-101"),
-    ("1-10 9-20 19-30 40-50 41-42", "1-30 2 30, 40-50 1 42"), ("959-959 960-960", "959-960 1 960"),
-    ("7-7 7-7", "7-7 1 7"))
-
-
-@pytest.mark.parametrize("marks, wanted", JOINED)
+    ("1-100 5-6 100-200", "1-200 2 200"), ("1-100 5-6 101-101", "1-100 1 6, 101-101"), ("7-7 7-7", "7-7 1 7"),
+    ("1-10 9-20 19-30 40-50 41-42", "1-30 2 30, 40-50 1 42"), ("959-959 960-960", "959-960 1 960")))
 def test_marks_that_fall_together(marks, wanted):
     ones = [tuple(map(int, mark.split("-"))) for mark in marks.split()]
     in_lane = list(drawing._joined(Axis(960), [Mark(*one, "m") for one in ones]))
     in_bar = list(bars._joined(Axis(960), [(*one, "m") for one in ones]))
-    for found, said, count in ((in_lane, "m; and %s more up to field %s", 2), (in_bar, "m; and %s more", 1)):
-        assert [mark for _, _, mark in found] == [
-            (int(first), int(last), said % tuple(more[:count]) if more else "m")
-            for first, last, *more in (re.findall(r"\d+", one) for one in wanted.split(", "))]
+    for found, said in ((in_lane, wanted), (in_bar, re.sub(r"( \d+) \d+", r"\1", wanted))):
+        assert ", ".join("%d-%d%s" % (first, last, re.sub("^m$|^m; and| more| up to field", "", text))
+                         for _, _, (first, last, text) in found) == said
     for begin, end, (first, last, _) in in_lane + in_bar:
         ends = [max(150 + b, 151 + min(a, 959)) for a, b in ones if first <= a and b <= last]
         assert (begin, end) == (149 + min(first, 959), max(ends))

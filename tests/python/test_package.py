@@ -1,18 +1,14 @@
-"""What pyproject.toml says of the module: its name, its version, the Pythons that it runs on, its command;
-and that each public function has types, and mypy finds nothing that they rule out."""
+"""The packages of python/: pyproject.toml names each, none imports one above it, each public function has types, and
+mypy finds nothing that they rule out."""
 
 import ast
-import contextlib
 import importlib.util
-import io
 import itertools
 import os
 import pathlib
 import re
 import subprocess
 
-import ldvbi
-import pytest
 from streams import TOP
 
 PYTHON = pathlib.Path(TOP, "python")
@@ -24,28 +20,14 @@ ROOMS = ["ldvbi_side." + name for name in ("judge", "join", "draw", "into", "com
 ORDER = ["ldvbi", ROOMS[0], "ldvbi_side", *ROOMS[1:]]
 
 
-def text_of(name):
-    return pathlib.Path(TOP, name).read_text("utf-8")
-
-
 def package_of(name):
     return name.rpartition(".")[0]
 
 
-def test_project():
-    project = dict(re.findall(r'^([a-z-]+) = (.*)$', text_of("pyproject.toml"), re.MULTILINE))
-    assert [project[name] for name in ("name", "requires-python", "version")] == [
-        '"ldvbi"', '">=3.9"', '{ attr = "ldvbi.__version__" }']
-    assert ldvbi.__version__ == re.search(r"^VERSION := (.*)$", text_of("Makefile"), re.MULTILINE).group(1)
-    module, name = project["ldvbi-side"].strip('"').split(":")
-    with contextlib.redirect_stderr(io.StringIO()), pytest.raises(SystemExit) as ended:
-        getattr(importlib.import_module(module), name)(["--black"])
-    assert ended.value.code == 2
-
-
 def test_files():
     """Each file of python/ belongs to one of the packages that are named, each of which has some."""
-    named = re.search(r"^packages = \[(.*?)\]$", text_of("pyproject.toml"), re.MULTILINE | re.DOTALL).group(1)
+    text = pathlib.Path(TOP, "pyproject.toml").read_text("utf-8")
+    named = re.search(r"^packages = \[(.*?)\]$", text, re.MULTILINE | re.DOTALL).group(1)
     assert set(map(package_of, MODULES)) == set(re.findall(r'"(.*?)"', named))
 
 
