@@ -1,6 +1,6 @@
 #!/bin/sh
-# Asks the examples in C, C++ and Python, the library by Python, and `ldvbi-side` for pictures, times, chapters and stops
-# of drawn sides, whether they are whole, and for their gaps: each has to answer what the table answers.txt has.
+# Asks the examples in C, C++ and Python, and `ldvbi-side` for pictures, times, chapters and stops of drawn sides,
+# whether they are whole, and for their gaps: each has to answer what the table answers.txt has.
 # Needs libldvbi.so.1 beside the program, or at the top of the repository (`make lib`).
 # usage: sh tests/answers/answers.sh PROGRAM
 # runs: library rust
@@ -18,23 +18,6 @@ for name in seek stops whole player; do
     [ -e "$source" ] || source="-x c++ $top/examples/$name.c"
     check "$name is built in C++" does $cxx -std=c++17 $strict -o ${name}_cpp $source $linked
 done
-# A picture or a time by ldvbi_seek alone
-cat > call.py << 'END_OF_PYTHON'
-import sys
-import ldvbi
-from seek import judged_number, wanted_codes
-path, system, black, white, asked = sys.argv[1:]
-code, seconds = wanted_codes(asked, False)
-number = judged_number(code, seconds, ldvbi.System[system])
-if number is None:
-    sys.exit("no clock shows this time")
-with ldvbi.Stream(path, system, int(black), int(white)) as side:
-    found = ldvbi.seek(side, number, "times" if seconds else "pictures")
-if found is None:
-    sys.exit(1)
-assert found.number.number == number and found.looked <= 1000
-print("field", found.field + 1)
-END_OF_PYTHON
 draws_sides
 
 # finds COMMAND..: leaves as the answer what a search has found; what it has found by the lines alone has status 3
@@ -49,7 +32,6 @@ lists() {
     [ "$status" != 0 ] || sed -n 's/^field \([0-9]*\).*/\1/p' out | paste -s -d ' ' |
         sed -n 's/^[0-9]/field &/p' > answer
 }
-
 # says COMMAND..: leaves as the answer what examples/whole.c says, or a program that says the same: whether the side is
 # whole, or nothing where it can't tell; or its gaps
 says() {
@@ -60,7 +42,8 @@ says() {
         *) sed -n "s/$gap/\1 \3 \4 \2/p" out | paste -s -d , | sed -n 's/,/, /g; /./p' > answer ;;
     esac
 }
-# The answerers, as `asks` takes them: the examples in a language, the players, `ldvbi-side`, and ldvbi_seek
+
+# The answerers, as `asks` takes them: the examples in a language, the players, and `ldvbi-side`
 searches() {
     case "$1 $4" in
         *' whole to lead-out') says ./whole_$1 "$2.tbc" $3 ;;
@@ -76,18 +59,15 @@ plays() {
     [ "$1" != python ] || player="python3 $top/examples/player.py"
     ! does $player "$2.tbc" $3 search "$4" || sed -n "s/^search: \(field [0-9]*\) picture $4\$/\1/p" out > answer
 }
-by_call() {
-    finds env PYTHONPATH="$top/python:$top/examples" python3 call.py "$1.tbc" $2 $3
-}
 by_side() {
-    set -- "$1.tbc" $2
-    set -- "$1" --system "$2" --black "$3" --white "$4"
+    options=$ntsc
+    [ "$2" = "$on_cav" ] || options=$pal
+    command="python3 $top/python/ldvbi-side $1.tbc $options"
     case $question in
-        stops) lists sh -c 'python3 "$0"/python/ldvbi-side "$@" --json | jq -r ".stops[] | \"field \(.field)\""' \
-            "$top" "$@" ;;
-        whole) says python3 "$top/python/ldvbi-side" "$@" --open-end ;;
-        whole*) says python3 "$top/python/ldvbi-side" "$@" ;;
-        *) finds python3 "$top/python/ldvbi-side" "$@" --seek "$question" ;;
+        stops) lists sh -c "$command --json | jq -r '.stops[] | \"field \(.field)\"'" ;;
+        whole) says $command --open-end ;;
+        whole*) says $command ;;
+        *) finds $command --seek "$question" ;;
     esac
 }
 
@@ -98,5 +78,4 @@ for language in c cpp python; do
     asks player "plays $language" '[0-9]*'
 done
 asks side by_side '[0-9csw].*'
-asks call by_call '[0-9:]*[.]*[0-9]*'
 finish

@@ -43,17 +43,13 @@ asks() {
     done < rows
 }
 
-# is_answered NAME ANSWER SILENT: whether the answer is this one, or none where the table has the name among the silent
+# is_answered NAME ANSWER SILENT: whether the answer is this one, or none where the table has the name among the silent:
+# then nothing was found, or the program knows no such question, and has said so
 is_answered() {
     case "$2 ${3%%:*} " in
-        none* | *" $1 "* | *' all ') is_none ;;
-        *) [ "$(cat answer)" = "$2" ] ;;
+        none* | *" $1 "* | *' all ') [ ! -s answer ] || return ;;
+        *) [ "$(cat answer)" = "$2" ]; return ;;
     esac
-}
-
-# is_none: nothing was found, or the program knows no such question, and has said so
-is_none() {
-    [ ! -s answer ] || return
     case "$question $status" in
         'stops 0' | 'gaps '[014] | 'whole'*' '[04] | *[0-9]' 1') ;;
         *' 2') [ -s err ] ;;
