@@ -133,8 +133,7 @@ def test_levels():
     assert Drawn(line(("NTSC", 0, 65535), -100, 100), ("NTSC", 20000, 40000)).outside == []
 
 
-def test_titles():
-    assert Drawn(line(NTSC), NTSC, title="side <1> & 2.tbc").title == "side <1> & 2.tbc"
+def test_a_long_title():
     assert re.fullmatch("0.{,90}\u20260*5", Drawn(line(NTSC), NTSC, title="%0120d" % 5).title)
 
 
