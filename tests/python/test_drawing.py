@@ -126,13 +126,15 @@ def place_of(part):
 
 
 # Sides, and what the drawing has of some classes, in this order and no more of it: the words, or with @ the places;
-# with + one that begins so, with - none, and behind # how many. In the first side pictures 7 and 8 are skipped, 11
-# comes three times, 14 has no codes, 17 reads 79999, 20 reads 0, 23 reads 5, and behind 26 come 24 to 27. The pictures
-# begin with field 3; chapter 1 with 13, the 13th of them. In the second one, 40 fields of 24 pixels each, from
-# 0:59:59.15 on, the minutes of two fields are wrong, those of a third no clock shows, the picture of a fourth no clock
-# shows. Whether the three times before the last four are lost isn't known, since the library doesn't believe as few as
-# these. In the third one 20 fields share a pixel: one damaged line is seen nevertheless. Minutes stand on all their
-# fields, of which 48 have 20 pixels each, and the last one stays to the end.
+# with + one that has these words, with - none, behind # how many, and behind = a limit. In the first side pictures 7
+# and 8 are skipped, 11 comes three times, 14 has no codes, 17 reads 79999, 20 reads 0, 23 reads 5, and behind 26 come
+# 24 to 27. The pictures begin with field 3; chapter 1 with 13, the 13th of them. In the second one, 40 fields of 24
+# pixels each, from 0:59:59.15 on, the minutes of two fields are wrong, those of a third no clock shows, the picture of
+# a fourth no clock shows. Whether the three times before the last four are lost isn't known, since the library doesn't
+# believe as few as these. In the third one 20 fields share a pixel: one damaged line is seen nevertheless; where there
+# are too many boxes twice as many share one, and again: at last 10,240. Minutes stand on all their fields, of which 48
+# have 20 pixels each, and the last one stays to the end. Of doubtful numbers three pixels from each other one is drawn,
+# and of many those within twelve pixels.
 DRAWN = """
     NTSC Lx2 1..6 9..10 11x3 12..13 B C 15..16 79999 18..19 0 21..22 5 24..26 24..27 Ox2 28:62/2=-/c1/c1 7=S/S/#3
       10=-/S/c0 12=-/M/c0
@@ -169,13 +171,20 @@ DRAWN = """
     MANY 95:19200/192=B 10083=B | #unread 100 | +@unread 10078-10084 654-656
     MANY 9601=B 9605=B 9609=B
       | @run 1-9599 481 150 488 630 368; 9603-9603 1 630 368 630 368; 9611-19199 481 630 368 1110 248
+    MANY 9601=-/?/#4801 | =MOST_BOXES 6 | +line-17 fields 1 to 10240: change in less than 1 % of these fields
+      | @line-17 1-10240 150-662 change 4; 1-10240 150-662 word 12; 1-10240 150-662 blank 12;
+      10241-19200 662-1110 word 14; 10241-19200 662-1110 blank 14
+    MANY 9641=-/#100/- 9643=-/#101/- 9781=-/#100/- | =MOST_RINGS 3 | @doubt 9641 ring 632 486; 9781 ring 639 486
+      | +doubt and 1 more near it
+    MANY 9641=-/#100/- 9643=-/#101/- 9781=-/#100/- | =MOST_RINGS 2 | @doubt 9641 ring 632 486
+      | +doubt and 2 more near it
     1..2001 33.17=? | +line-17 line 17, fields 31 to 36: change in 17 % of these fields
     NTSC t1740..1829!1800,1801,1802,1803,1804 | system NTSC, CLV, 170 fields, 85 times, 0:00:58.00 to 0:01:00.29
       | number-label 0:00:58; 0:00:59; 0:01:00
       | run 0:00:58.00 to 0:00:59.29 in fields 1 to 119; 0:01:00.05 to 0:01:00.29 in fields 121 to 169
     | empty no picture number and no time
     Bx40 | empty no picture number and no time; lines 17 and 18 have 0 words, 0 are bad, 80 blank: are black and ..
-    -/#3/#5 | +count doubtful: 2 NONE || NTSC 8AE001/@0:01/@0:02 | +count doubtful: 3 NONE
+    -/#9/#9 | run 9 in field 1 || -/#3/#5 | +count doubtful: 2 NONE || NTSC 8AE001/@0:01/@0:02 | +count doubtful: 3 NONE
     -/@0:01/@0:02 | +count doubtful: 2 NONE || NTSC f1..39 | system NTSC, CAV, film (2 and 3 fields a picture), 98 ..
     10..19 79999 21..29 | number-label 10; 15; 20; 25 | doubt doubtful: picture 79999 in .. | +count doubtful: 2
     10..19 1 21..29 | doubt doubtful: picture 1 in .. | +count doubtful: 2
@@ -202,36 +211,31 @@ def parts_of(text, **more):
     return [(part.get("class"), part) for part in picture.iter()]
 
 
-def words_in(parts, name):
-    return ["".join(part.itertext()) for other, part in parts if other == name]
-
-
-def places_in(parts, name):
-    return [" ".join(place_of(part)) for other, part in parts if other == name]
-
-
 @pytest.mark.parametrize("text, asked", (
     (text, asked) for text, *asked in cells_of(DRAWN.replace("MANY", MANY).replace("NONE", NONE))))
 def test_drawn(text, asked):
     """Marks that fall together are one. Doubtful numbers beyond the scale stand on both lines, which is one mark on the
     curve. A strip of 16 pixels has room for one digit, but not for `chapter 5` nor for two."""
-    parts = parts_of(text)
-    for one in asked:
+    limits = dict(one[1:].split() for one in asked if one[0] == "=")
+    with mock.patch.object(bands, "MOST_BOXES", int(limits.get("MOST_BOXES", bands.MOST_BOXES))), \
+            mock.patch.object(curve, "MOST_RINGS", int(limits.get("MOST_RINGS", curve.MOST_RINGS))):
+        parts = parts_of(text)
+    for one in asked[len(limits):]:
         kind, is_place, name, wanted = re.fullmatch("([+#-]?)(@?)([a-z0-9-]+) ?(.*)", one).groups()
-        found = (places_in if is_place else words_in)(parts, name)
+        found = [" ".join(place_of(part)) if is_place else "".join(part.itertext())
+                 for other, part in parts if other == name]
         said = "; ".join(found)
         if kind == "#":
             assert len(found) == int(wanted), one
         elif kind:
-            assert any(each.startswith(wanted) for each in found) == (kind == "+"), one
+            assert any(re.search(re.escape(wanted) + r"\b", each) for each in found) == (kind == "+"), one
         else:
             assert (said[:len(wanted) - 2] + ".." if wanted.endswith("..") else said) == wanted, one
 
 
 def test_a_cut_field():
-    parts = parts_of("-/#9/#9", cut=Cut(2, 5))
-    assert words_in(parts, "run") + words_in(parts, "system") == [
-        "9 in field 1", "PAL, CAV, 1 field, field 2 is cut: 5 bytes of it, 1 picture, 9 to 9"]
+    assert "PAL, CAV, 1 field, field 2 is cut: 5 bytes of it, 1 picture, 9 to 9" in [
+        part.text for _, part in parts_of("-/#9/#9", cut=Cut(2, 5))]
 
 
 def test_unread_numbers_are_pale():
@@ -274,22 +278,3 @@ def test_marks_that_fall_together(marks, wanted):
     for begin, end, (first, last, _) in in_lane + in_bar:
         ends = [max(150 + b, 151 + min(a, 959)) for a, b in ones if first <= a and b <= last]
         assert (begin, end) == (149 + min(first, 959), max(ends))
-
-
-def test_bands_with_few_boxes():
-    """Where there are too many boxes, twice as many fields share a column, and again: at last 10,240 of them."""
-    with mock.patch.object(bands, "MOST_BOXES", 6):
-        parts = parts_of(MANY + " 9601=-/?/#4801")
-    assert places_in(parts, "line-17") == ["1-10240 150-662 change 4", "1-10240 150-662 word 12",
-                                           "1-10240 150-662 blank 12", "10241-19200 662-1110 word 14",
-                                           "10241-19200 662-1110 blank 14"]
-    assert "line 17, fields 1 to 10240: change in less than 1 % of these fields" in words_in(parts, "line-17")
-
-
-@pytest.mark.parametrize("most, wanted", ((3, ["9641 1", "9781 0"]), (2, ["9641 2"])))
-def test_rings(most, wanted):
-    """Of doubtful numbers three pixels from each other one is drawn, and of many those within twelve pixels."""
-    with mock.patch.object(curve, "MOST_RINGS", most):
-        doubts = words_in(parts_of(MANY + " 9641=-/#100/- 9643=-/#101/- 9781=-/#100/-"), "doubt")
-    found = [re.search(r"in field (\d+), line 17: .*?(?:; and (\d+) more near it)?$", text) for text in doubts]
-    assert [" ".join(one.groups("0")) for one in found] == wanted

@@ -17,7 +17,9 @@ from unittest import mock
 from compact import made
 from discs import side
 import ldvbi
-from ldvbi import judging, library, near, seeking, sides, stream
+from ldvbi import (complete_times, draw_line, find_pace, judge, judge_chapters, judge_ends, judge_field, judge_side,
+                   judge_stops, judging, library, near, nearest, read_field, read_line, read_rows, recover_pile, seek,
+                   seeking, sides, stream, Stream)
 from ldvbi.samples import _Buffer, Samples
 import pytest
 from room import reason
@@ -183,7 +185,7 @@ def test_places(room):
 # ---- What is refused
 
 WIDE = (65536, 65536 + 100, 2 ** 31, 2 ** 32 - 1, 2 ** 32, 2 ** 32 + 1, 2 ** 64 + 1, -1)
-LINE, FIELD = ldvbi.draw_line(0xF12345, *NTSC), bytes(ldvbi.field_bytes("NTSC"))
+LINE, FIELD = draw_line(0xF12345, *NTSC), bytes(ldvbi.field_bytes("NTSC"))
 NO_SYSTEM, NOT_BELOW = "system is neither NTSC nor PAL", "black is not below white"
 COUNTED = "neither pictures nor times are counted"
 PACE = "pace is neither that of video nor of film, nor to be found"
@@ -192,36 +194,34 @@ LINES = "1 to 28 lines have %d bytes each, and these are %d"
 # What isn't taken, and calls that don't take it. Of what is refused for more than one reason that is said which comes
 # first in the library's order.
 ROWS = (
-    (None, (ldvbi.read_line, LINE, 1, 1, 2)),
-    (NO_SYSTEM, (ldvbi.read_line, LINE, "ntsc", 2, 2), (ldvbi.line_bytes, 3), (ldvbi.field_bytes, "SECAM"),
-     (ldvbi.field_bytes, 257), *((call, b"", 3, 2, 2, 17) for call in (ldvbi.recover_pile, ldvbi.read_rows))),
-    (NOT_BELOW, (ldvbi.read_line, b"", "NTSC", 2, 2), (ldvbi.draw_line, 5, "NTSC", 2, 2),
-     (ldvbi.nearest, b"", "NTSC", 2, 2), (ldvbi.recover_pile, LINE, "NTSC", 2, 2, 17),
-     (ldvbi.Stream, b"", "NTSC", 2, 2, True)),
-    ("black is not a whole number", (ldvbi.read_line, LINE, "NTSC", 1.0, 2)),
-    ("white is not a whole number", (ldvbi.read_line, LINE, "NTSC", 1, "2")),
-    ("word is not a whole number", (ldvbi.draw_line, "F12345", *NTSC)),
+    (None, (read_line, LINE, 1, 1, 2)),
+    (NO_SYSTEM, (read_line, LINE, "ntsc", 2, 2), (ldvbi.line_bytes, 3), (ldvbi.field_bytes, "SECAM"),
+     (ldvbi.field_bytes, 257), (recover_pile, b"", 3, 2, 2, 17), (read_rows, b"", 3, 2, 2, True)),
+    (NOT_BELOW, (read_line, b"", "NTSC", 2, 2), (draw_line, 5, "NTSC", 2, 2), (nearest, b"", "NTSC", 2, 2),
+     (recover_pile, LINE, "NTSC", 2, 2, 17), (Stream, b"", "NTSC", 2, 2, True)),
+    ("black is not a whole number", (read_line, LINE, "NTSC", 1.0, 2)),
+    ("white is not a whole number", (read_line, LINE, "NTSC", 1, "2")),
+    ("word is not a whole number", (draw_line, "F12345", *NTSC)),
     ("number is no code word", (ldvbi.classify, 0x7FFFFF)),
-    ("a line has 1820 bytes, not 1819", (ldvbi.read_line, LINE[1:], *NTSC)),
-    ("three lines have 6810 bytes, not 5460", (ldvbi.read_rows, LINE * 3, "PAL", 1, 2)),
-    ("three lines have 5460 bytes, not 0", (ldvbi.read_rows, b"", "NTSC", 1, 2, True)),
-    ("a field has 710510 bytes, not 0", *((ldvbi.read_field, b"", "PAL", 1, 2, *more) for more in ((), (True,)))),
-    (LINES % (1820, 0), (ldvbi.nearest, b"", *NTSC), (ldvbi.recover_pile, b"", *NTSC, 17)),
-    (LINES % (2270, 1820), (ldvbi.nearest, LINE, "PAL", 1, 2)),
-    (LINES % (1820, 52780), (ldvbi.nearest, 29 * LINE, *NTSC),
-     (ldvbi.recover_pile, 29 * LINE, *NTSC, 17, [(28, 1, 2)])),
-    ("line is none of 16, 17 and 18", *((ldvbi.recover_pile, LINE, *NTSC, line) for line in (15, 2 ** 32 + 17))),
-    ("line is not a whole number", (ldvbi.recover_pile, LINE, *NTSC, "17")),
-    ("dropouts are for recovered words alone: give recover, too", *((call, FIELD, *NTSC, False, []) for call in (
-        ldvbi.Stream, ldvbi.fields, ldvbi.read_field, ldvbi.read_rows))),
-    *((text, (ldvbi.recover_pile, LINE, *NTSC, 17, [one])) for text, one in (
+    ("a line has 1820 bytes, not 1819", (read_line, LINE[1:], *NTSC)),
+    ("three lines have 6810 bytes, not 5460", (read_rows, LINE * 3, "PAL", 1, 2)),
+    ("three lines have 5460 bytes, not 0", (read_rows, b"", "NTSC", 1, 2, True)),
+    ("a field has 710510 bytes, not 0", (read_field, b"", "PAL", 1, 2), (read_field, b"", "PAL", 1, 2, True)),
+    (LINES % (1820, 0), (nearest, b"", *NTSC), (recover_pile, b"", *NTSC, 17)),
+    (LINES % (2270, 1820), (nearest, LINE, "PAL", 1, 2)),
+    (LINES % (1820, 52780), (nearest, 29 * LINE, *NTSC), (recover_pile, 29 * LINE, *NTSC, 17, [(28, 1, 2)])),
+    ("line is none of 16, 17 and 18", (recover_pile, LINE, *NTSC, 15), (recover_pile, LINE, *NTSC, 2 ** 32 + 17)),
+    ("line is not a whole number", (recover_pile, LINE, *NTSC, "17")),
+    ("dropouts are for recovered words alone: give recover, too",
+     *((call, FIELD, *NTSC, False, []) for call in (Stream, ldvbi.fields, read_field, read_rows))),
+    *((text, (recover_pile, LINE, *NTSC, 17, [one])) for text, one in (
         ("a dropout is in line 1 of 1, counted from 0", (1, 1, 2)), ("a dropout's columns are 3 to 2", (0, 3, 2)),
         ("a dropout is not 3 numbers: index, first, last", (0, 17, 1, 2)))),
-    *((text, (ldvbi.Stream, FIELD * 2, *NTSC, True, [one])) for text, one in (
+    *((text, (Stream, FIELD * 2, *NTSC, True, [one])) for text, one in (
         ("a dropout is in field 2 of 2, counted from 0", (2, 17, 1, 4)),
         ("a dropout is in field -1 of 2, counted from 0", (-1, 17, 1, 4)),
         ("a dropout is not 4 numbers: field, line, first, last", (17, 1, 4)))),
-    *((text, (ldvbi.read_rows, LINE * 3, *NTSC, True, [one]), (ldvbi.read_field, FIELD, *NTSC, True, [one]))
+    *((text, (read_rows, LINE * 3, *NTSC, True, [one]), (read_field, FIELD, *NTSC, True, [one]))
       for text, one in (
           ("a dropout's columns are 5 to 4", (17, 5, 4)), ("a dropout's columns are -1 to 4", (17, -1, 4)),
           ("a dropout is in line 15, not in 16, 17 or 18", (15, 1, 4)),
@@ -246,31 +246,30 @@ def test_wide_numbers():
     rows += [(NO_SYSTEM, system, 16384, 65535) for system in (0, 3, 256, 257, 258, 65535, 65537)]
     rows += [(black, "NTSC", 65536, 65537), (NOT_BELOW, "NTSC", 65535, 65535), (NOT_BELOW, "NTSC", 257, 256)]
     rows += [(None, "NTSC", *levels) for levels in ((256, 257), (257, 65535), (0, 65535), (16384, 65535))]
+    calls = (read_line, LINE), (read_rows, LINE * 3), (read_field, FIELD), (Stream, b""), (draw_line, 0xF12345)
     for text, *setup in rows:
-        assert {reason(call, first, *setup) for call, first in (
-            (ldvbi.read_line, LINE), (ldvbi.read_rows, LINE * 3), (ldvbi.read_field, FIELD), (ldvbi.Stream, b""),
-            (ldvbi.draw_line, 0xF12345))} == {text}
+        assert {reason(call, first, *setup) for call, first in calls} == {text}
     for word in (256, 257, 65535, 0x7FFFFF, 0x1000000, *WIDE):
-        assert reason(ldvbi.draw_line, word, *NTSC) == "number is no code word"
+        assert reason(draw_line, word, *NTSC) == "number is no code word"
 
 
 def test_what_is_judged():
     """What is asked for is looked at before the readings are."""
     wrong = ((NO_SYSTEM, ("SECAM", None, 3)), (COUNTED, ("chapters", None, 0, 3, 1.0, 257, 258, *WIDE)),
              (PACE, ("slow", None, 0, 4, 257, 258, 259, *WIDE)), (BOTH, ("both", None, 2, 4, *WIDE)))
-    for call, count in ((ldvbi.judge_side, 4), (ldvbi.judge, 3), (ldvbi.find_pace, 2), (ldvbi.complete_times, 1)):
+    for call, count in ((judge_side, 4), (judge, 3), (find_pace, 2), (complete_times, 1)):
         for place, (text, values) in enumerate(wrong[:count]):
             for value, readings in ((value, readings) for value in values for readings in ([], [5])):
                 later = (9, 9)[:min(count, 3) - place - 1]
                 assert reason(call, readings, *("PAL", 1, 3)[:place], value, *later) == text
     for asked, text in ((("chapters",), COUNTED), (("pictures", "slow"), PACE)):
-        assert reason(ldvbi.seek, ldvbi.Stream(b"", *NTSC), 7, *asked) == text
+        assert reason(seek, Stream(b"", *NTSC), 7, *asked) == text
     readings = made("0..59", side).readings
     for count, field, words, text in ((98, 0, (), "field 0 of 98, which may be 97 at most"),
                                       (5, 5, (), "field 5 of 5, which may be 97 at most"),
                                       (5, -1, (), "field -1 of 5, which may be 97 at most"),
                                       (5, 0, ("pictures", "find"), PACE), (5, 0, ("chapters",), COUNTED)):
-        assert reason(ldvbi.judge_field, readings[:count], field, "PAL", *words) == text
+        assert reason(judge_field, readings[:count], field, "PAL", *words) == text
 
 
 def calls_but(name):
@@ -290,19 +289,17 @@ def test_each_call():
     packed = b"".join(ldvbi.PACKED_FIELD.pack(*sum(map(tuple, field), ())) for field in one.readings)
 
     def fields(**more):
-        return ldvbi.Stream(FIELD, *NTSC, recover=True, **more)
+        return Stream(FIELD, *NTSC, recover=True, **more)
 
     for name, call, *words in (
-            ("judge", ldvbi.judge, packed, "PAL"), ("judge_field", ldvbi.judge_field, packed, 1, "PAL"),
-            ("complete_times", ldvbi.complete_times, packed, "PAL"), ("find_pace", ldvbi.find_pace, packed, "PAL"),
-            ("judge_chapters", ldvbi.judge_chapters, packed), ("judge_stops", ldvbi.judge_stops, packed),
-            ("judge_ends", ldvbi.judge_ends, packed),
-            ("judge", ldvbi.judge_side, packed, "PAL", "pictures", "video"),
-            *((name, ldvbi.judge_side, packed, "PAL") for name in ("find_pace", "judge_ends", "judge_side")),
-            ("nearest", ldvbi.nearest, LINE, *NTSC), ("seek", lambda: ldvbi.seek(fields(), 1)),
-            ("recover_fields", lambda: list(fields())),
-            ("recover_fields_without", lambda: list(fields(dropouts=[(0, 17, 3, 4)]))),
-            ("recovered_record", lambda: list(fields().records()))):
+            ("judge", judge, packed, "PAL"), ("judge_field", judge_field, packed, 1, "PAL"),
+            ("complete_times", complete_times, packed, "PAL"), ("find_pace", find_pace, packed, "PAL"),
+            ("judge_chapters", judge_chapters, packed), ("judge_stops", judge_stops, packed),
+            ("judge_ends", judge_ends, packed), ("judge", judge_side, packed, "PAL", "pictures", "video"),
+            *((name, judge_side, packed, "PAL") for name in ("find_pace", "judge_ends", "judge_side")),
+            ("nearest", nearest, LINE, *NTSC), ("seek", lambda: seek(fields(), 1)),
+            ("recover_fields", lambda: list(fields())), ("recovered_record", lambda: list(fields().records())),
+            ("recover_fields_without", lambda: list(fields(dropouts=[(0, 17, 3, 4)])))):
         with contextlib.ExitStack() as stack:
             for module in (judging, near, seeking, sides, stream):
                 stack.enter_context(mock.patch.object(module, "later_call", calls_but(name)))
