@@ -190,6 +190,11 @@ NO_SYSTEM, NOT_BELOW = "system is neither NTSC nor PAL", "black is not below whi
 COUNTED = "neither pictures nor times are counted"
 PACE = "pace is neither that of video nor of film, nor to be found"
 BOTH = "numbers are on one field of a picture or on both, or that is to be found"
+READINGS = made("0..48", side).readings
+FEW = READINGS[:5]
+# Calls with dropouts behind them
+PILE, THREE = (recover_pile, LINE, *NTSC, 17), (read_rows, LINE * 3, *NTSC, True)
+ONE, TWO = (read_field, FIELD, *NTSC, True), (Stream, FIELD * 2, *NTSC, True)
 LINES = "1 to 28 lines have %d bytes each, and these are %d"
 # What isn't taken, and calls that don't take it. Of what is refused for more than one reason that is said which comes
 # first in the library's order.
@@ -212,23 +217,24 @@ ROWS = (
     (LINES % (1820, 52780), (nearest, 29 * LINE, *NTSC), (recover_pile, 29 * LINE, *NTSC, 17, [(28, 1, 2)])),
     ("line is none of 16, 17 and 18", (recover_pile, LINE, *NTSC, 15), (recover_pile, LINE, *NTSC, 2 ** 32 + 17)),
     ("line is not a whole number", (recover_pile, LINE, *NTSC, "17")),
+    (COUNTED, (seek, Stream(b"", *NTSC), 7, "chapters"), (judge_field, FEW, 0, "PAL", "chapters")),
+    (PACE, (seek, Stream(b"", *NTSC), 7, "pictures", "slow"), (judge_field, FEW, 0, "PAL", "pictures", "find")),
+    *(("field %d of %d, which may be 97 at most" % (field, count), (judge_field, READINGS[:count], field, "PAL"))
+      for field, count in ((0, 98), (5, 5), (-1, 5))),
     ("dropouts are for recovered words alone: give recover, too",
      *((call, FIELD, *NTSC, False, []) for call in (Stream, ldvbi.fields, read_field, read_rows))),
-    *((text, (recover_pile, LINE, *NTSC, 17, [one])) for text, one in (
-        ("a dropout is in line 1 of 1, counted from 0", (1, 1, 2)), ("a dropout's columns are 3 to 2", (0, 3, 2)),
-        ("a dropout is not 3 numbers: index, first, last", (0, 17, 1, 2)))),
-    *((text, (Stream, FIELD * 2, *NTSC, True, [one])) for text, one in (
-        ("a dropout is in field 2 of 2, counted from 0", (2, 17, 1, 4)),
-        ("a dropout is in field -1 of 2, counted from 0", (-1, 17, 1, 4)),
-        ("a dropout is not 4 numbers: field, line, first, last", (17, 1, 4)))),
-    *((text, (read_rows, LINE * 3, *NTSC, True, [one]), (read_field, FIELD, *NTSC, True, [one]))
-      for text, one in (
-          ("a dropout's columns are 5 to 4", (17, 5, 4)), ("a dropout's columns are -1 to 4", (17, -1, 4)),
-          ("a dropout is in line 15, not in 16, 17 or 18", (15, 1, 4)),
-          ("a dropout is in line 4294967313, not in 16, 17 or 18", (2 ** 32 + 17, 1, 4)),
-          ("a dropout's first is not a whole number", (17, 1.0, 4)),
-          ("a dropout's line is not a whole number", ("17", 1, 4)),
-          *(("a dropout is not 3 numbers: line, first, last", one) for one in (5, (17, 1), (0, 17, 1, 4))))))
+    ("a dropout is in line 1 of 1, counted from 0", (*PILE, [(1, 1, 2)])),
+    ("a dropout's columns are 3 to 2", (*PILE, [(0, 3, 2)]), (*THREE, [(17, 3, 2)]), (*ONE, [(17, 3, 2)])),
+    ("a dropout's columns are -1 to 4", (*THREE, [(17, -1, 4)])),
+    ("a dropout is not 3 numbers: index, first, last", (*PILE, [(0, 17, 1, 2)])),
+    ("a dropout is in field 2 of 2, counted from 0", (*TWO, [(2, 17, 1, 4)])),
+    ("a dropout is in field -1 of 2, counted from 0", (*TWO, [(-1, 17, 1, 4)])),
+    ("a dropout is not 4 numbers: field, line, first, last", (*TWO, [(17, 1, 4)]), (*TWO, [5])),
+    ("a dropout is in line 15, not in 16, 17 or 18", (*THREE, [(15, 1, 4)])),
+    ("a dropout is in line 4294967313, not in 16, 17 or 18", (*ONE, [(2 ** 32 + 17, 1, 4)])),
+    ("a dropout's first is not a whole number", (*THREE, [(17, 1.0, 4)])),
+    ("a dropout's line is not a whole number", (*ONE, [("17", 1, 4)])),
+    ("a dropout is not 3 numbers: line, first, last", (*THREE, [(17, 1)]), (*ONE, [5]), (*ONE, [(0, 17, 1, 4)])))
 
 
 def test_rows():
@@ -262,14 +268,6 @@ def test_what_is_judged():
             for value, readings in ((value, readings) for value in values for readings in ([], [5])):
                 later = (9, 9)[:min(count, 3) - place - 1]
                 assert reason(call, readings, *("PAL", 1, 3)[:place], value, *later) == text
-    for asked, text in ((("chapters",), COUNTED), (("pictures", "slow"), PACE)):
-        assert reason(seek, Stream(b"", *NTSC), 7, *asked) == text
-    readings = made("0..59", side).readings
-    for count, field, words, text in ((98, 0, (), "field 0 of 98, which may be 97 at most"),
-                                      (5, 5, (), "field 5 of 5, which may be 97 at most"),
-                                      (5, -1, (), "field -1 of 5, which may be 97 at most"),
-                                      (5, 0, ("pictures", "find"), PACE), (5, 0, ("chapters",), COUNTED)):
-        assert reason(judge_field, readings[:count], field, "PAL", *words) == text
 
 
 def calls_but(name):
