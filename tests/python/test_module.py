@@ -153,16 +153,11 @@ def test_what_the_loader_finds(room):
 
 def test_an_older_library(room):
     """It reads samples, and says of each call that it lacks what it is too old for."""
-    file, lacking = other(room, 1, 0, 1), [one.strip().split(": ") for one in """
-        judge: judge numbers; find_pace: find paces; judge_field: judge one field; complete_times: complete times;
-        judge_chapters: judge chapters; judge_stops: judge stops; judge_ends: judge whole sides; seek: seek numbers;
-        find_both: judge whole sides; judge_side: judge whole sides; nearest: find nearest words;
-        recover_pile: recover words of piles; recover_rows: recover words; recover_fields: recover words;
-        recover_rows_without: leave out columns; recover_fields_without: leave out columns;
-        recovered_record: write the document with recovered words""".split(";")]
-    asked = ["ldvbi.library.later_call('ldvbi_%s')" % name for name, _ in lacking]
-    assert run(READ, *asked, "ldvbi.judge([], 'NTSC')", LDVBI_LIBRARY=file).splitlines() == [
-        "1", *(OLD % (file, purpose, name) for name, purpose in [*lacking, lacking[0]])]
+    file = other(room, 1, 0, 1)
+    asked = ["ldvbi.library.later_call('%s')" % name for name in library._LATER]
+    assert run(READ, "ldvbi.judge([], 'NTSC')", *asked, LDVBI_LIBRARY=file).splitlines() == [
+        "1", OLD % (file, "judge numbers", "judge"), *(OLD % (file, purpose, name.partition("_")[2])
+                                                       for name, (purpose, _) in library._LATER.items())]
 
 
 def test_places(room):
