@@ -20,17 +20,13 @@ for name in seek stops whole player; do
 done
 draws_sides
 
-# finds COMMAND..: leaves as the answer what a search has found; what it has found by the lines alone has status 3
+# finds COMMAND..: leaves as the answer the fields that stand in the lines of what it prints; what a search has found by
+# the lines alone has status 3
 finds() {
     does "$@"
-    case $status in 0 | 3) grep -o '^field [0-9]*' out > answer ;; esac
-}
-# lists COMMAND..: leaves as the answer the fields that stand in the lines of what it prints
-lists() {
-    status=0
-    bounded "$@" > out 2> err || status=$?
-    [ "$status" != 0 ] || sed -n 's/^field \([0-9]*\).*/\1/p' out | paste -s -d ' ' |
-        sed -n 's/^[0-9]/field &/p' > answer
+    case $status in
+        0 | 3) sed -n 's/^field \([0-9]*\).*/\1/p' out | paste -s -d ' ' | sed -n 's/^[0-9]/field &/p' > answer ;;
+    esac
 }
 # says COMMAND..: leaves as the answer what examples/whole.c says, or a program that says the same: whether the side is
 # whole, or nothing where it can't tell; or its gaps
@@ -48,7 +44,7 @@ searches() {
     case "$1 $4" in
         *' whole to lead-out') says ./whole_$1 "$2.tbc" $3 ;;
         *' whole' | *' gaps') says ./whole_$1 "$2.tbc" $3 cut ;;
-        *' stops') lists ./stops_$1 $3 < "$2.tbc" ;;
+        *' stops') finds sh -c "./stops_$1 $3 < $2.tbc" ;;
         python*) finds python3 "$top/examples/seek.py" "$2.tbc" $3 $4 ;;
         *) finds ./seek_$1 "$2.tbc" $3 $4 ;;
     esac
@@ -64,7 +60,7 @@ by_side() {
     [ "$2" = "$on_cav" ] || options=$pal
     command="python3 $top/python/ldvbi-side $1.tbc $options"
     case $question in
-        stops) lists sh -c "$command --json | jq -r '.stops[] | \"field \(.field)\"'" ;;
+        stops) finds sh -c "$command --json | jq -r '.stops[] | \"field \(.field)\"'" ;;
         whole) says $command --open-end ;;
         whole*) says $command ;;
         *) finds $command --seek "$question" ;;

@@ -171,21 +171,6 @@ def test_a_file_that_becomes_shorter(room):
         assert reason(plot_line, stream, room.path, 1, 16) == room.path + " became shorter while it was read"
 
 
-def test_an_index(room):
-    names = [room.write(title + " #1.html", page(text, title=title))
-             for title, text in (("one & two.tbc", "1..3"), ("none", ""), ("other", "7..9 12..14"))]
-    read = Page(index_of(room.named("index.html"), names))
-    assert read.texts["h1"] == ["3 sides, whole: 1 yes, 1 no, 1 can't tell"]
-    assert read.texts["th"] == ["side", "whole", "fields", "numbers", "lost", "try", "why"]
-    assert [known["href"] for tag, known in read.tags if tag == "a"] == [
-        "other%20%231.html", "none%20%231.html", "one%20%26%20two.tbc%20%231.html"]
-    assert [known["class"] for tag, known in read.tags if tag == "td" and "class" in known] == ["no", "open", "yes"]
-    assert "|".join(read.texts["td"]) == "|".join((
-        "|no|12|6, 7 to 14|8 pictures, 16 fields||16 fields lost; 8 pictures lost; begins at 7, ends at 14",
-        "|can't tell|0|none|none||no picture number and no time", "|yes|6|3, 1 to 3|none||"))
-    assert read.texts["a"] == ["other", "none", "one & two.tbc"]
-
-
 # What the index shows at first, and after each action in JavaScript: the name and verdict of each row, or - for one
 # that is hidden; then what the box says, and the heads by whose columns the rows are sorted
 ACTIONS = """
@@ -203,23 +188,33 @@ document.querySelector("pre").textContent = [() => {}, () => click("side"), () =
 """
 
 
-def test_the_index_in_a_browser(room):
-    """Sorted by a click on the head of a column, and filtered by words typed into its box, which are sought in whole
-    rows. Numbers in names count, and a fault has no fields."""
-    for name, fields in (("a/2", "1..3"), ("a/10", "1..2 4..6"), ("b/1", "Bx9")):
+def test_the_index(room):
+    """In a browser it is sorted by a click on the head of a column, and filtered by words typed into its box, which are
+    sought in whole rows. Numbers in names count, and a fault has no fields."""
+    for name, fields in (("a/2", "1..3"), ("a/10", "7..9 12..14"), ("b/1 & #1", "Bx9")):
         room.add("sides/%s.tbc" % name, fields)
         room.write("sides/%s.vbi.json" % name, room.extracted("sides/%s.tbc" % name))
         os.unlink(room.named("sides/%s.tbc" % name))
     room.write("sides/b/odd.vbi.json", "{")
     assert room.scan("--open-end --html pages sides")[0] == 2
+    read = Page(room.text("pages/index.html"))
+    assert read.texts["th"] == ["side", "whole", "fields", "numbers", "lost", "try", "why"]
+    assert [known["href"] for tag, known in read.tags if tag == "a"] == [
+        "a-10.html", "b-1%20%26%20%231.html", "a-2.html"]
+    assert [known["class"] for tag, known in read.tags if tag == "td" and "class" in known] == [
+        "no", "fault", "open", "yes"]
+    assert "|".join(read.texts["td"]) == "|".join((
+        "|no|12|6, 7 to 14|8 pictures, 16 fields||16 fields lost; 8 pictures lost; begins at 7, ends at 14",
+        "b/odd.vbi.json|fault|||||not JSON: line 1 is wrong from column 2 on",
+        "|can't tell|9|none|none||no picture number and no time", "|yes|6|3, 1 to 3|none||"))
     page = room.write("after.html", room.text("pages/index.html").replace("</body></html>", "") + ACTIONS)
     words = ["chromium", "--headless=new", "--no-sandbox", "--disable-gpu", "--disable-dev-shm-usage", "--dump-dom"]
     # Chromium keeps what it remembers below HOME.
     text = room.run_words(*words, "file://" + page, command=[], env={**os.environ, "HOME": room.folder})[1]
     assert re.search("<pre>(.*?)</pre>", text, re.S)[1].replace(".vbi.json", "").split("\n") == [
-        "a/10=no,b/odd=fault,b/1=canttell,a/2=yes,",
-        "a/2=yes,a/10=no,b/1=canttell,b/odd=fault,,side ascending",
-        "b/odd=fault,b/1=canttell,a/10=no,a/2=yes,,side descending",
-        "b/odd=fault,a/2=yes,b/1=canttell,a/10=no,,fields ascending",
-        "a/10=no,b/odd=fault,b/1=canttell,a/2=yes,,whole ascending",
-        "-,-,b/1=canttell,-,1 of 4,whole ascending"]
+        "a/10=no,b/odd=fault,b/1 &amp; #1=canttell,a/2=yes,",
+        "a/2=yes,a/10=no,b/1 &amp; #1=canttell,b/odd=fault,,side ascending",
+        "b/odd=fault,b/1 &amp; #1=canttell,a/10=no,a/2=yes,,side descending",
+        "b/odd=fault,a/2=yes,b/1 &amp; #1=canttell,a/10=no,,fields ascending",
+        "a/10=no,b/odd=fault,b/1 &amp; #1=canttell,a/2=yes,,whole ascending",
+        "-,-,b/1 &amp; #1=canttell,-,1 of 4,whole ascending"]
