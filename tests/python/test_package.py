@@ -45,20 +45,16 @@ def imported_by(name):
     return sorted(name for name in found if name.split(".")[0] in ("ldvbi", "ldvbi_side"))
 
 
-def named_in(room):
-    """The modules of a room, in the order of its head."""
-    head = ast.get_docstring(MODULES[room + ".__init__"]) + "\n\n"
-    names = re.search(r"\n\n([a-z]+(?:,\s[a-z]+)+)\n\n", head).group(1)
-    return ["%s.%s" % (room, name) for name in ("__init__", *re.split(r",\s", names))]
-
-
 def test_no_module_imports_a_later_one():
     """`ldvbi` knows nothing of `ldvbi_side`; there each room stands on those before it, and its modules on those that
     its head names before them."""
     ranks = {}
     for room in ROOMS:
-        assert sorted(named_in(room)) == sorted(name for name in MODULES if package_of(name) == room)
-        ranks.update((name, (ORDER.index(room), place)) for place, name in enumerate(named_in(room)))
+        head = ast.get_docstring(MODULES[room + ".__init__"]) + "\n\n"
+        names = re.search(r"\n\n([a-z]+(?:,\s[a-z]+)+)\n\n", head).group(1)
+        named = ["%s.%s" % (room, name) for name in ("__init__", *re.split(r",\s", names))]
+        assert sorted(named) == sorted(name for name in MODULES if package_of(name) == room)
+        ranks.update((name, (ORDER.index(room), place)) for place, name in enumerate(named))
 
     def rank(name):
         room = ".".join(name.split(".")[:2])
