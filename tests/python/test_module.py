@@ -5,6 +5,7 @@ refuses has tests/library/refusals.py."""
 import array
 import contextlib
 import ctypes
+import functools
 import io
 import mmap
 import os
@@ -265,24 +266,18 @@ def test_what_is_judged():
                 assert reason(call, readings, *("PAL", 1, 3)[:place], value, *later) == text
 
 
-def calls_but(name):
-    """What finds a call of the library by its name; the one with this name fails where it is to write something."""
-
-    def found(asked):
-        works = library.later_call(asked)
-        return works if asked != "ldvbi_" + name else lambda *given: 99 if any(
-            len(one) for one in given if isinstance(one, ctypes.Array)) else works(*given)
-
-    return found
-
-
 def test_each_call():
-    """A fault of a call of the library, which none has, is raised."""
+    """A fault of a call of the library, which none has, is raised: the call fails where it is to write something."""
     one = made("1..3 -/#79999/- B", side)
     packed = b"".join(ldvbi.PACKED_FIELD.pack(*sum(map(tuple, field), ())) for field in one.readings)
 
     def fields(**more):
         return Stream(FIELD, *NTSC, recover=True, **more)
+
+    def later_call(name, asked):
+        works = library.later_call(asked)
+        return works if asked != "ldvbi_" + name else lambda *given: 99 if any(
+            len(one) for one in given if isinstance(one, ctypes.Array)) else works(*given)
 
     for name, call, *words in (
             ("judge", judge, packed, "PAL"), ("judge_field", judge_field, packed, 1, "PAL"),
@@ -295,5 +290,5 @@ def test_each_call():
             ("recover_fields_without", lambda: list(fields(dropouts=[(0, 17, 3, 4)])))):
         with contextlib.ExitStack() as stack:
             for module in (judging, near, seeking, sides, stream):
-                stack.enter_context(mock.patch.object(module, "later_call", calls_but(name)))
+                stack.enter_context(mock.patch.object(module, "later_call", functools.partial(later_call, name)))
             assert reason(call, *words) == REFUSED
