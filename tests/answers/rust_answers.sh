@@ -4,7 +4,7 @@
 # table answers.txt.
 # usage: sh tests/answers/rust_answers.sh PROGRAM
 # runs: rust
-# fails where: tests/answers/answers.txt|s/field 29 /field 27 /
+# fails where: tests/answers/answers.txt|s/ = field 29;/ = field 27;/
 
 . "$(dirname "$0")/../helpers.sh"
 . "$tests/library/library_helpers.sh"
@@ -14,49 +14,42 @@ CARGO_TARGET_DIR=$top/rust/out
 RUSTFLAGS=
 export CARGO_TARGET_DIR RUSTFLAGS
 
-# builds WORD..: builds by cargo, in the folder `project`
+# builds FOLDER WORD..: builds by cargo, by the settings of this folder
 builds() {
-    does sh -c 'cd project && cargo build --quiet "$@"' sh "$@"
+    does sh -c 'cd "$1" && shift && cargo build --quiet "$@"' sh "$@"
 }
 
-ln -s "$top/rust/crate" project
-check 'the example of the crate is built' builds --example answers
+check 'the example of the crate is built' builds "$top/rust/crate" --example answers
 cp "$CARGO_TARGET_DIR/debug/examples/answers" . || exit 1
-rm project
 cp -r "$top/examples/rust" project
 [ ! -d "$top/rust/crate/.cargo" ] || cp -r "$top/rust/crate/.cargo" project
 sed -i "s|\"../../rust/crate\"|\"$top/rust/crate\"|" project/Cargo.toml
-check 'the player is built' builds
+check 'the player is built' builds project
 cp "$CARGO_TARGET_DIR/debug/player" . || exit 1
-# The fields, counted from 0, whose line of the example says that a stop is believed
-cat > stops.sh << 'END_OF_SHELL'
-./answers "$@" | awk '/ true$/ && $2 != "bytes" { print "field " $1 + 1 }'
-END_OF_SHELL
-# What the example says of the whole side, as examples/whole.c says it
-cat > whole.sh << 'END_OF_SHELL'
-./answers "$@" | sed "s/Yes/yes/; s/No/no/; s/CannotTell/can't tell/" | awk -v question="$QUESTION" '
-    index($0, question ": ") == 1 { print "whole: " substr($0, length(question) + 3) }
-    $1 == "gap:" { print tolower($2), $3, "field", $5 + 1, "has", $7, "field", $9 + 1, "has", $11 }'
-END_OF_SHELL
 draws_sides
 
-# in_rust SIDE ON QUESTION: as `asks` takes it
+# in_rust SIDE ON QUESTION: as `asks` takes it. The example counts fields from 0, the player from 1.
 in_rust() {
     case $3 in
-        stops) lists sh stops.sh "$1.tbc" $2 ;;
-        whole* | gaps) says env QUESTION="$3" sh whole.sh "$1.tbc" $2 ;;
-        'chapter '*) plays_rust "$1" "$2" chapter "${3#chapter }" ;;
-        *) plays_rust "$1" "$2" search "$3" ;;
+        stops) does ./answers "$1.tbc" $2
+            awk '/ true$/ && $2 != "bytes" { fields = fields " " $1 + 1 } END { if (fields) print "field" fields }' \
+                out > answer ;;
+        whole*) does ./answers "$1.tbc" $2
+            sed -n "s/^$3: \(Yes\|No\)\$/\L\1/p" out > answer ;;
+        gaps) does ./answers "$1.tbc" $2
+            awk '$1 == "gap:" { printf "%s%s %d %d %d", parted, tolower($2), $5 + 1, $9 + 1, $3; parted = ", " }' \
+                out > answer ;;
+        chapter*) plays '[0-9]*' "$1.tbc" $2 $3 ;;
+        *:*) plays '[0-9]*' "$1.tbc" $2 search $3 ;;
+        *) plays $3 "$1.tbc" $2 search $3 ;;
     esac
 }
-# plays_rust SIDE ON COMMAND WANTED: a picture has to be the one that was asked for
-plays_rust() {
-    does ./player "$1.tbc" $2 "$3" "$4"
-    picture=' picture [0-9]*'
-    case $3$4 in search*[!0-9]*) ;; search*) picture=" picture $4" ;; esac
-    [ "$status" != 0 ] || grep -x "[a-z]*: field [0-9]*\($picture\)\?" out | grep -o 'field [0-9]*' > answer
+# plays PICTURE WORD..: what the player finds; it may say a picture, which has to be this one
+plays() {
+    picture=$1
+    shift
+    ! does ./player "$@" || sed -n "s/^[a-z]*: \(field [0-9]*\)\( picture $picture\)\?\$/\1/p" out > answer
 }
-
 # by_seek SIDE ON QUESTION: what `Side::seek` finds, which the example prints, too; the player has it of the judged side
 by_seek() {
     does ./answers "$1.tbc" $2 "$3"

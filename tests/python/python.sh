@@ -34,21 +34,13 @@ END
 seconds=$((5 * seconds))
 status=0
 # What is said is kept, since prove waits for a line of TAP when a script says something.
-bounded python3 -m pytest -n "$(nproc)" --dist loadgroup ${STOP_AT_FIRST:+-x} --quiet --basetemp "$work/tests" \
-    --junit-xml "$work/tests.xml" --durations 10 "$here" < empty > err 2>&1 || status=$?
-passed=$status
+bounded python3 -m pytest -n "$(nproc)" --dist loadgroup ${STOP_AT_FIRST:+-x} --quiet --basetemp "$work/tests" -rpsxX \
+    --durations 10 "$here" < empty > out 2>&1 || status=$?
+sed -n 's,^PASSED [^ ]*tests/python/,,p' out > names
+grep -v '^PASSED ' out > err
 check 'pytest passed' [ "$status" = 0 ]
 unset COVERAGE_PROCESS_START
-# Each test of the report, by its file and name; a test that was skipped, or that failed, has more in it.
-python3 - "$work/tests.xml" << 'END' > names
-import sys
-import xml.etree.ElementTree as xml
-
-for test in xml.parse(sys.argv[1]).iter("testcase"):
-    kind = [part.tag for part in test if part.tag in ("skipped", "failure", "error")]
-    print(*kind, test.get("classname").rpartition(".")[2], ascii(test.get("name")))
-END
-grep '^skipped' names > err
+grep '^SKIPPED\|^XFAIL\|^XPASS' out > err
 check 'no test is skipped' [ ! -s err ]
 for step in 'combine -q' 'report --skip-covered --show-missing --fail-under 100'; do
     status=0
@@ -56,7 +48,6 @@ for step in 'combine -q' 'report --skip-covered --show-missing --fail-under 100'
     bounded python3 -m coverage ${step%% *} --rcfile coveragerc ${step#* } < empty > err 2>&1 || status=$?
     check "each line of the package runs: ${step%% *}" [ "$status" = 0 ]
 done
-[ "$passed" = 0 ] || : > names
 while read -r one; do
     check "$one" true
 done < names

@@ -5,7 +5,7 @@ import re
 import xml.etree.ElementTree as xml
 from unittest import mock
 
-from compact import made
+from compact import cells_of, made
 from discs import side, typed
 from ldvbi import Kind
 from ldvbi.readings import Cut
@@ -29,80 +29,180 @@ ENTRIES = {
     "stray": Stray(7, 16, 0x87FFFF, Kind.clv_mark, 1, "line"), "swapped": Swapped(9, 5),
     "speeds": Speed(9, 49, "1/3"), "stills": Still(5, 9, 15), "repeated": Repeated(5, 6, 21, 23, 9)}
 PLACE, LOST = ", after field 9, before field 13: ", " between fields 9 and 10, "
-DOUBT, PASS_2 = "doubtful: picture 79999 in field 7, line 18", ", read only after smoothing: "
-# Each reason that an answer can have: the list, what is other there, the lane, its fields, and what it says
+DOUBT, PASS_2 = "doubtful 7: doubtful: picture 79999 in field 7, line 18", ", read only after smoothing: "
+# Each reason that an answer can have: the list, what is other there, and the lane, its fields, and what it says
 MARKS = (
-    ("missing", {"why": "unread"}, "unread", 10, 12,
-     "unread: 5" + PLACE + "fields are there for it, and none shows it"),
-    ("missing", {}, "lost", 13, 13, "lost: 5" + PLACE + "no field is there for it"),
-    ("missing", {"why": "undecided"}, "undecided", 13, 13,
-     "undecided: 5" + PLACE + "lost or unread, or skipped by the disc itself"),
-    ("missing", {"after": 0}, "lost", 13, 13, "lost: 5, before field 13: no field is there for it"),
-    ("lost", {"after": 0}, "lost fields", 10, 10, "lost: 1 field before field 10, by the numbers"),
-    ("missing", {"last": 7, "count_": 3}, "lost", 13, 13, "lost: 5 to 7" + PLACE + "no field is there for it"),
-    ("lost", {}, "lost fields", 10, 10, "lost: 1 field" + LOST + "by the numbers"),
-    ("lost", {"by": "both", "fields": 3}, "lost fields", 10, 10,
-     "lost: 3 fields" + LOST + "by the numbers and by isFirstField"),
-    ("lost", {"by": "parity", "fields": None}, "lost fields", 10, 10,
-     "lost: one or more fields" + LOST + "by isFirstField"),
-    ("lost", {"by": "undecided", "fields": 2}, "lost fields", 10, 10,
-     "lost: 2 fields" + LOST + "or a number was skipped by the disc itself"),
-    ("breaks", {}, "jumps", 12, 12, "4 fields too many, from 5 in field 9 to 6 in field 12"),
-    ("breaks", {"kind": "back", "to": 2}, "jumps", 12, 12, "back from 5 in field 9 to 2 in field 12"),
-    *(("doubtful", {"why": why}, "doubtful", 7, 7, DOUBT + PASS_2 + text) for why, text in (
+    ("missing", {"why": "unread"}, "unread 10-12: unread: 5" + PLACE + "fields are there for it, and none shows it"),
+    ("missing", {}, "lost 13: lost: 5" + PLACE + "no field is there for it"),
+    ("missing", {"why": "undecided"},
+     "undecided 13: undecided: 5" + PLACE + "lost or unread, or skipped by the disc itself"),
+    ("missing", {"after": 0}, "lost 13: lost: 5, before field 13: no field is there for it"),
+    ("missing", {"last": 7, "count_": 3}, "lost 13: lost: 5 to 7" + PLACE + "no field is there for it"),
+    ("lost", {"after": 0}, "lost fields 10: lost: 1 field before field 10, by the numbers"),
+    ("lost", {}, "lost fields 10: lost: 1 field" + LOST + "by the numbers"),
+    ("lost", {"by": "both", "fields": 3},
+     "lost fields 10: lost: 3 fields" + LOST + "by the numbers and by isFirstField"),
+    ("lost", {"by": "parity", "fields": None}, "lost fields 10: lost: one or more fields" + LOST + "by isFirstField"),
+    ("lost", {"by": "undecided", "fields": 2},
+     "lost fields 10: lost: 2 fields" + LOST + "or a number was skipped by the disc itself"),
+    ("lost", {"unit": "minute", "after": 3610, "before": 7111, "fields": 90},
+     "lost fields 3611-7110: lost: at least 90 fields between fields 3611 and 7110, by the minute's length"),
+    ("breaks", {}, "jumps 12: 4 fields too many, from 5 in field 9 to 6 in field 12"),
+    ("breaks", {"kind": "back", "to": 2}, "jumps 12: back from 5 in field 9 to 2 in field 12"),
+    *(("doubtful", {"why": why}, DOUBT + PASS_2 + text) for why, text in (
         ("neighbours", "the numbers around it fit each other"),
         ("alone", "there is a break, or the end of the side, here too"), ("lines", "lines 17 and 18 differ"),
         ("minute", "no minutes are there to join it"), ("chapter", "it doesn't fit the chapters around it"))),
-    ("doubtful", {"why": "clock", "number": None, "kind": Kind.time, "word": 0xF0DD75}, "doubtful", 7, 7,
-     "doubtful: time F0DD75 in field 7, line 18" + PASS_2 + "no clock shows it"),
-    ("doubtful", {"pass_": 1}, "doubtful", 7, 7, DOUBT + ": lines 17 and 18 differ"),
-    ("doubtful", {"pass_": 3}, "doubtful", 7, 7, DOUBT + ", recovered: lines 17 and 18 differ"),
-    ("doubtful", {"before": Neighbour(5, 3)}, "doubtful", 7, 7,
-     DOUBT + PASS_2 + "lines 17 and 18 differ (3 in field 5)"),
-    *(("stray", {"why": why}, "out of place", 7, 7, "out of place: clv in field 7, line 16: " + text) for why, text in (
+    ("doubtful", {"why": "clock", "number": None, "kind": Kind.time, "word": 0xF0DD75},
+     "doubtful 7: doubtful: time F0DD75 in field 7, line 18" + PASS_2 + "no clock shows it"),
+    ("doubtful", {"pass_": 1}, DOUBT + ": lines 17 and 18 differ"),
+    ("doubtful", {"pass_": 3}, DOUBT + ", recovered: lines 17 and 18 differ"),
+    ("doubtful", {"before": Neighbour(5, 3)}, DOUBT + PASS_2 + "lines 17 and 18 differ (3 in field 5)"),
+    *(("stray", {"why": why}, "out of place 7: out of place: clv in field 7, line 16: " + text) for why, text in (
         ("line", "no disc has it on this line"), ("format", "a code of the other format"),
         ("place", "it stands between two numbers that fit each other"),
         ("unsure", "line 16 or 17 has to show it without smoothing, or both"))),
-    ("swapped", {}, "swapped fields", 9, 10, "fields 9 and 10 are swapped: 5"),
-    ("speeds", {}, "other speeds", 9, 49, "1/3 numbers a picture in fields 9 to 49"),
-    ("stills", {}, "stills", 9, 15, "5 stands still in fields 9 to 15"),
-    ("repeated", {}, "shown again", 21, 23, "5 to 6 again in fields 21 to 23; first shown in field 9"))
+    ("swapped", {}, "swapped fields 9-10: fields 9 and 10 are swapped: 5"),
+    ("speeds", {}, "other speeds 9-49: 1/3 numbers a picture in fields 9 to 49"),
+    ("stills", {}, "stills 9-15: 5 stands still in fields 9 to 15"),
+    ("repeated", {}, "shown again 21-23: 5 to 6 again in fields 21 to 23; first shown in field 9"))
 
 
-def entry(name, **other):
-    return ENTRIES[name]._replace(**other)
-
-
-def answer_with(unit="picture", **lists):
-    return made("", typed)._replace(unit=unit, **lists)
-
-
-def test_fields_lost_of_a_minute_may_be_lost_anywhere_in_it():
-    answer = answer_with(unit="minute", lost=[entry("lost", after=3610, before=7111, fields=90)])
-    assert marks_of(answer)["lost fields"] == [
-        (3611, 7110, "lost: at least 90 fields between fields 3611 and 7110, by the minute's length")]
+def marks_with(name, unit="picture", **other):
+    """The marks of an answer whose list has one entry."""
+    marks = marks_of(made("", typed)._replace(unit=unit, **{name: [ENTRIES[name]._replace(**other)]}))
+    return ["%s %s: %s" % (lane, first if first == last else "%d-%d" % (first, last), text)
+            for lane, ones in marks.items() for first, last, text in ones]
 
 
 def test_each():
-    for name, other, lane, first, last, text in MARKS:
-        marks = marks_of(answer_with(**{name: [entry(name, **other)]}))
-        assert marks[lane] == [Mark(first, last, text)]
-    assert marks_of(answer_with(breaks=[entry("breaks", kind="lost")]))["jumps"] == []
+    for name, other, wanted in MARKS:
+        assert marks_with(name, **other) == [wanted]
+    assert marks_with("breaks", kind="lost") == []
 
 
 def test_texts_and_ticks_that_fit():
-    assert shortened("0123456789", 46, 10) == "012\u2026789"  # 7 characters of 6.5 pixels
-    assert shortened("0123456789", 65.1, 10) == "0123456789"  # as wide as it may be
-    assert shortened("0123456789", 64.9, 10) == "0123\u20266789"
+    """Characters are 6.5 pixels wide at a font size of 10."""
+    for width, wanted in ((46, "012\u2026789"), (65.1, "0123456789"), (64.9, "0123\u20266789")):
+        assert shortened("0123456789", width, 10) == wanted
     svg = Svg(20, 10)
     svg.text(1, 2.5, "a < b", "\"&\"", font_size=None, class_="x")
     assert '<text x="1" y="2.5" class="x"><title>"&amp;"</title>a &lt; b</text>' in svg.render()
-    assert ticks(1, 52, 5, [1, 2, 5, 10, 20]) == [1, 20, 40]
-    assert ticks(1, 3, 5, [1, 2]) == [1, 2, 3]
-    assert ticks(7, 100, 5, [1, 2]) == [7] + list(range(8, 101, 2))  # no step is large enough
-    assert ticks(1, 0, 5, [1]) == []
+    for least, greatest, steps, wanted in (
+            (1, 52, [1, 2, 5, 10, 20], [1, 20, 40]), (1, 3, [1, 2], [1, 2, 3]), (1, 0, [1], []),
+            (7, 100, [1, 2], [7, *range(8, 101, 2)])):  # where no step is large enough
+        assert ticks(least, greatest, 5, steps) == wanted
     minutes = Extent(30, "0:00", "0:29")  # whose least step is a minute
     assert Scale("minute", "PAL", minutes, 0, 9).ticks() == [0, 10, 20]
+
+
+def text_in(part):
+    return part[0].tail if len(part) else part.text
+
+
+def whole(known, *names):
+    return [str(round(float(known[name]))) for name in names]
+
+
+def place_of(part):
+    """The fields of a part of a drawing, and its place."""
+    known = part.attrib
+    found = [known[name] for name in ("data-fields", "data-field") if name in known]
+    if part.tag == SPACE + "text":
+        return [*whole(known, "x", "y"), text_in(part)]
+    if part.tag == SPACE + "rect":
+        ends = whole({**known, "right": float(known["x"]) + float(known["width"])}, "x", "right")
+        shown = [known["data-shown"], *whole(known, "height")] if "data-shown" in known else []
+        return [*found, "-".join(ends), *shown]
+    if part.tag == SPACE + "line":
+        return whole(known, "x1", "y1", "y2")
+    if part.tag == SPACE + "circle":
+        return [*found, "ring", *whole(known, "cx", "cy")]
+    points = re.findall("[0-9.]+ [0-9.]+", known["d"])
+    if known["class"] != "run":
+        return [*found, points[0]]
+    ends = " ".join((points[0], points[-1])).split(" ")
+    return [*found, str(len(points)), *(str(round(float(end))) for end in ends)]
+
+
+# Sides, and what the drawing has of some classes, in this order and no more of it: the words, or with @ the places;
+# with + one that has these words, with - none, behind # how many, and behind = a limit. In the first side pictures 7
+# and 8 are skipped, 11 comes three times, 14 has no codes, 17 reads 79999, 20 reads 0, 23 reads 5, and behind 26 come
+# 24 to 27. The pictures begin with field 3; chapter 1 with 13, the 13th of them. In the second one, 40 fields of 24
+# pixels each, from 0:59:59.15 on, the minutes of two fields are wrong, those of a third no clock shows, the picture of
+# a fourth no clock shows. Whether the three times before the last four are lost isn't known, since the library doesn't
+# believe as few as these. In the third one 20 fields share a pixel: one damaged line is seen nevertheless; where there
+# are too many boxes twice as many share one, and again: at last 10,240. Minutes stand on all their fields, of which 48
+# have 20 pixels each, and the last one stays to the end. Of doubtful numbers three pixels from each other one is drawn,
+# and of many those within twelve pixels.
+DRAWN = """
+    NTSC Lx2 1..6 9..10 11x3 12..13 B C 15..16 79999 18..19 0 21..22 5 24..26 24..27 Ox2 28:62/2=-/c1/c1 7=S/S/#3
+      10=-/S/c0 12=-/M/c0
+      | @title 150 28 side.tbc | @line-16 1-6 150-240 blank 28; 7-7 240-255 word 28; 8-64 255-1110 blank 28
+      | @line-17 1-28 150-570 word 28; 29-29 570-585 blank 28; 30-64 585-1110 word 28
+      | @line-18 1-28 150-570 word 28; 29-29 570-585 blank 28; 30-64 585-1110 word 28
+      | @lead-in 1-2 150-180 | @chapter 4-26 195-540; 28-62 555-1080 | @lead-out 63-64 1080-1110
+      | @disc-label 368 213 chapter 0; 818 213 chapter 1 | @stop 7 247.5 224; 10 292.5 224
+      | @chapter-line 195 248 488; 555 248 488 | @lost 15-15 360-375 | @lost-fields 15-15 360-375
+      | @unread 28-30 555-600; 34-36 645-690; 40-42 735-780; 46-48 825-870 | @jumps 55-55 960-975
+      | @stills 19-23 420-495 | @shown-again 21-23 450-495; 55-59 960-1035 | @out-of-place 12-12 315-330
+      | @upright 15-15 360-375; 15-15 360-375; 55-55 960-975 | @doubtful 35-35 660-675; 41-41 750-765; 47-47 840-855
+      | @doubt 35 667.5 243.0; 41 757.5 493.0; 47 ring 848 448 | @axis 36 368 picture number; 630 692 field
+      | @run 3-13 6 188 484 338 439; 15-27 7 368 412 548 377; 31-33 2 608 359 638 350; 37-39 2 698 332 728 324;
+      43-45 2 788 306 818 297; 49-53 3 878 279 938 261; 55-61 4 968 279 1058 252
+    t89990..90005 t90009..90012 2:40/2=-/M/c3 9.18=@0:58 13.18=@9:59 17.18=@0:61 25.16=s0.25
+      | @number-label 140 487 0:59:59.15; 140 435 0:59:59.20; 140 382 1:00:00; 140 330 1:00:00.05; 140 278 1:00:00.10
+      | @axis 36 368 time; 630 710 field | @undecided 33-33 918-942 | @unread 24-26 702-774
+      | @doubtful 9-9 342-366; 13-13 438-462; 17-17 534-558; 25-25 726-750 | @doubt 9 354.0 493.0; 13 450.0 243.0
+      | @run 1-23 12 162 483 690 368; 27-31 3 786 347 882 326; 33-39 4 930 284 1074 253
+    MANY 9601=-/?/#4801 | @line-16 1-19200 150-1110 blank 28 | @run 1-19199 961 150 488 1110 248
+      | @line-17 1-9600 150-630 word 14; 1-9600 150-630 blank 14; 9601-9620 630-631 change 4; 9601-9620 630-631 word 11;
+      9601-9620 630-631 blank 13; 9621-19200 631-1110 word 14; 9621-19200 631-1110 blank 14
+    NTSC S/S*/- ~/?/! | @line-16 1-1 150-630 word 28; 2-2 630-1110 unfinished 28 | @stop 1 390.0 224
+      | @line-17 1-1 150-630 read only after smoothing 28; 2-2 630-1110 change 28
+      | @line-18 1-1 150-630 blank 28; 2-2 630-1110 hold 28 | @empty 630 368 no picture number and no time
+    1..32 33.16=? | @line-16 1-32 150-630 blank 28; 33-33 630-645 noise 28; 34-64 645-1110 blank 28
+      | +line-16 line 16, field 33: noise, change 170
+    t0..31 33.16=? | @line-16 1-32 150-630 word 28; 33-33 630-645 change 28; 34-64 645-1110 word 28
+    NTSC m59x20 m60x28 | @number-label 140 432 0:59; 140 312 1:00 | @run 1-48 4 160 428 1100 308 | doubt
+    MANY 9601.16=? | @line-16 1-9600 150-630 blank 28; 9601-9620 630-631 noise 1; 9601-9620 630-631 blank 27;
+      9621-19200 631-1110 blank 28 | +line-16 line 16, fields 9601 to 9620: noise in 5 % of these fields
+      | +line-16 line 16, fields 9601 to 9620: blank in 95 % of these fields
+    MANY 95:19200/192=B 10083=B | #unread 100 | +@unread 10078-10084 654-656
+    MANY 9601=B 9605=B 9609=B
+      | @run 1-9599 481 150 488 630 368; 9603-9603 1 630 368 630 368; 9611-19199 481 630 368 1110 248
+    MANY 9601=-/?/#4801 | =MOST_BOXES 6 | +line-17 fields 1 to 10240: change in less than 1 % of these fields
+      | @line-17 1-10240 150-662 change 4; 1-10240 150-662 word 12; 1-10240 150-662 blank 12;
+      10241-19200 662-1110 word 14; 10241-19200 662-1110 blank 14
+    MANY 9641=-/#100/- 9643=-/#101/- 9781=-/#100/- | =MOST_RINGS 3 | @doubt 9641 ring 632 486; 9781 ring 639 486
+      | +doubt and 1 more near it
+    MANY 9641=-/#100/- 9643=-/#101/- 9781=-/#100/- | =MOST_RINGS 2 | @doubt 9641 ring 632 486
+      | +doubt and 2 more near it
+    1..2001 33.17=? | +line-17 line 17, fields 31 to 36: change in 17 % of these fields
+    NTSC t1740..1829!1800,1801,1802,1803,1804 | system NTSC, CLV, 170 fields, 85 times, 0:00:58.00 to 0:01:00.29
+      | number-label 0:00:58; 0:00:59; 0:01:00
+      | run 0:00:58.00 to 0:00:59.29 in fields 1 to 119; 0:01:00.05 to 0:01:00.29 in fields 121 to 169
+    | empty no picture number and no time
+    Bx40 | empty no picture number and no time; lines 17 and 18 have 0 words, 0 are bad, 80 blank: are black and ..
+    -/#9/#9 | run 9 in field 1 || -/#3/#5 | +count doubtful: 2 NONE || NTSC 8AE001/@0:01/@0:02 | +count doubtful: 3 NONE
+    -/@0:01/@0:02 | +count doubtful: 2 NONE || NTSC f1..39 | system NTSC, CAV, film (2 and 3 fields a picture), 98 ..
+    10..19 79999 21..29 | number-label 10; 15; 20; 25 | doubt doubtful: picture 79999 in .. | +count doubtful: 2
+    10..19 1 21..29 | doubt doubtful: picture 1 in .. | +count doubtful: 2
+    m59x20 m60x28 9=-/M/@2:10 | doubt doubtful: time 2:10 in .. || t0..57 9=s7.12/M/- | doubt
+    1..1500 1001:1003/2.16=S 2001.16=S | +count stops: 3
+      | stop picture stop of 501 in field 1001, line 16; picture stop of 1001 in field 2001, line 16
+    NTSC Lx8 1..19 25 2 28..49 Ox8 9=S/S/#1 61=?/!/~ | system NTSC, CAV, 102 fields, 41 pictures, 1 to 49 | #doubt 1
+      | stop picture stop of 1 in field 9, lines 16 and 17 | lead-in lead-in: fields 1 to 8
+      | +line-17 line 17, field 61: hold 200
+    t0..57/3 | +count other speeds: 1 | -count swapped || 1 | +count lost: 0 | -count undecided
+    1..9 ?x4 14..30 | +count undecided: 4 || PAL/8 1..3 6..9 | +count lost fields: 5
+    1..30 21=? | +count unread: 1 | #upright 0
+    1..600!0%8 | +count lost: 74 | #lost 74 | #lost-fields 74 | #upright 0 || 1..399!0%8 | #upright 98
+    <1..60 -/#N/#N -/cN/cN> | #chapter 60 | #chapter-line 60 || <1..70 -/#N/#N -/cN/cN> | #chapter 70 | #chapter-line 0
+    <1..30 -/#N/#N -/cN/cN> | disc-label 1; 2; 3; 4; 5; 6; 7; 8; 9
+"""
+MANY = "NTSC 1..9600 1:19200/2.18=- 2:19200/2=B"
+NONE = "| empty no picture number and no time is believed | #run 0 | #doubt 0 | #number-label 0"
 
 
 def parts_of(text, **more):
@@ -111,271 +211,70 @@ def parts_of(text, **more):
     return [(part.get("class"), part) for part in picture.iter()]
 
 
-def drawn(text, **more):
-    """The parts of a drawing with a class, as pairs of this and their words or titles."""
-    return [(name, "".join(part.itertext())) for name, part in parts_of(text, **more) if name]
+@pytest.mark.parametrize("text, asked", (
+    (text, asked) for text, *asked in cells_of(DRAWN.replace("MANY", MANY).replace("NONE", NONE))))
+def test_drawn(text, asked):
+    """Marks that fall together are one. Doubtful numbers beyond the scale stand on both lines, which is one mark on the
+    curve. A strip of 16 pixels has room for one digit, but not for `chapter 5` nor for two."""
+    limits = dict(one[1:].split() for one in asked if one[0] == "=")
+    with mock.patch.object(bands, "MOST_BOXES", int(limits.get("MOST_BOXES", bands.MOST_BOXES))), \
+            mock.patch.object(curve, "MOST_RINGS", int(limits.get("MOST_RINGS", curve.MOST_RINGS))):
+        parts = parts_of(text)
+    for one in asked[len(limits):]:
+        kind, is_place, name, wanted = re.fullmatch("([+#-]?)(@?)([a-z0-9-]+) ?(.*)", one).groups()
+        found = [" ".join(place_of(part)) if is_place else "".join(part.itertext())
+                 for other, part in parts if other == name]
+        said = "; ".join(found)
+        if kind == "#":
+            assert len(found) == int(wanted), one
+        elif kind:
+            assert any(re.search(re.escape(wanted) + r"\b", each) for each in found) == (kind == "+"), one
+        else:
+            assert (said[:len(wanted) - 2] + ".." if wanted.endswith("..") else said) == wanted, one
 
 
-def of_class(found, name):
-    return [words for other, words in found if other == name]
-
-
-NOTHING = "no picture number and no time"
-MINUTE = "NTSC t1740..1829!1800,1801,1802,1803,1804"
-FAR = "1..1500 1001:1003/2.16=S 2001.16=S"
-# A side, the class of some parts of its drawing, and their words
-DRAWN = (
-    (MINUTE, "system", ["NTSC, CLV, 170 fields, 85 times, 0:00:58.00 to 0:01:00.29"]),
-    (MINUTE, "number-label", ["0:00:58", "0:00:59", "0:01:00"]),
-    (MINUTE, "run", ["0:00:58.00 to 0:00:59.29 in fields 1 to 119", "0:01:00.05 to 0:01:00.29 in fields 121 to 169"]),
-    ("", "empty", [NOTHING]),
-    ("Bx40", "empty", [NOTHING, "lines 17 and 18 have 0 words, 0 are bad, 80 blank: are black and white right?"]),
-    ("10..19 79999 21..29", "number-label", ["10", "15", "20", "25"]),
-    # stops that fall together are one mark
-    (FAR, "stop", ["picture stop of 501 in field 1001, line 16", "picture stop of 1001 in field 2001, line 16"]),
-    # a picture of a second has no place on the curve
-    ("t0..57 9=s7.12/M/-", "doubt", []), ("1..600!0%8", "upright", []), ("1..30 21=?", "upright", []))
-# A side, and one of its lanes, with how much is in it; some stand there only where there is something in them (None).
-# Doubtful numbers beyond the scale stand on both lines, which is one mark on the curve and two in the lane's count.
-COUNTS = (("t0..57/3", "other speeds", 1), ("t0..57/3", "swapped fields", None), ("1..9 ?x4 14..30", "undecided", 4),
-          ("PAL/8 1..3 6..9", "lost fields", 5), ("1..30 21=?", "unread", 1), ("1", "lost", 0),
-          ("1", "undecided", None), ("1..600!0%8", "lost", 74), (FAR, "stops", 3), ("-/#3/#5", "doubtful", 2),
-          ("10..19 79999 21..29", "doubtful", 2), ("10..19 1 21..29", "doubtful", 2),
-          ("8AE001/@0:01/@0:02", "doubtful", 3), ("-/@0:01/@0:02", "doubtful", 2))
-
-
-def test_rows():
-    for text, name, wanted in DRAWN:
-        assert of_class(drawn(text), name) == wanted
-    for text, lane, count in COUNTS:
-        counts = dict(one.split(": ") for one in of_class(drawn(text), "count"))
-        assert counts.get(lane) == (count if count is None else str(count))
-    for text, number in (("10..19 79999 21..29", "picture 79999"), ("10..19 1 21..29", "picture 1"),
-                         ("m59x20 m60x28 9=-/M/@2:10", "time 2:10")):
-        words, = of_class(drawn(text), "doubt")
-        assert words.partition(" in ")[0] == "doubtful: " + number
-
-
-def test_a_cav_side():
-    found = drawn("NTSC Lx8 1..19 25 2 28..49 Ox8 9=S/S/#1 61=?/!/~")
-    assert of_class(found, "system") == ["NTSC, CAV, 102 fields, 41 pictures, 1 to 49"]
-    assert of_class(found, "stop") == ["picture stop of 1 in field 9, lines 16 and 17"]
-    assert of_class(found, "lead-in") == ["lead-in: fields 1 to 8"]
-    assert "line 17, field 61: hold 200" in of_class(found, "line-17")
-    assert of_class(found, "upright")
-    assert len(of_class(found, "doubt")) == 1
-    assert "film (2 and 3 fields a picture)" in of_class(drawn("NTSC f1..39"), "system")[0]
-    found = drawn("-/#9/#9", cut=Cut(2, 5))
-    assert of_class(found, "run") + of_class(found, "system") == [
-        "9 in field 1", "PAL, CAV, 1 field, field 2 is cut: 5 bytes of it, 1 picture, 9 to 9"]
-
-
-@pytest.mark.parametrize("text", ("-/#3/#5", "8AE001/@0:01/@0:02", "-/@0:01/@0:02"))
-def test_sides_of_whose_numbers_none_is_believed(text):
-    for system in ("NTSC ", "PAL "):
-        found = drawn(system + text)
-        assert of_class(found, "empty") == ["no picture number and no time is believed"]
-        assert [name for name, _ in found if name in ("run", "doubt", "number-label")] == []
-
-
-def test_more_than_can_cross_the_curve():
-    """Chapters and marks. A strip of 16 pixels has room for one digit, but not for `chapter 5` nor for two."""
-    text = " ".join("-/#{0}/#{0} -/c{0}/c{0}".format(number) for number in range(1, 71))
-    for count, lines in ((60, 60), (70, 0)):
-        found = drawn("%s -%d:140" % (text, 2 * count + 1) if count < 70 else text)
-        assert (len(of_class(found, "chapter")), len(of_class(found, "chapter-line"))) == (count, lines)
-    assert of_class(drawn(text + " -61:140"), "disc-label") == list("123456789")
-    found = drawn("1..600!0%8")
-    assert [len(of_class(found, name)) for name in ("lost", "lost-fields")] == [74, 74]
-    assert len(of_class(drawn("1..399!0%8"), "upright")) == 2 * 49
+def test_a_cut_field():
+    assert "PAL, CAV, 1 field, field 2 is cut: 5 bytes of it, 1 picture, 9 to 9" in [
+        part.text for _, part in parts_of("-/#9/#9", cut=Cut(2, 5))]
 
 
 def test_unread_numbers_are_pale():
-    parts = parts_of("1..30 21=?")
-    marks = [part.get("fill") for name, part in parts if name == "unread"]
-    labels = [part.get("fill") for _, part in parts if part.text == "unread: 1"]
-    assert (marks, labels) == (["#fca5a5"], ["#64748b"])
+    found = [part.get("fill") for name, part in parts_of("1..30 21=?") if name == "unread" or part.text == "unread: 1"]
+    assert found == ["#64748b", "#fca5a5"]
 
 
-def test_it_fits_on_a_narrow_page():
-    """A page 900 pixels wide shows 850 of the drawing. Letters are 7 pixels wide, or less."""
-    texts = [(float(part.get("x")), float(part.get("y")), part.text)
-             for _, part in parts_of("1..8 5=-/#3^/#3^") if part.tag == SPACE + "text"]
-    wanted = ["change", "hold", "unfinished", "recovered", "read only after smoothing", "word", "blank",
-              "lead-in, lead-out", "doubtful number"]
-    found = [one for one in texts if one[2] in wanted]
-    assert [text for _, _, text in found] == wanted
-    for (x, y, text), (after, below, _) in zip(found, found[1:] + [(850, found[-1][1], "")]):
-        end = x + 7 * len(text)
-        assert end <= 850
-        # a box, or a ring, stands before the next one; or that begins another line
-        assert end <= after - 20 or below - y >= 16
-
-
-def whole(*values):
-    return [str(round(float(value))) for value in values]
-
-
-def place_of(part):
-    """The place of a part of a drawing, as words of a row below."""
-    fields = part.get("data-fields") or part.get("data-field")
-    if part.tag == SPACE + "text":
-        words = part[0].tail if len(part) else part.text
-        return [*whole(part.get("x"), part.get("y")), words]
-    if part.tag == SPACE + "rect":
-        left, width = float(part.get("x")), float(part.get("width"))
-        shown = [part.get("data-shown"), *whole(part.get("height"))] if part.get("data-shown") else []
-        return [fields, "-".join(whole(left, left + width)), *shown]
-    if part.tag == SPACE + "line":
-        return whole(part.get("x1"), part.get("y1"), part.get("y2"))
-    if part.get("class") == "run":
-        points = part.get("d")[1:].replace("h0", "").split()
-        return [fields, str(len(points) // 2), *whole(*points[:2], *points[-2:])]
-    if part.tag == SPACE + "circle":
-        return [fields, "ring", *whole(part.get("cx"), part.get("cy"))]
-    return [fields, part.get("d").split("l")[0]]
-
-
-# Sides, and what the drawing has of these classes, in this order. In the first one pictures 7 and 8 are skipped, 11
-# comes three times, 14 has no codes, 17 reads 79999, 20 reads 0, 23 reads 5, and behind 26 come 24 to 27. The pictures
-# begin with field 3; chapter 1 with 13, the 13th of them.
-FAULTS = "NTSC Lx2 1..6 9..10 11x3 12..13 B C 15..16 79999 18..19 0 21..22 5 24..26 24..27 Ox2 28:62/2=-/c1/c1"
-FAULTS += " 7=S/S/#3 10=-/S/c0 12=-/M/c0"
-FAULTY = """\
-title: 150 28 side.tbc
-line-16: 1-6 150-240 blank 28; 7-7 240-255 word 28; 8-64 255-1110 blank 28
-line-17: 1-28 150-570 word 28; 29-29 570-585 blank 28; 30-64 585-1110 word 28
-line-18: 1-28 150-570 word 28; 29-29 570-585 blank 28; 30-64 585-1110 word 28
-lead-in: 1-2 150-180
-chapter: 4-26 195-540; 28-62 555-1080
-disc-label: 368 213 chapter 0; 818 213 chapter 1
-lead-out: 63-64 1080-1110
-stop: 7 M247.5 224; 10 M292.5 224
-chapter-line: 195 248 488; 555 248 488
-lost: 15-15 360-375
-unread: 28-30 555-600; 34-36 645-690; 40-42 735-780; 46-48 825-870
-lost-fields: 15-15 360-375
-jumps: 55-55 960-975
-stills: 19-23 420-495
-shown-again: 21-23 450-495; 55-59 960-1035
-out-of-place: 12-12 315-330
-upright: 15-15 360-375; 15-15 360-375; 55-55 960-975
-doubtful: 35-35 660-675; 41-41 750-765; 47-47 840-855
-doubt: 35 M667.5 243.0; 41 M757.5 493.0; 47 ring 848 448
-axis: 36 368 picture number; 630 692 field
-run: 3-13 6 188 484 338 439; 15-27 7 368 412 548 377; 31-33 2 608 359 638 350; 37-39 2 698 332 728 324;
-    43-45 2 788 306 818 297; 49-53 3 878 279 938 261; 55-61 4 968 279 1058 252
-"""
-# 40 fields, 24 pixels each, from 0:59:59.15 on. The minutes of two fields are wrong, those of a third no clock shows,
-# the picture of a fourth no clock shows. Whether the three times before the last four are lost isn't known, since the
-# library doesn't believe as few as these.
-TIMES = "t89990..90005 t90009..90012 2:40/2=-/M/c3 9.18=@0:58 13.18=@9:59 17.18=@0:61 25.16=s0.25"
-CLOCKS = """\
-number-label: 140 487 0:59:59.15; 140 435 0:59:59.20; 140 382 1:00:00; 140 330 1:00:00.05; 140 278 1:00:00.10
-axis: 36 368 time; 630 710 field
-undecided: 33-33 918-942
-unread: 24-26 702-774
-doubtful: 9-9 342-366; 13-13 438-462; 17-17 534-558; 25-25 726-750
-run: 1-23 12 162 483 690 368; 27-31 3 786 347 882 326; 33-39 4 930 284 1074 253
-doubt: 9 M354.0 493.0; 13 M450.0 243.0
-"""
-# 20 fields to a pixel: one damaged line is seen nevertheless.
-MANY = """\
-line-16: 1-19200 150-1110 blank 28
-line-17: 1-9600 150-630 word 14; 1-9600 150-630 blank 14; 9601-9620 630-631 change 4; 9601-9620 630-631 word 11;
-    9601-9620 630-631 blank 13; 9621-19200 631-1110 word 14; 9621-19200 631-1110 blank 14
-run: 1-19199 961 150 488 1110 248
-"""
-EACH_CAUSE = """\
-line-16: 1-1 150-630 word 28; 2-2 630-1110 unfinished 28
-line-17: 1-1 150-630 read only after smoothing 28; 2-2 630-1110 change 28
-line-18: 1-1 150-630 blank 28; 2-2 630-1110 hold 28
-stop: 1 M390.0 224
-empty: 630 368 no picture number and no time
-"""
-ONE_LINE = "NTSC 1..9600 1:19200/2.18=- 2:19200/2=B "
-# Each minute stands on all its fields: 48 fields, 20 pixels each, and the last minute stays to the end.
-SIDES = ((FAULTS, FAULTY), (TIMES, CLOCKS), (ONE_LINE + "9601=-/?/#4801", MANY), ("NTSC S/S*/- ~/?/!", EACH_CAUSE),
-         ("1..32 33.16=?", "line-16: 1-32 150-630 blank 28; 33-33 630-645 noise 28; 34-64 645-1110 blank 28"),
-         ("t0..31 33.16=?", "line-16: 1-32 150-630 word 28; 33-33 630-645 change 28; 34-64 645-1110 word 28"),
-         ("NTSC m59x20 m60x28", "number-label: 140 432 0:59; 140 312 1:00\nrun: 1-48 4 160 428 1100 308"))
-
-
-def places_of(text):
-    return [(name, " ".join(place_of(part))) for name, part in parts_of(text) if name]
-
-
-# Sides of which much falls together.
-def test_line_16():
-    """What it shows of 20 fields to a pixel, of which one has noise, is no more than that, and is said in words."""
-    text = "NTSC 1..9600 1:19200/2.18=- 2:19200/2=B 9601.16=?"
-    assert "; 9601-9620 630-631 noise 1; 9601-9620 630-631 blank 27;" in "; ".join(
-        place for name, place in places_of(text) if name == "line-16")
-    said = [text for name, text in drawn(text) if name == "line-16"]
-    assert said[1:3] == ["line 16, fields 9601 to 9620: noise in 5 % of these fields",
-                         "line 16, fields 9601 to 9620: blank in 95 % of these fields"]
-    assert "line 16, field 33: noise, change 170" in [text for _, text in drawn("1..32 33.16=?")]
-    assert [text for name, text in drawn("1..2001 33.17=?") if "change" in text and name == "line-17"] == [
-        "line 17, fields 31 to 36: change in 17 % of these fields"]
-
-
-def test_bands_with_few_boxes():
-    """Where there are too many boxes, twice as many fields share a column, and again: at last 10,240 of them."""
-    with mock.patch.object(bands, "MOST_BOXES", 6):
-        found = [place for name, place in places_of(ONE_LINE + "9601=-/?/#4801") if name == "line-17"]
-        assert ("line-17", "line 17, fields 1 to 10240: change in less than 1 % of these fields") in drawn(
-            ONE_LINE + "9601=-/?/#4801")
-    assert found == ["1-10240 150-662 change 4", "1-10240 150-662 word 12", "1-10240 150-662 blank 12",
-                     "10241-19200 662-1110 word 14", "10241-19200 662-1110 blank 14"]
-
-
-def test_rings_and_runs():
-    """Of doubtful numbers three pixels from each other one is drawn, and of many those within twelve pixels; of numbers
-    between two that aren't read one in each pixel."""
-    text = ONE_LINE + "9641=-/#100/- 9643=-/#101/- 9781=-/#100/-"
-    for most, wanted in ((3, ["9641 1", "9781 0"]), (2, ["9641 2"])):
-        with mock.patch.object(curve, "MOST_RINGS", most):
-            found = [re.findall(r"in field (\d+), line 17: .*?(?:; and (\d+) more near it)?$", text)[0]
-                     for name, text in drawn(text) if name == "doubt"]
-        assert ["%s %s" % (field, more or 0) for field, more in found] == wanted
-    assert [place.split(" ")[0] for name, place in places_of(ONE_LINE + "9601=B 9605=B 9609=B") if name == "run"] == [
-        "1-9599", "9603-9603", "9611-19199"]
-
-
-def test_sides():
-    """What the drawing has of these classes is in these places, and there is no more of it. Marks that fall together
-    are one."""
-    for text, wanted in SIDES:
-        found = places_of(text)
-        for line in wanted.replace(";\n   ", ";").splitlines():
-            name, _, places = line.partition(": ")
-            assert "; ".join(place for other, place in found if other == name) == places
-    found = [place for name, place in places_of(ONE_LINE + "95:19200/192=B 10083=B") if name == "unread"]
-    assert len(found) == 100
-    assert "10078-10084 654-656" in found
+def test_texts_are_apart():
+    """And within the picture, as are the boxes and rings of the legend, of which a page 900 pixels wide shows 850.
+    Letters are 7 pixels wide, or less."""
+    boxes = []
+    for _, part in parts_of("1..8 5=-/#3^/#3^"):
+        known = part.attrib
+        x, y = (float(known.get(name, known.get("c" + name, 0))) for name in ("x", "y"))
+        if part.tag == SPACE + "text" and "transform" not in known:
+            width = 7 / 13 * float(known.get("font-size", 13)) * len(text_in(part))
+            left = x - width * {"middle": 0.5, "end": 1}.get(known.get("text-anchor"), 0)
+            boxes.append((left, y - 10, left + width, y + 2))
+        elif part.tag == SPACE + "circle" or known.get("width") == "14":
+            boxes.append((x - 4, y - 4, x + 4, y + 4) if part.tag == SPACE + "circle" else (x, y, x + 14, y + 14))
+    for (left, top, right, bottom), *others in (boxes[place:] for place in range(len(boxes))):
+        assert 0 <= left and right <= (850 if 50 < top < 86 else 1140) and top >= 0
+        assert all(right <= other[0] or other[2] <= left or bottom <= other[1] or other[3] <= top for other in others)
 
 
 # Marks by their first and last field, of 960 that have a pixel each, of which a mark has two at least: what is drawn of
 # them, by the first and the last field, how many more there are in it, and up to which field these go
-JOINED = (
+@pytest.mark.parametrize("marks, wanted", (
     ("1-1 2-2 3-3", "1-3 2 3"), ("1-1 2-2 3-3 4-4 6-6", "1-4 3 4, 6-6"), ("1-1 3-3 5-5", "1-1, 3-3, 5-5"),
     ("1-9 10-19 20-29", "1-9, 10-19, 20-29"), ("1-100 5-6 20-30", "1-100 2 30"), ("1-100 5-90 20-30", "1-100 2 90"),
-    ("1-100 5-6 100-200", "1-200 2 200"), ("1-100 5-6 101-101", "1-100 1 6, 101-101"),
-    ("1-10 9-20 19-30 40-50 41-42", "1-30 2 30, 40-50 1 42"), ("959-959 960-960", "959-960 1 960"),
-    ("7-7 7-7", "7-7 1 7"))
-
-
-@pytest.mark.parametrize("marks, wanted", JOINED)
+    ("1-100 5-6 100-200", "1-200 2 200"), ("1-100 5-6 101-101", "1-100 1 6, 101-101"), ("7-7 7-7", "7-7 1 7"),
+    ("1-10 9-20 19-30 40-50 41-42", "1-30 2 30, 40-50 1 42"), ("959-959 960-960", "959-960 1 960")))
 def test_marks_that_fall_together(marks, wanted):
     ones = [tuple(map(int, mark.split("-"))) for mark in marks.split()]
-    wanted = [re.findall(r"\d+", one) for one in wanted.split(", ")]
-    of_lane = list(drawing._joined(Axis(960), [Mark(*one, "m") for one in ones]))
-    of_bar = list(bars._joined(Axis(960), [(*one, "m") for one in ones]))
-    assert [mark for _, _, mark in of_lane] == [
-        (int(first), int(last), "m; and %s more up to field %s" % tuple(more) if more else "m") for first, last, *more
-        in wanted]
-    assert [mark for _, _, mark in of_bar] == [(int(first), int(last), "m; and %s more" % more[0] if more else "m") for
-                                               first, last, *more in wanted]
-    for begin, end, (first, last, _) in of_lane + of_bar:
+    in_lane = list(drawing._joined(Axis(960), [Mark(*one, "m") for one in ones]))
+    in_bar = list(bars._joined(Axis(960), [(*one, "m") for one in ones]))
+    for found, said in ((in_lane, wanted), (in_bar, re.sub(r"( \d+) \d+", r"\1", wanted))):
+        assert ", ".join("%d-%d%s" % (first, last, re.sub("^m$|^m; and| more| up to field", "", text))
+                         for _, _, (first, last, text) in found) == said
+    for begin, end, (first, last, _) in in_lane + in_bar:
         ends = [max(150 + b, 151 + min(a, 959)) for a, b in ones if first <= a and b <= last]
         assert (begin, end) == (149 + min(first, 959), max(ends))

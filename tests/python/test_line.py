@@ -1,50 +1,46 @@
 """A line as a drawing: what is marked, and where the cells of its word stand, by what the line is made of; and the
 pictures of docs/FORMATS.md."""
 
+import functools
 import os
+import pathlib
 import re
 import runpy
+import subprocess
+import sys
 import xml.etree.ElementTree as xml
 
 import ldvbi
 import pytest
 from ldvbi_side.draw.line import Row, line_of, plot_of
-from streams import NTSC, PAL, TOP, line_with
+from streams import NTSC, PAL, TOP
 
-PICTURES = os.path.join(TOP, "docs", "pictures")
-
-
-def halves(word, length, count):
-    """The first half cells of a word, so many samples long each, as levels."""
-    bits = [word >> (23 - place) & 1 for place in range(24)]
-    return [level for bit in bits for half in (not bit, bit) for level in [bool(half)] * length][:length * count]
+PICTURES = pathlib.Path(TOP, "docs", "pictures")
+FORMATS = pathlib.Path(TOP, "docs", "FORMATS.md").read_text("utf-8")
 
 
-def line(setup, *runs):
-    """A line of these runs, each of levels or a count of high samples, or, negative, of low ones; low behind them."""
-    _, black, white = setup
-    levels = [level for run in runs for level in (run if isinstance(run, list) else [run > 0] * abs(run))]
-    levels += [False] * (ldvbi.line_bytes(setup[0]) // 2 - len(levels))
-    return b"".join((white if level else black).to_bytes(2, "little") for level in levels)
+@functools.lru_cache(maxsize=None)
+def described(text, setup=NTSC):
+    """The line of this description (tests/program/described.py)."""
+    words = [sys.executable, os.path.join(TOP, "tests", "program", "described.py"), setup[0], "0", *map(str, setup[1:])]
+    return subprocess.run(words, input=text.encode(), stdout=subprocess.PIPE, check=True).stdout
 
 
 class Drawn:
     """What a drawing has: its title, what is said of the line, digits and bits, the columns at which cells begin and
     end, those that are marked, and what reaches out of the frame."""
 
-    def __init__(self, data, setup, row=None, columns=None, title="a title"):
+    def __init__(self, data, setup=NTSC, row=None, columns=None, title="a title"):
         setup = (ldvbi.System[setup[0]], *setup[1:])
         self.text = plot_of(line_of(data, *setup, ldvbi.read_line(data, *setup)), title, row, columns)
         self.parts = list(xml.fromstring(self.text).iter())
         self.first, last = columns or (0, len(data) // 2 - 1)
         self.step = 1000 / (last + 1 - self.first)
-        self.title, self.said = self.words("title") + self.words("said")
-        self.digits, self.bits = "".join(self.words("digit")), "".join(self.words("bit"))
+        self.title, self.said, self.digits, self.bits = (
+            "".join(part.text for part in self.parts if part.get("class") == name)
+            for name in ("title", "said", "digit", "bit"))
         self.cells, self.marked = sorted(set(self.columns("cell", "x1"))), self.columns("marked", "x")
         self.outside = [part for part in self.parts if self.is_outside(part)]
-
-    def words(self, name):
-        return [part.text for part in self.parts if part.get("class") == name]
 
     def columns(self, name, key):
         return [round(self.first + (float(part.get(key)) - 70) / self.step) for part in self.parts
@@ -53,14 +49,11 @@ class Drawn:
     @staticmethod
     def is_outside(part):
         """Whether a place of the part, of a text its anchor, is out of the frame. A part of a pixel is rounded."""
-        known = part.attrib
-        across = [float(known[name]) for name in ("x", "x1", "x2") if name in known]
-        down = [float(known[name]) for name in ("y", "y1", "y2") if name in known]
+        known, steps = part.attrib, re.sub(r"M(\S+) ", r"H\1V", part.get("d", ""))
+        across, down = ([*(float(known[name]) for name in names if name in known), *map(float, re.findall(step, steps))]
+                        for names, step in ((("x", "x1", "x2"), "H([0-9.-]+)"), (("y", "y1", "y2"), "V([0-9.-]+)")))
         if across and "width" in known:
             across.append(across[0] + float(known["width"]))
-        for step, first, second in re.findall("([MVH])([0-9.-]+)(?: ([0-9.-]+))?", known.get("d", "")):
-            across += [float(first)] if step in "MH" else []
-            down += [float(second or first)] if step in "MV" else []
         left, right, top, bottom = (0, 1090, 0, 326) if part.tag.endswith("text") else (70, 1070, 72, 281)
         return (any(not left - 0.1 <= x <= right + 0.1 for x in across) or
                 any(not top - 0.1 <= y <= bottom + 0.1 for y in down))
@@ -69,96 +62,81 @@ class Drawn:
 PASS_1 = ", by the samples as they are (pass 1)"
 PASS_2 = ", by the smoothed levels (pass 2); what was smoothed away is red"
 HOPELESS = " (from this column on no continuation could show one)"
+PLAIN, SMOOTHED, CHANGED = "82CFFF", "82CFFF @170-171L", "82CFFF @170-174L"
 
 
-@pytest.mark.parametrize("setup, data, said, digits, marked", [
-    (NTSC, line_with(0x82CFFF, NTSC), "82CFFF" + PASS_1, "82CFFF", []),
-    (NTSC, line_with(0x82CFFF, NTSC, [(170, 171, False)]), "82CFFF" + PASS_2, "82CFFF", [170, 171]),
-    (NTSC, line_with(0x82CFFF, NTSC, [(0, 0, True)]), "82CFFF" + PASS_2, "82CFFF", [0]),
+@pytest.mark.parametrize("setup, text, said, digits, marked", [
+    (NTSC, PLAIN, "82CFFF" + PASS_1, "82CFFF", []), (NTSC, SMOOTHED, "82CFFF" + PASS_2, "82CFFF", [170, 171]),
+    (NTSC, "82CFFF @0-0H", "82CFFF" + PASS_2, "82CFFF", [0]),
     # the shortest half cells, up to the end of the line and from its beginning
-    (NTSC, line(NTSC, -382, halves(0xFFFFFE, 11, 47)), "FFFFFE" + PASS_1, "FFFFFE", []),
-    (NTSC, line(NTSC, -382, halves(0xFFFFFF, 11, 48)), "FFFFFF" + PASS_1, "FFFFFF", []),
-    (NTSC, line(NTSC, halves(0xFFFFFF, 11, 47), 18), "FFFFFF" + PASS_1, "FFFFFF", []),
-    (NTSC, line(NTSC, 1, halves(0xFFFFFF, 11, 48)[1:]), "FFFFFF" + PASS_2, "FFFFFF", [0]),
-    (NTSC, line_with(0x82CFFF, NTSC, [(170, 174, False)]), "no word: change 170" + HOPELESS, "", [170]),
-    (NTSC, line(NTSC, -873, 37), "no word: hold 909" + HOPELESS, "", [909]),
-    (NTSC, line(NTSC), "no word: blank (no sample is high)", "", []),
-    (NTSC, line(NTSC, -900, 10), "no word: unfinished (a longer line could still show one)", "", []),
-    (PAL, line_with(0x8AE012, PAL), "8AE012" + PASS_1, "8AE012", []),
-    (PAL, line_with(0x8AE012, PAL, [(50, 52, True)]), "8AE012" + PASS_2, "8AE012", [50, 51, 52]),
-    (PAL, line(PAL, halves(0xAAAAAA, 22, 48)), "AAAAAA" + PASS_1, "AAAAAA", []),
-    (PAL, line(PAL, -207, 928), "no word: hold 251" + HOPELESS, "", [251])])
-def test_what_a_line_shows(setup, data, said, digits, marked):
-    drawn = Drawn(data, setup)
+    (NTSC, "L382 FFFFFE/11/47", "FFFFFE" + PASS_1, "FFFFFE", []),
+    (NTSC, "L382 FFFFFF/11/48", "FFFFFF" + PASS_1, "FFFFFF", []),
+    (NTSC, "FFFFFF/11/47 H18", "FFFFFF" + PASS_1, "FFFFFF", []),
+    (NTSC, "FFFFFF/11/48 @0-0H", "FFFFFF" + PASS_2, "FFFFFF", [0]),
+    (NTSC, CHANGED, "no word: change 170" + HOPELESS, "", [170]),
+    (NTSC, "L873 H37", "no word: hold 909" + HOPELESS, "", [909]),
+    (NTSC, "-", "no word: blank (no sample is high)", "", []),
+    (NTSC, "L900 H10", "no word: unfinished (a longer line could still show one)", "", []),
+    (PAL, "8AE012 @50-52H", "8AE012" + PASS_2, "8AE012", [50, 51, 52]),
+    (PAL, "AAAAAA/22/48", "AAAAAA" + PASS_1, "AAAAAA", []),
+    (PAL, "L207 H928", "no word: hold 251" + HOPELESS, "", [251])])
+def test_what_a_line_shows(setup, text, said, digits, marked):
+    drawn = Drawn(described(text, setup), setup)
     assert (drawn.said, drawn.digits, drawn.marked, drawn.outside) == (said, digits, marked, [])
 
 
-@pytest.mark.parametrize("changes, row, said, count", [
-    ((), Row(0x82CFFF, 151), "82CFFF; the row of 82CFFF from column 151 on is 42.0 columns away", 42),
-    ((), Row(0x82CFFE, 150), "82CFFF; the row of 82CFFE from column 150 on is 29.0 columns away", 29),
-    ([(170, 174, False)], Row(0x82CFFF, 150),
-     "no word: change 170; the row of 82CFFF from column 150 on is 5.0 columns away", 5)])
-def test_the_row_of_a_word(changes, row, said, count):
+@pytest.mark.parametrize("text, row, said, count", [
+    (PLAIN, Row(0x82CFFF, 151), "82CFFF; the row of 82CFFF from column 151 on is 42.0 columns away", 42),
+    (PLAIN, Row(0x82CFFE, 150), "82CFFF; the row of 82CFFE from column 150 on is 29.0 columns away", 29),
+    (CHANGED, Row(0x82CFFF, 150), "no word: change 170; the row of 82CFFF from column 150 on is 5.0 columns away", 5)])
+def test_the_row_of_a_word(text, row, said, count):
     """82CFFF changes its level in 42 columns, and 82CFFE is another word in the 29 columns of its last cell."""
-    drawn = Drawn(line_with(0x82CFFF, NTSC, changes), NTSC, row)
+    drawn = Drawn(described(text), row=row)
     assert (drawn.said, drawn.digits, len(drawn.marked), drawn.outside) == (said, "%06X" % row.word, count, [])
 
 
-@pytest.mark.parametrize("data, columns, marked", [
-    (line_with(0x82CFFF, NTSC), (0, 10), 0), (line_with(0x82CFFF, NTSC), (909, 909), 0),
-    (line_with(0x82CFFF, NTSC, [(170, 171, False)]), (170, 171), 2),
-    (line_with(0x82CFFF, NTSC, [(170, 171, False)]), (171, 300), 1),
-    (line_with(0x82CFFF, NTSC, [(170, 171, False)]), (0, 169), 0),
-    (line_with(0x82CFFF, NTSC, [(170, 174, False)]), (170, 170), 1),
-    (line(NTSC, -164, 746), (0, 200), 1), (line(NTSC, -164, 746), (201, 909), 0)])
-def test_a_part_of_a_line(data, columns, marked):
-    drawn = Drawn(data, NTSC, columns=columns)
+@pytest.mark.parametrize("text, columns, marked", [
+    (PLAIN, (0, 10), 0), (PLAIN, (909, 909), 0), (SMOOTHED, (170, 171), 2), (SMOOTHED, (171, 300), 1),
+    (SMOOTHED, (0, 169), 0), (CHANGED, (170, 170), 1), ("L164 H746", (0, 200), 1), ("L164 H746", (201, 909), 0)])
+def test_a_part_of_a_line(text, columns, marked):
+    drawn = Drawn(described(text), columns=columns)
     assert (len(drawn.marked), drawn.outside) == (marked, [])
 
 
 def test_cells_stand_where_the_documents_have_them():
     """Each second half cell of FORMATS.md begins a cell; or a column off, where two half cells of one level meet."""
-    drawn = Drawn(line_with(0x82CFFF, NTSC), NTSC)
-    with open(os.path.join(TOP, "docs", "FORMATS.md"), encoding="utf-8") as file:
-        text = re.search(r"^### Drawn rows(.*?)^##", file.read(), re.M | re.S).group(1)
+    drawn = Drawn(described(PLAIN))
+    text = re.search(r"^### Drawn rows(.*?)^##", FORMATS, re.M | re.S).group(1)
     begins = [int(number) for row in re.findall(r"^[0-9 ]+$", text, re.M) for number in row.split()][::2]
-    assert len(begins) == len(drawn.cells) == 25
-    assert all(abs(one - other) <= 1 for one, other in zip(begins, drawn.cells))
-    assert drawn.bits == "100000101100111111111111"
-    first, second = drawn.cells[:2]
-    assert Drawn(line_with(0x82CFFF, NTSC), NTSC, columns=(0, second - 1)).cells == [first, second]
-    assert Drawn(line_with(0x82CFFF, NTSC), NTSC, columns=(0, second - 2)).cells == [first]
-    ends = Drawn(line_with(0x8AE012, PAL), PAL).cells[::24]  # from column 190 on, of 851 columns
-    assert all(abs(one - other) <= 1 for one, other in zip(ends, (190, 1041)))
+    ends = Drawn(described("8AE012", PAL), PAL).cells[::24]  # from column 190 on, of 851 columns
+    assert (len(drawn.cells), len(begins), drawn.bits) == (25, 25, "100000101100111111111111")
+    assert all(abs(one - other) <= 1 for one, other in zip([*begins, 190, 1041], [*drawn.cells, *ends]))
+    for last, count in ((drawn.cells[1] - 1, 2), (drawn.cells[1] - 2, 1)):
+        assert Drawn(described(PLAIN), columns=(0, last)).cells == drawn.cells[:count]
 
 
 def test_columns_are_numbered_by_tens_or_fifties():
     for last, count in ((300, 31), (301, 7)):
-        text = Drawn(line(NTSC), NTSC, columns=(0, last)).text
+        text = Drawn(described("-"), columns=(0, last)).text
         assert len(re.findall(r'text-anchor="middle">\d+<', text)) == count
 
 
 def test_levels():
     """Samples at the middle of black and white are low, those above it high; those beyond both have room."""
     for levels in ((0, 32768), (50000, 52399)):
-        assert Drawn(line_with(0x82CFFF, NTSC), ("NTSC", *levels)).digits == "82CFFF"
-    assert Drawn(line(("NTSC", 0, 65535), -100, 100), ("NTSC", 20000, 40000)).outside == []
+        assert Drawn(described(PLAIN), ("NTSC", *levels)).digits == "82CFFF"
+    assert Drawn(described("L100 H100", ("NTSC", 0, 65535)), ("NTSC", 20000, 40000)).outside == []
 
 
-def test_titles():
-    assert Drawn(line(NTSC), NTSC, title="side <1> & 2.tbc").title == "side <1> & 2.tbc"
-    long = Drawn(line(NTSC), NTSC, title="%0120d" % 5).title
-    assert "\u2026" in long and long.endswith("0005") and len(long) < 100
+def test_a_long_title():
+    assert re.fullmatch("0.{,90}\u20260*5", Drawn(described("-"), title="%0120d" % 5).title)
 
 
-@pytest.mark.parametrize("name", ["word", "second-reading", "change-170", "nearest"])
-def test_pictures_of_the_documents(name):
-    with open(os.path.join(PICTURES, name + ".svg"), encoding="utf-8") as file:
-        assert runpy.run_path(os.path.join(PICTURES, "make.py"))["pictures"]()[name] == file.read()
-    with open(os.path.join(TOP, "docs", "FORMATS.md"), encoding="utf-8") as file:
-        text = file.read()
-    assert "(pictures/%s.svg)" % name in text
-    if name == "nearest":  # the distance of the nearest word, and its rival's
-        made = runpy.run_path(os.path.join(PICTURES, "make.py"))
-        near = ldvbi.nearest(made["worn"](line_with(0x82CFFF, NTSC)), *NTSC)
-        assert re.search(r"%.1f\s+columns.*\s%.1f\s" % (near.distance / 34816, near.rival / 34816), text, re.S)
+def test_pictures_of_the_documents():
+    """They are those that are made, and the text has the distance of the nearest word, and its rival's."""
+    made = runpy.run_path(str(PICTURES / "make.py"))
+    for name in ("word", "second-reading", "change-170", "nearest"):
+        assert made["pictures"]()[name] == (PICTURES / (name + ".svg")).read_text("utf-8")
+        assert "(pictures/%s.svg)" % name in FORMATS
+    near = ldvbi.nearest(made["worn"](described(PLAIN)), *NTSC)
+    assert re.search(r"%.1f\s+columns.*\s%.1f\s" % (near.distance / 34816, near.rival / 34816), FORMATS, re.S)

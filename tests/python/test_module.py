@@ -3,7 +3,9 @@ in the library's order and words: the library gets each number as it is, and wha
 refuses has tests/library/refusals.py."""
 
 import array
+import contextlib
 import ctypes
+import functools
 import io
 import mmap
 import os
@@ -16,13 +18,16 @@ from unittest import mock
 from compact import made
 from discs import side
 import ldvbi
-from ldvbi import judging, library, near, seeking, sides, stream
+from ldvbi import (complete_times, draw_line, find_pace, judge, judge_chapters, judge_ends, judge_field, judge_side,
+                   judge_stops, judging, library, near, nearest, read_field, read_line, read_rows, recover_pile, seek,
+                   seeking, sides, stream, Stream)
 from ldvbi.samples import _Buffer, Samples
 import pytest
 from room import reason
 from streams import line_with, NTSC
 
-WORD = (ldvbi.Cause.word, 1, 0, 0xF12345)
+# A line of one word, which is taken in each kind of object: samples of 16 bits, or raw bytes, and nothing else
+SHOWN = line_with(0xF12345, NTSC)
 
 
 def by_columns(memory):
@@ -35,313 +40,255 @@ def by_columns(memory):
     return make(ctypes.byref(buffer))
 
 
-# A line of one word in each kind of object: samples of 16 bits, or raw bytes, are taken, and nothing else is.
-SHOWN = line_with(0xF12345, NTSC)
-
-
 def test_taken():
     view, samples = memoryview(SHOWN), array.array("H", SHOWN)
     with tempfile.TemporaryFile() as file:
         file.write(SHOWN)
         file.flush()
         mapped = mmap.mmap(file.fileno(), 0, access=mmap.ACCESS_READ)
-    stream = io.BytesIO(SHOWN)
-    taken = (SHOWN, bytearray(SHOWN), mapped, view, memoryview(b"x" + SHOWN + b"y")[1:-1],
-             stream.getbuffer(), samples, memoryview(samples), memoryview(samples).cast("B"), view.cast("H"),
-             view.cast("c"), view.cast("H", (2, 455)), (ctypes.c_uint16 * 910).from_buffer_copy(SHOWN),
-             (ctypes.c_uint16 * 455 * 2).from_buffer_copy(SHOWN), ctypes.create_string_buffer(SHOWN, 1820),
-             memoryview(array.array("B", SHOWN)).cast("B").cast("H"))
-    for place, source in enumerate(taken):
-        assert ldvbi.read_line(source, *NTSC) == WORD
-    changed = line_with(0, NTSC, [(14, 33, True)])
-    assert ldvbi.read_line(changed, *NTSC) == (ldvbi.Cause.change, 0, 34, 0)
+    held = io.BytesIO(SHOWN)  # as long as its buffer
+    for source in (SHOWN, bytearray(SHOWN), mapped, view, memoryview(b"x" + SHOWN + b"y")[1:-1], held.getbuffer(),
+                   samples, memoryview(samples), memoryview(samples).cast("B"), view.cast("H"), view.cast("c"),
+                   view.cast("H", (2, 455)), (ctypes.c_uint16 * 910).from_buffer_copy(SHOWN),
+                   (ctypes.c_uint16 * 455 * 2).from_buffer_copy(SHOWN), ctypes.create_string_buffer(SHOWN, 1820),
+                   memoryview(array.array("B", SHOWN)).cast("B").cast("H")):
+        assert ldvbi.read_line(source, *NTSC) == (ldvbi.Cause.word, 1, 0, 0xF12345)
+    assert ldvbi.read_line(line_with(0, NTSC, [(14, 33, True)]), *NTSC) == (ldvbi.Cause.change, 0, 34, 0)
 
 
 def test_refused():
-    view, calls = memoryview(SHOWN), (ldvbi.read_line, ldvbi.read_rows, ldvbi.read_field, ldvbi.fields,
-                                          ldvbi.Stream)
-    kinds = {kind: array.array(kind, SHOWN) for kind in "Bfih"}
-    kinds.update({kind: view.cast(kind) for kind in "Ib"})
-    kinds["<B"] = (ctypes.c_uint8 * 1820).from_buffer_copy(SHOWN)
-    kinds[">H"] = (ctypes.c_uint16.__ctype_be__ * 910).from_buffer_copy(SHOWN)
-    kinds["d"] = memoryview(array.array("d", bytes(1820 + 4))).cast("B")[:1820]
-    floats = array.array("f", bytes(478660))
-    # In Fortran's order, column by column, samples lie otherwise than they are counted, though there are no gaps.
+    """In Fortran's order, column by column, samples lie otherwise than they are counted, though there are no gaps."""
+    view, calls = memoryview(SHOWN), (ldvbi.read_line, ldvbi.read_rows, ldvbi.read_field, ldvbi.fields, ldvbi.Stream)
+    kinds = {**{kind: array.array(kind, SHOWN) for kind in "Bfih"}, **{kind: view.cast(kind) for kind in "Ib"},
+             "<B": (ctypes.c_uint8 * 1820).from_buffer_copy(SHOWN),
+             ">H": (ctypes.c_uint16.__ctype_be__ * 910).from_buffer_copy(SHOWN),
+             "d": memoryview(array.array("d", bytes(1820 + 4))).cast("B")[:1820]}
     columns = by_columns((ctypes.c_uint16 * 910).from_buffer_copy(SHOWN))
     assert columns.f_contiguous
-    form, pieces = "of the format %s, not H (16 bits without sign, the low byte first)", "bytes in one piece"
-    rows = [(form % kind, source, [ldvbi.read_line]) for kind, one in kinds.items()
-            for source in (one, memoryview(one))]
-    rows += [(form % "f", floats, calls), ("not " + pieces, columns, calls[::4]),
-             ("not " + pieces, memoryview(SHOWN + SHOWN)[::2], calls[3:])]
-    rows += [("not bytes, but of the type " + name, source, calls[3:])
-             for name, source in (("NoneType", None), ("int", 5), ("list", [1, 2]))]
-    for text, source, asked in rows:
-        for call in asked:
-            assert reason(call, source, *NTSC) == "samples are " + text
+    form = "of the format %s, not H (16 bits without sign, the low byte first)"
+    rows = [(form % kind, [one, memoryview(one)], calls[:1]) for kind, one in kinds.items()]
+    rows += [(form % "f", [array.array("f", bytes(478660))], calls), ("not bytes in one piece", [columns], calls[::4]),
+             ("not bytes in one piece", [memoryview(SHOWN + SHOWN)[::2]], calls[3:])]
+    rows += [("not bytes, but of the type " + type(one).__name__, [one], calls[3:]) for one in (None, 5, [1, 2])]
+    for text, sources, asked in rows:
+        assert {reason(call, one, *NTSC) for one in sources for call in asked} == {"samples are " + text}
 
 
-def test_a_buffer_is_held():
-    """As long as it has to be, and it is given back then."""
+@pytest.mark.parametrize("is_refused", (False, True))
+def test_a_buffer_is_held(is_refused):
+    """As long as it has to be, and it is given back then: else there is a BufferError."""
     line = bytearray(SHOWN)
     with Samples(line) as memory:
         pytest.raises(BufferError, line.append, 0)
-    line.append(0)
     assert memory.length == 1820  # it is there still, and holds nothing any more
-    line = bytearray(SHOWN)
-    ldvbi.read_line(line, *NTSC)
-    line.append(0)  # a BufferError while somebody holds its bytes
-    assert reason(ldvbi.read_line, line, *NTSC) is not None
+    line.extend(b"x" * is_refused)
+    assert (reason(ldvbi.read_line, line, *NTSC) is not None) == is_refused
     line.append(0)
 
 
-def run(code, **variables):
-    """Runs Python code in a process of its own, with these environment variables."""
-    known = dict(os.environ, PYTHONDONTWRITEBYTECODE="1", **variables)
-    return subprocess.run([sys.executable, "-c", code], env=known, stdout=subprocess.PIPE, stderr=subprocess.STDOUT,
-                          universal_newlines=True, check=False).stdout
+# ---- Where the library is, and what it has
+
+ABI = "unsigned ldvbi_abi(void) { return %d; }\n"
+# Calls that write a cause, or numbers, and return a status
+CALL = "unsigned ldvbi_%s(int a, int b, int c, void *d, long size, char *out) { if (size) *out = %d; return %d; }\n"
+JUDGE = "unsigned ldvbi_judge(int a, int b, int c, void *d, long count, void *e, long f, unsigned *out, long g) " \
+        "{ if (count) { out[0] = 5; out[1] = %du; } return count ? %d : 0; }\n"
+VERSION, PLAIN = "unsigned ldvbi_version(void) { return %d; }\n", "unsigned ldvbi_plain_rust(void) { return 1; }\n"
+MAKE, NAMES = "`make lib` or `make rust` builds", "LDVBI_LIBRARY names its file"
+OLD = "%s is too old to %s, it has no ldvbi_%s: " + MAKE + " a later one, " + NAMES
+REFUSED = "the library's status is 99"
+# What is asked
+WORDS = '(ldvbi.classify(0xF12345).first, ldvbi.format_of(0, 0x87FFFF, 0).name, ldvbi.field_bytes("PAL"))'
+READ = "int(ldvbi.read_line(bytes(1820), 'NTSC', 1, 2).cause)"
+CAUSES = READ + ", next(ldvbi.fields(bytearray(478660), 'NTSC', 1, 2))[0].cause"
+STATE = "tuple(ldvbi.judge(bytes(24), 'NTSC')[0])"
+LOADED = "ldvbi.library.library_text()"
 
 
-MAKE, NAMES = "`make lib` or `make rust` builds", "LDVBI_LIBRARY names its file\n"
-NONE = "no library to read and judge with (%s: cannot open shared object file: No such file or directory): " + MAKE + \
-       " it, " + NAMES
-TRY = "import ldvbi\ntry:\n    print(%s)\nexcept (OSError, ValueError) as error:\n    print(error)\n"
-READ = TRY % 'ldvbi.read_line(bytes(1820), "NTSC", 16384, 51200).cause.name'
-# Where a library is found without a variable, the first of them before the next
-PLACES = ("share/ldvbi/python/ldvbi", "share/ldvbi/python", "share/ldvbi", "share/ldvbi/rust", "lib")
-# What a library has: its interface, and calls that write a cause and return a status
-ABI = "#include <stddef.h>\nunsigned ldvbi_abi(void) { return %d; }\n"
-CALL = "unsigned ldvbi_%s(unsigned system, unsigned black, unsigned white, const void *samples, size_t length, " \
-       "unsigned char *out) { if (length) out[0] = %d; return %d; }\n"
-JUDGE = "unsigned ldvbi_judge(unsigned system, unsigned counted, unsigned pace, const void *readings, size_t count, " \
-        "void *seen, size_t seen_count, unsigned *numbers, size_t number_count) " \
-        "{ if (count) { numbers[0] = 5; numbers[1] = %du; } return count ? %d : 0; }\n"
+def run(*asked, **variables):
+    """What Python prints of these, in a process of its own, with these environment variables."""
+    code = "import ldvbi\n" + "".join(
+        "try:\n    print(%s)\nexcept (OSError, ValueError) as error:\n    print(error)\n" % one for one in asked)
+    return subprocess.run([sys.executable, "-c", code], env={**os.environ, "PYTHONDONTWRITEBYTECODE": "1", **variables},
+                          stdout=subprocess.PIPE, stderr=subprocess.STDOUT, text=True, check=False).stdout
 
 
 def other(room, interface, status, cause, more=""):
     """The file of a library with this interface, whose calls return this status and write this cause; `more` is the
     source of another call."""
-    source = room.write("other.c", ABI % interface + "".join(
-        CALL % (name, cause, status)
-        for name in ("read_line", "read_rows", "read_field", "read_fields", "draw_line")) + more)
+    calls = "read_line", "read_rows", "read_field", "read_fields", "draw_line"
+    source = room.write("other.c", ABI % interface + "".join(CALL % (name, cause, status) for name in calls) + more)
     subprocess.run([os.environ.get("CC", "cc"), "-shared", "-fPIC", "-o", room.named("other.so"), source], check=True)
     return room.named("other.so")
 
 
-def test_none_and_another(room):
-    """Words and sizes need none. Another interface isn't taken, and none at all."""
-    file = other(room, 2, 0, 0)
-    words = '(ldvbi.classify(0xF12345).first, ldvbi.format_of(0, 0x87FFFF, 0).name, ldvbi.field_bytes("PAL"))'
-    for code, variables, wanted in ((TRY % words, {"LDVBI_LIBRARY": "/absent"}, "(12345, 'clv', 710510)\n"),
-                                    (READ, {"LDVBI_LIBRARY": "/absent"}, NONE % "/absent"),
-                                    (READ, {"LDVBI_LIBRARY": file},
-                                     "%s has the interface 2, not 1: %s the one that fits, %s" % (file, MAKE, NAMES))):
-        assert run(code, **variables) == wanted
-    assert re.search(r"^no library to read and judge with \(.*undefined " r"symbol: ldvbi_abi\): %s it, %s\Z" %
-                     (MAKE, NAMES), run(READ, LDVBI_LIBRARY="libc.so.6"))
+@pytest.mark.parametrize("asked, parts, wanted", (
+    # words and sizes need no library
+    (WORDS, None, "(12345, 'clv', 710510)"),
+    (READ, None, "no library to read and judge with (FILE: cannot open shared object file: No such file or directory): "
+     + MAKE + " it, " + NAMES),
+    (READ, (2, 0, 0), "FILE has the interface 2, not 1: " + MAKE + " the one that fits, " + NAMES),
+    # causes and states that a later library adds stay numbers, and its statuses are refusals
+    (CAUSES, (1, 0, 5), "5 5"), (CAUSES, (1, 0, 255), "255 255"), (CAUSES, (1, 99, 0), REFUSED),
+    (STATE, (1, 0, 0, JUDGE % (4, 0)), "(5, 4)"), (STATE, (1, 0, 0, JUDGE % (2 ** 31 - 1, 0)), "(5, 2147483647)"),
+    (STATE, (1, 0, 0, JUDGE % (0, 99)), REFUSED),
+    # the proved one is known by its version: from then on plain Rust says what it is
+    (LOADED, (1, 0, 0, VERSION % 1000), "library 0.1.0 (proved or plain Rust): FILE"),
+    (LOADED, (1, 0, 0, VERSION % 2000), "library 0.2.0 (proved): FILE"),
+    (LOADED, (1, 0, 0, VERSION % 12034056 + PLAIN), "library 12.34.56 (plain Rust, not proved): FILE"),
+    (LOADED, (1, 0, 0), OLD % ("FILE", "say its version", "version"))))
+def test_what_is_loaded(room, asked, parts, wanted):
+    file = other(room, *parts) if parts else "/absent"
+    assert run(asked, LDVBI_LIBRARY=file) == wanted.replace("FILE", file) + "\n"
 
 
-def test_numbers_that_a_later_library_adds(room):
-    """Causes stay numbers, in lines and in fields, and so do states; statuses are refusals."""
-    cause = TRY % '[ldvbi.read_line(bytes(1820), "NTSC", 1, 2).cause] + ' \
-        '[cause for (cause, *_), *_ in ldvbi.fields(bytearray(478660), "NTSC", 1, 2)]'
-    state = TRY % 'tuple(ldvbi.judge(bytes(24), "NTSC")[0])'
-    for code, parts, said in (
-            (cause, (1, 0, 5), "[5, 5]"), (cause, (1, 0, 255), "[255, 255]"),
-            (cause, (1, 99, 0), "the library's status is 99"), (state, (1, 0, 0, JUDGE % (4, 0)), "(5, 4)"),
-            (state, (1, 0, 0, JUDGE % (2 ** 31 - 1, 0)), "(5, 2147483647)"),
-            (state, (1, 0, 0, JUDGE % (0, 99)), "the library's status is 99")):
-        assert run(code, LDVBI_LIBRARY=other(room, *parts)) == said + "\n"
+def test_what_the_loader_finds(room):
+    other(room, 1, 0, 0, VERSION % 2000)
+    assert run(LOADED, LDVBI_LIBRARY="other.so", LD_LIBRARY_PATH=room.folder) == \
+        "library 0.2.0 (proved): %s\n" % room.named("other.so")
+    assert re.fullmatch(r"no library to read and judge with \(.*undefined symbol: ldvbi_abi\): %s it, %s\n" % (
+        MAKE, NAMES), run(READ, LDVBI_LIBRARY="libc.so.6"))
+    with mock.patch("builtins.open", side_effect=OSError):
+        assert library._path_of("libldvbi.so.1") == "libldvbi.so.1"
 
 
 def test_an_older_library(room):
-    """It reads samples, and says at a call that it lacks that it is too old for it."""
+    """It reads samples, and says of each call that it lacks what it is too old for."""
     file = other(room, 1, 0, 1)
-    for call, purpose, name in (
-            ("judge([], 'NTSC')", "judge numbers", "judge"), ("find_pace([], 'NTSC')", "find paces", "find_pace"),
-            ("judge_field([], 0, 'NTSC')", "judge one field", "judge_field"),
-            ("complete_times([], 'NTSC')", "complete times", "complete_times"),
-            ("judge_chapters([])", "judge chapters", "judge_chapters"),
-            ("judge_stops([])", "judge stops", "judge_stops"), ("judge_ends([])", "judge whole sides", "judge_ends"),
-            ("judge_side([], 'NTSC')", "judge whole sides", "judge_side"),
-            ("nearest(b'', 'NTSC', 1, 2)", "find nearest words", "nearest"),
-            ("recover_pile(b'', 'NTSC', 1, 2, 17)", "recover words of piles", "recover_pile"),
-            ("Stream(b'', 'NTSC', 1, 2, True)", "recover words", "recover_fields"),
-            ("Stream(b'', 'NTSC', 1, 2).records()", "write the document with recovered words", "recovered_record"),
-            ("read_rows(b'', 'NTSC', 1, 2, True, [(17, 1, 2)])", "leave out columns", "recover_rows_without")):
-        assert run(READ + TRY % ("ldvbi." + call), LDVBI_LIBRARY=file) == \
-            "blank\n%s is too old to %s, it has no ldvbi_%s: %s a later one, %s" % (
-            file, purpose, name, MAKE, NAMES)
-
-
-def test_which_is_loaded(room):
-    """The proved one is known by its version: from then on plain Rust says what it is. The loader may find it."""
-    version = "unsigned ldvbi_version(void) { return %d; }\n"
-    plain = "unsigned ldvbi_plain_rust(void) { return 1; }\n"
-    for more, text in ((version % 1000, "0.1.0 (proved or plain Rust)"), (version % 2000, "0.2.0 (proved)"),
-                       (version % 12034056 + plain, "12.34.56 (plain Rust, not proved)")):
-        file = other(room, 1, 0, 0, more)
-        for name in (file, "other.so"):
-            assert run(TRY % "ldvbi.library.library_text()", LDVBI_LIBRARY=name, LD_LIBRARY_PATH=room.folder) == \
-                "library %s: %s\n" % (
-                text, file)
-    assert re.search("^.*/other.so is too old to say its version, it has no ldvbi_version: ",
-                     run(TRY % "ldvbi.library.library_text()", LDVBI_LIBRARY=other(room, 1, 0, 0)))
-    with mock.patch("builtins.open", side_effect=OSError):
-        assert library._path_of("libldvbi.so.1") == "libldvbi.so.1"
+    asked = ["ldvbi.library.later_call('%s')" % name for name in library._LATER]
+    assert run(READ, "ldvbi.judge([], 'NTSC')", *asked, LDVBI_LIBRARY=file).splitlines() == [
+        "1", OLD % (file, "judge numbers", "judge"), *(OLD % (file, purpose, name.partition("_")[2])
+                                                       for name, (purpose, _) in library._LATER.items())]
 
 
 def test_places(room):
     """Each place before those behind it; the variable before all, but an empty one names none. Without a file the
     loader looks for the name."""
+    os.makedirs(room.named("share/ldvbi/python/ldvbi"))
     with mock.patch.object(library, "__file__", room.named("share/ldvbi/python/ldvbi/library.py")), \
             mock.patch.dict(os.environ, LDVBI_LIBRARY=""):
-        os.makedirs(room.named("share/ldvbi/python/ldvbi"))
         assert library._library_file() == "libldvbi.so.1"
-        for place in reversed(PLACES):
+        for place in ("lib", "share/ldvbi/rust", "share/ldvbi", "share/ldvbi/python", "share/ldvbi/python/ldvbi"):
             os.makedirs(room.named(place), exist_ok=True)
             path = room.write(place + "/libldvbi.so.1", "")
             assert os.path.realpath(library._library_file()) == path
-        os.environ["LDVBI_LIBRARY"] = "/absent"
-        assert library._library_file() == "/absent"
         del os.environ["LDVBI_LIBRARY"]
         assert os.path.realpath(library._library_file()) == path
+        os.environ["LDVBI_LIBRARY"] = "/absent"
+        assert library._library_file() == "/absent"
 
+
+# ---- What is refused
 
 WIDE = (65536, 65536 + 100, 2 ** 31, 2 ** 32 - 1, 2 ** 32, 2 ** 32 + 1, 2 ** 64 + 1, -1)
-LINE, FIELD = ldvbi.draw_line(0xF12345, *NTSC), bytes(ldvbi.field_bytes("NTSC"))
+LINE, FIELD = draw_line(0xF12345, *NTSC), bytes(ldvbi.field_bytes("NTSC"))
 NO_SYSTEM, NOT_BELOW = "system is neither NTSC nor PAL", "black is not below white"
 COUNTED = "neither pictures nor times are counted"
 PACE = "pace is neither that of video nor of film, nor to be found"
 BOTH = "numbers are on one field of a picture or on both, or that is to be found"
+READINGS = made("0..48", side).readings
+FEW = READINGS[:5]
+# Calls with dropouts behind them
+PILE, THREE = (recover_pile, LINE, *NTSC, 17), (read_rows, LINE * 3, *NTSC, True)
+ONE, TWO = (read_field, FIELD, *NTSC, True), (Stream, FIELD * 2, *NTSC, True)
+LINES = "1 to 28 lines have %d bytes each, and these are %d"
 # What isn't taken, and calls that don't take it. Of what is refused for more than one reason that is said which comes
 # first in the library's order.
-LINES = "1 to 28 lines have %d bytes each, and these are %d"
 ROWS = (
-    (None, (ldvbi.read_line, LINE, 1, 1, 2)),
-    (NO_SYSTEM, *((ldvbi.read_line, LINE, system, 2, 2) for system in ("ntsc", None, 3)), (ldvbi.line_bytes, 3),
-     (ldvbi.field_bytes, "SECAM"), (ldvbi.field_bytes, 257), (ldvbi.nearest, b"", 3, 2, 2),
-     (ldvbi.recover_pile, b"", 3, 2, 2, 17), (ldvbi.read_rows, b"", 3, 2, 2, True)),
-    (NOT_BELOW, (ldvbi.read_line, b"", "NTSC", 2, 2), (ldvbi.draw_line, 5, "NTSC", 2, 2),
-     (ldvbi.nearest, b"", "NTSC", 2, 2), (ldvbi.recover_pile, LINE, "NTSC", 2, 2, 17),
-     (ldvbi.Stream, b"", "NTSC", 2, 2, True)),
-    ("black is not a whole number", (ldvbi.read_line, LINE, "NTSC", 1.0, 2)),
-    ("white is not a whole number", (ldvbi.read_line, LINE, "NTSC", 1, "2")),
-    ("white is not from 0 to 65535", (ldvbi.nearest, b"", "NTSC", 1, 65536),
-     (ldvbi.recover_pile, LINE, "NTSC", 1, 65536, 17)),
-    ("word is not a whole number", (ldvbi.draw_line, "F12345", *NTSC)),
+    (None, (read_line, LINE, 1, 1, 2)),
+    (NO_SYSTEM, (read_line, LINE, "ntsc", 2, 2), (ldvbi.line_bytes, 3), (ldvbi.field_bytes, "SECAM"),
+     (ldvbi.field_bytes, 257), (recover_pile, b"", 3, 2, 2, 17), (read_rows, b"", 3, 2, 2, True)),
+    (NOT_BELOW, (read_line, b"", "NTSC", 2, 2), (draw_line, 5, "NTSC", 2, 2), (nearest, b"", "NTSC", 2, 2),
+     (recover_pile, LINE, "NTSC", 2, 2, 17), (Stream, b"", "NTSC", 2, 2, True)),
+    ("black is not a whole number", (read_line, LINE, "NTSC", 1.0, 2)),
+    ("white is not a whole number", (read_line, LINE, "NTSC", 1, "2")),
+    ("word is not a whole number", (draw_line, "F12345", *NTSC)),
     ("number is no code word", (ldvbi.classify, 0x7FFFFF)),
-    ("a line has 1820 bytes, not 1819", (ldvbi.read_line, LINE[1:], *NTSC)),
-    ("a line has 2270 bytes, not 1820", (ldvbi.read_line, LINE, "PAL", 1, 2)),
-    ("three lines have 6810 bytes, not 5460", (ldvbi.read_rows, LINE * 3, "PAL", 1, 2)),
-    ("three lines have 5460 bytes, not 0", (ldvbi.read_rows, b"", "NTSC", 1, 2, True)),
-    ("a field has 478660 bytes, not 478661", (ldvbi.read_field, FIELD + b"x", *NTSC)),
-    ("a field has 710510 bytes, not 0", *((ldvbi.read_field, b"", "PAL", 1, 2, *more) for more in ((), (True,)))),
-    (LINES % (1820, 0), (ldvbi.nearest, b"", *NTSC), (ldvbi.recover_pile, b"", *NTSC, 17)),
-    (LINES % (2270, 1820), (ldvbi.nearest, LINE, "PAL", 1, 2)),
-    (LINES % (1820, 52780), (ldvbi.nearest, 29 * LINE, *NTSC),
-     (ldvbi.recover_pile, 29 * LINE, *NTSC, 17, [(28, 1, 2)])),
-    ("line is none of 16, 17 and 18", *((ldvbi.recover_pile, LINE, *NTSC, line) for line in (15, 2 ** 32 + 17))),
-    ("line is not a whole number", (ldvbi.recover_pile, LINE, *NTSC, "17")),
-    *((text, (ldvbi.recover_pile, LINE, *NTSC, 17, [one])) for text, one in (
-        ("a dropout is in line 1 of 1, counted from 0", (1, 1, 2)), ("a dropout's columns are 3 to 2", (0, 3, 2)),
-        ("a dropout is not 3 numbers: index, first, last", (0, 17, 1, 2)))),
-    *((text, (ldvbi.Stream, FIELD * 2, *NTSC, True, [one])) for text, one in (
-        ("a dropout is in field 2 of 2, counted from 0", (2, 17, 1, 4)),
-        ("a dropout is in field -1 of 2, counted from 0", (-1, 17, 1, 4)),
-        ("a dropout is not 4 numbers: field, line, first, last", (17, 1, 4)),
-        ("a dropout is not 4 numbers: field, line, first, last", 5))),
-    *((text, *((call, samples, *NTSC, True, [one]) for call, samples in (
-        (ldvbi.read_rows, LINE * 3), (ldvbi.read_field, FIELD)))) for text, one in (
-            ("a dropout's columns are 5 to 4", (17, 5, 4)), ("a dropout's columns are -1 to 4", (17, -1, 4)),
-            ("a dropout is in line 15, not in 16, 17 or 18", (15, 1, 4)),
-            ("a dropout is in line 4294967313, not in 16, 17 or 18", (2 ** 32 + 17, 1, 4)),
-            ("a dropout's first is not a whole number", (17, 1.0, 4)),
-            ("a dropout's line is not a whole number", ("17", 1, 4)),
-            *(("a dropout is not 3 numbers: line, first, last", one) for one in (5, (17, 1), (0, 17, 1, 4))))))
+    ("a line has 1820 bytes, not 1819", (read_line, LINE[1:], *NTSC)),
+    ("three lines have 6810 bytes, not 5460", (read_rows, LINE * 3, "PAL", 1, 2)),
+    ("three lines have 5460 bytes, not 0", (read_rows, b"", "NTSC", 1, 2, True)),
+    ("a field has 710510 bytes, not 0", (read_field, b"", "PAL", 1, 2), (read_field, b"", "PAL", 1, 2, True)),
+    (LINES % (1820, 0), (nearest, b"", *NTSC), (recover_pile, b"", *NTSC, 17)),
+    (LINES % (2270, 1820), (nearest, LINE, "PAL", 1, 2)),
+    (LINES % (1820, 52780), (nearest, 29 * LINE, *NTSC), (recover_pile, 29 * LINE, *NTSC, 17, [(28, 1, 2)])),
+    ("line is none of 16, 17 and 18", (recover_pile, LINE, *NTSC, 15), (recover_pile, LINE, *NTSC, 2 ** 32 + 17)),
+    ("line is not a whole number", (recover_pile, LINE, *NTSC, "17")),
+    (COUNTED, (seek, Stream(b"", *NTSC), 7, "chapters"), (judge_field, FEW, 0, "PAL", "chapters")),
+    (PACE, (seek, Stream(b"", *NTSC), 7, "pictures", "slow"), (judge_field, FEW, 0, "PAL", "pictures", "find")),
+    *(("field %d of %d, which may be 97 at most" % (field, count), (judge_field, READINGS[:count], field, "PAL"))
+      for field, count in ((0, 98), (5, 5), (-1, 5))),
+    ("dropouts are for recovered words alone: give recover, too",
+     *((call, FIELD, *NTSC, False, []) for call in (Stream, ldvbi.fields, read_field, read_rows))),
+    ("a dropout is in line 1 of 1, counted from 0", (*PILE, [(1, 1, 2)])),
+    ("a dropout's columns are 3 to 2", (*PILE, [(0, 3, 2)]), (*THREE, [(17, 3, 2)]), (*ONE, [(17, 3, 2)])),
+    ("a dropout's columns are -1 to 4", (*THREE, [(17, -1, 4)])),
+    ("a dropout is not 3 numbers: index, first, last", (*PILE, [(0, 17, 1, 2)])),
+    ("a dropout is in field 2 of 2, counted from 0", (*TWO, [(2, 17, 1, 4)])),
+    ("a dropout is in field -1 of 2, counted from 0", (*TWO, [(-1, 17, 1, 4)])),
+    ("a dropout is not 4 numbers: field, line, first, last", (*TWO, [(17, 1, 4)]), (*TWO, [5])),
+    ("a dropout is in line 15, not in 16, 17 or 18", (*THREE, [(15, 1, 4)])),
+    ("a dropout is in line 4294967313, not in 16, 17 or 18", (*ONE, [(2 ** 32 + 17, 1, 4)])),
+    ("a dropout's first is not a whole number", (*THREE, [(17, 1.0, 4)])),
+    ("a dropout's line is not a whole number", (*ONE, [("17", 1, 4)])),
+    ("a dropout is not 3 numbers: line, first, last", (*THREE, [(17, 1)]), (*ONE, [5]), (*ONE, [(0, 17, 1, 4)])))
 
 
 def test_rows():
     for text, *calls in ROWS:
         for call, *words in calls:
             assert reason(call, *words) == text
-    for call, samples in ((ldvbi.Stream, FIELD), (ldvbi.fields, FIELD), (ldvbi.read_field, FIELD),
-                          (ldvbi.read_rows, LINE)):
-        assert reason(call, samples, *NTSC, dropouts=[]) == "dropouts are for recovered words alone: give recover, too"
 
 
 def test_wide_numbers():
     """Numbers at the edges of 8, 16 and 32 bits, and beyond them: each is refused by what it is, and never by what is
     left of it in fewer bits."""
-    line = ldvbi.draw_line(0xF12345, "NTSC", 16384, 65535)
-    rows = [((system, 16384, 65535), NO_SYSTEM) for system in (0, 3, 256, 257, 258, 65535, 65537) + WIDE]
-    rows += [(("NTSC", number, 65535), "black is not from 0 to 65535") for number in WIDE]
-    rows += [(("NTSC", 100, number), "white is not from 0 to 65535") for number in WIDE]
-    rows += [(("NTSC", 65536, 65537), "black is not from 0 to 65535"),
-             (("NTSC", 65535, 65535), NOT_BELOW), (("NTSC", 257, 256), NOT_BELOW)]
-    rows += [(("NTSC", *levels), None) for levels in ((256, 257), (257, 65535), (0, 65535), (16384, 65535))]
-    for call, first in ((ldvbi.read_line, line), (ldvbi.read_rows, line * 3), (ldvbi.read_field, FIELD),
-                        (ldvbi.fields, b""), (ldvbi.Stream, b""), (ldvbi.draw_line, 0xF12345)):
-        for setup, text in rows:
-            assert reason(call, first, *setup) == text
-    for word in (256, 257, 65535, 0x7FFFFF, 0x1000000) + WIDE:
-        assert reason(ldvbi.draw_line, word, *NTSC) == "number is no code word"
+    black, white = ("%s is not from 0 to 65535" % name for name in ("black", "white"))
+    rows = [row for wide in WIDE for row in (
+        (NO_SYSTEM, wide, 16384, 65535), (black, "NTSC", wide, 65535), (white, "NTSC", 100, wide))]
+    rows += [(NO_SYSTEM, system, 16384, 65535) for system in (0, 3, 256, 257, 258, 65535, 65537)]
+    rows += [(black, "NTSC", 65536, 65537), (NOT_BELOW, "NTSC", 65535, 65535), (NOT_BELOW, "NTSC", 257, 256)]
+    rows += [(None, "NTSC", *levels) for levels in ((256, 257), (257, 65535), (0, 65535), (16384, 65535))]
+    calls = (read_line, LINE), (read_rows, LINE * 3), (read_field, FIELD), (Stream, b""), (draw_line, 0xF12345)
+    for text, *setup in rows:
+        assert {reason(call, first, *setup) for call, first in calls} == {text}
+    for word in (256, 257, 65535, 0x7FFFFF, 0x1000000, *WIDE):
+        assert reason(draw_line, word, *NTSC) == "number is no code word"
 
 
 def test_what_is_judged():
     """What is asked for is looked at before the readings are."""
-    rows = [(NO_SYSTEM, words) for words in (("SECAM",), (None,), (3, 9, 9))]
-    rows += [(COUNTED, ("PAL", counted, 9)) for counted in ("chapters", None, 0, 3, 1.0, 257, 258, *WIDE)]
-    rows += [(PACE, ("PAL", 1, pace)) for pace in ("slow", None, 0, 4, 257, 258, 259, *WIDE)]
-    rows += [(BOTH, ("PAL", 1, 3, both)) for both in ("both", None, 2, 4, *WIDE)]
-    for text, words in rows:
-        calls = [(ldvbi.judge_side, words), *[(ldvbi.judge, words)] * (text != BOTH), *[(ldvbi.find_pace, words[:2])] *
-                 (text in (NO_SYSTEM, COUNTED)), *[(ldvbi.complete_times, words[:1])] * (text == NO_SYSTEM)]
-        for (call, asked), readings in ((one, readings) for one in calls for readings in ([], [5])):
-            assert reason(call, readings, *asked) == text
-    for asked, text in ((("chapters",), COUNTED), (("pictures", "slow"), PACE)):
-        assert reason(ldvbi.seek, ldvbi.Stream(b"", *NTSC), 7, *asked) == text
-    readings = made("0..59", side).readings
-    for count, field, words, text in ((98, 0, (), "field 0 of 98, which may be 97 at most"),
-                                      (5, 5, (), "field 5 of 5, which may be 97 at most"),
-                                      (5, -1, (), "field -1 of 5, which may be 97 at most"),
-                                      (5, 0, ("pictures", "find"), PACE), (5, 0, ("chapters",), COUNTED)):
-        assert reason(ldvbi.judge_field, readings[:count], field, "PAL", *words) == text
+    wrong = ((NO_SYSTEM, ("SECAM", None, 3)), (COUNTED, ("chapters", None, 0, 3, 1.0, 257, 258, *WIDE)),
+             (PACE, ("slow", None, 0, 4, 257, 258, 259, *WIDE)), (BOTH, ("both", None, 2, 4, *WIDE)))
+    for call, count in ((judge_side, 4), (judge, 3), (find_pace, 2), (complete_times, 1)):
+        for place, (text, values) in enumerate(wrong[:count]):
+            for value, readings in ((value, readings) for value in values for readings in ([], [5])):
+                later = (9, 9)[:min(count, 3) - place - 1]
+                assert reason(call, readings, *("PAL", 1, 3)[:place], value, *later) == text
 
 
-def calls_but(name):
-    """What finds a call of the library by its name; the one with this name fails where it is to write something."""
+def test_each_call():
+    """A fault of a call of the library, which none has, is raised: the call fails where it is to write something."""
+    one = made("1..3 -/#79999/- B", side)
+    packed = b"".join(ldvbi.PACKED_FIELD.pack(*sum(map(tuple, field), ())) for field in one.readings)
 
-    def found(asked):
+    def fields(**more):
+        return Stream(FIELD, *NTSC, recover=True, **more)
+
+    def later_call(name, asked):
         works = library.later_call(asked)
         return works if asked != "ldvbi_" + name else lambda *given: 99 if any(
             len(one) for one in given if isinstance(one, ctypes.Array)) else works(*given)
 
-    return found
-
-
-# A fault of a call of the library, which none has, is raised.
-def test_each_call():
-    one = made("1..3 -/#79999/- B", side)
-    packed = b"".join(ldvbi.PACKED_FIELD.pack(*sum(map(tuple, field), ())) for field in one.readings)
-    samples, field = bytes(ldvbi.line_bytes("NTSC")), bytes(ldvbi.field_bytes("NTSC"))
-
-    def fields(**more):
-        return ldvbi.Stream(field, *NTSC, recover=True, **more)
-
-    for module, name, call, *words in (
-            (judging, "judge", ldvbi.judge, packed, "PAL"),
-            (judging, "judge_field", ldvbi.judge_field, packed, 1, "PAL"),
-            (judging, "complete_times", ldvbi.complete_times, packed, "PAL"),
-            (judging, "find_pace", ldvbi.find_pace, packed, "PAL"),
-            (judging, "judge_chapters", ldvbi.judge_chapters, packed),
-            (judging, "judge_stops", ldvbi.judge_stops, packed), (judging, "judge_ends", ldvbi.judge_ends, packed),
-            (sides, "judge", ldvbi.judge_side, packed, "PAL", "pictures", "video"),
-            (judging, "find_pace", ldvbi.judge_side, packed, "PAL"),
-            (sides, "judge_ends", ldvbi.judge_side, packed, "PAL"),
-            (sides, "judge_side", ldvbi.judge_side, packed, "PAL"), (near, "nearest", ldvbi.nearest, samples, *NTSC),
-            (seeking, "seek", lambda: ldvbi.seek(fields(), 1)), (stream, "recover_fields", lambda: list(fields())),
-            (stream, "recover_fields_without", lambda: list(fields(dropouts=[(0, 17, 3, 4)]))),
-            (stream, "recovered_record", lambda: list(fields().records()))):
-        with mock.patch.object(module, "later_call", calls_but(name)):
-            assert reason(call, *words) == "the library's status is 99"
+    for name, call, *words in (
+            ("judge", judge, packed, "PAL"), ("judge_field", judge_field, packed, 1, "PAL"),
+            ("complete_times", complete_times, packed, "PAL"), ("find_pace", find_pace, packed, "PAL"),
+            ("judge_chapters", judge_chapters, packed), ("judge_stops", judge_stops, packed),
+            ("judge_ends", judge_ends, packed), ("judge", judge_side, packed, "PAL", "pictures", "video"),
+            *((name, judge_side, packed, "PAL") for name in ("find_pace", "judge_ends", "judge_side")),
+            ("nearest", nearest, LINE, *NTSC), ("seek", lambda: seek(fields(), 1)),
+            ("recover_fields", lambda: list(fields())), ("recovered_record", lambda: list(fields().records())),
+            ("recover_fields_without", lambda: list(fields(dropouts=[(0, 17, 3, 4)])))):
+        with contextlib.ExitStack() as stack:
+            for module in (judging, near, seeking, sides, stream):
+                stack.enter_context(mock.patch.object(module, "later_call", functools.partial(later_call, name)))
+            assert reason(call, *words) == REFUSED

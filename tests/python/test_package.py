@@ -1,17 +1,14 @@
-"""What pyproject.toml says of the module: its name, its version, the Pythons that it runs on, its command;
-and that each public function has types, and mypy finds nothing that they rule out."""
+"""The packages of python/: pyproject.toml names each, none imports one above it, each public function has types, and
+mypy finds nothing that they rule out."""
 
 import ast
-import contextlib
 import importlib.util
-import io
+import itertools
 import os
 import pathlib
 import re
 import subprocess
 
-import ldvbi
-import pytest
 from streams import TOP
 
 PYTHON = pathlib.Path(TOP, "python")
@@ -19,14 +16,19 @@ PYTHON = pathlib.Path(TOP, "python")
 MODULES = {".".join(path.relative_to(PYTHON).with_suffix("").parts): ast.parse(path.read_text("utf-8"))
            for path in sorted(PYTHON.rglob("*.py"))}
 ROOMS = ["ldvbi_side." + name for name in ("judge", "join", "draw", "into", "command")]
-
-
-def text_of(name):
-    return pathlib.Path(TOP, name).read_text("utf-8")
+# Each package, whose modules may import those before it; what is in no room is of ldvbi_side itself
+ORDER = ["ldvbi", ROOMS[0], "ldvbi_side", *ROOMS[1:]]
 
 
 def package_of(name):
     return name.rpartition(".")[0]
+
+
+def test_files():
+    """Each file of python/ belongs to one of the packages that are named, each of which has some."""
+    text = pathlib.Path(TOP, "pyproject.toml").read_text("utf-8")
+    named = re.search(r"^packages = \[(.*?)\]$", text, re.MULTILINE | re.DOTALL).group(1)
+    assert set(map(package_of, MODULES)) == set(re.findall(r'"(.*?)"', named))
 
 
 def imported_by(name):
@@ -43,67 +45,39 @@ def imported_by(name):
     return sorted(name for name in found if name.split(".")[0] in ("ldvbi", "ldvbi_side"))
 
 
-def room_of(name):
-    """The package of a module, where that is a room, else the one at the top."""
-    room = ".".join(name.split(".")[:2])
-    return room if room in ROOMS else name.split(".")[0]
-
-
-def test_project():
-    project = dict(re.findall(r'^([a-z-]+) = (.*)$', text_of("pyproject.toml"), re.MULTILINE))
-    assert [project[name] for name in ("name", "requires-python", "version")] == [
-        '"ldvbi"', '">=3.9"', '{ attr = "ldvbi.__version__" }']
-    assert ldvbi.__version__ == re.search(r"^VERSION := (.*)$", text_of("Makefile"), re.MULTILINE).group(1)
-    module, name = project["ldvbi-side"].strip('"').split(":")
-    with contextlib.redirect_stderr(io.StringIO()), pytest.raises(SystemExit) as ended:
-        getattr(importlib.import_module(module), name)(["--black"])
-    assert ended.value.code == 2
-
-
-def test_files():
-    """Each file of python/ belongs to one of the packages that are named, each of which has some."""
-    named = re.search(r"^packages = \[(.*?)\]$", text_of("pyproject.toml"), re.MULTILINE | re.DOTALL).group(1)
-    assert set(map(package_of, MODULES)) == set(re.findall(r'"(.*?)"', named))
-
-
-def test_no_package_imports_one_above_it():
-    """`ldvbi` knows nothing of `ldvbi_side`; there each room stands on those before it."""
-    order = ["ldvbi", ROOMS[0], "ldvbi_side", *ROOMS[1:]]
-    found = [(name, imported) for name in MODULES for imported in imported_by(name)
-             if order.index(room_of(imported)) > order.index(room_of(name))]
-    # the command's entry, which hands over to the room above
-    assert found == [("ldvbi_side.__main__", "ldvbi_side.command.main")]
-
-
-def test_each_room_is_read_in_the_order_of_its_imports():
-    """What the head of a room names, in this order, are its modules, and none imports one that is named later."""
+def test_no_module_imports_a_later_one():
+    """`ldvbi` knows nothing of `ldvbi_side`; there each room stands on those before it, and its modules on those that
+    its head names before them."""
+    ranks = {}
     for room in ROOMS:
-        head = ast.get_docstring(MODULES[room + ".__init__"])
-        names = re.search(r"\n\n([a-z]+(?:,\s[a-z]+)+)\n\n", head + "\n\n").group(1)
-        order = ["%s.%s" % (room, name) for name in re.split(r",\s", names)]
-        assert sorted([*order, room + ".__init__"]) == sorted(name for name in MODULES if package_of(name) == room)
-        assert [(name, imported) for place, name in enumerate(order) for imported in imported_by(name) if imported in
-                order[place:]] == []
+        head = ast.get_docstring(MODULES[room + ".__init__"]) + "\n\n"
+        names = re.search(r"\n\n([a-z]+(?:,\s[a-z]+)+)\n\n", head).group(1)
+        named = ["%s.%s" % (room, name) for name in ("__init__", *re.split(r",\s", names))]
+        assert sorted(named) == sorted(name for name in MODULES if package_of(name) == room)
+        ranks.update((name, (ORDER.index(room), place)) for place, name in enumerate(named))
 
+    def rank(name):
+        room = ".".join(name.split(".")[:2])
+        return ranks.get(name) or (ORDER.index(room if room in ORDER else name.split(".")[0]), 0)
 
-def public_functions(tree):
-    """The functions of a module, and the methods of its classes, whose names don't begin with `_`, and those that
-    Python calls by names such as `__init__`."""
-    classes = [node.body for node in tree.body if isinstance(node, ast.ClassDef) and not node.name.startswith("_")]
-    return [one for body in (tree.body, *classes) for one in body
-            if isinstance(one, (ast.FunctionDef, ast.AsyncFunctionDef)) and not re.match("_(?!_)", one.name)]
-
-
-def untyped_in(function):
-    """The names of a function's arguments that have no type, and `return` where that has none."""
-    return [one.arg for one in ast.iter_child_nodes(function.args) if isinstance(one, ast.arg) and not one.annotation
-            and one.arg not in ("self", "cls")] + ["return"] * (function.returns is None)
+    # the command's entry hands over to the room above
+    assert [(name, imported) for name in MODULES for imported in imported_by(name) if rank(imported) > rank(name)] == [
+        ("ldvbi_side.__main__", "ldvbi_side.command.main")]
 
 
 def test_each_public_function_has_types():
-    found = [(name, one.name, untyped_in(one)) for name, tree in MODULES.items() for one in public_functions(tree)]
-    assert [one for one in found if one[-1]] == []
-    assert len(found) > 200
+    """And each method of a public class, also those that Python calls by names such as `__init__`."""
+    count, untyped = 0, []
+    for name, tree in MODULES.items():
+        classes = [node.body for node in tree.body if isinstance(node, ast.ClassDef) and not node.name.startswith("_")]
+        for one in itertools.chain(tree.body, *classes):
+            if isinstance(one, (ast.FunctionDef, ast.AsyncFunctionDef)) and not re.match("_(?!_)", one.name):
+                count += 1
+                untyped += [(name, one.name, arg.arg) for arg in ast.iter_child_nodes(one.args) if
+                            isinstance(arg, ast.arg) and not arg.annotation and arg.arg not in ("self", "cls")]
+                untyped += [(name, one.name, "return")] * (one.returns is None)
+    assert untyped == []
+    assert count > 200
 
 
 def test_mypy_finds_nothing():

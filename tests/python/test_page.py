@@ -4,7 +4,7 @@ import os
 import re
 import xml.etree.ElementTree as xml
 
-from compact import rows
+from compact import made
 from discs import side
 import ldvbi
 from ldvbi_side.command.summary import summary
@@ -17,6 +17,8 @@ from room import reason
 from streams import line_with, NTSC, worn_line, write_stream
 
 SPACE = "{http://www.w3.org/2000/svg}"
+# A side that has something in each list that CAV has
+DAMAGED = "Lx2 1..40 21..40 L 7=83D0A1/?/88FFFB 9=8DC0A1/#79999/#4 11=8AE000/S/#5 -41:44"
 
 
 class Page:
@@ -35,6 +37,7 @@ class Page:
 
 
 def page(one, plot=None, title="side.tbc", more=()):
+    one = made(one, side) if isinstance(one, str) else one
     return page_of(one, title, [*summary(one.analysis.answer), *more], plot)
 
 
@@ -44,26 +47,18 @@ def cell(value):
         return "%s in field %s" % (value["number"], value["field"])
     if isinstance(value, list):
         return ", ".join(map(str, value))
-    if value is None:
-        return ""
-    return ("no", "yes")[value] if isinstance(value, bool) else str(value)
-
-
-def damaged():
-    """A side that has something in each list that CAV has."""
-    return side(rows("Lx2 1..40 21..40 L 7=83D0A1/?/88FFFB 9=8DC0A1/#79999/#4 11=8AE000/S/#5 -41:44"))
+    return {"None": "", "False": "no", "True": "yes"}.get(str(value), str(value))
 
 
 def test_each_list_is_there_in_full():
     """Each cell stands under its head: the name of a member, or what the items of such a list are."""
     seen = set()
-    for one in (damaged(), side(rows("t0..2 t4..5 t0..2 t4..5 t0..2 t4..5 t0..2 t4..5", 30), "NTSC"),
-                side(rows("m9x9")), side([]), side(rows("Bx3"))):
-        read = Page(page(one))
-        assert {name for name, value in one.answer.items() if isinstance(value, list)} == set(LISTS) | {"reasons"}
+    for text in (DAMAGED, "NTSC t0..2 t4..5 t0..2 t4..5 t0..2 t4..5 t0..2 t4..5", "m9x9", "", "Bx3"):
+        answer, read = made(text, side).answer, Page(page(text))
+        assert {name for name, value in answer.items() if isinstance(value, list)} == set(LISTS) | {"reasons"}
         for name in LISTS:
             items = [item if isinstance(item, dict) else dict(zip(("number", "first", "last"), item)) if name ==
-                     "showings" else {"field": item} for item in one.answer[name]]
+                     "showings" else {"field": item} for item in answer[name]]
             assert read.heads.get(name, []) == (list(items[0]) if items else [])
             assert read.rows.get(name, []) == [list(map(cell, item.values())) for item in items]
         seen |= read.heads.keys()
@@ -73,101 +68,87 @@ def test_each_list_is_there_in_full():
 
 def test_what_is_said():
     """Terms are the lines of the summary, and the page is headed by whether the side is whole."""
-    one = damaged()
-    read = Page(page(one))
+    one, read = made(DAMAGED, side), Page(page(DAMAGED))
     assert list(map(": ".join, zip(read.texts["dt"], read.texts["dd"]))) == list(summary(one.analysis.answer))[1:]
     assert read.texts["li"] == [reason["text"] for reason in one.answer["reasons"]]
     assert {"numbers lost, undecided or unread: 2", "unread, and their fields: 1"} <= set(read.texts["summary"])
-    assert "%(count)d, from %(least)d to %(greatest)d" % one.answer["numbers"] in read.texts["dd"]
     late = "<li>12 fields lost</li><li>6 pictures lost</li><li>begins at 7, ends at 9</li>"
     for text, kind, whole in (("1..3", "yes", "yes"), ("7..9", "no", "no<ul>%s</ul>" % late),
                               ("", "open", "can&#x27;t tell<ul><li>no picture number and no time</li></ul>")):
-        assert '<div class="%s">whole: %s</div>' % (kind, whole) in page(side(rows(text)))
+        assert '<div class="%s">whole: %s</div>' % (kind, whole) in page(text)
 
 
-@pytest.mark.parametrize("text, title",
-                         ((page(damaged()), "side.tbc"), (index_of("index.html", []), "LaserDisc sides")))
-def test_the_head_says_how_it_is_read(text, title):
-    read = Page(text)
-    assert text.startswith('<!DOCTYPE html>\n<html lang="en"><head><meta charset="utf-8"><title>')
-    assert read.texts["title"][0] == title
-    assert [tag for tag, _ in read.tags[:4]] == ["html", "head", "meta", "title"]
-    assert ("meta", {"name": "viewport", "content": "width=device-width, initial-scale=1"}) in read.tags
-
-
-def test_it_needs_nothing_else():
-    text = page(damaged(), lambda one: "<svg></svg>")
-    for tag, known in Page(text).tags:
-        assert tag not in ("script", "link", "img", "iframe", "object", "base")
-        assert not {"src", "href", "style", "onclick"} & set(known)
+@pytest.mark.parametrize("text, title, more", (
+    (page(DAMAGED, lambda one: "<svg></svg>"), "side.tbc", set()),
+    (index_of("index.html", []), "LaserDisc sides", {"script"})))
+def test_it_says_how_it_is_read_and_needs_nothing_else(text, title, more):
+    tags = Page(text).tags
+    assert text.startswith('<!DOCTYPE html>\n<html lang="en"><head><meta charset="utf-8"><title>%s</title>' % title)
+    assert ("meta", {"name": "viewport", "content": "width=device-width, initial-scale=1"}) in tags
+    assert {"script", "link", "img", "iframe", "object", "base"} & {tag for tag, _ in tags} == more
+    assert not {"src", "href", "style", "onclick"} & {name for _, known in tags for name in known}
     assert not re.search(r"url\(|@import", text)
-    assert set(re.findall("https?://[^\"' ]*", text)) == {"http://www.w3.org/2000/svg"}
+    assert set(re.findall("https?://[^\"' ]*", text)) <= {"http://www.w3.org/2000/svg"}
 
 
 def test_names_are_escaped():
     """Those of a list, too, that a later answer has."""
-    name = '<b>"&\u00fc</b>.tbc'
-    one = side(rows("Bx60"))
+    name, one = '<b>"&\u00fc</b>.tbc', made("Bx60", side)
     one.answer["<b>&later</b>"] = [{"<b>&first": "<b>&one</b>", "near": None, "is": False, "places": [1, 2]}]
     read = Page(page(one, title=name, more=["name: " + name]))
-    assert [read.texts["h1"], read.texts["title"][:2]] == [[name], [name, name]]
-    assert read.texts["dd"][-1] == name
+    assert [read.texts["h1"], read.texts["title"][:2], read.texts["dd"][-1:]] == [[name], [name, name], [name]]
     assert read.rows["<b>&later</b>"][0] == ["<b>&one</b>", "", "no", "1, 2"]
     assert read.heads["<b>&later</b>"][0] == "<b>&first"
-    assert "b" not in [tag for tag, _ in read.tags]
+    assert "b" not in read.texts
 
 
 def test_long_lists():
-    """Before the first 500 rows of a list stand its groups, or the runs of its numbers; and it is said how many rows
-    are left out."""
-    one = side(rows("1..501 4..9 ?/!/?x167 ~/-/?"))
-    read = Page(page(one))
-    assert read.rows["badLines"][:5] == [["18", "change", "168", "1015", "1182"],
-                                         ["16", "change", "167", "1015", "1181"],
-                                         ["17", "hold", "167", "1015", "1181"],
-                                         ["16", "unfinished", "1", "1182", "1182"], []]
+    """Before the first 500 rows of a list stand its groups, or the runs of its numbers, under their heads; and it is
+    said how many rows are left out. Where each second number isn't read, no run has more than one."""
+    read = Page(page("1..501 4..9 ?/!/?x167 ~/-/?"))
+    assert list(map(" ".join, read.rows["badLines"][:5])) == [
+        "18 change 168 1015 1182", "16 change 167 1015 1181", "17 hold 167 1015 1181", "16 unfinished 1 1182 1182", ""]
+    assert read.heads["showings"] == ["numbers", "to", "first", "last", "count", "number", "first", "last"]
     assert read.rows["showings"][:3] == [["1", "501", "1", "1001", "501"], ["4", "9", "1003", "1013", "6"], []]
     for name, count in (("badLines", 503), ("showings", 507)):
         assert len(read.rows[name]) - read.rows[name].index([]) - 1 == 500
         assert "The first 500 of %d rows. This page leaves out the others; " % count in read.texts["p"]
-    # each second number isn't read: no run has more than one, and no more than 500 runs are listed
-    read = Page(page(side(rows("1..1300 3:2600/4=B"))))
-    assert "and 150 more groups" in read.texts["p"]
+    assert "and 150 more groups" in Page(page("1..1300 3:2600/4=B")).texts["p"]
 
 
 def test_bad_lines_are_drawn_up_to_a_count():
-    for text, count, last, head in (
-            ("1", 0, [], None), ("?/-/-", 1, [(1, 16)], "drawn"), ("?/?/?x66 ?", 200, [(67, 18)], "drawn"),
-            ("?/?/?x67", 200, [(67, 17)], "the first 200 of 201, drawn"),
-            ("?/?/?x67 ?", 200, [(67, 17)], "the first 200 of 203, drawn")):
-        one, drawn = side(rows(text)), []
-        found = page(one, lambda bad, drawn=drawn: drawn.append((bad.field, bad.line)) or "<svg></svg>")
-        assert re.findall("<h2>Bad lines, (.*)</h2>", found) == ([head] if head else [])
+    """And up to a size."""
+    def heads_of(text):
+        return re.findall("<h2>Bad lines, (.*)</h2>", text)
+
+    for text, count, last, heads in (
+            ("1", 0, [], []), ("?/-/-", 1, [(1, 16)], ["drawn"]), ("?/?/?x66 ?", 200, [(67, 18)], ["drawn"]),
+            ("?/?/?x67", 200, [(67, 17)], ["the first 200 of 201, drawn"])):
+        drawn = []
+        assert heads_of(page(text, lambda bad, drawn=drawn: drawn.append(bad[:2]) or "<svg></svg>")) == heads
         assert (len(drawn), drawn[:1], drawn[-1:]) == (count, [(1, 16)] if count else [], last)
-        assert "<h2>" not in page(one)
-    found = page(side(rows("?/?/?x67")), lambda bad: "x" * 600000)
-    assert re.findall("<h2>Bad lines, (.*)</h2>", found) == ["the first 3 of 201, drawn"]
+        assert "<h2>" not in page(text)
+    assert heads_of(page("?/?/?x67", lambda bad: "x" * 600000)) == ["the first 3 of 201, drawn"]
 
 
 def test_each_drawing_is_that_of_the_same_line_alone(drawn):
-    """The words of worn lines are drawn from column 150, and the row of each is drawn behind it. A line with a few high
-    columns has no such row, and no line has one without recovered words, nor one that shows a word."""
+    """The row of a worn line's word is drawn behind it, from column 150 on. A line with a few high columns has no such
+    row, and no line has one without recovered words, nor one that shows a word."""
     words = {(1, 17): 0xF00001, (3, 17): 0xF00002, (3, 18): 0xF00002, (6, 16): 0x8DC0A1}
     lines = {place: worn_line(words[place], NTSC, 7 + count, 10 + count) for count, place in enumerate(words)}
-    lines[7, 16] = line_with(0, NTSC, [(3, 30, True)])
-    name = "a <b>&.tbc"
+    lines[7, 16], name = line_with(0, NTSC, [(3, 30, True)]), "a <b>&.tbc"
     write_stream(drawn.named(name), NTSC, [[lines.get((field, line), 0) for line in (16, 17, 18)]
                                            for field in range(1, 8)])
     for more, near in (("LEVELS", words), ("--no-recover", {})):
         drawn.printed(name, "LEVELS", "--html", "page.html", more)
         folds = re.findall(r"<details><summary>field (\d+), line (\d+): (.*?)</summary>\n(.*?)</details>",
                            drawn.text("page.html"), re.S)
-        assert [tuple(map(int, fold[:2])) for fold in folds] == list(lines)
+        assert [(int(field), int(line)) for field, line, _, _ in folds] == list(lines)
         assert [">recovered: F0000" in fold[2] for fold in folds] == 3 * [near == words] + [False] * 2
-        for place, fold in zip(lines, folds):
-            assert drawn.printed(name, "LEVELS", "--plot-line", *map(str, place), more).decode() == fold[3]
-            assert "%s, field %d, line %d" % ("a &lt;b&gt;&amp;.tbc", *place) in fold[3]
-            assert ("the row of %06X from column 150 on" % near.get(place, 0) in fold[3]) == (place in near)
+        for place, (field, line, _, text) in zip(lines, folds):
+            assert drawn.printed(name, "LEVELS", "--plot-line", field, line, more).decode() == text
+            assert "a &lt;b&gt;&amp;.tbc, field %s, line %s" % (field, line) in text
+            assert ("the row of %06X from column 150 on" % near.get(place, 0) in text) == (place in near)
 
 
 def test_other_lines(drawn):
@@ -175,11 +156,11 @@ def test_other_lines(drawn):
     field = bytearray(ldvbi.field_bytes("NTSC"))
     field[1820 * 262:] = ldvbi.draw_line(0xF12345, *NTSC)
     drawn.write("side.tbc", bytes(field))
-    drawn.write("side.vbi.json", drawn.extracted("side.tbc"))
-    assert b">F12345, by the samples as they are" in drawn.printed("side.tbc LEVELS --plot-line 1 263")
-    assert b">no word: blank (no sample is high)<" in drawn.printed("side.tbc LEVELS --plot-line 1 1")
-    drawn.refused("side.tbc: there is no line 264: a field of NTSC has 263", "side.tbc LEVELS --plot-line 1 264")
-    drawn.refused("side.tbc: it has no field 2, but 1 whole fields", "side.tbc LEVELS --plot-line 2 16")
+    for place, text in (("1 263", b">F12345, by the samples as they are"), ("1 1", b">no word: blank (no sample is")):
+        assert text in drawn.printed("side.tbc LEVELS --plot-line " + place)
+    for words, text in (("side.tbc LEVELS --plot-line 1 264", "there is no line 264: a field of NTSC has 263"),
+                        ("side.tbc LEVELS --plot-line 2 16", "it has no field 2, but 1 whole fields")):
+        drawn.refused("side.tbc: " + text, words)
     drawn.refused("side.vbi.json is a document, and --plot-line is for a TBC file", "side.vbi.json --plot-line 1 16")
 
 
@@ -190,61 +171,50 @@ def test_a_file_that_becomes_shorter(room):
         assert reason(plot_line, stream, room.path, 1, 16) == room.path + " became shorter while it was read"
 
 
-def test_an_index(room):
-    names = [room.write(title + " #1.html", page(side(rows(text)), title=title))
-             for title, text in (("one & two.tbc", "1..3"), ("none", ""), ("other", "7..9 12..14"))]
-    read = Page(index_of(room.named("index.html"), names))
-    assert read.texts["h1"] == ["3 sides, whole: 1 yes, 1 no, 1 can't tell"]
-    assert read.texts["a"] == ["other", "none", "one & two.tbc"]
-    assert read.texts["th"] == ["side", "whole", "fields", "numbers", "lost", "try", "why"]
-    assert [known["href"] for tag, known in read.tags if tag == "a"] == [
-        "other%20%231.html", "none%20%231.html", "one%20%26%20two.tbc%20%231.html"]
-    assert [read.texts["td"][begin:begin + 6] for begin in (1, 8, 15)] == [
-        ["no", "12", "6, 7 to 14", "8 pictures, 16 fields", "",
-         "16 fields lost; 8 pictures lost; begins at 7, ends at 14"],
-        ["can't tell", "0", "none", "none", "", "no picture number and no time"],
-        ["yes", "6", "3, 1 to 3", "none", "", ""]]
-    assert [known["class"] for tag, known in read.tags if tag == "td" and "class" in known] == ["no", "open", "yes"]
-
-
-# What the rows of the index show after some actions in JavaScript: name and verdict, or - for one that is hidden; then
-# what the box says, and the heads by whose columns they are sorted
-AFTER = """
-<pre id="said"></pre><script>
+# What the index shows at first, and after each action in JavaScript: the name and verdict of each row, or - for one
+# that is hidden; then what the box says, and the heads by whose columns the rows are sorted
+ACTIONS = """
+<pre></pre><script>
 const click = name => [...document.querySelectorAll("th button")].find(one => one.textContent === name).click();
-const type = words => { const box = document.querySelector("input"); box.value = words;
-    box.dispatchEvent(new Event("input")); };
-%s
-const rows = [...document.querySelectorAll("tbody tr")].map(row => row.offsetHeight ? row.cells[0].textContent + "=" +
-    row.cells[1].textContent.replace(/\\W/g, "") : "-");
-const sorted = [...document.querySelectorAll("th[aria-sort]")].map(one => one.textContent + " " + one.ariaSort);
-const found = [...rows, document.querySelector("output").textContent, ...sorted];
-document.getElementById("said").textContent = found.join("|");
+const box = document.querySelector("input");
+const type = words => { box.value = words; box.dispatchEvent(new Event("input")); };
+const shown = () => [...[...document.querySelectorAll("tbody tr")].map(row => row.offsetHeight ?
+    row.cells[0].textContent + "=" + row.cells[1].textContent.replace(/\\W/g, "") : "-"),
+    document.querySelector("output").textContent,
+    ...[...document.querySelectorAll("th[aria-sort]")].map(one => one.textContent + " " + one.ariaSort)];
+document.querySelector("pre").textContent = [() => {}, () => click("side"), () => click("side"), () => click("fields"),
+    () => click("whole"), () => type("b/ NUMBER")].map(action => (action(), shown())).join("\\n");
 </script></body></html>
 """
-LACKS, FAULT, OPEN, WHOLE = "a/10.vbi.json=no", "b/odd.vbi.json=fault", "b/1.vbi.json=canttell", "a/2.vbi.json=yes"
-BY_BROWSER = (
-    ("", LACKS, FAULT, OPEN, WHOLE, ""),  # in the order of the verdicts
-    ('click("side");', WHOLE, LACKS, OPEN, FAULT, "", "side ascending"),  # by name, whose numbers count
-    ('click("side"); click("side");', FAULT, OPEN, LACKS, WHOLE, "", "side descending"),
-    ('click("fields"); click("whole");', LACKS, FAULT, OPEN, WHOLE, "", "whole ascending"),
-    ('click("fields");', FAULT, WHOLE, OPEN, LACKS, "", "fields ascending"),  # of which a fault has none
-    ('type("b/ NUMBER");', "-", "-", OPEN, "-", "1 of 4"))  # the rows that have both words
 
 
-def test_the_index_in_a_browser(room):
-    """Sorted by a click on the head of a column, and filtered by words typed into its box. It has sides of 6, 10 and 9
-    fields, of which the second lacks a picture and the third has no codes, and a document that is none."""
-    for name, fields in (("a/2", "1..3"), ("a/10", "1..2 4..6"), ("b/1", "Bx9")):
+def test_the_index(room):
+    """In a browser it is sorted by a click on the head of a column, and filtered by words typed into its box, which are
+    sought in whole rows. Numbers in names count, and a fault has no fields."""
+    for name, fields in (("a/2", "1..3"), ("a/10", "7..9 12..14"), ("b/1 & #1", "Bx9")):
         room.add("sides/%s.tbc" % name, fields)
         room.write("sides/%s.vbi.json" % name, room.extracted("sides/%s.tbc" % name))
         os.unlink(room.named("sides/%s.tbc" % name))
     room.write("sides/b/odd.vbi.json", "{")
     assert room.scan("--open-end --html pages sides")[0] == 2
-    page = room.text("pages/index.html").replace("</body></html>", "")
-    for actions, *wanted in BY_BROWSER:
-        words = ["chromium", "--headless=new", "--no-sandbox", "--disable-gpu", "--disable-dev-shm-usage", "--dump-dom",
-                 "file://" + room.write("pages/after.html", page + AFTER % actions)]
-        # Chromium keeps what it remembers below HOME.
-        status, text, _ = room.run_words(command=words, env={**os.environ, "HOME": room.folder})
-        assert re.findall('<pre id="said">(.*)</pre>', text) == ["|".join(wanted)], actions
+    read = Page(room.text("pages/index.html"))
+    assert read.texts["th"] == ["side", "whole", "fields", "numbers", "lost", "try", "why"]
+    assert [known["href"] for tag, known in read.tags if tag == "a"] == [
+        "a-10.html", "b-1%20%26%20%231.html", "a-2.html"]
+    assert [known["class"] for tag, known in read.tags if tag == "td" and "class" in known] == [
+        "no", "fault", "open", "yes"]
+    assert "|".join(read.texts["td"]) == "|".join((
+        "|no|12|6, 7 to 14|8 pictures, 16 fields||16 fields lost; 8 pictures lost; begins at 7, ends at 14",
+        "b/odd.vbi.json|fault|||||not JSON: line 1 is wrong from column 2 on",
+        "|can't tell|9|none|none||no picture number and no time", "|yes|6|3, 1 to 3|none||"))
+    page = room.write("after.html", room.text("pages/index.html").replace("</body></html>", "") + ACTIONS)
+    words = ["chromium", "--headless=new", "--no-sandbox", "--disable-gpu", "--disable-dev-shm-usage", "--dump-dom"]
+    # Chromium keeps what it remembers below HOME.
+    text = room.run_words(*words, "file://" + page, command=[], env={**os.environ, "HOME": room.folder})[1]
+    assert re.search("<pre>(.*?)</pre>", text, re.S)[1].replace(".vbi.json", "").split("\n") == [
+        "a/10=no,b/odd=fault,b/1 &amp; #1=canttell,a/2=yes,",
+        "a/2=yes,a/10=no,b/1 &amp; #1=canttell,b/odd=fault,,side ascending",
+        "b/odd=fault,b/1 &amp; #1=canttell,a/10=no,a/2=yes,,side descending",
+        "b/odd=fault,a/2=yes,b/1 &amp; #1=canttell,a/10=no,,fields ascending",
+        "a/10=no,b/odd=fault,b/1 &amp; #1=canttell,a/2=yes,,whole ascending",
+        "-,-,b/1 &amp; #1=canttell,-,1 of 4,whole ascending"]
