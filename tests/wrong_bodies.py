@@ -170,22 +170,18 @@ def texts_with(edits, folder):
     return texts
 
 
-def fits(edit, others, folder):
-    """Whether an edit can share the round of others: no two change one function, and each applies beside the others."""
-    taken = {name for other in others for name in other.refuses}
-    is_apart = edit.alone or others[0].alone or taken & {*edit.refuses}
-    return not is_apart and texts_with([*others, edit], folder) is not None
-
-
 def rounds_of(edits, folder):
-    """Shares the edits among rounds, lists of some, those of the most often edited function first."""
+    """Shares the edits among rounds, lists of some, those of the most often edited function first. No two of a round
+    change one function, and each applies beside the others."""
     made = []
     for edit in sorted(edits, key=lambda it: -sum(it.refuses == other.refuses for other in edits)):
-        room = next((others for others in made if fits(edit, others, folder)), None)
-        if room is None:
-            room = []
-            made.append(room)
-        room.append(edit)
+        for others in [] if edit.alone else made:
+            is_taken = others[0].alone or any({*edit.refuses} & {*other.refuses} for other in others)
+            if not is_taken and texts_with([*others, edit], folder) is not None:
+                others.append(edit)
+                break
+        else:
+            made.append([edit])
     return made
 
 
@@ -208,7 +204,8 @@ class Crate:
         """Returns the edits with this word in their names, and the names in refuses.md that are those of no edit."""
         rows = collections.defaultdict(list)
         if os.path.exists(f"{self.folder}/{REFUSES}"):
-            for edit, function in re.findall(r"^\| `([^|]*)` \| `([^|]*)` \|$", read(f"{self.folder}/{REFUSES}"), re.M):
+            for row in re.findall(r"^\| `.*", read(f"{self.folder}/{REFUSES}"), re.M):
+                edit, function = re.findall(r"`([^`]*)`", row)
                 rows[edit].append(function)
         paths = sorted(glob.glob(f"{self.folder}/{FOLDER}/*.edit"))
         edits = [Edit(self.folder, path, rows.pop(os.path.basename(path)[:-len(".edit")], None)) for path in paths]
