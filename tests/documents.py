@@ -16,8 +16,7 @@ import sys
 # The links to the net, of which nothing else is looked at
 NET = ["https://github.com/happycube/ld-decode"]
 # Where a path that a document names may begin
-FOLDERS = ("", "crates/", "crates/*/", "crates/*/src/", "crates/*/specs/", "rust/hand/src/", "tests/*/",
-           "bench/*/")
+FOLDERS = ("", "crates/", "crates/*/", "crates/*/src/", "crates/*/specs/", "rust/hand/src/", "tests/*/", "bench/*/")
 # What is built isn't there before; git is told to leave it out.
 BUILT = [line.strip("/") for line in open(".gitignore", encoding="utf-8").read().split()]
 # A path in prose: one with a folder, a folder alone, or the name of a source file
@@ -282,11 +281,9 @@ CHECKS = {
         ("docs/FORMATS.md", "#####...######", "#####....#####")]),
     "numbers": (numbers, 62, [
         ("include/ldvbi.h", "1 to 28 times", "1 to 27 times"),
-        ("docs/PROMISES.md", "lost from 24 fields", "lost from 23 fields"),
         ("python/ldvbi/judging.py", "and 10 or more", "and 11 or more"),
         ("include/ldvbi.h", "  10                       12", "  10                       13"),
-        ("docs/FORMATS.md", "Minute 60", "Minute 61"), ("docs/FORMATS.md", "low byte", "high byte"),
-        ("include/ldvbi.h", "low byte", "high byte")]),
+        ("docs/FORMATS.md", "low byte", "high byte")]),
     "measured": (measured, 20, [
         ("docs/MEASURED.md", "judged 893 right", "judged 898 right"),
         ("docs/MEASURED.md", "and 9,997 of", "and 9,979 of")]),

@@ -16,7 +16,7 @@ Each crate is proved by `rt lib` first, as it stands, and a program by `rt check
 proved before, and what it keeps is what the rounds begin from. A round looks at the edited functions alone (`--only`),
 since no other is judged by it.
 
-usage: python3 tests/wrong_bodies.py [--lanes N] [--only WORD] [--plan] [CRATE..]    (at the top, `rt` on the PATH)
+usage: python3 tests/wrong_bodies.py [--only WORD] [--plan] [CRATE..]    (at the top, `rt` on the PATH)
 """
 import argparse
 import collections
@@ -49,12 +49,6 @@ MOST_LOST = 3  # that say no more than that: such a refusal shows little
 CHECK = ["check", "--jobs", "1"]
 # Memory of one check, in kB
 CHECK_MEMORY = 2_500_000
-
-
-def processors():
-    """Returns how many checks to run side by side: one a processor, as far as memory goes."""
-    free = int(re.search(r"MemAvailable:\s+(\d+)", read("/proc/meminfo"))[1])
-    return max(min(len(os.sched_getaffinity(0)), free // CHECK_MEMORY), 1)
 
 
 def read(path):
@@ -306,9 +300,11 @@ def planned(crates, word):
     return sorted(tasks, key=lambda it: -len(it[1])), faulty, changed
 
 
-def tried(tasks, lanes):
-    """Tries all rounds, prints each verdict, and returns how many edits were refused by what."""
-    counts = collections.Counter()
+def tried(tasks):
+    """Tries all rounds, prints each verdict, and returns how many edits were refused by what. Checks run side by side,
+    one a processor, as far as memory goes."""
+    counts, free = collections.Counter(), int(re.search(r"MemAvailable:\s+(\d+)", read("/proc/meminfo"))[1])
+    lanes = max(min(len(os.sched_getaffinity(0)), free // CHECK_MEMORY), 1)
     with concurrent.futures.ThreadPoolExecutor(lanes) as pool:
         rounds = {pool.submit(crate.tried, edits): crate for crate, edits in tasks}
         for done in concurrent.futures.as_completed(rounds):
@@ -321,7 +317,6 @@ def tried(tasks, lanes):
 
 def main():
     words = argparse.ArgumentParser()
-    words.add_argument("--lanes", type=int, default=processors())
     words.add_argument("--only", default="")
     words.add_argument("--plan", action="store_true")
     words.add_argument("crates", nargs="*")
@@ -344,7 +339,7 @@ def main():
             if said:
                 print(f"{crate.name}: not proved as it stands: {said}")
                 return 1
-        counts = tried(tasks, given.lanes)
+        counts = tried(tasks)
     refused = counts["goal"] + counts["proof"] + counts["name"]
     not_refused += counts["bad"] + counts[None]
     print(f"wrong bodies: {refused} refused ({counts['goal']} by a goal, {counts['proof']} by a written proof, "
