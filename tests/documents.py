@@ -167,9 +167,9 @@ def faults():
     patterns = [re.sub(r"\\\{\w+\\\}", r"(?:[1-9]\\d*|0)", re.escape(text)) for text in dict.fromkeys(texts)]
     settings, others = map(listed_texts, ("Input: metadata", "Messages and exit statuses"))
     shown = re.findall(r"^\.Sq (\w[^:\n]+?) ?\.?$", part("share/man/ldvbi.1", ".Sh DIAGNOSTICS", "\0"), re.M)
-    places = [[place for place, pattern in enumerate(patterns) if re.fullmatch(pattern, text)]
-              for text in (*settings, *others, *shown)]
-    for text, found in zip((*settings, *others, *shown), places):
+    said = [*settings, *others, *shown]
+    places = [[place for place, pattern in enumerate(patterns) if re.fullmatch(pattern, text)] for text in said]
+    for text, found in zip(said, places):
         yield len(found) == 1, f"'{text}' of FORMATS.md or the manual page is no fault text of the source"
     missing = [text for place, text in enumerate(patterns) if [place] not in places[:-len(shown)]]
     yield not missing, f"FORMATS.md doesn't have the fault texts {missing}"
@@ -296,15 +296,16 @@ def main():
         check, least, alterations = CHECKS[name]
         looked_at = list(check())
         print(f"{name}: {len(looked_at)} looked at")
-        wrong = [text for fits, text in looked_at if not fits]
-        unseen = []
+        faults_found = [text for fits, text in looked_at if not fits]
+        count = len(faults_found)
         for path, *texts in alterations:
             altered[path] = texts
-            if sum(not fits for fits, _ in check()) <= len(wrong):
-                unseen.append(f"{name}: not seen in {path}: {' > '.join(texts)}")
+            if sum(not fits for fits, _ in check()) <= count:
+                faults_found.append(f"{name}: not seen in {path}: {' > '.join(texts)}")
             altered.clear()
-        few = [f"{name}: there were {least}"] * (len(looked_at) < least)
-        for fault in (*wrong, *unseen, *few):
+        if len(looked_at) < least:
+            faults_found.append(f"{name}: there were {least}")
+        for fault in faults_found:
             print(fault, file=sys.stderr)
             status = 1
     return status

@@ -8,13 +8,12 @@ usage: python3 tests/wrong_bodies_trials.py     (at the top, with `rt` on the PA
 """
 import os
 import re
-import shutil
 import subprocess
 import sys
 import tempfile
 
 sys.dont_write_bytecode = True
-from wrong_bodies import FOLDER, REFUSED, REFUSES, public_functions, read, write  # noqa: E402
+from wrong_bodies import Crate, FOLDER, REFUSED, REFUSES, public_functions, read, write  # noqa: E402
 
 CRATE = "vbi_words"
 # Name, file, old text, new text, and what the script has to say of it
@@ -47,12 +46,8 @@ LINES = {
 
 
 def copy_of_crate(room):
-    """Makes a repository of this one crate alone, without edits, its kept work linked. Returns the crate's folder."""
-    copy = tempfile.mkdtemp(dir=room)
-    shutil.copy("HANDLES", copy)
-    write(f"{copy}/crates.txt", f"{CRATE}:\n")
-    folder = f"{copy}/crates/{CRATE}"
-    shutil.copytree(f"crates/{CRATE}", folder, copy_function=os.link, ignore=shutil.ignore_patterns(FOLDER))
+    """Makes a repository of this one crate alone, without edits, and returns the crate's folder."""
+    folder = f"{Crate(room, CRATE).copy()}/crates/{CRATE}"
     os.mkdir(f"{folder}/{FOLDER}")
     return folder
 
