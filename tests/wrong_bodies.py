@@ -3,18 +3,15 @@
 
 A check says of each function whether its own body meets its contract, also where a function that it calls is refused.
 So wrong bodies of different functions share a check, and each is judged by the line of its own function. Those of one
-function go into different rounds. Each round begins from what `rt check` kept of the crate as it stands, so nothing
-that is right is proved again, and rounds run side by side. What a round doesn't refuse is tried once more alone.
+function go into different rounds. Each round begins from what `rt lib`, or `rt check` of a program, kept of the crate
+as it stands, and looks at the edited functions alone, so nothing that is right is proved again. Rounds run side by
+side. What a round doesn't refuse is tried once more alone.
 
 An edit has lines 'file: src/x.rt', 'old: TEXT' (once in that file) and 'new: TEXT', as for `rt must-fail`. One that
 changes more than bodies, as a constant or a head, gets a round of its own. The function that the prover has to refuse
 is the one that a row of must-fail/refuses.md names, else the one whose body the edit changes, else any of the crate.
 Each public function needs an edit that has to be refused there, or changes its body or what that names itself: a
 function or constant of the same file, or the only one of that name.
-
-Each crate is proved by `rt lib` first, as it stands, and a program by `rt check`. That takes a second where it was
-proved before, and what it keeps is what the rounds begin from. A round looks at the edited functions alone (`--only`),
-since no other is judged by it.
 
 usage: python3 tests/wrong_bodies.py [--only WORD] [--plan] [CRATE..]    (at the top, `rt` on the PATH)
 """
@@ -218,8 +215,7 @@ class Crate:
         return copy
 
     def check(self, edits):
-        """Returns what the check says of the crate with these edits. It looks at the functions alone that it has to
-        refuse, and not at their callers, unless an edit names none."""
+        """Returns what the check of the functions that it has to refuse, or of all, says with these edits."""
         copy = self.copy()
         for file, text in texts_with(edits, self.folder).items():
             write(f"{copy}/crates/{self.name}/{file}", text)
@@ -240,8 +236,7 @@ class Crate:
         return found[1] if found else some and ("proved" if some[1] == some[2] else "not-proved")
 
     def fault(self):
-        """Proves the crate as it stands, and builds it where it is a library, which keeps what the rounds begin from.
-        Returns the end of what the toolchain says where it isn't proved, else None."""
+        """Proves the crate as it stands, and returns the end of what the toolchain says where it isn't, else None."""
         is_program = os.path.exists(f"{self.folder}/src/main.rt")
         status, said = ran(self.folder, *(CHECK if is_program else ["lib"]))
         return said[-300:] if status else None
@@ -275,9 +270,7 @@ class Crate:
         found = []
         for edit in edits:
             by, why = self.judged(edit, said)
-            if by in (None, "bad") and len(edits) > 1:
-                by, why = self.tried([edit])[0][1:]
-            found.append((edit, by, why))
+            found += self.tried([edit]) if by is None and len(edits) > 1 else [(edit, by, why)]
         return found
 
 
