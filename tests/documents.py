@@ -193,20 +193,15 @@ TWO = r"_margins = record \{ code = (\d+); other = (\d+);"
 NUMBERS = (
     (BELIEFS, r"^enough = (\d+)$", {
         HEADER: ("weigh # or more", "there weigh less than #, a believed"), JUDGING: ("and # or more after it",),
-        PROMISES: ("on either side weighs # or more", "fields weigh less than #; of", "that say it weigh # or more",
-                   "against it less than #:", "less than #, a believed chapter", "of one weigh # or more"),
-        README: ("misread there weigh less than #.", "near either number weigh less than #.")}),
+        PROMISES: ("(?<!two lines )weighs? # or more", "(?:weigh|it) less than #"), README: ("weigh less than #",)}),
     (BELIEFS, r"^field_most = (\d+)$", {
         HEADER: ("of the weight, and # of it or more",), JUDGING: ("and # of it or more",),
         PROMISES: ("half of their weight, and # or more",)}),
     (BELIEFS, r"^reach = (\d+)$", {
         JUDGING: ("by the # fields before it and the # after it",),
-        PROMISES: ("field and the # on either side", "within # fields of a field that", "and read within # fields",
-                   "believed within # fields are right", "within # fields of a jump", "within # fields that say it",
-                   "chapter codes within # fields", "the # fields before, and in the # after",
-                   "a chapter within # fields",
-                   "lost from # fields after the first to # before", "from # fields before the gap to # after it",
-                   "believed of the last #, due"),
+        PROMISES: ("field and the # on either side", "within # fields(?! that go on|, and wrong)",
+                   "the # fields before, and in the # after", "lost from # fields after the first to # before",
+                   "from # fields before the gap to # after it", "believed of the last #, due"),
         README: ("pace within # fields", "no field from # after its first believed number to # before")}),
     ("crates/vbi_side/specs/Votes.antt", r"^vote_reach = (\d+)$", {
         JUDGING: ("in the # fields before it and the # after it that",),
@@ -233,12 +228,12 @@ NUMBERS = (
 
 
 def numbers():
-    """Each number, or word, of each place where such a sentence stands is that of the source."""
+    """Each number, or word, of each place where such a sentence stands, by its pattern, is that of the source."""
     for source, pattern, sentences in NUMBERS:
         wanted = re.search(pattern, read(source), re.M).groups()
         for path, sentence in ((path, one) for path, several in sentences.items() for one in several):
             text = re.sub(r"\s+(?:\* )*\s*", " ", read(path))
-            places = re.findall(re.escape(sentence).replace(r"\#", r"(\d[\d,]*|low|high)"), text)
+            places = re.findall(sentence.replace("#", r"(\d[\d,]*|low|high)"), text)
             found = [number.replace(",", "") for one in places for number in ([one] if isinstance(one, str) else one)]
             for number, right in zip(found or [None], wanted * (len(found) or 1)):
                 yield number == right, f"{path} says {number} in '{sentence}', and {source} {right}"
