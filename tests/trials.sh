@@ -50,9 +50,8 @@ check 'there are scripts to try' [ -s tried ]
 check 'each script fails where it says' [ ! -s err ]
 
 # A script is ended when its time is over, though it ignores that
-mkdir -p slow/tests slow/.ci
-cp "$tests/scripts.sh" "$tests/ran.sh" slow/tests
-: > slow/.ci/ran.txt
+mkdir -p slow/tests
+cp "$tests/scripts.sh" slow/tests
 printf '%s\n' '# runs: everywhere' "trap '' TERM" 'sleep 60' 'sleep 60' finish > slow/tests/slow.sh
 RAN='' SCRIPT_SECONDS=1 timeout -k 5 50 sh slow/tests/scripts.sh "$program" slow < empty > out 2> err
 check 'a script that ignores TERM is ended' [ $? = 1 ]
