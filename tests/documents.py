@@ -1,17 +1,8 @@
 #!/usr/bin/env python3
-"""Compares what the documents name with the source. Each CHECK prints how much it looked at; what doesn't fit it names
-on standard error, and then the status is 1, as where it doesn't see one of its ALTERED. texts/write.py has the rest.
-A check yields a text for what doesn't fit, and None for what does.
-
-links   what a document links to is there, a heading (`#..`) too; a link to the net is one of NET
-paths   the files and folders that documents name are there, of the repository or of a crate
-names   the functions, definitions and types that documents name are in the source; in the tables of PROMISES.md also
-        clauses and fields, of the functions and records in their row; ANSWER.md has each member of the answer
-faults  the fault texts and causes of FORMATS.md are those of the source, and those of the manual page are among them
-numbers numbers without a mark in the comments of ldvbi.h and of the Python module, and of what is promised, are those
-        of the source; so are minute 60 and the order of bytes
-measured
-        the numbers of MEASURED.md of three digits or more stand in the files that are linked beside them
+"""Compares what the documents name with the source. Each check prints how much it looked at; what doesn't fit it names
+on standard error, and then the status is 1, as where it looked at less than CHECKS says, or didn't see a text of a
+document that another one there takes the place of. A check yields whether a thing fits, and what to say where it
+doesn't. texts/write.py has the rest.
 
 usage: python3 tests/documents.py [CHECK..]     (at the top of the repository)
 """
@@ -22,13 +13,10 @@ import os
 import re
 import sys
 
-# The least that each check has to look at. A check that finds less no longer understands the documents.
-LEAST = {"links": 70, "paths": 120, "names": 1000, "faults": 28, "numbers": 62, "measured": 20}
 # The links to the net, of which nothing else is looked at
 NET = ["https://github.com/happycube/ld-decode"]
 # Where a path that a document names may begin
-FOLDERS = ("", "crates/", "crates/*/", "crates/*/src/", "crates/*/specs/", "rust/hand/src/", "tests/*/",
-           "bench/*/")
+FOLDERS = ("", "crates/", "crates/*/", "crates/*/src/", "crates/*/specs/", "rust/hand/src/", "tests/*/", "bench/*/")
 # What is built isn't there before; git is told to leave it out.
 BUILT = [line.strip("/") for line in open(".gitignore", encoding="utf-8").read().split()]
 # A path in prose: one with a folder, a folder alone, or the name of a source file
@@ -36,29 +24,7 @@ PATH = re.compile(r"(?<![\w./])(?!PREFIX)[\w.*-]*\w(?:/[\w.*-]+)+\w|[\w-]+/(?=[`
                   r"\b\w[\w.]*\.(?:antt|rt|rs|py|sh|c|md)\b")
 # A name in code font: one word, or one with its type, file or crate
 NAME = re.compile(r"[A-Za-z]\w*(?:::\w+)*|(?:[A-Z]\w*|ldvbi\w*)(?:\.[a-z]\w+)+")
-
-
-# What each check has to see: of a document a text, and another one in its place
-ALTERED = {
-    "links": [("README.md", "](docs/", "](dogs/"), ("docs/PROMISES.md", "](#not-promised)", "](#not-proved)"),
-              ("README.md", "https://github.com", "https://example.org")],
-    "paths": [("CONTRIBUTING.md", "Verdicts.antt", "Verdict.antt")],
-    "names": [("docs/DECISIONS.md", "`Progress::add_row`", "`Progress::added_row`"),
-              ("docs/PROMISES.md", "`fetched`, `written`", "`fetched`, `rewritten`"),
-              ("docs/ANSWER.md", ", `confirmed`", "")],
-    "faults": [("docs/FORMATS.md", "`field width differs`", "`field width differ`"),
-               ("docs/FORMATS.md", "`no system given`", "`unknown system`"),
-               ("docs/FORMATS.md", "else `hold` and that", "else `held` and that"),
-               ("docs/FORMATS.md", "#####...######", "#####....#####")],
-    "numbers": [("include/ldvbi.h", "1 to 28 times", "1 to 27 times"),
-                ("docs/PROMISES.md", "lost from 24 fields", "lost from 23 fields"),
-                ("python/ldvbi/judging.py", "and 10 or more", "and 11 or more"),
-                ("include/ldvbi.h", "  10                       12", "  10                       13"),
-                ("docs/FORMATS.md", "Minute 60", "Minute 61"), ("docs/FORMATS.md", "low byte", "high byte"),
-                ("include/ldvbi.h", "low byte", "high byte")],
-    "measured": [("docs/MEASURED.md", "judged 893 right", "judged 898 right"),
-                 ("docs/MEASURED.md", "and 9,997 of", "and 9,979 of")]}
-altered = {}  # of a path the two texts
+altered = {}  # of a path a text, and the one that stands in its place
 
 
 def read(path):
@@ -77,20 +43,24 @@ def prose(path):
     return re.sub(r"^```.*?^```$", "", read(path), flags=re.M | re.S)
 
 
+def part(path, begin, end):
+    return read(path).partition(begin)[2].partition(end)[0]
+
+
 def codes(text):
     """Returns what stands in code font."""
     return re.findall(r"`([^`]+)`", text)
 
 
-def rows(text):
-    """Returns the rows of a text's tables, each a list of cells, with an empty one before each table."""
-    found = []
-    for line in text.split("\n"):
-        found.append([cell.strip() for cell in re.split(r"(?<!\\)\|", line.strip("|"))] if line.startswith("|") else [])
-    return found
+def links():
+    """What a document links to is there, a heading (`#..`) too; a link to the net is one of NET."""
+    for path in documents():
+        for link in re.findall(r"\]\(([^)\s]*)\)", prose(path)):
+            target, _, anchor = link.partition("#")
+            file = os.path.normpath(os.path.join(os.path.dirname(path), target)) if target else path
+            is_there = link in NET or os.path.exists(file) and (not anchor or anchor in anchors(file))
+            yield is_there, f"{path}: {link} isn't there, or is none of the links to the net that are known"
 
-
-# ---- links
 
 def anchors(path):
     """Returns the anchors of a document's headings, as they are made of their words."""
@@ -98,40 +68,19 @@ def anchors(path):
     return {re.sub(r"[^\w\- ]", "", head.lower()).replace(" ", "-") for head in heads}
 
 
-def links():
-    for path in documents():
-        for link in re.findall(r"\]\(([^)\s]*)\)", prose(path)):
-            target, _, anchor = link.partition("#")
-            file = os.path.normpath(os.path.join(os.path.dirname(path), target)) if target else path
-            if link.startswith("https://"):
-                yield None if link in NET else f"{path}: {link} is none of the links to the net that are known"
-            elif not os.path.exists(file):
-                yield f"{path}: {link} isn't there"
-            else:
-                is_there = not anchor or anchor in anchors(file)
-                yield None if is_there else f"{path}: {link} is no heading of {file}"
-
-
-# ---- paths
-
-def is_built(path):
-    return any(fnmatch.fnmatch(path, one) or fnmatch.fnmatch(path, one + "/*") for one in BUILT)
-
-
 def paths():
-    """A name alone is in the folder named before it in its line. CONTRIBUTING.md names paths without code font, too."""
+    """The files and folders that documents name are there, of the repository or of a crate, or are built. A name alone
+    is in the folder named before it in its line. CONTRIBUTING.md names paths without code font, too."""
     for document in documents():
         for line in prose(document).split("\n"):
             folder = ""
-            text = line if document == "CONTRIBUTING.md" else " ".join(codes(line))
-            for path in PATH.findall(text):
+            for path in PATH.findall(line if document == "CONTRIBUTING.md" else " ".join(codes(line))):
                 there = [place for begin in (*FOLDERS, folder + "/") for place in glob.glob(begin + path)]
-                yield None if there or is_built(path) else f"{document}: {path} isn't there"
+                is_built = any(fnmatch.fnmatch(path, one + end) for one in BUILT for end in ("", "/*"))
+                yield there or is_built, f"{document}: {path} isn't there"
                 if there and "/" in path:
                     folder = there[0] if os.path.isdir(there[0]) else os.path.dirname(there[0])
 
-
-# ---- names
 
 # What begins an item of a source, and how deep it stands; its name is the last group
 ITEM = re.compile(r"^( *)(?:pub(?:\(\w+\))? |extern \"C\" )*(fn|struct|enum|trait|const|type|record|data|abbrev|"
@@ -146,10 +95,6 @@ SOURCES = ("crates/*/src/*.rt", "crates/*/specs/*.antt", "include/*.h", "python/
 NOT_OURS = {"chdman", "console", "manylinux_2_17", "memcpy", "memset", "pipefail", "pv", "siglongjmp", "WILLNEED"}
 
 
-def words_in(text):
-    return set(re.findall(r"\w+", text))
-
-
 class Source:
     """The words of the source, and of each item, file and crate the words that stand in it; of a function in its head
     and its contract."""
@@ -157,18 +102,19 @@ class Source:
     def __init__(self):
         self.items, self.words = {}, {*NOT_OURS, *glob.glob("*"), *map(os.path.basename, glob.glob("crates/*"))}
         for path in (path for pattern in SOURCES for path in glob.glob(pattern, recursive=True)):
-            text = COMMENT.sub("", read(path)) if path.endswith((".rt", ".antt")) else read(path)
-            self.words |= words_in(text)
-            for name in (path.split("/")[1:2] or [path])[0], os.path.basename(path).split(".")[0]:
-                self.items.setdefault(name, []).append(words_in(text))
-            if path.endswith((".rt", ".antt")) and "_tests/" not in path:
-                self.take_items(text, path.endswith(".antt"))
+            is_ours = path.endswith((".rt", ".antt"))
+            text = COMMENT.sub("", read(path)) if is_ours else read(path)
+            self.words |= self.take((path.split("/")[1:2] or [path])[0], text)
+            self.take(os.path.basename(path).split(".")[0], text)
+            for found in ITEM.finditer(text) if is_ours and "_tests/" not in path else ():
+                end = r"^ *\n" if path.endswith(".antt") else ENDS.get(found[2], rf"^{found[1]}\}}")
+                ends = re.compile(end, re.M).search(text, found.end())
+                self.take(found[3], text[found.start():ends.end() if ends else None])
 
-    def take_items(self, text, are_definitions):
-        for found in ITEM.finditer(text):
-            end = r"^ *\n" if are_definitions else ENDS.get(found[2], rf"^{found[1]}\}}")
-            ends = re.compile(end, re.M).search(text, found.end())
-            self.items.setdefault(found[3], []).append(words_in(text[found.start():ends.end() if ends else None]))
+    def take(self, name, text):
+        words = set(re.findall(r"\w+", text))
+        self.items.setdefault(name, []).append(words)
+        return words
 
     def has(self, code):
         """Whether the source has a name, and what stands before it has it."""
@@ -176,33 +122,29 @@ class Source:
         within = self.items.get(owners[-1]) if owners else None
         return any(name in words for words in within) if within else {*owners, name} <= self.words
 
-    def is_near(self, name, items):
-        """Whether a name is that of an item, or stands in one of these, as a clause or a field."""
-        return name in self.items or any(name in words for item in items for words in self.items[item])
-
 
 def names():
-    """In a table of PROMISES.md a clause is one of the functions in its row, or of those in the rows above; a field is
-    one of the records in its row or in the table's head, or of `Ran`."""
+    """The functions, definitions and types that documents name are in the source. In a table of PROMISES.md a clause is
+    one of the functions in its row, or of those in the rows above; a field is one of the records in its row or in the
+    table's head, or of `Ran`. ANSWER.md has each member of the answer."""
     source = Source()
     for path in documents():
         for code in codes(prose(path)):
             if NAME.fullmatch(code) and not PATH.fullmatch(code):
-                yield None if source.has(code) else f"{path}: {code} isn't in the source"
+                yield source.has(code), f"{path}: {code} isn't in the source"
     above = set()
-    for row in rows(prose("docs/PROMISES.md")):
-        named = [re.match(r"[\w:.]*", code)[0] for cell in row for code in codes(cell) if re.match(r"\w", code)]
-        parts = {part for code in named for part in re.split(r"::|\.", code) if part in source.items}
-        above = above | parts if row else {"Ran"}
+    for line in prose("docs/PROMISES.md").split("\n"):
+        row = codes(line) if line.startswith("|") else []
+        named = [re.match(r"[\w:.]*", code)[0] for code in row if re.match(r"\w", code)]
+        parts = {one for code in named for one in re.split(r"::|\.", code) if one in source.items}
+        above = above | parts if line.startswith("|") else {"Ran"}
         for name in (name for name in named if re.fullmatch("[a-z_]+", name)):
-            where = f"docs/PROMISES.md: {name} isn't in the source, in the row: {' | '.join(row)[:80]}"
-            yield None if source.is_near(name, above) else where
-    named = codes(prose("docs/ANSWER.md").partition("\n## The answer\n")[2].partition("\n<!-- ")[0])
+            is_near = name in source.items or any(name in words for item in above for words in source.items[item])
+            yield is_near, f"docs/PROMISES.md: {name} isn't in the source, in the row: {line[:80]}"
+    named = codes(part("docs/ANSWER.md", "\n## The answer\n", "\n<!-- "))
     for name in json.loads(read("share/schema/ldvbi-side.schema.json"))["properties"]:
-        yield None if name in named else f"docs/ANSWER.md doesn't have the member {name} of the answer"
+        yield name in named, f"docs/ANSWER.md doesn't have the member {name} of the answer"
 
-
-# ---- faults
 
 # The variants of a fault, with their texts before them, or what writes the texts
 FAULT = re.compile(r"^(?:impl fmt::Display for|pub\S* enum) (?:App|Draw|Main|Meta|Run|Words)Fault \{(.*?)^\}",
@@ -213,63 +155,53 @@ NO_FAULT = ("{}", "{0}", "feeder failed before")
 
 def listed_texts(heading):
     """Returns the texts of more than one word in code font in the lists under this heading of FORMATS.md."""
-    section = read("docs/FORMATS.md").partition(f"\n## {heading}\n")[2].partition("\n## ")[0]
-    listed = "".join(re.findall(r"^- .*\n(?:  .*\n)*", section, re.M))
-    return [text for text in codes(listed) if " " in text]
+    section = part("docs/FORMATS.md", f"\n## {heading}\n", "\n## ")
+    return [text for text in codes("".join(re.findall(r"^- .*\n(?:  .*\n)*", section, re.M))) if " " in text]
 
 
-def fault_texts():
-    """Both lists of faults have the source's texts and no others, the first one in the source's order."""
+def faults():
+    """Both lists of faults in FORMATS.md have the source's texts and no others, the first one in the source's order;
+    those of the manual page are among them. Causes are the source's, and so is how long a glitch is."""
     texts = [text for path in sorted(glob.glob("crates/*/src/*.rt")) for body in FAULT.findall(read(path))
              for text in re.findall(r'"([^"]+)"', body) if text not in NO_FAULT]
     patterns = [re.sub(r"\\\{\w+\\\}", r"(?:[1-9]\\d*|0)", re.escape(text)) for text in dict.fromkeys(texts)]
     settings, others = map(listed_texts, ("Input: metadata", "Messages and exit statuses"))
-    shown = re.findall(r"^\.Sq (\w[^:\n]+?) ?\.?$", read("share/man/ldvbi.1").partition(".Sh DIAGNOSTICS")[2], re.M)
-    said = settings + others + shown
+    shown = re.findall(r"^\.Sq (\w[^:\n]+?) ?\.?$", part("share/man/ldvbi.1", ".Sh DIAGNOSTICS", "\0"), re.M)
+    said = [*settings, *others, *shown]
     places = [[place for place, pattern in enumerate(patterns) if re.fullmatch(pattern, text)] for text in said]
     for text, found in zip(said, places):
-        yield None if len(found) == 1 else f"'{text}' of FORMATS.md or the manual page is no fault text of the source"
-    yield from (f"FORMATS.md doesn't have the fault text '{pattern}'"
-                for place, pattern in enumerate(patterns) if [place] not in places[:-len(shown)])
-    if places[:len(settings)] != sorted(places[:len(settings)]):
-        yield "FORMATS.md has the faults of metadata and settings in another order than the source"
+        yield len(found) == 1, f"'{text}' of FORMATS.md or the manual page is no fault text of the source"
+    missing = [text for place, text in enumerate(patterns) if [place] not in places[:-len(shown)]]
+    yield not missing, f"FORMATS.md doesn't have the fault texts {missing}"
+    first = places[:len(settings)]
+    yield first == sorted(first), "FORMATS.md has the faults of metadata and settings in another order than the source"
     causes = re.findall(r'push_str\("([a-z]+) ?"\)', read("crates/vbi_field/src/cause_texts.rt"))
-    outcomes = codes(read("docs/FORMATS.md").partition("\n### The outcome of a line")[2].partition("\n### ")[0])[1:]
-    if outcomes != causes:
-        yield f"FORMATS.md has the outcomes {outcomes}, and the source {causes}"
-    rows_drawn = dict(re.findall(r"^(drawn|glitch|too long) +([.#]+)", read("docs/FORMATS.md"), re.M))
+    outcomes = codes(part("docs/FORMATS.md", "\n### The outcome of a line", "\n### "))[1:]
+    yield outcomes == causes, f"FORMATS.md has the outcomes {outcomes}, and the source {causes}"
     most = int(re.search(r"pub few : m ≤ (\d+)", read("crates/vbi_words/specs/Smooth.antt"))[1])
-    gaps = {name: len(gap) for name, row in rows_drawn.items() for gap in re.findall(r"#(\.+)#", row)}
-    if gaps != {"glitch": most, "too long": most + 1}:
-        yield f"FORMATS.md draws the damaged rows {gaps}, and a glitch has up to {most} columns"
+    drawn = re.findall(r"^(?:drawn|glitch|too long) +[.#]*?#+(\.+)#", read("docs/FORMATS.md"), re.M)
+    yield [*map(len, drawn)] == [most, most + 1], f"FORMATS.md draws gaps of {drawn}: a glitch has up to {most} columns"
 
-
-# ---- numbers
 
 HEADER, JUDGING, NEAR = "include/ldvbi.h", "python/ldvbi/judging.py", "python/ldvbi/near.py"
 PROMISES, README, DECISIONS = "docs/PROMISES.md", "README.md", "docs/DECISIONS.md"
-BELIEFS, RULE = "crates/vbi_side/specs/Beliefs.antt", "tests/library/rule.py"
+BELIEFS, SAID = "crates/vbi_side/specs/Beliefs.antt", "crates/vbi_near/specs/Said.antt"
 SCHEMA = "share/schema/ldvbi-side.schema.json"
-TWO = r"Margins\((\d+), (\d+)\)"
+TWO = r"_margins = record \{ code = (\d+); other = (\d+);"
 # Where numbers stand in the source, and sentences with the same ones, in which # stands for each in turn, or for one;
 # of the order of bytes it stands for a word
 NUMBERS = (
     (BELIEFS, r"^enough = (\d+)$", {
         HEADER: ("weigh # or more", "there weigh less than #, a believed"), JUDGING: ("and # or more after it",),
-        PROMISES: ("on either side weighs # or more", "fields weigh less than #; of", "that say it weigh # or more",
-                   "against it less than #:", "less than #, a believed chapter", "of one weigh # or more"),
-        README: ("misread there weigh less than #.", "near either number weigh less than #.")}),
+        PROMISES: ("(?<!two lines )weighs? # or more", "(?:weigh|it) less than #"), README: ("weigh less than #",)}),
     (BELIEFS, r"^field_most = (\d+)$", {
         HEADER: ("of the weight, and # of it or more",), JUDGING: ("and # of it or more",),
         PROMISES: ("half of their weight, and # or more",)}),
     (BELIEFS, r"^reach = (\d+)$", {
         JUDGING: ("by the # fields before it and the # after it",),
-        PROMISES: ("field and the # on either side", "within # fields of a field that", "and read within # fields",
-                   "believed within # fields are right", "within # fields of a jump", "within # fields that say it",
-                   "chapter codes within # fields", "the # fields before, and in the # after",
-                   "a chapter within # fields",
-                   "lost from # fields after the first to # before", "from # fields before the gap to # after it",
-                   "believed of the last #, due"),
+        PROMISES: ("field and the # on either side", "within # fields(?! that go on|, and wrong)",
+                   "the # fields before, and in the # after", "lost from # fields after the first to # before",
+                   "from # fields before the gap to # after it", "believed of the last #, due"),
         README: ("pace within # fields", "no field from # after its first believed number to # before")}),
     ("crates/vbi_side/specs/Votes.antt", r"^vote_reach = (\d+)$", {
         JUDGING: ("in the # fields before it and the # after it that",),
@@ -281,11 +213,12 @@ NUMBERS = (
         "docs/LIBRARY.md": ("at most # fields are read",), "docs/RUST.md": ("at most # fields, as",)}),
     (NEAR, r"^MOST_LINES = (\d+) ", {HEADER: ("of 1 to # lines", "that 1 to # lines", "be 1 to # times"),
                                       NEAR: ("of 1 to # lines", "that 1 to # lines")}),
-    (RULE, "^LONE, APART, BOTH = " + TWO, {HEADER: ("one line # #",)}),
-    (RULE, "^LONE, APART, BOTH = .*, " + TWO + "$", {HEADER: ("lines 17 and 18 together # #",)}),
-    (RULE, r"^LONE, APART, BOTH = .*, Margins\((\d+), \d+\)$", {DECISIONS: ("Two lines need # columns",)}),
-    (RULE, "^NO_SHARES, BOTH_SHARES = .*, " + TWO + "$", {HEADER: ("at least #/144 for a code, and #/144 for",)}),
-    (RULE, r"^LONE, APART, BOTH = [^)]*\), " + TWO, {HEADER: ("either, if they don't agree # #",)}),
+    (SAID, "^lone" + TWO, {HEADER: ("one line # #",)}),
+    (SAID, "^apart" + TWO, {HEADER: ("either, if they don't agree # #",)}),
+    (SAID, "^both" + TWO, {HEADER: ("lines 17 and 18 together # #",)}),
+    (SAID, r"^both_margins = record \{ code = (\d+);", {DECISIONS: ("Two lines need # columns",)}),
+    (SAID, r"^both_margins = .* code_share = (\d+); other_share = (\d+) \}", {
+        HEADER: ("at least #/144 for a code, and #/144 for",)}),
     ("crates/vbi_side/specs/Lines.antt", r"nat_lt minutes (\d+) ", {
         "docs/FORMATS.md": ("Minute #, PAL picture",), SCHEMA: ("shows it, as minute #",)}),
     ("crates/vbi_words/specs/Levels.antt", r"^samples_of \((\w+) ∷ \w+ ∷ bytes\) = \(\1 [+] 256 ", {
@@ -295,34 +228,29 @@ NUMBERS = (
 
 
 def numbers():
-    """Each number, or word, of each place where such a sentence stands."""
+    """Each number, or word, of each place where such a sentence stands, by its pattern, is that of the source."""
     for source, pattern, sentences in NUMBERS:
         wanted = re.search(pattern, read(source), re.M).groups()
         for path, sentence in ((path, one) for path, several in sentences.items() for one in several):
             text = re.sub(r"\s+(?:\* )*\s*", " ", read(path))
-            places = re.findall(re.escape(sentence).replace(r"\#", r"(\d[\d,]*|low|high)"), text)
-            if not places:
-                yield f"{path} doesn't say '{sentence}'"
-            for found in ([one] if isinstance(one, str) else one for one in places):
-                for number, right in zip(found, wanted * (len(found) // len(wanted))):
-                    is_right = number.replace(",", "") == right
-                    yield None if is_right else f"{path} says {number} in '{sentence}', and {source} {right}"
+            places = re.findall(sentence.replace("#", r"(\d[\d,]*|low|high)"), text)
+            found = [number.replace(",", "") for one in places for number in ([one] if isinstance(one, str) else one)]
+            for number, right in zip(found or [None], wanted * (len(found) or 1)):
+                yield number == right, f"{path} says {number} in '{sentence}', and {source} {right}"
 
-
-# ---- measured
 
 # What MEASURED.md says of how was measured, and the sums that it has of several rows or files
 HOW, SUMS = {"400", "2000", "2350", "12000", "180000"}, {"670", "710", "771", "3270", "25329"}
 
 
 def measured():
-    """Each number of three digits or more in a part of MEASURED.md that links files of what was measured."""
-    for part in re.split(r"\n\n|\n(?=[-|] )", re.sub(r"<!--.*?-->", "", read("docs/MEASURED.md"))):
-        files = ["docs/" + link for link in re.findall(r"\]\((measured/\w+\.txt)\)", part)]
+    """Each number of three digits or more in a part of MEASURED.md that links files of what was measured is theirs."""
+    for block in re.split(r"\n\n|\n(?=[-|] )", re.sub(r"<!--.*?-->", "", read("docs/MEASURED.md"))):
+        files = ["docs/" + link for link in re.findall(r"\]\((measured/\w+\.txt)\)", block)]
         known = {number for path in files for number in figures(read(path))} | HOW | SUMS
-        for number in figures(re.sub(r"\]\(.*?\)", "", part)) if files else ():
+        for number in figures(re.sub(r"\]\(.*?\)", "", block)) if files else ():
             if len(number) > 2:
-                yield None if number in known else f"docs/MEASURED.md says {number}, which none of {files} has"
+                yield number in known, f"docs/MEASURED.md says {number}, which none of {files} has"
 
 
 def figures(text):
@@ -330,25 +258,49 @@ def figures(text):
     return [number.replace(",", "") for number in re.findall(r"(?<![\w.])\d+(?:,\d{3})*(?![\w.]*\d)", text)]
 
 
-CHECKS = {"links": links, "paths": paths, "names": names, "faults": fault_texts, "numbers": numbers,
-          "measured": measured}
+# Each check with the least that it has to look at, else it no longer understands the documents; and what it has to see:
+# of a document a text, and another one in its place
+CHECKS = {
+    "links": (links, 70, [
+        ("README.md", "](docs/", "](dogs/"), ("docs/PROMISES.md", "](#not-promised)", "](#not-proved)"),
+        ("README.md", "https://github.com", "https://example.org")]),
+    "paths": (paths, 120, [("CONTRIBUTING.md", "Verdicts.antt", "Verdict.antt")]),
+    "names": (names, 1000, [
+        ("docs/DECISIONS.md", "`Progress::add_row`", "`Progress::added_row`"),
+        ("docs/PROMISES.md", "`fetched`, `written`", "`fetched`, `rewritten`"),
+        ("docs/ANSWER.md", ", `confirmed`", "")]),
+    "faults": (faults, 28, [
+        ("docs/FORMATS.md", "`field width differs`", "`field width differ`"),
+        ("docs/FORMATS.md", "`no system given`", "`unknown system`"),
+        ("docs/FORMATS.md", "else `hold` and that", "else `held` and that"),
+        ("docs/FORMATS.md", "#####...######", "#####....#####")]),
+    "numbers": (numbers, 62, [
+        ("include/ldvbi.h", "1 to 28 times", "1 to 27 times"),
+        ("python/ldvbi/judging.py", "and 10 or more", "and 11 or more"),
+        ("include/ldvbi.h", "  10                       12", "  10                       13"),
+        ("docs/FORMATS.md", "low byte", "high byte")]),
+    "measured": (measured, 20, [
+        ("docs/MEASURED.md", "judged 893 right", "judged 898 right"),
+        ("docs/MEASURED.md", "and 9,997 of", "and 9,979 of")]),
+}
 
 
 def main():
     status = 0
-    for check in sys.argv[1:] or CHECKS:
-        looked_at = list(CHECKS[check]())
-        print(f"{check}: {len(looked_at)} looked at")
-        faults = list(filter(None, looked_at))
-        count = len(faults)
-        for path, *texts in ALTERED[check]:
+    for name in sys.argv[1:] or CHECKS:
+        check, least, alterations = CHECKS[name]
+        looked_at = list(check())
+        print(f"{name}: {len(looked_at)} looked at")
+        faults_found = [text for fits, text in looked_at if not fits]
+        count = len(faults_found)
+        for path, *texts in alterations:
             altered[path] = texts
-            if len(list(filter(None, CHECKS[check]()))) <= count:
-                faults.append(f"{check}: not seen in {path}: {' > '.join(texts)}")
+            if sum(not fits for fits, _ in check()) <= count:
+                faults_found.append(f"{name}: not seen in {path}: {' > '.join(texts)}")
             altered.clear()
-        if len(looked_at) < LEAST[check]:
-            faults.append(f"{check}: there were {LEAST[check]}")
-        for fault in faults:
+        if len(looked_at) < least:
+            faults_found.append(f"{name}: there were {least}")
+        for fault in faults_found:
             print(fault, file=sys.stderr)
             status = 1
     return status

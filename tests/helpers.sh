@@ -1,17 +1,14 @@
 # shellcheck shell=sh disable=SC2034
 # What the scripts share that run the built program, whose path is their first word. They read this in first; it takes
 # them to an empty folder, which is removed in the end. A script says in TAP what its checks found, and that it came to
-# its end.
-#
-# A run of the program, or of another tool, takes RUN_SECONDS at most (300 where the environment doesn't say): a script
-# ends at the first that takes longer. Where STOP_AT_FIRST isn't empty it ends at the first check that fails.
+# its end. It ends at the first run that takes more than RUN_SECONDS (300 where the environment doesn't say), and, where
+# STOP_AT_FIRST isn't empty, at the first check that fails.
 #
 # Where DIFFERENCES names a file, the program is the Rust one. The file has a line for each check that has to fail of
 # it: SCRIPT | CHECK | WHY.
 set -u
 
-LC_ALL=C
-export LC_ALL
+export LC_ALL=C
 # The folder of the script, that of what the scripts share, and the top of the repository
 here=$(cd "$(dirname "$0")" && pwd)
 tests=$here
@@ -44,11 +41,11 @@ pal='--system PAL --black 16384 --white 54016'
 
 # bounded COMMAND..: runs a command, which is ended where it takes longer than it may; `check` finds that out
 bounded() {
-    timeout -k 5 "$seconds" "$@" || failed_with $?
-}
-failed_with() {
-    case $1 in 124 | 137) echo "$1" > "$work/endless" ;; esac
-    return "$1"
+    timeout -k 5 "$seconds" "$@" || {
+        bounded_status=$?
+        case $bounded_status in 124 | 137) echo "$bounded_status" > "$work/endless" ;; esac
+        return $bounded_status
+    }
 }
 
 # does COMMAND..: whether a command succeeds, with nothing on standard input; it leaves what it wrote in `out` and `err`
@@ -65,25 +62,21 @@ stub() {
 }
 
 # run WORD..: the program, with nothing on standard input. It would take the rows of the loop that it stands in.
+# run_with FILE WORD..: the program, with this file there; run_leaving: what it hasn't read then is in the file `rest`
+# run_inheriting WORD..: the program, with standard input as the caller has it
 run() {
-    run_with empty "$@"
+    run_inheriting "$@" < empty
 }
-
-# run_with FILE WORD..: the program, with this file on standard input
 run_with() {
     run_input=$1
     shift
     run_inheriting "$@" < "$run_input"
 }
-
-# run_leaving FILE WORD..: the same; what it hasn't read then is in the file `rest`
 run_leaving() {
     run_input=$1
     shift
     { run_inheriting "$@"; cat > rest; } < "$run_input"
 }
-
-# run_inheriting WORD..: the program, with standard input as the caller has it
 run_inheriting() {
     status=0
     bounded "$program" "$@" > out 2> err || status=$?
@@ -102,7 +95,7 @@ check() {
     holds=
     ! "$@" || holds=yes
     why=
-    if is_different "$checked"; then
+    if [ "${DIFFERENCES:-}" ] && [ "$(differences "$checked")" != 0 ]; then
         differed=$((differed + 1))
         [ "$holds" ] && holds= || holds=yes
         why="it holds, and $DIFFERENCES says that it doesn't"
@@ -133,11 +126,6 @@ differences() {
         $1 == script && (name == "" || $2 == name) { lines++ } END { print lines + 0 }' "${DIFFERENCES:-/dev/null}"
 }
 
-# is_different NAME: whether this check must fail for this program
-is_different() {
-    [ "${DIFFERENCES:-}" ] && [ "$(differences "$1")" != 0 ]
-}
-
 # stop WHY: ends the script before its end
 stop() {
     echo "$script: stopped at $1" >&2
@@ -151,17 +139,16 @@ leave_out() {
 }
 
 # ended STATUS OUT ERR: whether the last run ended with this status and wrote these two files, byte for byte
+# said_line ERR: makes the file `wanted` of what is said: this line and its newline, or nothing where it is empty
 ended() {
     [ "$status" = "$1" ] && cmp -s out "$2" && cmp -s err "$3"
 }
-
-# said_line ERR: makes the file of what is said: this line and its newline, or nothing where it is empty
 said_line() {
     { [ -z "$1" ] || printf '%s\n' "$1"; } > wanted
 }
 
-# check_refusal NAME COMMAND..: the same as `check`, of a run whose words clap refused. The Rust program is built with
-# any clap 4, which words its refusals in its own way. Of that program it is checked that the run was refused.
+# check_refusal NAME COMMAND..: `check` of a run whose words clap refused. The Rust program is built with any clap 4,
+# which words that in its own way: of that program it is checked that the run was refused.
 check_refusal() {
     [ -z "${DIFFERENCES:-}" ] || set -- "$1" is_refused
     check "$@"
@@ -211,33 +198,25 @@ with_jsonschema() {
     echo "$python"
 }
 
-# validates SCHEMA DOCUMENT..: says `valid` or `refused` of each document
-validates() {
-    bounded env COVERAGE_PROCESS_START= "$(with_jsonschema)" "$tests/program/validate.py" "$@" < empty
-}
-
 # signal SYSTEM FIELDS [BLACK WHITE] < DESCRIPTIONS: lines (FIELDS is 0) or fields (1), see described.py
 signal() {
     python3 "$tests/program/described.py" "$@"
 }
 
 # document_head SYSTEM WIDTH HEIGHT BLACK WHITE: how a document begins
+# record NUMBER WORDS CAUSES PASSES: the record of a field, each of the three a list with commas
+# blank_record NUMBER: the record of a field without a word
+# cut_field VALUE: how a document ends, where the cut field is VALUE
 document_head() {
     printf '{"version":2,"videoParameters":{"system":"%s","fieldWidth":%s,"fieldHeight":%s,' "$1" "$2" "$3"
     printf '"black16bIre":%s,"white16bIre":%s},"fields":[\n' "$4" "$5"
 }
-
-# record NUMBER WORDS CAUSES PASSES: the record of a field, each of the three a list with commas
 record() {
     printf '{"seqNo":%s,"vbi":{"vbiData":[%s]},"vbiCause":[%s],"vbiPass":[%s]}' "$1" "$2" "$3" "$4"
 }
-
-# blank_record NUMBER: the record of a field without a word
 blank_record() {
     record "$1" 0,0,0 '"blank","blank","blank"' 0,0,0
 }
-
-# cut_field VALUE: how a document ends, where the cut field is VALUE
 cut_field() {
     printf '\n],"cutField":%s}\n' "$1"
 }

@@ -6,11 +6,9 @@
 #
 # A script says in its line `# runs:` where it is run: everywhere, where a library is built (library) or the proved one
 # (proved), or by the whole gate alone (whole); with `rust` on the Rust program, too, or on that alone. `# fails where:`
-# has an alteration that it has to see (trials.sh).
-#
-# Without a word all are run that the proved program has to pass. With --as-built, what needs a library that isn't built
-# is left out, and so is what the whole gate alone runs; with --rust, those for the Rust program are run, and with names
-# these alone. Of the program in rust/ the checks that rust/differences.txt names have to fail.
+# has an alteration that it has to see (trials.sh). Without a word all are run that the proved program has to pass. With
+# --as-built, what needs a library that isn't built is left out, and so is what the whole gate alone runs; with --rust,
+# those for the Rust program are run. Of the program in rust/ the checks of rust/differences.txt have to fail.
 # usage: sh tests/scripts.sh PROGRAM [--as-built | --rust | NAME..]
 set -eu
 # What `make check` was given isn't meant for the makes that scripts run.
@@ -47,8 +45,6 @@ shift
 library=
 proved=
 on=
-# What the list has of the scripts, where all are run
-whole=
 [ ! -e "$(dirname "$program")/libldvbi.so.1" ] || library=library
 [ ! -e "$top/libldvbi.so.1" ] || library=library proved=proved
 if [ "$(dirname "$program")" = "$top/rust" ] || [ "${1:-}" = --rust ]; then
@@ -60,19 +56,18 @@ case ${1:-} in
     '')
         [ "$proved" ] || fault 'the library is not built'
         scripts=$(tagged everywhere library proved whole)
-        whole="|^script [a-z_]*$on\$"
         ;;
     --as-built)
         scripts=$(tagged everywhere $library $proved)
         [ "$proved" ] || echo 'scripts: what needs the library that make lib builds is left out'
         [ "$library" ] || echo 'scripts: what needs any library is left out'
         ;;
-    --rust)
-        scripts=$(tagged rust)
-        whole="|^script [a-z_]*$on\$"
-        ;;
+    --rust) scripts=$(tagged rust) ;;
     *) scripts=$(named "$@") ;;
 esac
+# What the list has of the scripts, where all are run
+whole="|^script [a-z_]*$on\$"
+case ${1:-} in ?*) [ "$1" = --rust ] || whole= ;; esac
 
 work=$(mktemp -d)
 trap 'rm -rf "$work"' EXIT

@@ -50,9 +50,8 @@ check 'there are scripts to try' [ -s tried ]
 check 'each script fails where it says' [ ! -s err ]
 
 # A script is ended when its time is over, though it ignores that
-mkdir -p slow/tests slow/.ci
-cp "$tests/scripts.sh" "$tests/ran.sh" slow/tests
-: > slow/.ci/ran.txt
+mkdir -p slow/tests
+cp "$tests/scripts.sh" slow/tests
 printf '%s\n' '# runs: everywhere' "trap '' TERM" 'sleep 60' 'sleep 60' finish > slow/tests/slow.sh
 RAN='' SCRIPT_SECONDS=1 timeout -k 5 50 sh slow/tests/scripts.sh "$program" slow < empty > out 2> err
 check 'a script that ignores TERM is ended' [ $? = 1 ]
@@ -75,7 +74,7 @@ echo "${BUILT:-program}" > ldvbi
 case $* in *rust) exit "${RUST:-0}" ;; *) exit "${MAKE:-0}" ;; esac
 END
 stub stubs/python3 << 'END'
-case $1 in *trials*) exit "${TRIALS:-0}" ;; *public*) exit "${PUBLIC:-0}" ;; esac
+case $1 in *trials*) exit "${TRIALS:-0}" ;; esac
 printf 'words/wrong: %s by a goal: f\nwrong bodies: %s refused\n' "${REFUSED:-refused}" "${BODIES:-1}"
 exit "${WRONG:-0}"
 END
@@ -96,7 +95,7 @@ fails_with() {
 }
 check 'the gate passes where nothing is wrong' gate
 for fault in RT=1 FAILED=1 CRATES=2 ENDED=failed MORE=yes MAKE=2 BUILT=another WRONG=1 REFUSED=not BODIES=2 TRIALS=1 \
-    PUBLIC=1 SCRIPTS=1 NEW=1 RUST=2 RUST_SCRIPTS=1; do
+    SCRIPTS=1 NEW=1 RUST=2 RUST_SCRIPTS=1; do
     check "the gate fails with $fault" fails_with "$fault"
 done
 finish

@@ -3,22 +3,23 @@
 
 A check says of each function whether its own body meets its contract, also where a function that it calls is refused.
 So wrong bodies of different functions share a check, and each is judged by the line of its own function. Those of one
-function go into different rounds. Each round begins from what `rt check` kept of the crate as it stands, so nothing
-that is right is proved again, and rounds run side by side. What a round doesn't refuse is tried once more alone.
+function go into different rounds. Each round begins from what `rt lib`, or `rt check` of a program, kept of the crate
+as it stands, and looks at the edited functions alone, so nothing that is right is proved again. Rounds run side by
+side. What a round doesn't refuse is tried once more alone.
 
 An edit has lines 'file: src/x.rt', 'old: TEXT' (once in that file) and 'new: TEXT', as for `rt must-fail`. One that
 changes more than bodies, as a constant or a head, gets a round of its own. The function that the prover has to refuse
 is the one that a row of must-fail/refuses.md names, else the one whose body the edit changes, else any of the crate.
+Each public function needs an edit that has to be refused there, or changes its body or what that names itself: a
+function or constant of the same file, or the only one of that name.
 
-Each crate is proved by `rt lib` first, as it stands, and a program by `rt check`. That takes a second where it was
-proved before, and what it keeps is what the rounds begin from. A round looks at the edited functions alone (`--only`),
-since no other is judged by it.
-
-usage: python3 tests/wrong_bodies.py [--lanes N] [--only WORD] [--plan] [CRATE..]    (at the top, `rt` on the PATH)
+usage: python3 tests/wrong_bodies.py [--only WORD] [--plan] [CRATE..]    (at the top, `rt` on the PATH)
 """
 import argparse
 import collections
 import concurrent.futures
+import functools
+import glob
 import os
 import re
 import shutil
@@ -28,7 +29,13 @@ import tempfile
 
 FOLDER = "must-fail"
 REFUSES = f"{FOLDER}/refuses.md"
-HEAD = re.compile(r"(\s*)(?:pub(?:\([^)]*\))?\s+)?(?:const\s+)?(?:unsafe\s+)?(?:extern\s+\"C\"\s+)?fn\s+(\w+)")
+# The begin of a function or constant: its indent, whether it is public, and its name
+ITEM = re.compile(r"^( *)(pub )?(?:pub\([^)]*\) )?"
+                  r"(?:(?:const |unsafe |extern \"C\" )*fn (\w+)|(?:const|static) (\w+):)", re.M)
+# The line that opens a function's body
+OPENS = re.compile(r"^(?!.*\b(?:requires|ensures|ghost)\b).*\{ *$", re.M)
+# Texts, characters and comments, which name nothing
+SILENT = re.compile(r'"(?:\\.|[^"\\])*"|\'(?:\\.|[^\'\\])\'|//[^\n]*', re.S)
 # A function refused by itself: by an error in its written proof, or by a goal that has no proof. One that is right and
 # only calls such a function reads 'no proof: it calls ..', or that the borrow checker's part isn't made for that call.
 # Nor is a function refused that the borrow checker doesn't cover yet.
@@ -39,12 +46,6 @@ MOST_LOST = 3  # that say no more than that: such a refusal shows little
 CHECK = ["check", "--jobs", "1"]
 # Memory of one check, in kB
 CHECK_MEMORY = 2_500_000
-
-
-def processors():
-    """Returns how many checks to run side by side: one a processor, as far as memory goes."""
-    free = int(re.search(r"MemAvailable:\s+(\d+)", read("/proc/meminfo"))[1])
-    return max(min(len(os.sched_getaffinity(0)), free // CHECK_MEMORY), 1)
 
 
 def read(path):
@@ -66,57 +67,57 @@ def ran(folder, *words):
     return run.returncode, run.stdout
 
 
-def owner_of(lines, number):
-    """Returns what the prover writes before a method's name: the type of the impl that begins here, then its trait."""
-    head = lines[number]
-    for more in lines[number + 1:number + 8]:
-        if "{" in head:
-            break
-        head += " " + more
-    head = re.sub(r"<[^<>]*>", "", re.sub(r"<[^<>]*>", "", head))
-    named = re.search(r"impl\s+(?:[\w:]*?(\w+)\s+for\s+)?(?:[\w:]*::)?(\w+)", head)
-    return f"{named[2]}{named[1] or ''}::" if named else ""
+class Item:
+    """A function or a constant: its name as the prover writes it, where its body stands, and what that names."""
+
+    def __init__(self, path, head):
+        indent, public, function, constant = head.groups()
+        self.path, self.text, self.is_function = path, head.string, function is not None
+        ends = re.compile(rf"^{indent}(?:\}}|\{{\}}$)" if function else ";$", re.M).search(self.text, head.end())
+        opens = OPENS.search(self.text, head.start(), ends.start())
+        self.begin = head.start() if constant else opens.end() if opens else head.end()
+        self.end = ends.end() if constant else ends.start()
+        # A law has an empty body, and so no wrong one.
+        self.is_public = bool(public and function) and "{}" not in ends[0]
+        self.simple_name = function or constant
+        _, self.crate, _, *inside = path[:-len(".rt")].split("/")
+        names = [*inside, *self.owner(head.start()) * bool(indent), self.simple_name]
+        self.name = "::".join(names[inside in (["lib"], ["main"]):])
+
+    def owner(self, place):
+        """Returns what the prover writes before a method: the type of the impl around it, then its trait."""
+        heads = re.findall(r"^(?:\}|(?:unsafe )?impl\b.*)", self.text[:place], re.M)
+        head = re.sub(r"<[^<>]*>", "", re.sub(r"<[^<>]*>", "", heads[-1] if heads else ""))
+        return [type_name + of for of, type_name in
+                re.findall(r"impl\s+(?:[\w:]*?(\w+)\s+for\s+)?(?:[\w:]*::)?(\w+)", head)]
+
+    def named(self):
+        body = SILENT.sub("", self.text[self.begin:self.end])
+        return {one or other for one, other in re.findall(r"\b(\w+)(?:::<[^>]*>)?\(|\b([A-Z][A-Z_]+)\b", body)}
 
 
-def functions(text):
-    """Returns of each function where its body begins and ends, and its name behind its type's."""
-    lines = text.split("\n")
-    starts = [0]
-    for line in lines:
-        starts.append(starts[-1] + len(line) + 1)
-    found, owner = [], ""
-    for number, line in enumerate(lines):
-        if re.match(r"(unsafe )?impl\b", line):
-            owner = owner_of(lines, number)
-        elif line.startswith("}"):
-            owner = ""
-        head = HEAD.match(line)
-        if not head:
-            continue
-        below = range(number, len(lines))
-        last = next((at for at in below if re.match(head[1] + r"\}", lines[at])), number)
-        opens = (at for at in range(number, last + 1)
-                 if re.search(r"\{\s*$", lines[at]) and not re.search(r"\b(requires|ensures|ghost)\b", lines[at]))
-        first = next(opens, number)
-        begin = starts[first] if first == last else starts[first] + len(lines[first])
-        found.append((begin, starts[last], (owner if head[1] else "") + head[2]))
-    return found
+@functools.lru_cache(maxsize=None)
+def items(path):
+    return [Item(path, head) for head in ITEM.finditer(read(path))]
 
 
-def module_of(path):
-    """Returns the path of a source file's module, as the prover writes it before a name."""
-    inside = path[len("src/"):-len(".rt")].replace("/", "::")
-    return "" if inside in ("lib", "main") else f"{inside}::"
+def public_functions(changed):
+    """Returns the public functions of all crates but those of tests, and whether one of these changes is such a
+    function, or what its body names."""
+    everything = [it for path in sorted(glob.glob("crates/*/src/**/*.rt", recursive=True))
+                  if "_tests/" not in path for it in items(path)]
+    by_name = collections.defaultdict(list)
+    for it in everything:
+        by_name[it.simple_name].append(it)
 
+    def around(it):
+        yield it
+        for name in it.named():
+            others = [other for other in by_name[name] if other is not it]
+            beside = [other for other in others if other.path == it.path] or others
+            yield from beside if len(beside) == 1 else ()
 
-def rows_of(folder):
-    """Returns of each edit that refuses.md names the functions of which the prover has to refuse one."""
-    found = collections.defaultdict(list)
-    if os.path.exists(f"{folder}/{REFUSES}"):
-        for row in re.findall(r"^\| `.*", read(f"{folder}/{REFUSES}"), re.M):
-            edit, function = (cell.strip(" `") for cell in row.strip("|").split("|"))
-            found[edit].append(function)
-    return found
+    return {it: any((other.crate, other.name) in changed for other in around(it)) for it in everything if it.is_public}
 
 
 class Edit:
@@ -124,38 +125,29 @@ class Edit:
 
     def __init__(self, folder, path, refuses):
         self.name = os.path.basename(path)[:-len(".edit")]
-        self.pairs, self.refuses = [], refuses
-        self.fault = None
-        self.alone = False
-        file = old = None
-        for line in read(path).split("\n"):
-            if line.startswith("file: "):
-                file = line[len("file: "):].strip()
-            elif line.startswith("old: "):
-                old = line[len("old: "):]
-            elif line.startswith("new:"):
-                self.pairs.append((file, old, line[len("new:"):].removeprefix(" ")))
-            elif line:
+        self.pairs, self.fault = [], None
+        given = {}
+        for line in filter(None, read(path).split("\n")):
+            key, _, value = line.partition(":")
+            given[key] = value.removeprefix(" ")
+            if key == "new":
+                self.pairs.append((given["file"], given["old"], given["new"]))
+            elif key not in ("file", "old"):
                 self.fault = f"a line is none of 'file:', 'old:' and 'new:': {line}"
-        self.find_functions(folder)
+        if not self.pairs or texts_with([self], folder) is None:
+            self.fault = "it changes nothing, or an 'old:' text isn't in its file just once"
+        places = [(f"{folder}/{file}", old) for file, old, _ in self.pairs]
+        # What an earlier pair has put there stands where that pair does.
+        touched = [self.items_around(path, old) for path, old in places if old in read(path)]
+        functions = [[it.name for it in around if it.is_function][-1:] for around in touched]
+        self.alone = [] in functions
+        self.refuses = refuses or list(dict.fromkeys(sum(functions, []))) or ["*"]
+        self.changes = {*self.refuses, *(it.name for around in touched for it in around[-1:])}
 
-    def find_functions(self, folder):
-        touched, texts = [], {}
-        for file, old, new in self.pairs:
-            text = texts.setdefault(file, read(f"{folder}/{file}"))
-            if text.count(old) != 1:
-                self.fault = f"an 'old:' text is in {file} {text.count(old)} times"
-                return
-            at = text.find(old)
-            inside = [name for begin, end, name in functions(text) if begin <= at and at + len(old) <= end]
-            if inside:
-                touched.append(module_of(file) + inside[-1])
-            else:
-                self.alone = True
-            texts[file] = text.replace(old, new)
-        if not self.pairs:
-            self.fault = "it changes nothing"
-        self.refuses = self.refuses or list(dict.fromkeys(touched)) or ["*"]
+    @staticmethod
+    def items_around(path, old):
+        at = read(path).find(old)
+        return [it for it in items(path) if it.begin <= at and at + len(old) <= it.end]
 
 
 def texts_with(edits, folder):
@@ -169,70 +161,61 @@ def texts_with(edits, folder):
     return texts
 
 
-def fits(edit, others, folder):
-    """Whether an edit can share the round of others: no two change one function, and each applies beside the others."""
-    taken = {name for other in others for name in other.refuses}
-    is_apart = edit.alone or others[0].alone or taken & {*edit.refuses}
-    return not is_apart and texts_with([*others, edit], folder) is not None
-
-
 def rounds_of(edits, folder):
-    """Shares the edits among rounds, lists of some, those of the most often edited function first."""
+    """Shares the edits among rounds, lists of some, those of the most often edited function first. No two of a round
+    change one function, and each applies beside the others."""
     made = []
     for edit in sorted(edits, key=lambda it: -sum(it.refuses == other.refuses for other in edits)):
-        room = next((others for others in made if fits(edit, others, folder)), None)
-        if room is None:
-            made.append([edit])
+        for others in [] if edit.alone else made:
+            is_taken = others[0].alone or any({*edit.refuses} & {*other.refuses} for other in others)
+            if not is_taken and texts_with([*others, edit], folder) is not None:
+                others.append(edit)
+                break
         else:
-            room.append(edit)
+            made.append([edit])
     return made
 
 
-def below(top, crate):
-    """Returns the crates of the repository on which this one stands, lowest first."""
-    rows = dict(re.match(r"(\w+)[^:]*:(.*)", line).groups() for line in read(f"{top}/crates.txt").split("\n")
-                if ":" in line)
-    found = []
-    for name in rows[crate].split():
-        if name in rows:
-            found += [it for it in [*below(top, name), name] if it not in found]
-    return found
+def rows_of(crate):
+    """Returns the rows of crates.txt, in its order, of a crate and of those of the repository on which it stands."""
+    rows = {re.split("[ :]", row)[0]: row for row in read("crates.txt").splitlines()}
+    names = [crate]
+    for name in names:  # which become more
+        names += [it for it in rows[name].partition(":")[2].split() if it in rows and it not in names]
+    return {name: row for name, row in rows.items() if name in names}
 
 
 class Crate:
     """A crate, and copies of it in which rounds are checked: its kept work is linked, and never written through."""
 
-    def __init__(self, top, room, name):
-        self.top, self.room, self.name = top, room, name
-        self.folder = f"{top}/crates/{name}"
-        self.below = below(top, name)
+    def __init__(self, room, name):
+        self.room, self.name, self.folder = room, name, f"crates/{name}"
 
     def edits(self, word):
-        names = sorted(name for name in os.listdir(f"{self.folder}/{FOLDER}")
-                       if name.endswith(".edit") and word in name)
-        rows = rows_of(self.folder)
-        return [Edit(self.folder, f"{self.folder}/{FOLDER}/{name}", rows[name[:-len(".edit")]]) for name in names]
-
-    def rows_without_edit(self):
-        """Returns the names of refuses.md that are those of no edit."""
-        return [name for name in rows_of(self.folder) if not os.path.exists(f"{self.folder}/{FOLDER}/{name}.edit")]
+        """Returns the edits with this word in their names, and the names in refuses.md that are those of no edit."""
+        rows = collections.defaultdict(list)
+        if os.path.exists(f"{self.folder}/{REFUSES}"):
+            for row in re.findall(r"^\| `.*", read(f"{self.folder}/{REFUSES}"), re.M):
+                edit, function = re.findall(r"`([^`]*)`", row)
+                rows[edit].append(function)
+        paths = sorted(glob.glob(f"{self.folder}/{FOLDER}/*.edit"))
+        edits = [Edit(self.folder, path, rows.pop(os.path.basename(path)[:-len(".edit")], None)) for path in paths]
+        return [edit for edit in edits if word in edit.name], [*rows]
 
     def copy(self):
         copy = tempfile.mkdtemp(dir=self.room)
-        shutil.copy(f"{self.top}/HANDLES", copy)
-        for name in [*self.below, self.name]:
+        shutil.copy("HANDLES", copy)
+        rows = rows_of(self.name)
+        for name in rows:
             for part in ("src", "specs", "proofs", "out/rlib", *["out/incremental"] * (name == self.name)):
                 inside = f"crates/{name}/{part}"
-                if os.path.isdir(f"{self.top}/{inside}"):
-                    shutil.copytree(f"{self.top}/{inside}", f"{copy}/{inside}", copy_function=os.link)
-        rows = [row for row in read(f"{self.top}/crates.txt").split("\n")
-                if re.split(r"[ :]", row)[0] in (*self.below, self.name)]
-        write(f"{copy}/crates.txt", "\n".join(rows) + "\n")
+                if os.path.isdir(inside):
+                    shutil.copytree(inside, f"{copy}/{inside}", copy_function=os.link)
+        write(f"{copy}/crates.txt", "".join(f"{row}\n" for row in rows.values()))
         return copy
 
     def check(self, edits):
-        """Returns what the check says of the crate with these edits. It looks at the functions alone that it has to
-        refuse, and not at their callers, unless an edit names none."""
+        """Returns what the check of the functions that it has to refuse, or of all, says with these edits."""
         copy = self.copy()
         for file, text in texts_with(edits, self.folder).items():
             write(f"{copy}/crates/{self.name}/{file}", text)
@@ -253,8 +236,7 @@ class Crate:
         return found[1] if found else some and ("proved" if some[1] == some[2] else "not-proved")
 
     def fault(self):
-        """Proves the crate as it stands, and builds it where it is a library, which keeps what the rounds begin from.
-        Returns the end of what the toolchain says where it isn't proved, else None."""
+        """Proves the crate as it stands, and returns the end of what the toolchain says where it isn't, else None."""
         is_program = os.path.exists(f"{self.folder}/src/main.rt")
         status, said = ran(self.folder, *(CHECK if is_program else ["lib"]))
         return said[-300:] if status else None
@@ -288,32 +270,34 @@ class Crate:
         found = []
         for edit in edits:
             by, why = self.judged(edit, said)
-            if by in (None, "bad") and len(edits) > 1:
-                by, why = self.tried([edit])[0][1:]
-            found.append((edit, by, why))
+            found += self.tried([edit]) if by is None and len(edits) > 1 else [(edit, by, why)]
         return found
 
 
 def planned(crates, word):
-    """Prints the plan, and returns its rounds with their crates, the largest first, and the count of faulty edits."""
-    tasks, faulty = [], 0
+    """Prints the plan and each fault of edits, and returns the rounds with their crates, the largest first, how many
+    faults there are, and what all edits change."""
+    tasks, faulty, changed = [], 0, set()
     for crate in crates:
-        edits = crate.edits(word)
-        faults = [(edit.name, edit.fault) for edit in edits if edit.fault]
-        faults += [(name, f"a row of {REFUSES} names it, and it isn't there") for name in crate.rows_without_edit()]
-        for name, fault in faults:
+        edits, gone = crate.edits(word)
+        faults = {edit.name: edit.fault for edit in edits if edit.fault}
+        faults.update((name, f"a row of {REFUSES} names it, and it isn't there") for name in gone)
+        for name, fault in faults.items():
             print(f"{crate.name}/{name}: BAD EDIT: {fault}")
         faulty += len(faults)
+        changed |= {(crate.name, name) for edit in edits for name in edit.changes}
         made = rounds_of([edit for edit in edits if not edit.fault], crate.folder)
         tasks += [(crate, it) for it in made]
         sizes = " ".join(str(len(it)) for it in made)
         print(f"{crate.name}: {len(edits)} wrong bodies in {len(made)} rounds: {sizes}", flush=True)
-    return sorted(tasks, key=lambda it: -len(it[1])), faulty
+    return sorted(tasks, key=lambda it: -len(it[1])), faulty, changed
 
 
-def tried(tasks, lanes):
-    """Tries all rounds, prints each verdict, and returns how many edits were refused by what."""
-    counts = collections.Counter()
+def tried(tasks):
+    """Tries all rounds, prints each verdict, and returns how many edits were refused by what. Checks run side by side,
+    one a processor, as far as memory goes."""
+    counts, free = collections.Counter(), int(re.search(r"MemAvailable:\s+(\d+)", read("/proc/meminfo"))[1])
+    lanes = max(min(len(os.sched_getaffinity(0)), free // CHECK_MEMORY), 1)
     with concurrent.futures.ThreadPoolExecutor(lanes) as pool:
         rounds = {pool.submit(crate.tried, edits): crate for crate, edits in tasks}
         for done in concurrent.futures.as_completed(rounds):
@@ -326,16 +310,21 @@ def tried(tasks, lanes):
 
 def main():
     words = argparse.ArgumentParser()
-    words.add_argument("--lanes", type=int, default=processors())
     words.add_argument("--only", default="")
     words.add_argument("--plan", action="store_true")
     words.add_argument("crates", nargs="*")
     given = words.parse_args()
-    top = os.getcwd()
     names = given.crates or sorted(it for it in os.listdir("crates") if os.path.isdir(f"crates/{it}/{FOLDER}"))
-    with tempfile.TemporaryDirectory(prefix="wrong-bodies-", dir=top) as room:
-        crates = [Crate(top, room, name) for name in names]
-        tasks, faulty = planned(crates, given.only)
+    with tempfile.TemporaryDirectory(prefix="wrong-bodies-", dir=os.getcwd()) as room:
+        crates = [Crate(room, name) for name in names]
+        tasks, not_refused, changed = planned(crates, given.only)
+        if not given.crates and not given.only:
+            public = public_functions(changed)
+            missing = [it for it in public if not public[it]]
+            for it in missing:
+                print(f"no wrong body changes {it.name} ({it.path})")
+            print(f"public functions: {len(public) - len(missing)} have a wrong body, {len(missing)} have none")
+            not_refused += len(missing)
         if given.plan:
             return 0
         for crate in crates:
@@ -343,9 +332,9 @@ def main():
             if said:
                 print(f"{crate.name}: not proved as it stands: {said}")
                 return 1
-        counts = tried(tasks, given.lanes)
+        counts = tried(tasks)
     refused = counts["goal"] + counts["proof"] + counts["name"]
-    not_refused = faulty + counts["bad"] + counts[None]
+    not_refused += counts["bad"] + counts[None]
     print(f"wrong bodies: {refused} refused ({counts['goal']} by a goal, {counts['proof']} by a written proof, "
           f"{counts['name']} by a name alone), {not_refused} not")
     return 1 if not_refused or counts["name"] > MOST_LOST else 0
