@@ -324,7 +324,8 @@ def main():
             for it in missing:
                 print(f"no wrong body changes {it.name} ({it.path})")
             print(f"public functions: {len(public) - len(missing)} have a wrong body, {len(missing)} have none")
-            not_refused += len(missing)
+            if missing:
+                return 1
         if given.plan:
             return 0
         for crate in crates:
