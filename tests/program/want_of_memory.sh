@@ -8,7 +8,7 @@
 
 . "$(dirname "$0")/../helpers.sh"
 
-"${CC:-cc}" -shared -fPIC -O2 -Wall -o refuse.so "$here/refuse.c" -ldl || exit 1
+"${CC:-cc}" -std=c99 -shared -fPIC -O2 -Wall -o devices.so "$here/devices.c" -ldl || exit 1
 echo 'ldvbi: out of memory' > wanting
 
 # each NAME FILE WORD..: checks the program's answers on these words, with this file on standard input, where each of
@@ -31,7 +31,7 @@ each() {
         rm -f mark
         status=0
         {
-            bounded env REFUSE_AT="$number" REFUSE_MARK="$work/mark" LD_PRELOAD="$work/refuse.so" \
+            bounded env REFUSE_AT="$number" REFUSE_MARK="$work/mark" LD_PRELOAD="$work/devices.so" \
                 "$program" "$@" > out 2> err || status=$?
             cat > rest
         } < "$input"
@@ -76,7 +76,7 @@ does sh -c '
         code=0
         LD_PRELOAD=$2 REFUSE_MARK=mark "$1" line --meta text.json < empty 2>&1 || code=$?
         echo "$length $code"
-    done < lengths' sh "$program" "$work/refuse.so"
+    done < lengths' sh "$program" "$work/devices.so"
 sed 's/^/ldvbi: metadata is not JSON\n/; s/$/ 1/' lengths > wanted
 diff wanted out | head -n 20 >> err
 check 'what is said of a text of each length' [ "$status$(cat err)" = 0 ]
@@ -94,7 +94,7 @@ bytes=$(wc -c < long.json)
 for times in 2 4 6 8 10 12 14 16 18 20; do
     rm -f mark
     does sh -c 'ulimit -v $1; shift; LD_PRELOAD=$1 REFUSE_MARK=mark "$2" line --meta long.json "$3"' \
-        sh $((bytes * times / 1024)) "$work/refuse.so" "$program" "$stored/stdin"
+        sh $((bytes * times / 1024)) "$work/devices.so" "$program" "$stored/stdin"
     set -- 0 "$stored/stdout" ''
     [ ! -e mark ] || set -- 1 empty 'ldvbi: out of memory'
     judge "10 MB of metadata within $times times its bytes" "$@"
