@@ -1,5 +1,5 @@
 #!/bin/sh
-# Makes reads and writes of the commands, and reads of metadata, fail, be interrupted, move few bytes or end (devices.c),
+# Makes reads and writes of the commands, and reads of metadata, fail, be interrupted, move few bytes or end (devices.c)
 # and compares what the built program writes, what it says, its status, and how often it asks its devices. Here the
 # devices are those of the system; what becomes of a fault at each byte is proved, and tested in the crates over made-up
 # ones. Then fields of worn lines are recovered however reads are cut, and numbers of bytes need more than 32 bits.

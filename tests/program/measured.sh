@@ -17,67 +17,55 @@ check 'no bound is gone' [ "$count" = 42 ]
 # A bound's line is known by how it begins
 sort bounds | awk -F '|' 'NR > 1 && index($1, before) == 1 { print before ", " $1 } { before = $1 }' > err
 check 'no name of a bound begins another' [ ! -s err ]
-
-# measured [NAME CHANGE]: a line for each bound with the ratio that it allows, and for this name one that is so much
-# larger, or no line where there is no change. A second ratio on a line doesn't count.
+# measured CHANGE [NAME]: a line for each bound, or for this one, with the ratio that it allows and so much more. A
+# second ratio on a line doesn't count.
 measured() {
-    awk -F '|' -v name="${1:-}" -v change="${2:-}" '
-        $1 != name || change != "" {
-            printf "%s best 3 ms beside 4 ms, ratio %.3f; medians 5, 6, ratio 9\n", $1, $2 + ($1 == name ? change : 0)
-        }' bounds
+    awk -F '|' -v change="$1" -v name="${2:-}" 'name == "" || $1 == name {
+        printf "%s best 3 ms beside 4 ms, ratio %.3f; medians 5, 6, ratio 9\n", $1, $2 + change }' bounds
 }
-# says STATUS LINE..: whether this is said of the measurements in the file `said`, and the status is this one
-says() {
-    wanted_status=$1
-    shift
-    printf 'bench: %s\n' "$@" > wanted
-    does awk -f "$bench/bounds.awk" "$bench/bounds.txt" said
-    ended "$wanted_status" wanted empty
+# Each stub of a measurement writes each fifth line of the file `lines`, and fails where FAILS has its name
+measurements='lines fields library stream rust'
+mkdir stubs
+cp "$bench/all.sh" "$bench/bounds.awk" "$bench/bounds.txt" stubs
+measured 0 > whole
+number=0
+for name in $measurements; do
+    echo "awk 'NR % 5 == $number' lines; [ \"\${FAILS:-}\" != $name ]" > stubs/$name.sh
+    echo "import subprocess, sys; sys.exit(subprocess.call(['sh', 'stubs/$name.sh']))" > stubs/$name.py
+    awk -v number=$number 'NR % 5 == number' whole >> lines
+    number=$((number + 1))
+done
+cp lines wanted_text
+echo "bench: $count of $count bounds hold" >> wanted_text
+cp whole lines
+does sh stubs/all.sh "$program"
+judge 'all measurements are run, and hold with the most that they may be' 0 wanted_text ''
+for name in $measurements; do
+    does env FAILS="$name" sh stubs/all.sh "$program"
+    check "the measurement $name fails" [ "$status $(grep -c "^bench: .*$name.* failed\$" err)" = '1 1' ]
+done
+# bounds_say NAME STATUS: whether this is said of the measurements in the file `lines`, in any order: the file `wanted`
+bounds_say() {
+    does sh stubs/all.sh "$program"
+    grep '^bench: ' out | sort > said
+    sort wanted | cmp - said || cp out err
+    check "$1" [ "$status$(cat err)" = "$2" ]
 }
-all="$count of $count bounds hold"
-measured > said
-check 'each ratio is the most that it may be' says 0 "$all"
-while IFS='|' read -r name most; do
-    measured "$name" 0.01 > said
-    over="ratio $(awk -v most="$most" 'BEGIN { print most + 0.01 }'), which is over $most"
-    says 1 "$name: $over" "$((count - 1)) of $count bounds hold" || echo "$name: $over" >> wrong
-    measured "$name" > said
-    says 1 "$name: not measured" "$((count - 1)) of $count bounds hold" || echo "$name: not measured" >> wrong
-done < bounds
-check 'a ratio over its bound, and a line that is missing' [ ! -e wrong ]
-{ measured 'read_line' 1; measured; } > said
-check 'of several lines the least ratio counts' says 0 "$all"
-for files in 'empty said' "$bench/bounds.txt empty"; do
+measured 0.01 > lines
+awk -F '|' '{ print "bench: " $1 ": ratio " $2 + 0.01 ", which is over " $2 }' bounds > wanted
+echo "bench: 0 of $count bounds hold" >> wanted
+bounds_say 'each ratio is over its bound' 1
+measured 0 'rust show' > lines
+awk -F '|' '$1 != "rust show" { print "bench: " $1 ": not measured" }' bounds > wanted
+echo "bench: 1 of $count bounds hold" >> wanted
+bounds_say 'each line but one is missing' 1
+{ measured 1; measured 0; } > lines
+echo "bench: $count of $count bounds hold" > wanted
+bounds_say 'of several lines the least ratio counts' 0
+for files in 'empty lines' "$bench/bounds.txt empty"; do
     does awk -f "$bench/bounds.awk" $files
     check "no bounds, or no measurement: ${files##*/}" [ "$status" = 1 ]
 done
-
-# The whole of it: each stub writes each fifth line of the file `lines`, and fails where the file `fails` has its name
-mkdir stubs
-cp "$bench/all.sh" "$bench/bounds.awk" "$bench/bounds.txt" stubs
-measured > lines
-measurements='lines fields library stream rust'
-number=0
-for name in $measurements; do
-    echo "awk 'NR % 5 == $number' lines; ! grep -qx $name fails" > stubs/$name.sh
-    echo "import subprocess, sys; sys.exit(subprocess.call(['sh', 'stubs/$name.sh']))" > stubs/$name.py
-    awk -v number=$number 'NR % 5 == number' lines >> wanted_text
-    number=$((number + 1))
-done
-echo "bench: $all" >> wanted_text
-echo nothing > fails
-does sh stubs/all.sh "$program"
-judge 'all measurements are run, and hold' 0 wanted_text ''
-for name in $measurements; do
-    echo $name > fails
-    does sh stubs/all.sh "$program"
-    check "the measurement $name fails" [ "$status $(grep -c "^bench: .*$name.* failed\$" err)" = '1 1' ]
-done
-echo nothing > fails
-measured 'rust show' 0.01 > lines
-does sh stubs/all.sh "$program"
-check 'with a ratio over its bound it fails, and says which' \
-    [ "$status $(grep -cx 'bench: rust show: ratio 1.51, which is over 1.5' out)" = '1 1' ]
 
 # ---- The scripts around the measurements with nothing on the PATH but these tools, and stubs that say their words, but
 # for the folders in them: FAILS is what the words of the one have that fails

@@ -1,7 +1,7 @@
 #!/bin/sh
 # Runs the built program's commands as a user does: what each writes, in which ways its input comes and its output goes,
 # where its settings come from, and in which order faults are found. Fields and texts that are expected are made here
-# (by described.py and helpers.sh). What else streams, metadata, rows of words and lines come to, the crates' tests have,
+# (by described.py and helpers.sh). What else streams, metadata, rows of words and lines come to, the crates test,
 # and for the Rust program rust_compare.sh.
 # usage: sh tests/program/program.sh PROGRAM
 # runs: everywhere rust
