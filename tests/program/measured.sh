@@ -143,113 +143,98 @@ compare|ldverify|peers: ldverify isn't there (chdman and ldverify are in mame-to
 compare|python3|peers: python3 isn't there (chdman and ldverify are in mame-tools)
 END
 
-# ---- What peers/compare.py does with lines as they were drawn, or with the disc alone. No video is written for stubs.
-mkdir bin
-DRAWN=$work/drawn
-REAL=$program
-PATH=$work/bin:$PATH
-export DRAWN REAL PATH
-# The program, which keeps the rows that it draws; its documents have a word of MISREAD instead of its own
-stub bin/ldvbi << 'END'
-case $1 in
-    draw) tee "$DRAWN" | "$REAL" "$@" ;;
-    *) "$REAL" "$@" | sed "1,2s/\"vbiData\":\[[0-9]*/${MISREAD:-&}/" ;;
-esac
-END
-stub bin/chdman 'exec python3 "$0.py" "$@"'
-cat > bin/chdman.py << 'END'
-import os, sys
-words = dict(zip(sys.argv[2:], sys.argv[3:]))
-with open(words["-o"], "wb") as file, open(os.environ["DRAWN"]) as rows:
-    if sys.argv[1] == "dumpmeta":
-        for row in rows:
-            read = [bytes.fromhex(os.environ.get("MAME_READS", word)) for word in row.split()]
-            file.write(bytes(4) + b"".join(read) + bytes(3))
-END
-stub bin/ldverify << 'END'
-printf 'lead-in code detected\ndetected frame 1\nlead-out code detected\nfinal frame number was %s\n' "${LAST:-100}"
-echo "${VERIFIED:-}"
-END
-for name in zvbi:ZVBI_READS edges:EDGES_READS; do
-    stub bin/${name%:*} "cat > /dev/null; tr ' ' '\\n' < \"\$DRAWN\" | sed \"1s/.*/\${${name#*:}:-&}/\""
-done
-stub bin/recovered << 'END'
-cat > /dev/null
-[ "$3" = 1 ] || RECOVERED_READS=${BOTH_READS:-}
-tr ' ' '\n' < "$DRAWN" | sed "s/\$/ 1/; 1s/.*/${RECOVERED_READS:-&}/"
-END
-cat > compare.py << 'END'
+# ---- What peers/compare.py does with lines as they were drawn, or with the disc alone. Each other reader says the words
+# that were drawn last, but for a fault in place of the first of them. No video is written.
+cat > trial.py << 'END'
+import os
+import subprocess
 import sys
+
 sys.path.insert(0, sys.argv.pop(1))
 import compare
-compare.readers.avi.write = lambda *words: None
-if sys.argv.pop(1) == "lines":
+
+part, (faulty, _, wrong) = sys.argv.pop(1), sys.argv.pop(1).partition("=")
+drawn, run, by_ldvbi = [], subprocess.run, compare.readers.by_ldvbi
+
+
+def run_stub(command, **options):
+    reader = os.path.basename(command[0])
+    if reader == "ldvbi":
+        drawn[:] = options["input"].decode().split()
+        return run(command, **options)
+    reader += command[-1] if reader == "recovered" else ""
+    said = [word + " 1" * (reader[:9] == "recovered") for word in drawn]
+    said[0] = wrong if faulty == reader else said[0]
+    if reader == "chdman" and command[1] == "dumpmeta":
+        with open(command[-1], "wb") as file:
+            for field in range(0, len(said), 3):
+                file.write(bytes(4) + bytes.fromhex("".join(said[field:field + 3])) + bytes(3))
+    elif reader == "ldverify":
+        said = ["lead-in code detected", "detected frame 1", "lead-out code detected",
+                "final frame number was " + (wrong if faulty == "last" else "100"), wrong * (faulty == "verified")]
+    return subprocess.CompletedProcess(command, 0, "\n".join(said).encode())
+
+
+def by_ldvbi_stub(*given):
+    words, passes = by_ldvbi(*given)
+    return [0 if faulty == "ldvbi" else words[0]] + words[1:], passes
+
+
+subprocess.run, compare.readers.by_ldvbi, compare.readers.avi.write = run_stub, by_ldvbi_stub, lambda *words: None
+if part == "lines":
     compare.verify_disc = lambda program: True
-    compare.TABLES = [(what, rows[:2], *more) for what, rows, *more in compare.TABLES[:2]]
-else:
-    compare.TABLES = []
+compare.TABLES = [(what, rows[:2], *more) for what, rows, *more in compare.TABLES[:2] if part == "lines"]
 compare.main()
 END
-# compares FAULT PART: runs that with this in the environment
+# compares PART FAULT: runs that
 compares() {
-    does env PYTHONDONTWRITEBYTECODE=1 ${1:+"$1"} python3 compare.py "$top/peers" "$2" bin/ldvbi bin 1
+    does env PYTHONDONTWRITEBYTECODE=1 python3 trial.py "$top/peers" "$1" "$2" "$program" . 1
 }
 alike='the words of lines as they were drawn are not read alike'
 disc="ldverify finds an error on a drawn disc, or ldvbi doesn't read its words"
 while IFS='|' read -r part fault said; do
-    compares "$fault" "$part"
+    compares "$part" "$fault"
     check "$part${fault:+ with $fault}" [ "$status$(tail -n 1 err)" = "$said" ]
 done << END
 lines||0
-lines|MAME_READS=F12345|1$alike
-lines|ZVBI_READS=none|1$alike
-lines|ZVBI_READS=F12345|1$alike
-lines|EDGES_READS=F12345|1$alike
-lines|RECOVERED_READS=F12345 3|1$alike
-lines|BOTH_READS=none|1$alike
-lines|MISREAD="vbiData":[0|1$alike
+lines|chdman=F12345|1$alike
+lines|zvbi=none|1$alike
+lines|zvbi=F12345|1$alike
+lines|edges=F12345|1$alike
+lines|recovered1=F12345 3|1$alike
+lines|recovered2=none|1$alike
+lines|ldvbi=0|1$alike
 disc||0
-disc|MISREAD="vbiData":[0|1$disc
-disc|LAST=99|1$disc
-disc|VERIFIED=(ERROR)|1$disc
+disc|ldvbi=0|1$disc
+disc|last=99|1$disc
+disc|verified=(ERROR)|1$disc
 END
 # The counts: of three words of a row one is read wrong, and one isn't read
-compares 'RECOVERED_READS=F12345 3' lines
-grep '^| as drawn ' out > rows
-check 'a thousand words of a row, and all words of each pass' [ "$(cat rows)" = \
+compares lines 'recovered1=F12345 3'
+check 'a thousand words of a row, and all words of each pass' [ "$(grep '^| as drawn ' out)" = \
     '| as drawn | 1000/0/0 | 667/333/0 | 1000/0/0 | 1000/0/0 | 1000/0/0 | 1000/0/0 |
 | as drawn | 3/0 | 0/0 | 0/0 | 0/1 | 0/0 | 0/0 |' ]
-compares EDGES_READS=none lines
+compares lines edges=none
 check 'words that are not read' grep -qF '| 1000/0/0 | 667/0/333 | 1000/0/0 |' out
 check 'all words of lines with dropouts, in five rounds' grep -qF '| 10/0/5 | 15/0/0 |' out
 
 # ---- The reader by edges, and that of recovered words, which needs the library: of three lines one by one, and of four
 # of which each two bear a word
-# drawn SYSTEM BYTES: lines 16 to 18 of a drawn field, which begin behind so many bytes
-drawn_lines() {
-    echo 'F12345 - 800001' | bounded "$program" draw $1 - | tail -c +$((15 * $2 + 1)) | head -c $((3 * $2))
-}
-drawn_lines "$ntsc" 1820 > lines
-drawn_lines "$pal" 2270 > pal_lines
-tail -c 1820 lines | cat lines - > four_lines
-# reads NAME WORDS FILE LINKED..: builds one of the readers, and says what it reads of this file
-reads() {
-    reader=$1
-    words=$2
-    file=$3
-    shift 3
-    bounded "${CC:-cc}" -std=c99 -Wall -Wextra -Werror -o "$reader" "$top/peers/$reader.c" "$@" &&
-        ./$reader $words < $file | paste -s -d ' '
-}
-check 'the reader by edges' [ "$(reads edges '16384 51200' lines)" = 'F12345 none 800001' ]
-check 'the reader by edges, of PAL' [ "$(reads edges '16384 54016 PAL' pal_lines)" = 'F12345 none 800001' ]
-if [ -e "$built/libldvbi.so" ]; then
-    set -- "-I$top/include" "-L$built" -lldvbi "-Wl,-rpath,$built"
-    check 'the reader of recovered words, line by line' \
-        [ "$(reads recovered '16384 51200 1' lines "$@")" = 'F12345 1 none 800001 1' ]
-    check 'the same of two lines in a field' \
-        [ "$(reads recovered '16384 51200 2' four_lines "$@")" = 'F12345 1 800001 1' ]
-else
-    leave_out 2
-fi
+while IFS='|' read -r reader words system lines read; do
+    [ $reader = edges ] || [ -e "$built/libldvbi.so" ] || { leave_out 1; continue; }
+    # Lines 16 to 18 of a drawn field begin behind fifteen.
+    set -- $words
+    echo 'F12345 - 800001' | bounded "$program" draw --system ${system#* } --black $1 --white $2 - |
+        tail -c +$((15 * ${system% *} + 1)) | head -c $((3 * ${system% *})) > drawn
+    set -- -std=c99 -Wall -Wextra -Werror -o "$reader" "$top/peers/$reader.c"
+    [ $reader = edges ] || set -- "$@" "-I$top/include" "-L$built" -lldvbi "-Wl,-rpath,$built"
+    bounded "${CC:-cc}" "$@" && { cat drawn; [ $lines = 3 ] || tail -c ${system% *} drawn; } |
+        ./$reader $words > read
+    check "the reader $reader of $lines lines of ${system#* }" [ "$(paste -s -d ' ' read)" = "$read" ]
+done << 'END'
+edges|16384 51200|1820 NTSC|3|F12345 none 800001
+edges|16384 54016 PAL|2270 PAL|3|F12345 none 800001
+recovered|16384 51200 1|1820 NTSC|3|F12345 1 none 800001 1
+recovered|16384 51200 2|1820 NTSC|4|F12345 1 800001 1
+END
 finish
