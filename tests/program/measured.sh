@@ -143,7 +143,7 @@ compare|ldverify|peers: ldverify isn't there (chdman and ldverify are in mame-to
 compare|python3|peers: python3 isn't there (chdman and ldverify are in mame-tools)
 END
 
-# ---- What peers/compare.py does with lines as they were drawn, or with the disc alone. Each other reader says the words
+# ---- What peers/compare.py does with lines as they were drawn, or with the disc alone. Each reader but ldvbi says words
 # that were drawn last, but for a fault in place of the first of them. No video is written.
 cat > trial.py << 'END'
 import os
