@@ -143,8 +143,8 @@ compare|ldverify|peers: ldverify isn't there (chdman and ldverify are in mame-to
 compare|python3|peers: python3 isn't there (chdman and ldverify are in mame-tools)
 END
 
-# ---- What peers/compare.py does with lines as they were drawn, or with the disc alone. Each reader but ldvbi says words
-# that were drawn last, but for a fault in place of the first of them. No video is written.
+# ---- What peers/compare.py does with lines as they were drawn, or with the disc alone. Each reader but ldvbi says the
+# words that were drawn last, but for a fault in place of the first of them. No video is written.
 cat > trial.py << 'END'
 import os
 import subprocess
