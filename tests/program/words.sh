@@ -49,8 +49,8 @@ line.raw --black|82CFFF|$levels -- --black
 END
 
 # help_of NAME: the help of this file, whose lines `@input` and `@help` stand for what all commands have, and `@recover`
-# for a flag of two. The short help of a command is its line in that of the program, and then the same from the usage on,
-# with the input in one line; that of the program has another first line, and options in one line each.
+# for a flag of two. The short help of a command is its line in that of the program, and then the same from the usage
+# on, with the input in one line; that of the program has another first line, and options in one line each.
 help_of() {
     of=${1%-short}
     short=${1#"$of"}
@@ -67,8 +67,9 @@ help_of() {
             sed -n '/^$/,$p' "$here/help/$of.txt"
             ;;
     esac | sed "s/^@input \(.*\)/$usage  \1; standard input where there is none, or for -\n\n@options/" |
-        sed -e "/^@options\$/{r $here/help/options$short.txt" -e 'd;}' -e "/^@help\$/{r $here/help/help$short.txt" -e 'd;}' \
-            -e "/^@recover\$/{r $here/help/recover$short.txt" -e 'd;}'
+        sed -e "/^@options\$/{r $here/help/options$short.txt" -e 'd;}' \
+            -e "/^@recover\$/{r $here/help/recover$short.txt" -e 'd;}' \
+            -e "/^@help\$/{r $here/help/help$short.txt" -e 'd;}'
 }
 # helped NAME: whether the last run printed this help. Of the Rust program, whose clap may be of any version, the words
 # have to be the same, but for what clap says of its own options.
