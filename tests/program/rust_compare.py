@@ -157,22 +157,18 @@ def metadata(choose):
 KINDS = {"words": random_words, "streams": streams, "rows": rows, "metadata": metadata}
 
 
-def run(command, words, given, folder):
-    """What a program answered: status, output, and what it said."""
-    done = subprocess.run([*command, *words], input=given, capture_output=True, cwd=folder, timeout=120, check=False)
-    return done.returncode, done.stdout, done.stderr
-
-
 def compare_programs(what, commands, choose, count):
     """Runs of one kind, each in a folder with the files of `put_files` and what the run is given, which is on standard
-    input as well."""
+    input as well. What a program answered is its status, output, and what it said."""
     with tempfile.TemporaryDirectory() as name:
         folder = pathlib.Path(name)
         put_files(folder)
         for _ in range(count):
             for words, given in KINDS[what](choose):
                 (folder / "given").write_bytes(given)
-                yield (words, given), [run(command, words, given, folder) for command in commands]
+                runs = [subprocess.run([*command, *words], input=given, capture_output=True, cwd=folder, timeout=120,
+                                       check=False) for command in commands]
+                yield (words, given), [(done.returncode, done.stdout, done.stderr) for done in runs]
 
 
 number, size = ctypes.c_uint32, ctypes.c_size_t
