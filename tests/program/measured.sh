@@ -79,20 +79,16 @@ for word; do case \$word in --*=* | -?/*) said=\"\$said \${word%%[=/]*}=\${word#
 *) said=\"\$said \${word##*/}\" ;; esac; done
 echo \"\$said\"; case \"$tool \$*\" in *\"\${FAILS:-nothing fails}\"*) exit 1 ;; esac"
 done
-# channel FAILS LIBRARY WORD..: runs tables.sh with these words, where this fails; it keeps tables_*
-channel() {
+# tries FAILS SCRIPT WORD..: runs a script with these words, where this fails; tables.sh keeps tables_*
+tries() {
     fails=$1
-    library=$2
-    shift 2
+    shift
     rm -f tables_*
-    does env -u CC PATH="$work/alone" PYTHON="$work/alone/python" FAILS="$fails" \
-        sh "$bench/channel/tables.sh" "$library" "$work/tables" "$@"
+    does env -u CC PATH="$work/alone" PYTHON="$work/alone/python" FAILS="$fails" sh "$@"
 }
-# compare FAILS: runs compare.sh, where this fails
-compare() {
-    does env -u CC PATH="$work/alone" FAILS="$1" sh "$top/peers/compare.sh" ./ldvbi
-}
-channel '' /lib/libldvbi.so.1
+channel=$bench/channel/tables.sh
+compare=$top/peers/compare.sh
+tries '' "$channel" /lib/libldvbi.so.1 "$work/tables"
 grep . tables_* > said
 cat > wanted << 'END'
 tables_ntsc.txt:python measure.py NTSC 200 1 --library=libldvbi.so.1
@@ -102,32 +98,30 @@ tables_pal_none.txt:python without_words.py PAL 20000 1 --library=libldvbi.so.1
 END
 check 'the channel: it keeps what the scripts print' ended 0 out empty
 check 'the channel: what that is' cmp said wanted
-channel '' peers 30 400
+tries '' "$channel" peers "$work/tables" 30 400
 check 'the words say how many fields and lines' [ "$(cut -d ' ' -f 4 tables_* | paste -s -d ' ')" = '30 400 30 400' ]
 check 'the other readers have that by edges built' \
     [ "$(tail -n 1 out) $(grep -c -e ' --peers=tmp' tables_pal.txt)" = 'cc -std=c99 -O2 -Wall -o edges edges.c 1' ]
-channel without_words.py /lib/libldvbi.so.1
+tries without_words.py "$channel" /lib/libldvbi.so.1 "$work/tables"
 check 'it ends where a script fails, and keeps what was printed before' \
     [ "$status $(echo tables_*)" = '1 tables_ntsc.txt' ]
-compare ''
+tries '' "$compare" ./ldvbi
 check 'the peers: readers are built, then compared' \
     [ "$status $(cut -d ' ' -f 1 out | paste -s -d ' ')" = '0 cc cc cc python3' ]
 check 'the peers: the program in 200 fields' grep -q '^python3 .*compare.py ldvbi .* 200$' out
 check 'the peers: the library at the top is linked' grep -q " -L=${top##*/} " out
 : > libldvbi.so
-compare ''
+tries '' "$compare" ./ldvbi
 check 'the peers: the library beside the program is linked' grep -q " -L=${work##*/} " out
-compare python3
+tries python3 "$compare" ./ldvbi
 check 'the peers: it ends with 1 where the comparison does' [ "$status" = 1 ]
 # What fails, or isn't there, and what is said
 while IFS='|' read -r which what said; do
-    if [ -e "alone/$what" ]; then
-        mv "alone/$what" away
-        $which '' peers
-        mv away "alone/$what"
-    else
-        $which "$what" peers
-    fi
+    [ $which = channel ] && set -- "$channel" peers "$work/tables" || set -- "$compare" ./ldvbi
+    away=
+    [ ! -e "alone/$what" ] || { mv "alone/$what" away && away=yes; }
+    tries "$what" "$@"
+    [ ! "$away" ] || mv away "alone/$what"
     check "$which ends with 1 for $what" [ "$status $(tail -n 1 err)" = "1 $said" ]
 done << END
 channel|import numpy|channel: python3-numpy and python3-scipy aren't there
