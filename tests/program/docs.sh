@@ -159,7 +159,8 @@ for words in re.findall(r"\bsqlite3 [\w.]+ ('[^']*'|[^\n`]*)", "".join(documents
     print(*database.execute(words[1:-1]).fetchall() if words.startswith("'") else [words])
 END
 in_folder . python3 sql.py "$tests/python/test_into.py" "$top"/*.md "$top"/docs/*.md
-check 'what documents ask of a database' [ "$status $(sort -u out | paste -s -d ' ')" = "0 ('NTSC', 16384, 51200) .schema" ]
+check 'what documents ask of a database' \
+    [ "$status $(sort -u out | paste -s -d ' ')" = "0 ('NTSC', 16384, 51200) .schema" ]
 
 # The lines of README and of the pages for callers stand in a program of examples/, or in a caller that is proved.
 # lines_of [FILE]: the lines of a source, or of its documents, without their indents, of an import one for each word
