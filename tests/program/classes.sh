@@ -28,11 +28,8 @@ for _ in range(7000):
 END
 { cat items; echo -; echo -; } | paste -d ' ' - - - | sed -n '/[^ ] [^ ]* [^ ]/p' > words
 output_of draw $ntsc words | bounded "$program" show $ntsc | sed -n 's/^1[678] \([0-9A-F]\{6\} \)/\1/p' > reported
-tr ' ' '\n' < words | grep -v -x -e - > drawn
-cut -c 1-6 reported > found
-check 'each drawn word is reported' cmp found drawn
-python3 "$top/codes/classes.py" < drawn > tabled
-check 'each word as the table of classes has it' cmp reported tabled
+tr ' ' '\n' < words | grep -v -x -e - | python3 "$top/codes/classes.py" > tabled
+check 'each drawn word is reported as the table of classes has it' cmp reported tabled
 sed -n 's/^text  *//p' "$top/codes/classes.txt" | sed 's/ {.*//' > kinds
 check 'there are eleven patterns, twelve classes, and 20,000 words' \
     [ "$(wc -l < patterns) $(wc -l < kinds) $(($(wc -l < items) > 20000))" = '11 12 1' ]
