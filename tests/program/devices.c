@@ -1,7 +1,8 @@
-/* Makes the reads and the writes of a program that it is loaded before (LD_PRELOAD) fail. The environment says which:
+/* Makes what a program asks of the system fail, before which it is loaded (LD_PRELOAD). The environment says what:
 
      DEVICE_READ="DESCRIPTOR BYTE KIND TIMES"     reads of this descriptor
      DEVICE_WRITE="DESCRIPTOR BYTE KIND TIMES"    writes of this one
+     REFUSE_AT=NUMBER                             the allocation with this number, from 1
 
    Where BYTE bytes have moved in all, the next TIMES calls (all, where it is left out) answer at once an error (KIND is
    `error`), an interruption (`interrupt`) or 0 (`end`); or they move at most so many bytes (KIND is a number). A call
@@ -9,11 +10,14 @@
 
    In the end two lines, of the reads and of the writes, go to the file that DEVICE_RECORD names: how often the device
    was asked in all, how many of these calls had a fault, and how often it was asked after an error or an answer of 0.
-*/
+   The file that REFUSE_MARK names gets a byte for each allocation that is refused, here or by the system, so that its
+   absence says that there was none. The programs ask for no aligned memory. */
 #define _GNU_SOURCE
 #include <dlfcn.h>
 #include <errno.h>
+#include <fcntl.h>
 #include <limits.h>
+#include <stdint.h>
 #include <stdio.h>
 #include <stdlib.h>
 #include <string.h>
@@ -29,18 +33,14 @@ struct device {
     int is_over;
 };
 
-static struct device input, output;
+static struct device input = {-1, SIZE_MAX, "", ULONG_MAX}, output = {-1, SIZE_MAX, "", ULONG_MAX};
 
 /* How many bytes a call for `size` may move; or -1, with the number of the error in errno. */
 static ssize_t allow(struct device *device, size_t size)
 {
-    size_t most = device->at - device->moved;
+    size_t most = device->moved < device->at ? device->at - device->moved : size;
 
-    device->asked++;
-    device->again += device->is_over;
-    if (device->left == 0)
-        return size;
-    if (device->moved >= device->at) {
+    if (device->moved >= device->at && device->left > 0) {
         device->left--;
         device->given++;
         errno = strcmp(device->kind, "error") == 0 ? EIO : strcmp(device->kind, "interrupt") == 0 ? EINTR : 0;
@@ -59,13 +59,13 @@ static ssize_t move(struct device *device, const char *name, int descriptor, voi
 
     if (descriptor != device->descriptor)
         return real(descriptor, bytes, size);
+    device->asked++;
+    device->again += device->is_over;
     count = allow(device, size);
     if (count > 0)
         count = real(descriptor, bytes, count);
-    if (count > 0)
-        device->moved += count;
-    if (count == 0 || (count < 0 && errno != EINTR))
-        device->is_over = 1;
+    device->moved += count > 0 ? count : 0;
+    device->is_over |= count == 0 || (count < 0 && errno != EINTR);
     return count;
 }
 
@@ -81,11 +81,8 @@ ssize_t write(int descriptor, const void *bytes, size_t size)
 
 static void begin(struct device *device, const char *plan)
 {
-    int items = sscanf(plan ? plan : "-1", "%d %zu %15[a-z0-9] %lu", &device->descriptor, &device->at, device->kind,
-                       &device->left);
-
-    if (items == 3)
-        device->left = ULONG_MAX;
+    if (plan != NULL)
+        sscanf(plan, "%d %zu %15s %lu", &device->descriptor, &device->at, device->kind, &device->left);
 }
 
 __attribute__((constructor)) static void begin_both(void)
@@ -104,4 +101,53 @@ __attribute__((destructor)) static void record(void)
     fprintf(file, "read %lu %lu %lu\n", input.asked, input.given, input.again);
     fprintf(file, "write %lu %lu %lu\n", output.asked, output.given, output.again);
     fclose(file);
+}
+
+static int is_refused(void)
+{
+    static unsigned long count;
+    const char *at = getenv("REFUSE_AT");
+
+    return at != NULL && ++count == strtoul(at, NULL, 10);
+}
+
+static void mark(void)
+{
+    const char *path = getenv("REFUSE_MARK");
+    int file = path == NULL ? -1 : open(path, O_WRONLY | O_CREAT | O_APPEND, 0600);
+
+    if (file < 0 || pwrite(file, "x", 1, 0) != 1)
+        abort();
+    close(file);
+    errno = ENOMEM;
+}
+
+/* The function of this name behind this one, with these arguments; or NULL, which is marked, where that is refused. */
+#define REFUSABLE(name, arguments, ...)                                     \
+    static void *(*real)arguments;                                          \
+    if (real == NULL)                                                       \
+        real = (void *(*)arguments)dlsym(RTLD_NEXT, name);                  \
+    void *block = is_refused() ? NULL : real(__VA_ARGS__);                  \
+    if (block == NULL)                                                      \
+        mark();                                                             \
+    return block
+
+void *malloc(size_t size)
+{
+    REFUSABLE("malloc", (size_t), size);
+}
+
+void *realloc(void *block_before, size_t size)
+{
+    /* With no size a block is freed, and NULL is no refusal. */
+    if (size == 0) {
+        free(block_before);
+        return NULL;
+    }
+    REFUSABLE("realloc", (void *, size_t), block_before, size);
+}
+
+void *calloc(size_t number, size_t size)
+{
+    REFUSABLE("calloc", (size_t, size_t), number, size);
 }

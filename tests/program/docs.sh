@@ -48,20 +48,11 @@ inside { print > (kind == "console" ? printed : file); next }
 END { if (inside) print "a block without its end" > "/dev/stderr" }
 AWK
 
-# prints FILE: whether the last command succeeded, and printed what is in this file, if there is one
-prints() {
-    [ "$status" = 0 ] && { [ ! -e "$1" ] || cmp out "$1"; }
-}
-
 # folder NAME: makes a folder in which commands of documents run, with what they name of the repository
 folder() {
     mkdir "$1" "$1/rust"
-    for part in docs examples include python share; do
-        ln -s "$top/$part" "$1/$part"
-    done
-    ln -s "$program" "$1/rust/ldvbi"
-    [ ! "$library" ] || ln -s "$built/$library" "$1/rust/$library"
-    ln -s "$program" "$1/ldvbi"
+    ln -s "$top/docs" "$top/examples" "$top/include" "$top/python" "$top/share" "$program" "$1"
+    ln -s "$program" ${library:+"$built/$library"} "$1/rust"
 }
 
 # in_folder NAME COMMAND..: runs a command there
@@ -69,21 +60,7 @@ in_folder() {
     status=0
     (cd "$1" && shift && bounded "$@") < empty > out 2>&1 || status=$?
     cp out err
-}
-
-# sides NAME: makes a folder with a small side and its metadata, one of PAL, a line, and words, as documents name them
-sides() {
-    folder "$1"
-    for side in side disc; do
-        output_of draw $ntsc "$top/examples/cav.words" > "$1/$side.tbc"
-        cat > "$1/$side.tbc.json" << 'END'
-{"fields":[{"seqNo":3,"isFirstField":true,"syncConf":100}],"videoParameters":{"system":"NTSC","fieldWidth":910,
-"fieldHeight":263,"black16bIre":16384,"white16bIre":51200,"sampleRate":14318181.8}}
-END
-    done
-    output_of draw $pal "$top/examples/clv.words" > "$1/pal.tbc"
-    tail -c +27301 "$1/side.tbc" > "$1/line.raw"
-    cp "$top/examples/cav.words" "$1/disc.words"
+    return "$status"
 }
 
 # document PATH FOLDER: runs the blocks of this document in this folder
@@ -103,7 +80,8 @@ document() {
             *.python) in_folder $2 env PYTHONPATH=python python3 ../$block ;;
             *) in_folder $2 sh -c '[ "${1##*.}" = bash ] || sh -n "$1" && exec bash -e -o pipefail "$1"' sh ../$block ;;
         esac
-        check "$block: $(head -n 1 $block)" prints ${block%.*}.text
+        check "$block: $(head -n 1 $block)" \
+            [ "$status$([ ! -e ${block%.*}.text ] || cmp out ${block%.*}.text 2>&1)" = 0 ]
     done < blocks
     LDVBI_LIBRARY=
 }
@@ -120,13 +98,12 @@ page() {
 
 # What is written into documents, pages and completions is what stands there, and what documents name is in the source
 for said in 'codes/write.py --check' 'texts/write.py --check' tests/documents.py; do
-    in_folder "$top" python3 $said
-    check "$said" [ "$status" = 0 ]
+    check "$said" in_folder "$top" python3 $said
 done
 
 # In a copy of the documents both see what somebody has written otherwise: a column, and the line of a code.
 mkdir copy
-for part in "$top"/* "$top/.ci"; do ln -s "$part" copy; done
+ln -s "$top"/* "$top/.ci" copy
 rm copy/codes copy/docs copy/texts
 cp -r "$top/codes" "$top/docs" "$top/texts" copy
 sed -i 's/^- `cause`: as/- `why`: as/' copy/docs/ANSWER.md
@@ -158,26 +135,32 @@ folder recipes
 document "$top/docs/RECIPES.md" recipes
 folder modules
 document "$top/docs/PYTHON.md" modules
-sides trial
+# A small side and its metadata, one of PAL, a line, and words, as documents name them
+folder trial
+output_of draw $ntsc "$top/examples/cav.words" > trial/side.tbc
+cat > trial/side.tbc.json << 'END'
+{"fields":[{"seqNo":3,"isFirstField":true,"syncConf":100}],"videoParameters":{"system":"NTSC","fieldWidth":910,
+"fieldHeight":263,"black16bIre":16384,"white16bIre":51200,"sampleRate":14318181.8}}
+END
+cp trial/side.tbc trial/disc.tbc
+cp trial/side.tbc.json trial/disc.tbc.json
+output_of draw $pal "$top/examples/clv.words" > trial/pal.tbc
+tail -c +27301 trial/side.tbc > trial/line.raw
+cp "$top/examples/cav.words" trial/disc.words
 document "$top/docs/FORMATS.md" trial
 
 # SQL in the documents, for a program that isn't asked for, has names that the tests have in ld-decode's form.
 cat > sql.py << 'END'
-import re
-import sqlite3
-import sys
-
+import re, sqlite3, sys
 form, *documents = (open(path, encoding="utf-8").read() for path in sys.argv[1:])
 database = sqlite3.connect(":memory:")
 database.executescript(re.search(r'^FORM = """(.*?)"""', form, re.M | re.S)[1])
 for words in re.findall(r"\bsqlite3 [\w.]+ ('[^']*'|[^\n`]*)", "".join(documents)):
-    if words.startswith("'"):
-        print(*database.execute(words[1:-1]).fetchall())
-    elif words != ".schema":
-        sys.exit("no statement that can be tried: " + words)
+    print(*database.execute(words[1:-1]).fetchall() if words.startswith("'") else [words])
 END
 in_folder . python3 sql.py "$tests/python/test_into.py" "$top"/*.md "$top"/docs/*.md
-check 'what documents ask of a database' [ "$status $(cat out)" = "0 ('NTSC', 16384, 51200)" ]
+check 'what documents ask of a database' \
+    [ "$status $(sort -u out | paste -s -d ' ')" = "0 ('NTSC', 16384, 51200) .schema" ]
 
 # The lines of README and of the pages for callers stand in a program of examples/, or in a caller that is proved.
 # lines_of [FILE]: the lines of a source, or of its documents, without their indents, of an import one for each word

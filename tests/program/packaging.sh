@@ -15,12 +15,12 @@ mkdir tree tools
         --exclude='./rust/*-*-*' -cf - .
 ) | tar -xf - -C tree
 for tool in sh make install rm mkdir find cp touch git tar gzip sha256sum uname ln sed chmod; do
-    ln -s "$(command -v $tool)" tools/$tool
+    ln -s "$(command -v $tool)" tools
 done
-(
-    cd tree && git init -q && git add . && GIT_AUTHOR_DATE='@1000000000 +0000' GIT_COMMITTER_DATE='@1000000000 +0000' \
-        git -c user.name=test -c user.email=test@localhost commit -qm source
-) > git.log 2>&1
+git -C tree init -q
+git -C tree add .
+GIT_AUTHOR_DATE='@1000000000 +0000' GIT_COMMITTER_DATE='@1000000000 +0000' \
+    git -C tree -c user.name=test -c user.email=test@localhost commit -qm source
 cp "$program" tree/ldvbi
 
 # made WORD..: `make` in the copy, by somebody whose new files are for themselves alone
@@ -48,16 +48,8 @@ has() {
 } > files
 printf '%s\n' include/ldvbi.h lib/cmake/ldvbi/ldvbi-config-version.cmake lib/cmake/ldvbi/ldvbi-config.cmake \
     lib/libldvbi.a lib/libldvbi.so lib/libldvbi.so.1 lib/pkgconfig/ldvbi.pc | cat files - > files_of_both
-printf '%s\n' bin/ldvbi-other include/ldvbi-other.h lib/cmake/ldvbi-other/ldvbi-other.cmake lib/libldvbi-other.a \
-    lib/libldvbi.so.0 lib/pkgconfig/ldvbi-other.pc share/bash-completion/completions/ldvbi-other \
-    share/doc/ldvbi-other/README.md share/ldvbi-other/other.py share/man/man1/ldvbi-other.1 \
-    share/zsh/site-functions/_ldvbi-other > others
-# are_for_all FOLDER: whether all can read what is installed there, and run what is to be run
-are_for_all() {
-    (cd "$1" && find . ! -type l -printf '%m %y %p\n') |
-        awk '$1 != ($2 == "d" || $3 ~ /\/bin\/ldvbi(-side)?$|\.so\.1/ ? 755 : 644) { print; wrong = 1 }
-            END { exit wrong }'
-}
+{ sed 's,/ldvbi/.*,/ldvbi-other/file,; t; s,\([^/.]*\)\([^/]*\)$,\1-other\2,' files_of_both; echo lib/libldvbi.so.0; } |
+    sort -u > others
 # installs NAME FILES FOLDER WORD..: installs with these words, and takes that away
 installs() {
     name=$1
@@ -70,7 +62,10 @@ installs() {
     made install "$@"
     check "$name: what is installed" [ "$status$(has "$folder" files_there)" = 0 ]
     check "$name: the program is copied as it is" cmp "$folder/bin/ldvbi" "$program"
-    check "$name: it is for all" are_for_all "$folder"
+    # All can read it, and run what is to be run.
+    find "$folder" ! -type l -printf '%m %y %p\n' |
+        awk '$1 != ($2 == "d" || $3 ~ /\/bin\/ldvbi(-side)?$|\/libldvbi\.so\.1$/ ? 755 : 644)' > err
+    check "$name: it is for all" [ ! -s err ]
     PYTHONDONTWRITEBYTECODE=1 bounded "$folder/bin/ldvbi-side" --help < empty > out 2> err || status=$?
     check "$name: ldvbi-side finds its module" [ "$status $(head -c 18 out)" = '0 usage: ldvbi-side ' ]
     made uninstall "$@"
@@ -116,8 +111,7 @@ printf 'make: %s\n' 'the proved build needs the toolchain of Rattle, whose comma
 for target in '' test lib; do
     touch tree/crates.txt
     made $target
-    grep -v '^make.*\*\*\*' err > found
-    check "make $target without the toolchain" cmp found wanted
+    check "make $target without the toolchain" [ -z "$(grep -v '^make.*\*\*\*' err | diff - wanted)" ]
 done
 touch tree/ldvbi
 
@@ -135,7 +129,8 @@ made_by_another() {
 }
 # packed NAME FILES: whether an archive of dist/ has these below its folder
 packed() {
-    mkdir "unpacked_$1" && tar --strip-components=1 -C "unpacked_$1" -xzf "tree/dist/$1" && has "unpacked_$1" "$2"
+    rm -rf unpacked
+    mkdir unpacked && tar --strip-components=1 -C unpacked -xzf "tree/dist/$1" && has unpacked "$2"
 }
 release=ldvbi-$(sed -n 's/^VERSION := //p' "$top/Makefile")
 (cd tree && git ls-files) > source_files
@@ -151,12 +146,11 @@ $release-x86_64-linux.tar.gz files
 $release-rust-$(uname -m)-linux.tar.gz files
 $release.crate crate_files
 END
-for archive in tree/dist/*.tar.gz tree/dist/*.crate; do tar --numeric-owner -tvzf "$archive"; done |
-    awk '{ print $2 }' | sort -u > owners
-check "the files in the archives are root's" [ "$(cat owners)" = 0/0 ]
+for archive in tree/dist/*.tar.gz tree/dist/*.crate; do tar --numeric-owner -tvzf "$archive"; done > packed
+check "the files in the archives are root's" [ "$(awk '{ print $2 }' packed | sort -u)" = 0/0 ]
 sleep 1
 check 'the archives of one who is not root are the same' made_by_another
-rm -rf theirs unpacked_*
+rm -rf theirs
 touch -d @1300000000 tree/rust/ldvbi
 made dist
 check 'nothing of it is packed that is older than its source' [ "$(wc -l < tree/dist/SHA256SUMS)" = 2 ]
@@ -202,10 +196,10 @@ made install PREFIX="$work/usr"
 check 'no program is installed that is older than its source' [ $status != 0 ]
 
 # One version
-version=$(output_of --version | sed 's/ (.*)$//')
-check 'the version of make is that of the program' grep -qx "VERSION := ${version#ldvbi }" tree/Makefile
+version=$(output_of --version | sed 's/^ldvbi //; s/ (.*)$//')
+check 'the version of make is that of the program' grep -qx "VERSION := $version" tree/Makefile
 check 'and so is the latest of the change log' \
-    [ "ldvbi $(sed -n '/^## /{s/^## \([0-9.]*\).*/\1/p;q;}' tree/CHANGELOG.md)" = "$version" ]
+    [ "$(sed -n 's/^## \([0-9.]*\).*/\1/p' tree/CHANGELOG.md | head -n 1)" = "$version" ]
 
 # What `make` prints: a line for each crate, and none of the toolchain's. This one says a hundred lines of a crate.
 mkdir toolchain

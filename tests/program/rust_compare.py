@@ -18,7 +18,9 @@ import sys
 import tempfile
 
 from random_lines import SYSTEMS, random_line, worn_rows
-from random_metadata import random_metadata
+
+sys.path.insert(0, str(pathlib.Path(__file__).resolve().parents[2] / "bench" / "sides"))
+from simulate import simulated
 
 COMMANDS = ["line", "extract", "show", "draw"]
 OPTIONS = ["--meta", "--system", "--black", "--white", "--max-fields", "--recover", "--help", "--version", "-h", "-V"]
@@ -34,53 +36,50 @@ FIT = {"--meta": ["meta.json"], "--system": ["NTSC", "NTSC", "PAL"], "--black": 
        "--white": ["16448", "51200", "65535"], "--max-fields": ["1", "5", "0", "1000000"]}
 # What clap says of its own options, by its version
 OF_CLAP = re.compile(rb"Print (?:help|version)(?: information)?(?: \((?:see|use) [^()]*\))?")
+# Members of metadata, most of them right, some of them otherwise than the program takes them
+MEMBERS = {
+    "system": ['"NTSC"', '"PAL"', '"ntsc"', "3", "null"],
+    "isSourcePal": ["true", "false", "0", '"true"'],
+    "black16bIre": ["16384", "0", "65535", "65536", "-1", "1e3", "16384.0", '"5"', "18446744073709551616", "[]"],
+    "white16bIre": ["51200", "16384", "16385", "65536", "5.5", "-0", "1e400", "null"],
+    "fieldWidth": ["910", "1135", "911", "910.0"],
+    "fieldHeight": ["263", "313", "1e2"],
+    "other": ['"\\ud800"', '"\\u0000"', '"\\x"', "[[[]]]", '{"a":1,"a":2}', "NaN", "01", "1.", '"a\tb"', '"\x7f"'],
+}
 
 
 def put_files(folder):
     """The files that words of the command line name."""
     # A ramp, of which the answer has the column of the middle of black and white
-    (folder / "line.raw").write_bytes(struct.pack("<910H", *range(0, 72 * 910, 72)))
-    videos = '{"videoParameters":{"system":"NTSC","black16bIre":8224,"white16bIre":16448}}'
-    (folder / "meta.json").write_text(videos, encoding="utf-8")
-    (folder / "bad.json").write_text(videos[:-1], encoding="utf-8")
-    for name, text in (("beside", videos), ("wrong", videos[:-1])):
-        (folder / (name + ".raw")).write_bytes((folder / "line.raw").read_bytes())
-        (folder / (name + ".raw.json")).write_text(text, encoding="utf-8")
-    (folder / "empty").write_bytes(b"")
-
-
-def random_option(choose, name, values):
-    """An option with one of these values, as two words or as one."""
-    value = choose.choice(values)
-    return [f"{name}={value}"] if choose.random() < 0.4 else [name, value]
-
-
-def random_parts(choose):
-    """A word or two that a command line might have."""
-    kind = choose.random()
-    if kind < 0.5:
-        return random_option(choose, choose.choice(OPTIONS[:5]), VALUES)
-    if kind < 0.55:
-        return ["--", "--"]
-    return [choose.choice(choose.choice([OPTIONS, VALUES, STRAY, COMMANDS]))]
+    ramp = struct.pack("<910H", *range(0, 72 * 910, 72))
+    videos = '{"videoParameters":{"system":"NTSC","black16bIre":8224,"white16bIre":16448}}'.encode()
+    for name, data in (("line.raw", ramp), ("beside.raw", ramp), ("wrong.raw", ramp), ("meta.json", videos),
+                       ("beside.raw.json", videos), ("bad.json", videos[:-1]), ("wrong.raw.json", videos[:-1]),
+                       ("empty", b"")):
+        (folder / name).write_bytes(data)
 
 
 def random_words(choose):
     """Words of a command line: half of them make a job but for one part, if any; the others are of any kind."""
+    def option(name, values):
+        value = choose.choice(values)
+        return [f"{name}={value}"] if choose.random() < 0.4 else [name, value]
+
+    def part():
+        if choose.random() < 0.5:
+            return option(choose.choice(OPTIONS[:5]), VALUES)
+        return [choose.choice(choose.choice([OPTIONS, VALUES, STRAY, COMMANDS]))]
+
     words = [choose.choice(COMMANDS)]
     if choose.random() < 0.5:
-        parts = [random_option(choose, name, values) for name, values in FIT.items() if choose.random() < 0.8]
+        parts = [option(name, values) for name, values in FIT.items() if choose.random() < 0.8]
         parts += [[choose.choice(["line.raw", "line.raw", "beside.raw", "wrong.raw"])]] * (choose.random() < 0.8)
-        parts += [["--recover"]] * (choose.random() < 0.1)
-        parts += [random_parts(choose)] * (choose.random() < 0.6)
+        parts += [["--recover"]] * (choose.random() < 0.1) + [part()] * (choose.random() < 0.6)
         choose.shuffle(parts)
-        return sum(parts, words)
-    words = choose.choice([words, words, [], [choose.choice(STRAY)]])
-    if choose.random() < 0.1:
-        words.insert(0, "help")
-    for _ in range(choose.randrange(5)):
-        words += random_parts(choose)
-    return words
+    else:
+        words = choose.choice([words, words, [], [choose.choice(STRAY)], ["help", *words]])
+        parts = [part() for _ in range(choose.randrange(5))]
+    yield sum(parts, words), b""
 
 
 def of_help(text):
@@ -119,12 +118,10 @@ def streams(choose):
         if black < white and choose.random() < 0.3:
             lines = worn_rows(choose, system, black, white, 3)
         stream += blank * 15 + lines + blank * (height - 18)
-    if choose.random() < 0.3:
-        stream += bytes(choose.randrange(2 * width * height))
+    stream += bytes(choose.random() < 0.3 and choose.randrange(2 * width * height))
     words = [choose.choice(["extract", "show"]), *options_of(system, black, white)]
     words += ["--recover"] * (choose.random() < 0.5)
-    if choose.random() < 0.2:
-        words += ["--max-fields", str(choose.randrange(4))]
+    words += ["--max-fields", str(choose.randrange(4))] if choose.random() < 0.2 else []
     yield words, bytes(stream)
     line = random_line(choose, system, black, white)
     yield ["line", *options_of(system, black, white)], line[:len(line) - choose.choice([0, 0, 0, 1, 500])]
@@ -136,51 +133,46 @@ def rows(choose):
     texts = []
     for _ in range(choose.randrange(6)):
         row = [choose.choice(items[:6]) for _ in range(3)]
-        if choose.random() < 0.1:
-            row[choose.randrange(3)] = choose.choice(items)
-        behind = "" if choose.random() < 0.95 else choose.choice([" ", "\r", "\t", " -", "\0"])
-        texts.append(" ".join(row) + behind)
+        row[choose.randrange(3)] = rarely(choose, items, row[0])
+        texts.append(" ".join(row) + rarely(choose, [" ", "\r", "\t", " -", "\0"], ""))
     words = ["draw", *options_of(choose.choice(list(SYSTEMS)), *random_levels(choose))]
     yield words, ("\n".join(texts) + choose.choice(["\n", "\n", ""])).encode()
 
 
 def metadata(choose):
     """Metadata, and sometimes an option."""
-    words = ["extract", "--meta", "given", "empty"]
-    if choose.random() < 0.3:
-        words += choose.choice(["--system NTSC", "--black 5", "--white 60000", "--max-fields 0"]).split()
-    yield words, random_metadata(choose)
+    names = choose.sample(list(MEMBERS)[:-1], choose.randrange(2, 7))
+    names += ["other"] * (choose.random() < 0.15) + [choose.choice(names)] * (choose.random() < 0.1)
+    members = [f'"{name}":{choose.choice(MEMBERS[name][:choose.choice([2, 2, None])])}' for name in names]
+    ending = choose.choice(["}}", "}}", "}}\n ", '},"fields":[]}'])
+    data = bytearray(f'{{"videoParameters":{{{",".join(members)}{ending}'.encode())
+    if choose.random() < 0.2:
+        data[choose.randrange(len(data))] = choose.randrange(256)
+    depth = choose.choice([125, 126, 127, 128])
+    data = rarely(choose, [b'{"videoParameters":{},"a":' + b"[" * depth + b"]" * depth + b"}"], data)
+    options = choose.choice(["--system NTSC", "--black 5", "--white 60000", "--max-fields 0", *[""] * 8])
+    yield ["extract", "--meta", "given", "empty", *options.split()], bytes(data)
 
 
-KINDS = {"words": lambda choose: [(random_words(choose), b"")], "streams": streams, "rows": rows, "metadata": metadata}
-
-
-def run(command, words, given, folder):
-    """What a program answered: status, output, and what it said."""
-    done = subprocess.run([*command, *words], input=given, capture_output=True, cwd=folder, timeout=120, check=False)
-    return done.returncode, done.stdout, done.stderr
+KINDS = {"words": random_words, "streams": streams, "rows": rows, "metadata": metadata}
 
 
 def compare_programs(what, commands, choose, count):
     """Runs of one kind, each in a folder with the files of `put_files` and what the run is given, which is on standard
-    input as well."""
+    input as well. What a program answered is its status, output, and what it said."""
     with tempfile.TemporaryDirectory() as name:
         folder = pathlib.Path(name)
         put_files(folder)
         for _ in range(count):
             for words, given in KINDS[what](choose):
                 (folder / "given").write_bytes(given)
-                yield (words, given), [run(command, words, given, folder) for command in commands]
+                runs = [subprocess.run([*command, *words], input=given, capture_output=True, cwd=folder, timeout=120,
+                                       check=False) for command in commands]
+                yield (words, given), [(done.returncode, done.stdout, done.stderr) for done in runs]
 
 
 number, size = ctypes.c_uint32, ctypes.c_size_t
 SIZES = ("ldvbi_line_samples", "ldvbi_line_bytes", "ldvbi_lines", "ldvbi_field_bytes")
-LONG = (*SIZES, "ldvbi_first_of")
-
-
-def decimal(value):
-    """A number whose hexadecimal digits are these decimal ones."""
-    return int(str(value), 16)
 
 
 def rarely(choose, wrong, right):
@@ -188,85 +180,61 @@ def rarely(choose, wrong, right):
     return choose.choice(wrong) if choose.random() < 0.05 else right
 
 
+def some(choose, right):
+    """One of the numbers that are right, and seldom another."""
+    return number(rarely(choose, (0, 4, 257), choose.choice(right)))
+
+
+def sized(choose, data):
+    """Bytes and how many they are, which is seldom said wrongly."""
+    return data, size(max(0, len(data) - rarely(choose, (1, 2), 0)))
+
+
 def random_readings(choose):
-    """The readings of a side's fields: a disc that runs on, with jumps, gaps, chapters, stops and misread words."""
-    times, film, both = choose.random() < 0.4, choose.random() < 0.3, choose.random() < 0.2
-    count, chapter = choose.choice([0, 50, 1795, 79950, choose.randrange(79999)]), choose.randrange(70)
+    """The readings of a stretch of a simulated side, some of which are others, and stand at a column by their line."""
+    records = simulated(choose.randrange(2 ** 30), count=80).document["fields"][choose.randrange(40):]
     readings = bytearray()
-    for field in range(choose.choice([0, 1, 2, 24, 25, 49, 50, choose.randrange(150)])):
-        first = field % 5 in (0, 2) if film else field % 2 == 0
-        count += first + (choose.random() < 0.01 and choose.randrange(-3, 30))
-        chapter += choose.random() < 0.06
-        second = count // 30
-        words = [0, 0xF00000 | decimal(count % 80000), 0xF80000 | decimal(count % 80000)]
-        if times:
-            words = [0x80E000 + (10 + second % 60 // 10 << 16) + (second % 10 << 8) + decimal(count % 30)]
-            words += [0xF0DD00 + (second // 3600 % 10 << 16) + decimal(second // 60 % 60)] * 2
-        if not (first or both):
-            words = [0x82CFFF * (choose.random() < 0.2)] + [0x800DDD | decimal(chapter % 80) << 12] * 2
-        for line, word in enumerate(words):
-            if choose.random() < 0.15:
-                word = choose.choice([0, 0, word ^ 1 << choose.randrange(24), 0x801DDD, 0x88FFFF, 0x80EEEE, 0x82CFFF,
-                                      0x87FFFF, choose.randrange(2 ** 32)])
-            passed = choose.choice([1, 1, 1, 2, 3, choose.randrange(256)]) if word else 0
+    for record in records[:choose.choice([0, 1, 2, 24, 25, 49, 50, choose.randrange(150), 300])]:
+        for line, (word, passed) in enumerate(zip(record["vbi"]["vbiData"], record["vbiPass"])):
+            if choose.random() < 0.06:
+                word = choose.choice([0, word ^ 1 << choose.randrange(24), 0x82CFFF, choose.randrange(2 ** 32)])
+                passed = choose.choice([1, 2, 3, choose.randrange(256)])
             readings += struct.pack("<BBHI", choose.randrange(5), passed, line, word)
     return bytes(readings)
 
 
 def compare_judges(call, choose):
-    """A side judged in each way, and a search in answers of any kind."""
+    """A side judged in each way, and whole, with some answers altered and room for some of its gaps; and a search in
+    answers of any kind."""
     readings = random_readings(choose)
     count = len(readings) // 24
-    off = rarely(choose, range(3), 0)
-    system, counted, pace = (number(rarely(choose, (0, 4, 257), choose.choice(fit)))
-                             for fit in ((1, 2), (1, 2), (1, 2, 3)))
-    seen = (size(count), slice(20 * count, None), size(count + off))
-    yield call("ldvbi_judge", system, counted, pace, readings, size(count), ..., *seen, room=28 * count + 16)
-    yield call("ldvbi_judge_chapters", readings, size(count), ..., *seen, room=28 * count + 16)
-    yield call("ldvbi_complete_times", system, readings, size(count), ..., size(count), slice(20 * count, None),
-               size(count + off), room=44 * count + 48)
-    for name in ("ldvbi_judge_stops", "ldvbi_judge_ends"):
-        yield call(name, readings, size(count), ..., size(count + off), room=4 * count + 16)
-    yield call("ldvbi_find_pace", system, counted, readings, size(count), slice(4, None),
-               size(count + off), ..., room=20 * count + 64)
-    few = choose.choice([count, 97, 97, 98])
-    part = readings[:24 * few]
-    yield call("ldvbi_judge_field", system, counted, pace, part, size(len(part) // 24),
-               size(choose.randrange(few + 1)), ..., room=8)
+    given, room = (readings, size(count)), size(count + rarely(choose, range(3), 0))
+    asked = some(choose, (1, 2)), some(choose, (1, 2)), some(choose, (1, 2, 3))
+    behind = slice(20 * count, None)
+    judged = call("ldvbi_judge", *asked, *given, ..., size(count), behind, room, room=28 * count + 16)
+    ends = call("ldvbi_judge_ends", *given, ..., room, room=4 * count + 16)
+    yield from (judged, ends)
+    yield call("ldvbi_judge_chapters", *given, ..., size(count), behind, room, room=28 * count + 16)
+    yield call("ldvbi_complete_times", asked[0], *given, ..., size(count), behind, room, room=44 * count + 48)
+    yield call("ldvbi_judge_stops", *given, ..., room, room=4 * count + 16)
+    yield call("ldvbi_find_pace", *asked[:2], *given, slice(4, None), room, ..., room=20 * count + 64)
+    few = min(count, choose.choice([count, 97, 97, 98]))
+    yield call("ldvbi_judge_field", *asked, readings[:24 * few], size(few), size(choose.randrange(few + 1)), ...,
+               room=8)
+    answers = bytearray(judged[1][0][1][:28 * count] + ends[1][0][1][:4 * count])
+    for _ in range(choose.choice([0, 0, 1, 20]) if count else 0):
+        at = 4 * choose.randrange(8 * count)
+        answers[at:at + 4] = choose.choice([0, 1, 2, 3, 2 ** 32 - 1, choose.randrange(79999)]).to_bytes(4, "little")
+    seen, numbers, ends = (bytes(answers[begin * count:end * count]) for begin, end in ((0, 20), (20, 28), (28, 32)))
+    yield call("ldvbi_find_both", numbers, size(count))
+    counts = rarely(choose, [(count - 1, count, count), (count, count, count + 2 ** 40)], (count, count, count))
+    arrays = [part for array, many in zip((seen, numbers, ends), counts) for part in (array, size(many))]
+    wanted = some(choose, (1, 2)), number(choose.choice([0, 1, 3, 3, 2 ** 32 - 1])), number(choose.choice([0, 1, 256]))
+    gaps = choose.choice([0, 1, 2, 9])
+    yield call("ldvbi_judge_side", *asked[:2], *wanted, *arrays, slice(128, None), size(gaps), ...,
+               room=128 + 48 * gaps, padding=[slice(48 * gap + 172, 48 * gap + 176) for gap in range(gaps)])
     numbers = b"".join(struct.pack("<II", choose.randrange(4), choose.randrange(6)) for _ in range(count))
     yield call("ldvbi_first_of", numbers, size(count), number(choose.randrange(4)))
-
-
-def random_judged(choose):
-    """What could be seen and answered of a side's fields, and of their ends: numbers that run on, with jumps and
-    stills, some of which are shown and not believed; and lead-out here and there."""
-    seen, numbers, ends = bytearray(), bytearray(), bytearray()
-    film, both = choose.random() < 0.3, choose.random() < 0.2
-    count = choose.choice([0, 1, 2 ** 32 - 2, choose.randrange(79999)])
-    for field in range(choose.choice([0, 1, 2, choose.randrange(150), choose.randrange(400)])):
-        first = field % 5 in (0, 2) if film else field % 2 == 0
-        count += first * (choose.random() < 0.95) + (choose.random() < 0.03 and choose.randrange(-3, 5))
-        shown = max(0, min(count + choose.choice([0, 0, 0, 1, -1]), 2 ** 32 - 1)) if first or both else 0
-        state = choose.choice([1, 1, 1, 1, 0, 2, 3, choose.randrange(2 ** 32)]) if first or both else 0
-        weights = choose.choice([(2, 2), (2, 0), (0, 1)]) if shown else (0, 0)
-        seen += struct.pack("<5I", shown * (weights[0] > 0), weights[0], shown * (weights[1] > 0), weights[1], 0)
-        numbers += struct.pack("<2I", max(0, min(count, 2 ** 32 - 1)), state)
-        ends += struct.pack("<I", rarely(choose, (1, 1, 2, 257), 0))
-    return bytes(seen), bytes(numbers), bytes(ends)
-
-
-def compare_sides(call, choose):
-    """A side of which anything was answered, judged whole, with room for some of its gaps."""
-    arrays = random_judged(choose)
-    yield call("ldvbi_find_both", arrays[1], size(len(arrays[1]) // 8))
-    lengths = [len(part) // width for part, width in zip(arrays, (20, 8, 4))]
-    lengths[choose.randrange(3)] -= rarely(choose, (1, 2 ** 40), 0)
-    asked = [number(rarely(choose, (0, 4, 257), choose.choice([1, 2]))) for _ in range(3)]
-    asked += [number(choose.choice([0, 1, 3, 3, 2 ** 32 - 1])), number(choose.choice([0, 1, 256]))]
-    given = [word for part, length in zip(arrays, lengths) for word in (part, size(length % 2 ** 64))]
-    gaps = choose.choice([0, 1, 2, 9])
-    yield call("ldvbi_judge_side", *asked, *given, slice(128, None), size(gaps), ..., room=128 + 48 * gaps,
-               padding=[slice(128 + 48 * gap + 44, 128 + 48 * gap + 48) for gap in range(gaps)])
 
 
 def compare_seek(call, choose, draw):
@@ -274,13 +242,12 @@ def compare_seek(call, choose, draw):
     code, width, height = SYSTEMS[choose.choice(list(SYSTEMS))]
     first, begin, side = (number(code), number(16384), number(51200)), choose.randrange(79000), b""
     for field in range(choose.randrange(14)):
-        shows = field % 2 == 0 and choose.random() < 0.9
+        word = 0xF00000 | int(str(begin + field // 2), 16) if field % 2 == 0 and choose.random() < 0.9 else 0
         line = ctypes.create_string_buffer(2 * width)
-        draw(*first, number(shows and 0xF00000 | decimal(begin + field // 2)), line, size(2 * width))
+        draw(*first, number(word), line, size(2 * width))
         side += bytes(2 * width * 16) + 2 * line.raw + bytes(2 * width * (height - 18))
-    asked = number(choose.choice([1, 1, 1, 2, 3])), number(choose.choice([1, 2, 3, 3, 4]))
-    yield call("ldvbi_seek", *first, *asked, side, size(max(0, len(side) - choose.choice([0, 0, 1]))),
-               number(begin + choose.randrange(8)), ..., room=24)
+    yield call("ldvbi_seek", *first, number(choose.choice([1, 1, 1, 2, 3])), number(choose.choice([1, 2, 3, 3, 4])),
+               *sized(choose, side), number(begin + choose.randrange(8)), ..., room=24)
 
 
 def random_erased(choose, fields):
@@ -293,49 +260,42 @@ def random_erased(choose, fields):
 
 
 def compare_lines(call, choose, draw):
-    """Lines of any kind, read alone, as rows and as fields, and drawn; their nearest words, and the recovered ones."""
+    """Lines of any kind, read alone, as rows and as fields, and drawn; words classified; nearest and recovered ones."""
     system = choose.choice(list(SYSTEMS))
     code, width, height = SYSTEMS[system]
     black, white = random_levels(choose)
-    levels = number(black), number(rarely(choose, (65536, 2 ** 32 - 1), white))
-    first = (number(rarely(choose, (0, 3, 257), code)), *levels)
-    line = random_line(choose, system, black, white)
-    rows = line + random_line(choose, system, black, white) + line[::-1]
-    off = rarely(choose, range(3), 0)
-    yield call("ldvbi_read_line", *first, line, size(len(line) - off), ..., room=8)
-    yield call("ldvbi_read_rows", *first, rows, size(len(rows) - off), ..., room=24)
+    first = [number(rarely(choose, wrong, right))
+             for wrong, right in (((0, 3, 257), code), ((black,), black), ((65536, 2 ** 32 - 1), white))]
+    rows = [random_line(choose, system, black, white) for _ in range(3)]
     word = choose.choice([0, choose.randrange(2 ** 24), choose.randrange(2 ** 23, 2 ** 24), 2 ** 32 - 1])
-    yield call("ldvbi_draw_line", *first, number(word), ..., size(len(line) - off), room=len(line))
-    if choose.random() < 0.2:
-        worn = worn_rows(choose, system, black, white, choose.choice([1, 1, 2, 2, 3, 28, 29]))
-        yield call("ldvbi_nearest", *first, worn, size(len(worn) - off), ..., room=32)
-        rows = worn_rows(choose, system, black, white, 3)
-        yield call("ldvbi_recover_rows", *first, rows, size(len(rows) - off), ..., room=24)
-        yield call("ldvbi_recover_rows_without", *first, rows, size(len(rows) - off), *random_erased(choose, 1), ...,
-                   room=24)
-        yield call("ldvbi_recovered_record", *first, number(choose.randrange(2 ** choose.randrange(33))), rows,
-                   size(len(rows) - off), *random_erased(choose, 1), ..., room=452)
-        asked = number(rarely(choose, (15, 19, 272), 17)), number(choose.choice([0, 1, 1, 2]))
-        entries = b"".join(struct.pack("<4I", place, 17, 300, 300 + choose.randrange(200)) for place in range(2))
-        yield call("ldvbi_recover_pile", *first, *asked, worn, size(len(worn) - off), entries,
-                   size(choose.choice([0, 1, 2])), ..., room=4)
-    if choose.random() < 0.05:
-        field = bytes(2 * width * 15) + rows + bytes(2 * width * (height - 18))
-        yield call("ldvbi_read_field", *first, field, size(len(field)), ..., room=24)
-        for name in ("ldvbi_read_fields", "ldvbi_recover_fields"):
-            count = size(choose.choice([1, 2, 2, 2, 3, 2 ** 40]))
-            yield call(name, *first, field * 2, size(2 * len(field)), ..., count, room=72)
-        yield call("ldvbi_recover_fields_without", *first, field * 2, size(2 * len(field)), *random_erased(choose, 2),
-                   ..., size(2), room=72)
-        yield from compare_seek(call, choose, draw)
-
-
-def compare_words_alone(call, choose):
-    """Words of any kind, classified, and the formats of three."""
-    words = [choose.choice([0, 0x82CFFF, 0x87FFFF, 0xF12345, 0xF0DD09, choose.randrange(2 ** 24)]) for _ in range(3)]
+    yield call("ldvbi_read_line", *first, *sized(choose, rows[0]), ..., room=8)
+    yield call("ldvbi_read_rows", *first, *sized(choose, b"".join(rows)), ..., room=24)
+    yield call("ldvbi_draw_line", *first, number(word), ..., sized(choose, rows[0])[1], room=2 * width)
+    words = [choose.choice([0, 0x82CFFF, 0x87FFFF, 0xF12345, 0xF0DD09, word]) for _ in range(3)]
     for value in (*words, choose.randrange(2 ** 32), choose.randrange(2 ** 23, 2 ** 24)):
         yield call("ldvbi_classify", number(value), ..., room=12)
     yield call("ldvbi_format", *map(number, words), ..., room=4)
+    if choose.random() < 0.2:
+        worn = sized(choose, worn_rows(choose, system, black, white, choose.choice([1, 1, 2, 2, 3, 28, 29])))
+        rows = sized(choose, worn_rows(choose, system, black, white, 3))
+        entries = b"".join(struct.pack("<4I", place, 17, 300, 300 + choose.randrange(200)) for place in range(2))
+        yield call("ldvbi_nearest", *first, *worn, ..., room=32)
+        yield call("ldvbi_recover_rows", *first, *rows, ..., room=24)
+        yield call("ldvbi_recover_rows_without", *first, *rows, *random_erased(choose, 1), ..., room=24)
+        yield call("ldvbi_recovered_record", *first, number(choose.randrange(2 ** choose.randrange(33))), *rows,
+                   *random_erased(choose, 1), ..., room=452)
+        yield call("ldvbi_recover_pile", *first, number(rarely(choose, (15, 19, 272), 17)),
+                   number(choose.choice([0, 1, 1, 2])), *worn, entries, size(choose.choice([0, 1, 2])), ..., room=4)
+    if choose.random() < 0.05:
+        rows = worn_rows(choose, system, black, white, 3)
+        fields = 2 * (bytes(2 * width * 15) + rows + bytes(2 * width * (height - 18)))
+        yield call("ldvbi_read_field", *first, *sized(choose, fields[len(fields) // 2:]), ..., room=24)
+        for name in ("ldvbi_read_fields", "ldvbi_recover_fields"):
+            count = size(choose.choice([1, 2, 2, 2, 3, 2 ** 40]))
+            yield call(name, *first, *sized(choose, fields), ..., count, room=72)
+        yield call("ldvbi_recover_fields_without", *first, *sized(choose, fields), *random_erased(choose, 2), ...,
+                   size(2), room=72)
+        yield from compare_seek(call, choose, draw)
 
 
 def compare_library(paths, choose, count):
@@ -346,7 +306,7 @@ def compare_library(paths, choose, count):
         def answer(library):
             written = ctypes.create_string_buffer(b"\xa5" * room, room)
             function = getattr(library, name)
-            function.restype = ctypes.c_size_t if name in LONG else ctypes.c_uint32
+            function.restype = size if name in (*SIZES, "ldvbi_first_of") else number
             # A slice is a place in what is written.
             places = {slice: lambda part: ctypes.byref(written, part.start), type(...): lambda _: written}
             done = function(*[places.get(type(argument), lambda same: same)(argument) for argument in arguments])
@@ -363,9 +323,7 @@ def compare_library(paths, choose, count):
             yield call(name, number(system))
     for _ in range(count):
         yield from compare_lines(call, choose, libraries[0].ldvbi_draw_line)
-        yield from compare_words_alone(call, choose)
         yield from compare_judges(call, choose)
-        yield from compare_sides(call, choose)
 
 
 def main(what, proved, other, count, seed, *runner):

@@ -12,10 +12,7 @@
 
 proved=$top/ldvbi
 times=${COMPARE_RUNS:-1}
-[ -x "$proved" ] || {
-    echo "$script: there is no proved program $proved to compare with" >&2
-    exit 1
-}
+[ -x "$proved" ] || stop "the proved program $proved, which isn't there"
 
 # compared WHAT PROVED OTHER COUNT: makes so many runs of both, and answers whether none differs
 compared() {
@@ -25,7 +22,6 @@ compared() {
     sed "s/^/$script: /" said
     [ "$status" = 0 ] && [ ! -s err ]
 }
-
 while read -r what count; do
     check "the same of $what" compared $what "$proved" "$program" $count
 done << 'END'
@@ -45,9 +41,7 @@ fi
 stub altering << 'END'
 status=0
 "$@" > answer.out 2> answer.err || status=$?
-! grep -q "$ALTER_LIKE" "answer.$ALTER_FILE" || echo >> "$ALTERING/alike"
-if [ "$(wc -l < "$ALTERING/alike")" = 3 ]; then
-    echo >> "$ALTERING/alike"
+if grep -q "$ALTER_LIKE" "answer.$ALTER_FILE" && echo >> "$ALTERING" && [ "$(wc -l < "$ALTERING")" = 3 ]; then
     case $ALTER_HOW in
         letter) sed -i '$s/.$/~/' "answer.$ALTER_FILE" ;;
         status) status=$((status + 1)) ;;
@@ -67,23 +61,22 @@ uint32_t ldvbi_classify(uint32_t word, LdvbiCode *code)
 {
     static int calls;
     uint32_t done = ((__typeof__(&ldvbi_classify))dlsym(RTLD_NEXT, "ldvbi_classify"))(word, code);
-
     code->second ^= ++calls == 5;
     return done;
 }
 END
 "${CC:-cc}" -shared -fPIC -I"$top/include" -o turning.so turning.c -Wl,--no-as-needed,-rpath,"$top" \
     "$top/libldvbi.so.1" || exit 1
-ALTERING=$work
+ALTERING=$work/alike
 export ALTERING ALTER_FILE ALTER_LIKE ALTER_HOW
 
 # found WHAT PROVED OTHER COUNT [RUNNER]: whether one difference is found in so many runs
 found() {
+    : > alike
     ! (COMPARE_SEED=1 COMPARE_RUNNER=${5:-} times=1 && compared "$1" "$2" "$3" "$4") > found &&
         grep -q "^$script: $1: [0-9]* runs, 1 different$" found && [ ! -s err ]
 }
 while IFS='|' read -r what count ALTER_FILE ALTER_LIKE ALTER_HOW; do
-    : > alike
     check "$what: the $ALTER_HOW of an answer whose $ALTER_FILE is like $ALTER_LIKE" \
         found "$what" "$proved" "$proved" "$count" "$work/altering"
 done << 'END'

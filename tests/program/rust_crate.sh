@@ -14,22 +14,17 @@
 stops() {
     rm -rf crates crate
     mkdir crates
-    for crate in vbi_words vbi_line vbi_field vbi_meta vbi_cli vbi_c; do cp -r "$top/crates/$crate" crates; done
+    (cd "$top/crates" && cp -r vbi_words vbi_line vbi_field vbi_meta vbi_cli vbi_c "$work/crates")
     sed -i "$4" "crates/$3"
     ! cmp -s "crates/$3" "$top/crates/$3" || return 1
     does python3 "$top/rust/erase.py" crates "$top/rust/hand" crate
     echo "erase.py: crates/$3:$1: $2" > wanted
     [ "$status" = 1 ] && cmp -s err wanted
 }
-# line_of FILE PATTERN: the number of the first line with this pattern
-line_of() {
-    grep -n -m 1 "$2" "$top/crates/$1" | cut -d : -f 1
-}
-
 levels=vbi_words/src/levels.rt
 laws=vbi_line/src/laws.rt
-clause=$(line_of $levels '    ensures')
-body=$(line_of $laws '^{}$')
+clause=$(sed -n '/    ensures/{=;q;}' "$top/crates/$levels")
+body=$(sed -n '/^{}$/{=;q;}' "$top/crates/$laws")
 behind=$(($(wc -l < "$top/crates/$levels") + 1))
 while IFS='|' read -r name line why file altered; do
     check "$name" stops "$line" "$why" "$file" "$altered"
@@ -100,8 +95,9 @@ check 'it is packed' quiet cargo package --quiet --no-metadata --allow-dirty
 tar -C "$work" -xzf "$CARGO_TARGET_DIR/package/ldvbi-$version.crate" || exit 1
 check 'the package is the crate' [ "$(cd "$work/ldvbi-$version" && find . -type f ! -name 'Cargo.*' | sort)" = \
     "$(find . -type f ! -name 'Cargo.*' ! -path './.cargo/*' | sort)" ]
-git init -q "$work/ldvbi-$version" && git -C "$work/ldvbi-$version" add -A &&
-    git -C "$work/ldvbi-$version" -c user.name=test -c user.email=test@localhost commit -qm crate || exit 1
+git init -q "$work/ldvbi-$version"
+git -C "$work/ldvbi-$version" add -A
+git -C "$work/ldvbi-$version" -c user.name=test -c user.email=test@localhost commit -qm crate || exit 1
 
 # The example project: a player, with the crate by its path, and by git
 cp -r "$top/examples/rust" "$work/example"

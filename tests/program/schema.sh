@@ -7,168 +7,119 @@
 
 . "$(dirname "$0")/../helpers.sh"
 
-schema=$top/share/schema/ldvbi.schema.json
-schema_of_recovered=$top/share/schema/ldvbi-recovered.schema.json
-# Looks at each column that a cause can name, and at the greatest number of fields, and prints what is wrong of these.
-cat > bounds.py << 'END'
+cat > validate.py << 'END'
 import json
 import sys
 
-import jsonschema
+from jsonschema import Draft202012Validator
 
+sys.path.insert(0, sys.argv[1])
+from validate_parts import tried
+
+# Of a system the width and the height of fields, and the first column before which no level is held too long
+SYSTEMS = {"NTSC": (910, 263, 40), "PAL": (1135, 313, 50)}
+COLUMNS = [*range(-1, 1200), 1910, 9099, 9100, 11340, 11350]
 FORMS = ("%s", "%s ", "%s 0100", "%s +100", "%s 100.0", "%s 1e2", "%s  100", " %s 100", "%s 100 ", "%s100", "x%s 100")
-with open(sys.argv[1], encoding="ascii") as file:
-    schema = json.load(file)
+# What may stand in vbiData, vbiCause and vbiPass for a line without a word, with one, and with a recovered one
+WORD = ["8388608..16777215", "!0"]
+LINES = {0: (["0..0"], ["blank", "unfinished", '"change 0"', '"hold 100"', "!word", "!Blank", "!change"], ["0..0"]),
+         1: (WORD, ["word", "!blank", '!"word "'], ["1..2"]), 2: (WORD, ["word", "!blank", '!"word "'], ["1..2"]),
+         3: (WORD, ["word", "unfinished", '"change 0"', '"hold 100"', "!blank"], ["3..3"])}
 
 
-def expect(part, value, is_valid, what):
-    validator = jsonschema.Draft202012Validator({**part, "$defs": schema["$defs"]})
-    if validator.is_valid(value) != is_valid:
-        print(what)
+def table_of(version, system, passes):
+    """What may stand at each place of a document with one record."""
+    width, height, _ = SYSTEMS[system]
+    table = {"*.version": f"{version}..{version}", "*.system": f"{system} !{'PAL' if system == 'NTSC' else 'NTSC'}",
+             "*.fieldWidth": f"{width}..{width}", "*.fieldHeight": f"{height}..{height}", "*.black16bIre": "0..65534",
+             "*.white16bIre": "1..65535", "*.seqNo": "1..1000000", ".cutField": "null",
+             "*.bytes": f"1..{2 * width * height - 1}"}
+    table = {place: words.split() for place, words in table.items()}
+    for name, at in (("vbi.vbiData", 0), ("vbiCause", 1), ("vbiPass", 2), ("vbiNear", 3))[:version + 1]:
+        table[".fields[]." + name] = ["3", "items"]
+        for line, passed in enumerate(passes):
+            table[f".fields[].{name}[{line}]"] = (*LINES[passed], ["null"])[at]
+    for line, passed in enumerate(passes):
+        if passed == 3:
+            del table[f".fields[].vbiNear[{line}]"]
+            table.update({"*.word": ["0..0", WORD[0]], "*.distance": ["0.."], "*.rival": ["0.."]})
+    return table
 
 
-# of each system the width, and the first column before which no level is held too long
-for system, width, hold in (("Ntsc", 910, 40), ("Pal", 1135, 50)):
-    for name, least in (("change", 0), ("hold", hold)):
-        texts = {"%s %d" % (name, column): least <= column < width
-                 for column in [*range(-1, 1200), 1910, 9099, 9100, 11340, 11350]}
-        for text, is_valid in {**texts, **{form % name: False for form in FORMS}}.items():
-            expect(schema["$defs"]["cause" + system], text, is_valid, (system, text))
-for count in (1000000, 1000001):
-    expect(schema["properties"]["fields"], [{}] * count, count == 1000000, "a list of %d" % count)
+def faults_of(schema, documents):
+    """What is wrong of the columns that causes may name, of documents, and of what is made of each kind of record."""
+    Draft202012Validator.check_schema(schema)
+    for system, (width, _, hold) in SYSTEMS.items():
+        causes = Draft202012Validator({**schema["$defs"]["cause" + system.title()], "$defs": schema["$defs"]})
+        for name, least in (("change", 0), ("hold", hold)):
+            texts = {f"{name} {column}": least <= column < width for column in COLUMNS}
+            texts.update({form % name: False for form in FORMS})
+            yield from (f"{system}: {text}" for text, may_be in texts.items() if causes.is_valid(text) != may_be)
+    yield from (f"refused: {one}" for one in documents if not Draft202012Validator(schema).is_valid(one))
+    records = {(one["videoParameters"]["system"], *record["vbiPass"]):
+               dict(one, fields=[record], cutField={"seqNo": 7, "bytes": 9})
+               for one in documents for record in one["fields"]}
+    changes = 0
+    for (system, *passes), one in records.items():
+        places, count = tried(schema, table_of(one["version"], system, passes), [("", one)])
+        yield from (f"{system} {passes}{fault}" for fault in places.faults)
+        changes += count
+    yield f"{len(documents)} documents, {len(records)} kinds of records, {changes} changes"
+
+
+schema, *documents = (json.load(open(path, encoding="ascii")) for path in sys.argv[2:])
+assert schema["$schema"] == Draft202012Validator.META_SCHEMA["$id"]
+assert schema["properties"]["fields"]["maxItems"] == 1000000
+print(*faults_of(schema, documents), sep="\n")
 END
 
-# Documents of every kind: no field, each cause with the least and the greatest columns, both passes, a cut field
+# Documents of every kind: no field, each cause with the least and the greatest columns, each pass on each line, a cut
+# field
 signal NTSC 1 << 'END' > ntsc.tbc
 82CFFF|82CFFF @170-171L|-
 L900 H10|82CFFF @170-174L|L164 H746
 H1|L1 H1|L908 H1
 L11 H11|L11 H37|L873 H37
 -|-|F12345
+82CFFF @170-174L|-|82CFFF @170-174L
 END
 signal PAL 1 << 'END' > pal.tbc
-8AE012|8AE012 @200-201L|-
+8AE012|8AE012 @220-221L|-
 L1130 H5|8AE012 @220-224L|H1
 L1 H1|L1133 H1|L14 H14
 L14 H45|L1090 H45|800000
+8AE012 @220-224L|-|8AE012 @220-224L
 END
 head -c 957319 ntsc.tbc > cut.tbc
 head -c 710509 pal.tbc > cut_pal.tbc
 printf x > byte.tbc
-mkdir documents
+mkdir documents recovered
 while read -r name words; do
-    output_of extract $words > documents/$name.json
+    output_of extract $words > $name.json
 done << END
-none $ntsc empty
-levels --system PAL --black 0 --white 65535 empty
-ntsc $ntsc ntsc.tbc
-cut $ntsc cut.tbc
-byte $ntsc byte.tbc
-pal $pal pal.tbc
-cut_pal $pal cut_pal.tbc
+documents/none $ntsc empty
+documents/levels --system PAL --black 0 --white 65535 empty
+documents/ntsc $ntsc ntsc.tbc
+documents/cut $ntsc cut.tbc
+documents/byte $ntsc byte.tbc
+documents/pal $pal pal.tbc
+documents/cut_pal $pal cut_pal.tbc
+recovered/ntsc $ntsc --recover ntsc.tbc
+recovered/pal $pal --recover pal.tbc
 END
-cat > columns << 'END'
-["change 0","change 1","change 909"]
-["hold 40","hold 47","hold 909"]
-["unfinished","change 220","change 0"]
-["change 1","change 1134","hold 50"]
-["hold 58","hold 1134","word"]
-END
-{ jq -c '.fields[2, 3].vbiCause' documents/ntsc.json; jq -c '.fields[1, 2, 3].vbiCause' documents/pal.json; } > found
-check 'the least and the greatest columns' cmp found columns
-does "$(with_jsonschema)" "$here/validate.py" "$schema" documents/*.json
-check 'documents of every kind are valid' [ "$status $(grep -c '^valid ' out)" = '0 7' ]
-
-# The same with recovered words: those of worn lines
-mkdir recovered
-while read -r system discs word from columns; do
-    [ $system = ntsc ] && options=$ntsc || options=$pal
-    worn="$word @$from-$((from + 4))L"
-    printf '%s\n' "$word|$word @$from-$((from + 1))L|-" "L$columns H10|$worn|$worn" "$worn|-|L$columns H10" |
-        signal $discs 1 > worn.tbc
-    output_of extract --recover $options worn.tbc > recovered/$system.json
-done << 'END'
-ntsc NTSC 82CFFF 170 900
-pal PAL 8AE012 220 1125
-END
-jq -c '[.fields[].vbiPass]' recovered/*.json | sort -u > found
-check 'words of worn lines are recovered' [ "$(cat found)" = '[[1,2,0],[0,3,3],[3,0,0]]' ]
-does "$(with_jsonschema)" "$here/validate.py" "$schema_of_recovered" recovered/*.json
-check 'documents with recovered words are valid' [ "$status $(grep -c '^valid ' out)" = '0 2' ]
-
-# What may stand at each place of a document is valid there, and all else is refused: of a document of one record each,
-# with a word on some of its lines
-# places VERSION SYSTEM OTHER WIDTH HEIGHT BYTES LINE LINE LINE: the table. BYTES are a whole field; a LINE is word,
-# none, or recovered, which in version 3 alone has its nearest word.
-places() {
-    version=$1
-    shift
-    cat << END
-.version $version..$version
-.videoParameters.system $1 !$2
-.videoParameters.fieldWidth $3..$3
-.videoParameters.fieldHeight $4..$4
-.videoParameters.black16bIre 0..65534
-.videoParameters.white16bIre 1..65535
-*.seqNo 1..1000000
-.fields[].vbi.vbiData .fields[].vbiCause .fields[].vbiPass 3 items
-.cutField null
-.cutField.bytes 1..$(($5 - 1))
-END
-    shift 5
-    for line in 0 1 2; do
-        case $1 in
-            word) data='8388608..16777215 !0' cause='word !blank !"word "' pass=1..2 ;;
-            none) data=0..0 cause='blank unfinished "change 0" "hold 100" !word !Blank !change' pass=0..0 ;;
-            recovered) data='8388608..16777215 !0' cause='word unfinished "change 0" "hold 100" !blank' pass=3..3 ;;
-        esac
-        case $version$1 in
-            3recovered)
-                echo ".fields[].vbiNear[$line].word 0..0 8388608..16777215"
-                echo ".fields[].vbiNear[$line].distance .fields[].vbiNear[$line].rival 0.."
-                ;;
-            3*) echo ".fields[].vbiNear[$line] null" ;;
-        esac
-        echo ".fields[].vbi.vbiData[$line] $data"
-        echo ".fields[].vbiCause[$line] $cause"
-        echo ".fields[].vbiPass[$line] $pass"
-        shift
-    done
-}
-while read -r document record count words; do
-    jq -c ".fields |= .[$record:$record + 1] | .cutField = {seqNo: 7, bytes: 9}" $document.json > one.json
-    case $document in
-        */ntsc) system='NTSC PAL 910 263 478660' ;;
-        */pal) system='PAL NTSC 1135 313 710510' ;;
-    esac
-    case $document in
-        documents/*)
-            places 2 $system $words > places.txt
-            does "$(with_jsonschema)" "$here/validate_parts.py" "$schema" places.txt one.json
-            ;;
-        *)
-            { places 3 $system $words; echo '.fields[].vbiNear 3 items'; } > places.txt
-            does "$(with_jsonschema)" "$here/validate_parts.py" "$schema_of_recovered" places.txt one.json
-            ;;
-    esac
+{
+    jq -r '.fields[].vbiCause[]' documents/*.json | sort -u
+    jq -c '[.fields[].vbiPass] | transpose[] | unique' recovered/*.json | sort -u
+} | paste -s -d ' ' > out
+echo "blank change 0 change 1 change 1134 change 170 change 220 change 909 hold 1134 hold 200 hold 40 hold 47 hold 50 \
+hold 58 hold 909 unfinished word [0,1,3] [0,2,3]" > wanted
+check 'the least and the greatest columns, and each pass on each line' cmp out wanted
+while IFS='|' read -r schema folder said; do
+    does /usr/bin/python3 validate.py "$here" "$top/share/schema/$schema.schema.json" $folder/*.json
     cat out >> err
-    check "each place of a record of $document with $words" \
-        [ "$status $(cat out)" = "0 ${count%/*} places, ${count#*/} documents" ]
+    check "$folder by $schema.schema.json" [ "$status$(cat out)" = "0$said" ]
 done << 'END'
-documents/ntsc 0 27/291 word word none
-documents/ntsc 4 27/294 none none word
-documents/pal 0 27/291 word word none
-documents/pal 3 27/294 none none word
-recovered/ntsc 0 31/322 word word none
-recovered/ntsc 1 37/404 none recovered recovered
-recovered/ntsc 2 34/366 recovered none none
-recovered/pal 0 31/322 word word none
-recovered/pal 1 37/404 none recovered recovered
-recovered/pal 2 34/366 recovered none none
+ldvbi|documents|7 documents, 6 kinds of records, 1764 changes
+ldvbi-recovered|recovered|2 documents, 10 kinds of records, 3528 changes
 END
-
-# Each column that a line has, and no other; as many fields as a document can have
-does "$(with_jsonschema)" bounds.py "$schema"
-cat out >> err
-check 'columns and counts of fields at and beyond each bound' [ "$status$(cat out)" = 0 ]
 finish

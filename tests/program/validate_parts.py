@@ -7,14 +7,9 @@ neither an object nor a list, with what may stand there: `null`, `true`, `false`
 like a number. `!60` may not stand there. An object or a list has a row where it may be `null`, or where a list has
 `3 items`, which then have places of their own (`[0]`). A row may have several places, and a place several rows; one of
 `*.number` is of each place with this last name that has no row of its own. A row that begins otherwise gives a name to
-what its words allow.
-
-usage: python3 tests/program/validate_parts.py SCHEMA TABLE DOCUMENT..
-"""
+what its words allow."""
 import json
-import os
 import re
-import sys
 
 import jsonschema
 
@@ -131,20 +126,3 @@ def tried(schema, table, documents):
                 places.faults.append("%s: %s is %s" % (place, what, "refused" if is_valid else "valid"))
     places.faults += [row + " is in no document" for row in sorted(places.unused)]
     return places, count
-
-
-def read(path):
-    with open(path, encoding="ascii") as file:
-        return json.load(file)
-
-
-def main():
-    places, count = tried(read(sys.argv[1]), read_table(sys.argv[2]),
-                          [(path, read(path)) for path in sorted(sys.argv[3:], key=os.path.getsize)])
-    for fault in places.faults:
-        print(fault)
-    print("%d places, %d documents" % (len({place for place, _ in places.tried}), count))
-
-
-if __name__ == "__main__":
-    main()

@@ -8,16 +8,25 @@
 
 . "$(dirname "$0")/../helpers.sh"
 
-"${CC:-cc}" -shared -fPIC -O2 -Wall -o refuse.so "$here/refuse.c" -ldl || exit 1
+"${CC:-cc}" -std=c99 -shared -fPIC -O2 -Wall -o devices.so "$here/devices.c" -ldl || exit 1
 echo 'ldvbi: out of memory' > wanting
+REFUSE_MARK=$work/mark
+export REFUSE_MARK
+# metadata BLACK WHITE: metadata with these samples
+metadata() {
+    printf '{"videoParameters":{"system":"NTSC","fieldWidth":910,"fieldHeight":263,"black16bIre":%s,' "$1"
+    printf '"white16bIre":%s,"sampleRate":14318181.5},"fields":[]}' "$2"
+}
+printf '{"a":NaN}' > nan.json
+metadata 8224 16448 > line.json
+metadata 16384 51200 > full.json
+echo '-|-|-' | signal NTSC 1 > black.tbc
+cp black.tbc beside.tbc
+cp full.json beside.tbc.json
 
-# each NAME FILE WORD..: checks the program's answers on these words, with this file on standard input, where each of
-# its allocations is refused in turn. These runs have 50 to 150 of them; how many it is changes with the program.
-each() {
-    name=$1
-    input=$2
-    shift 2
-    run_with "$input" "$@"
+# Each of the allocations of a run is refused in turn. The runs have 50 to 150 of them, by the program.
+while IFS='|' read -r name input words; do
+    run_with "$input" $words
     whole=$status
     cp out whole.out
     cp err whole.err
@@ -31,8 +40,7 @@ each() {
         rm -f mark
         status=0
         {
-            bounded env REFUSE_AT="$number" REFUSE_MARK="$work/mark" LD_PRELOAD="$work/refuse.so" \
-                "$program" "$@" > out 2> err || status=$?
+            bounded env REFUSE_AT="$number" LD_PRELOAD="$work/devices.so" "$program" $words > out 2> err || status=$?
             cat > rest
         } < "$input"
     done
@@ -40,30 +48,16 @@ each() {
     echo "$script: $name: $((number - 1)) allocations, each refused in turn"
     check "$name: no wrong answer" [ ! -s wrong ]
     check "$name: at least 40 allocations" [ $number -gt 40 ]
-}
-
-# metadata with these samples of black and white
-metadata() {
-    printf '{"videoParameters":{"system":"NTSC","fieldWidth":910,"fieldHeight":263,"black16bIre":%s,' "$1"
-    printf '"white16bIre":%s,"sampleRate":14318181.5},"fields":[]}' "$2"
-}
-printf '{"a":NaN}' > nan.json
-metadata 8224 16448 > line.json
-metadata 16384 51200 > full.json
-echo '-|-|-' | signal NTSC 1 > black.tbc
-
-# The stored run; words that give no job; metadata that isn't JSON, and the stored run's line with metadata for it; a
-# field of black samples with its metadata
-each 'the stored run' "$stored/stdin" $(cat "$stored/args")
-each 'no command' empty
-each 'help' empty line --help
-each 'a refused option' empty line --black 65536
-each 'metadata that is not JSON' "$stored/stdin" line --meta nan.json
-each 'the stored run with metadata' "$stored/stdin" line --meta line.json
-each 'the joined run' black.tbc extract --meta full.json
-cp black.tbc beside.tbc
-cp full.json beside.tbc.json
-each 'metadata beside the input' black.tbc extract --recover beside.tbc
+done << END
+the stored run|$stored/stdin|$(paste -s -d " " "$stored/args")
+no command|empty|
+help|empty|line --help
+a refused option|empty|line --black 65536
+metadata that is not JSON|$stored/stdin|line --meta nan.json
+the stored run with metadata|$stored/stdin|line --meta line.json
+the joined run|black.tbc|extract --meta full.json
+metadata beside the input|black.tbc|extract --recover beside.tbc
+END
 
 # What the program says of metadata of each length: a quote and letters, a text without its end. No allocation may be
 # refused then. One shell is for all, since to bound each run by itself takes longer than the runs do.
@@ -74,9 +68,9 @@ does sh -c '
     while read -r length; do
         head -c $length letters > text.json
         code=0
-        LD_PRELOAD=$2 REFUSE_MARK=mark "$1" line --meta text.json < empty 2>&1 || code=$?
+        LD_PRELOAD=$2 "$1" line --meta text.json < empty 2>&1 || code=$?
         echo "$length $code"
-    done < lengths' sh "$program" "$work/refuse.so"
+    done < lengths' sh "$program" "$work/devices.so"
 sed 's/^/ldvbi: metadata is not JSON\n/; s/$/ 1/' lengths > wanted
 diff wanted out | head -n 20 >> err
 check 'what is said of a text of each length' [ "$status$(cat err)" = 0 ]
@@ -93,8 +87,8 @@ field='"audioSamples":735,"diskLoc":1.1,"isFirstField":true,"medianBurstIRE":19.
 bytes=$(wc -c < long.json)
 for times in 2 4 6 8 10 12 14 16 18 20; do
     rm -f mark
-    does sh -c 'ulimit -v $1; shift; LD_PRELOAD=$1 REFUSE_MARK=mark "$2" line --meta long.json "$3"' \
-        sh $((bytes * times / 1024)) "$work/refuse.so" "$program" "$stored/stdin"
+    does sh -c 'ulimit -v $1; LD_PRELOAD=$2 "$3" line --meta long.json "$4"' \
+        sh $((bytes * times / 1024)) "$work/devices.so" "$program" "$stored/stdin"
     set -- 0 "$stored/stdout" ''
     [ ! -e mark ] || set -- 1 empty 'ldvbi: out of memory'
     judge "10 MB of metadata within $times times its bytes" "$@"

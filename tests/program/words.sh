@@ -9,35 +9,19 @@
 cp "$stored/stdin" line.raw
 printf '{"videoParameters":{"fieldWidth":911}}' > width.json
 printf '{"videoParameters":{"system":"NTSC","black16bIre":8224,"white16bIre":16448}}' > videos.json
-more="For more information, try '--help'."
 
-# is_refused_first LINE: whether the last run wrote nothing, ended with status 2, and said a text with this first line
-is_refused_first() {
-    is_refused && [ "$(head -n 1 err)" = "error: $1" ] && [ "$(tail -n 1 err)" = "$more" ]
-}
-
-# Words that are refused, a few of each kind: what else is refused, and how, is tested where the words are read
-# (crates/vbi_cli_tests), and of other words it is compared by rust_compare.sh
+# Words that are refused: what else is, and how, is tested where the words are read (crates/vbi_cli_tests), and of other
+# words it is compared by rust_compare.sh
 cat > refusal << END
 error: 'ldvbi' requires a subcommand but one was not provided
   [subcommands: line, extract, show, draw, help]
 
 Usage: ldvbi <COMMAND>
 
-$more
+For more information, try '--help'.
 END
 run
 check_refusal 'no command' ended 2 empty refusal
-while IFS='|' read -r words line; do
-    run $words
-    check_refusal "$words" is_refused_first "$line"
-done << END
-lin $levels line.raw|unrecognized subcommand 'lin'
-help lines|unrecognized subcommand 'lines'
---vers|unexpected argument '--vers' found
-line --system ntsc line.raw|invalid value 'ntsc' for '--system <NAME>'
-extract $levels line.raw line.raw|unexpected argument 'line.raw' found
-END
 run line $levels "$(printf '\377')"
 judge 'a word that is not text' 2 empty 'ldvbi: arguments are not UTF-8'
 
@@ -58,21 +42,19 @@ videos.json -|82CFFF|--meta -
 videos.json -|82CFFF|$levels -
 videos.json -|short line: 76 of 1820 bytes|$levels ./-
 line.raw line.raw |82CFFF|$levels 'line.raw '
-|cannot open input|$levels 'line.raw '
 width.json width.json |field width differs|$levels --meta 'width.json ' line.raw
-|cannot read metadata|$levels --meta 'width.json ' line.raw
 |cannot read metadata|$levels --meta '' line.raw
 |cannot open input|$levels ''
 line.raw --black|82CFFF|$levels -- --black
-|cannot open input|$levels line.raw/line.raw
 END
 
-# help_of NAME: the help of this file, whose lines `@options` and `@help` stand for what all commands have, and
-# `@recover` for a flag of two. The short help of a command is its line in that of the program, and then the same from
-# the usage on, with the input in one line; that of the program has another first line, and options in one line each.
+# help_of NAME: the help of this file, whose lines `@input` and `@help` stand for what all commands have, and `@recover`
+# for a flag of two. The short help of a command is its line in that of the program, and then the same from the usage
+# on, with the input in one line; that of the program has another first line, and options in one line each.
 help_of() {
     of=${1%-short}
     short=${1#"$of"}
+    usage="Usage: ldvbi $of [OPTIONS] [INPUT]\\n\\nArguments:\\n  [INPUT]$([ "$short" ] || echo '\\n        ')"
     case $1 in
         ldvbi-short)
             echo "Reads the biphase code words of LaserDiscs from fields in ld-decode's TBC format"
@@ -82,10 +64,12 @@ help_of() {
         "$of") cat "$here/help/$1.txt" ;;
         *)
             sed -n "s/^  $of  *//p" "$here/help/ldvbi.txt"
-            sed -n '/^$/,$p' "$here/help/$of.txt" | sed '/^  \[INPUT\]$/{N;s/\n */  /;}'
+            sed -n '/^$/,$p' "$here/help/$of.txt"
             ;;
-    esac | sed -e "/^@options\$/{r $here/help/options$short.txt" -e 'd;}' \
-        -e "/^@recover\$/{r $here/help/recover$short.txt" -e 'd;}' -e "/^@help\$/{r $here/help/help$short.txt" -e 'd;}'
+    esac | sed "s/^@input \(.*\)/$usage  \1; standard input where there is none, or for -\n\n@options/" |
+        sed -e "/^@options\$/{r $here/help/options$short.txt" -e 'd;}' \
+            -e "/^@recover\$/{r $here/help/recover$short.txt" -e 'd;}' \
+            -e "/^@help\$/{r $here/help/help$short.txt" -e 'd;}'
 }
 # helped NAME: whether the last run printed this help. Of the Rust program, whose clap may be of any version, the words
 # have to be the same, but for what clap says of its own options.
@@ -104,18 +88,18 @@ words_of() {
 }
 
 # Help, and the version: files of the folder `help`, and words that print them
-{
-    for command in line extract show draw; do
-        printf "$command %s\n" "$command --help" "help $command" "$command --help --black dark" \
-            "$command --meta absent.json --black 5 --help absent.raw"
-        echo "$command-short $command -h"
-    done
-    printf '%s\n' 'ldvbi --help' 'ldvbi help' 'ldvbi-short -h'
-} > rows
-while read -r text words; do
+while IFS='|' read -r text words; do
     run $words
-    check "the help by $words" helped "$text"
-done < rows
+    check "the help by $words" helped $text
+done << END
+$(for name in line extract show draw; do
+    printf "$name|%s\n" "$name --help" "help $name" "$name --meta absent.json --help --black dark"
+    echo "$name-short|$name -h"
+done)
+ldvbi|--help
+ldvbi|help
+ldvbi-short|-h
+END
 kind=${DIFFERENCES:+plain Rust}
 sed -n "s/^VERSION := \(.*\)/ldvbi \1 (${kind:-proved})/p" "$top/Makefile" > version
 judge_rows << 'END'
