@@ -190,14 +190,6 @@ finish() {
     exit
 }
 
-# with_jsonschema: says which Python has the module jsonschema: the one on the PATH, or the system's own
-with_jsonschema() {
-    for python in python3 /usr/bin/python3; do
-        "$python" -c 'import jsonschema' 2> /dev/null && break
-    done
-    echo "$python"
-}
-
 # signal SYSTEM FIELDS [BLACK WHITE] < DESCRIPTIONS: lines (FIELDS is 0) or fields (1), see described.py
 signal() {
     python3 "$tests/program/described.py" "$@"
@@ -205,7 +197,6 @@ signal() {
 
 # document_head SYSTEM WIDTH HEIGHT BLACK WHITE: how a document begins
 # record NUMBER WORDS CAUSES PASSES: the record of a field, each of the three a list with commas
-# blank_record NUMBER: the record of a field without a word
 # cut_field VALUE: how a document ends, where the cut field is VALUE
 document_head() {
     printf '{"version":2,"videoParameters":{"system":"%s","fieldWidth":%s,"fieldHeight":%s,' "$1" "$2" "$3"
@@ -213,9 +204,6 @@ document_head() {
 }
 record() {
     printf '{"seqNo":%s,"vbi":{"vbiData":[%s]},"vbiCause":[%s],"vbiPass":[%s]}' "$1" "$2" "$3" "$4"
-}
-blank_record() {
-    record "$1" 0,0,0 '"blank","blank","blank"' 0,0,0
 }
 cut_field() {
     printf '\n],"cutField":%s}\n' "$1"
