@@ -130,8 +130,9 @@ class Room:
         return self.read(name).decode()
 
     def files(self):
-        """What is in each file."""
-        return {name: self.read(name) for name in self.names()}
+        """What is in each file, those of folders with them."""
+        paths = [os.path.join(place, name) for place, _, names in os.walk(self.folder) for name in names]
+        return {os.path.relpath(path, self.folder): self.read(path) for path in paths}
 
     def draw_side(self):
         write_stream(self.path, NTSC, pictures(12))

@@ -15,7 +15,7 @@ from compact import words_of
 from ldvbi_side import outside
 from ldvbi_side.command.processes import SideBySide
 import pytest
-from room import buffered, children, DEADLINE, in_database
+from room import buffered, children, in_database
 from streams import NTSC, worn_line
 from test_into import FORM
 
@@ -28,12 +28,13 @@ COMMANDS = (
     "sides/side.tbc --meta side.db --into copy.db", "sides/side.tbc --document --recovered -o out",
     "join sides/side.tbc sides/other.tbc --html both.html")
 STATUSES = {signal.SIGINT: 130, signal.SIGTERM: 143}
+HEEDED = (*STATUSES, signal.SIGHUP)
 FIELDS = 240
 
 
 def heed_all():
     """Has no signal be ignored, as what a shell starts in the background ignores Ctrl-C."""
-    for number in (signal.SIGINT, signal.SIGTERM, signal.SIGHUP):
+    for number in HEEDED:
         signal.signal(number, signal.SIG_DFL)
 
 
@@ -58,24 +59,14 @@ def stopped(room):
     rows = [(place, place % 2) for place in range(FIELDS + 1)]
     in_database(room.named("side.db"), *FORM.split(";"), *(
         ("INSERT INTO field_record VALUES (4, ?, 0.5, ?, 17.25)", row) for row in rows))
-    room.inputs = all_files(room)
+    room.inputs = room.files()
     return room
-
-
-def all_files(stopped):
-    """What is in each file of the folder, those of its folders with them."""
-    found = {}
-    for folder, _, names in os.walk(stopped.folder):
-        for path in (os.path.join(folder, name) for name in names):
-            found[os.path.relpath(path, stopped.folder)] = stopped.read(path)
-    return found
 
 
 def new_files(stopped):
     """Those that a run has written, which are taken away; what was there before is as it was."""
-    found = all_files(stopped)
-    for path, data in stopped.inputs.items():
-        assert found.pop(path, None) == data
+    found = stopped.files()
+    assert {path: found.pop(path, None) for path in stopped.inputs} == stopped.inputs
     for path in found:
         os.unlink(stopped.named(path))
     return found
@@ -90,18 +81,17 @@ def test_at_a_random_moment(stopped):
         wanted[words] = (status, printed, new_files(stopped), time.monotonic() - begun)
     for run in range(RUNS):
         words = COMMANDS[run % len(COMMANDS)]
-        number = chance.choice(list(STATUSES))
-        part, to_all = chance.random(), chance.random() < 0.5
-        stopped_at(stopped, words, number, part * wanted[words][3], to_all, wanted[words])
+        number, part, to_all = chance.choice(list(STATUSES)), chance.random(), chance.random() < 0.5
+        stopped_at(stopped, words, number, part, to_all, *wanted[words])
 
 
-def stopped_at(stopped, words, number, seconds, to_all, wanted):
-    """A run that gets this signal so many seconds after it began to heed it, with all of its processes or alone."""
-    whole_status, whole_text, whole_files, _ = wanted
+def stopped_at(stopped, words, number, part, to_all, whole_status, whole_text, whole_files, seconds):
+    """A run that gets this signal, with all of its processes or alone, when this part of its time is over since it
+    began to heed it."""
     process = stopped.started(words, start_new_session=True, preexec_fn=heed_all)
     while not is_heeded(process):
         time.sleep(0.001)
-    time.sleep(seconds)
+    time.sleep(part * seconds)
     with contextlib.suppress(ProcessLookupError):  # it has ended
         (os.killpg if to_all else os.kill)(process.pid, number)
     try:
@@ -110,28 +100,22 @@ def stopped_at(stopped, words, number, seconds, to_all, wanted):
         os.killpg(process.pid, signal.SIGKILL)
         raise
     files = new_files(stopped)
-    assert said.decode() == ""
-    assert process.returncode in (STATUSES[number], whole_status, -number)
-    for path, data in files.items():
-        assert data == whole_files.get(path)
+    assert (said, process.returncode in (STATUSES[number], whole_status, -number)) == (b"", True)
     if process.returncode == STATUSES[number]:
         assert whole_text.startswith(printed)
+        assert files.items() <= whole_files.items()
     else:
         assert (printed, files) == (whole_text, whole_files)
 
 
-def waits(*_):
-    time.sleep(DEADLINE)
-
-
 def test_while_a_process_is_started(room):
     """It is started whole, and ended before it has a job: one that is broken off says what it lacks."""
-    for number in (signal.SIGINT, signal.SIGTERM, signal.SIGHUP, signal.SIGALRM):
+    for number in (*HEEDED, signal.SIGALRM):
         room.cleanup.callback(signal.signal, number, signal.getsignal(number))
     room.cleanup.callback(setattr, sys, "unraisablehook", sys.unraisablehook)
     heed_all()
     resource_tracker.ensure_running()
-    for number in (signal.SIGINT, signal.SIGTERM, signal.SIGHUP):
+    for number in HEEDED:
         ended, starts = [], util.spawnv_passfds
 
         def stopped(*words, number=number, starts=starts):
@@ -142,7 +126,6 @@ def test_while_a_process_is_started(room):
 
         outside.end_in_order()
         with mock.patch.object(util, "spawnv_passfds", stopped), pytest.raises(outside.Stopped) as raised, \
-                SideBySide(waits, [1], 1, lambda task, _, ended=ended: ended.append(task)) as messages:
+                SideBySide(print, [1], 1, lambda task, _, ended=ended: ended.append(task)) as messages:
             next(iter(messages))
-        assert raised.value.status == 128 + number
-        assert (ended, children(os.getpid())) == ([], [])
+        assert (raised.value.status, ended, children(os.getpid())) == (128 + number, [], [])
