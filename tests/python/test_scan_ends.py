@@ -36,45 +36,34 @@ def fails(*_):
     raise KeyError("a fault of the program")
 
 
-def leaves(*_):
-    """Ends its process."""
-    os._exit(3)
-
-
 def leaves_a_copy(task):
     """Ends its process with a part of the copy of a database, which is a folder."""
     os.mkdir(_part_by(task.copy, os.getpid()))
-    leaves(task)
+    os._exit(3)
 
 
 def test_faults_that_nobody_thought_of(room):
-    """What a scan that reads sides by one of these functions prints of a folder."""
+    """What a scan that reads sides by one of these functions prints of a folder; nothing is left of a copy."""
     room.add("1.tbc")
+    side = room.named("1.tbc")
     for sides, read, row in (
-            (sides_in, fails, room.named("1.tbc") + ",fault,,,,,,,,,,,KeyError: 'a fault of the program'"),
-            (sides_in, leaves, room.named("1.tbc") + ",fault,,,,,,,,,,,its process ended with status 3"),
+            (sides_in, fails, side + ",fault,,,,,,,,,,,KeyError: 'a fault of the program'"),
+            (sides_in, leaves_a_copy, side + ",fault,,,,,,,,,,,its process ended with status 3"),
             (lambda _: [Found("d", "Permission denied")], fails, "d,fault,,,,,,,,,,,Permission denied")):
         with mock.patch("ldvbi_side.command.scan.sides_in", sides), \
                 contextlib.redirect_stdout(io.StringIO()) as printed:
-            assert scan(["--csv", room.folder], read) == 2
+            assert scan(["--csv", "--into", room.named("copies"), room.folder], read) == 2
         assert printed.getvalue().split("\n")[1:] == [row, ""]
+        assert room.names("copies") == []
 
 
-def test_a_copy_that_is_left(room):
-    """By a process that ends at once."""
-    room.add("1.tbc")
-    with contextlib.redirect_stdout(io.StringIO()):
-        assert scan(["--into", room.named("copies"), room.named("1.tbc")], leaves_a_copy) == 2
-    assert os.listdir(room.named("copies")) == []
-
-
-def scanning(room, words, count, waiting=(), **more):
+def scanning(room, words, count, waiting=()):
     """A scan that has printed so many lines, which are the answer, too. Of the folder some sides are named that are
     never read, as they are pipes to which nobody writes."""
     for name in waiting:
-        if not os.path.exists(room.named(name)):
+        if name not in room.names():
             os.mkfifo(room.named(name))
-    process = room.started("scan", *words.split(), *waiting, **more)
+    process = room.started("scan", *words.split(), *waiting, start_new_session=True)
     return process, [process.stdout.readline().decode() for _ in range(count)]
 
 
@@ -82,50 +71,29 @@ def ended(room, process, status, text=b""):
     """As any run, and no process is left over."""
     of_it = children(process.pid)
     room.ended(process, status, text)
-    for one in of_it:
-        assert b"spawn_main" not in command_of(one)
+    assert not any(b"spawn_main" in command_of(one) for one in of_it)
 
 
 def test_one_side_fails_and_the_others_are_read(room):
     for name in ("1.tbc", "3.tbc"):
         room.add(name)
     process, lines = scanning(room, "--csv -j 1 --html pages .", 2, ["2.vbi.json"])
-    assert lines == ["side,whole,lost,unread,format,from,to,last,lead-in,lead-out,fields,try,why\n",
-                     "./1.tbc,yes,0,0,cav,1,30,30,0,1,61,,\n"]
+    assert lines[1] == "./1.tbc,yes,0,0,cav,1,30,30,0,1,61,,\n"
     os.kill(until(lambda: children(process.pid))[0], signal.SIGKILL)
     ended(room, process, 2, b"./2.vbi.json,fault,,,,,,,,,,,its process was ended by SIGKILL\n"
                            b"./3.tbc,yes,0,0,cav,1,30,30,0,1,61,,\n")
-    assert len(os.listdir(room.named("pages"))) == 3
+    assert room.names("pages") == ["1.html", "3.html", "index.html"]
 
 
 def test_while_sides_are_read(room):
     """By Ctrl-C at a terminal, which all processes get, and by a signal to the first one alone."""
     room.add("1.tbc")
-    waiting = ["%d.vbi.json" % number for number in (2, 3, 4)]
     for stop in (os.killpg, os.kill):
-        process, _ = scanning(room, "--csv -j 2 --html pages .", 2, waiting, start_new_session=True)
+        process, _ = scanning(room, "--csv -j 2 --html pages .", 2, ["2.vbi.json", "3.vbi.json", "4.vbi.json"])
         until(lambda: len(children(process.pid)) == 2)
         stop(process.pid, signal.SIGINT)
         ended(room, process, 130)
-        assert re.search("^1.html$", " ".join(os.listdir(room.named("pages"))))
-
-
-def test_while_a_page_is_written(room):
-    """A page with drawings of many lines."""
-    worn = line_with(0xF00001, NTSC, [(430, 441, False)])
-    room.add("1.tbc", [[worn, worn, worn]] * 80)
-    for stop, status, text in ((lambda one: os.killpg(one, signal.SIGINT), 130, b""),
-                               (lambda one: os.killpg(one, signal.SIGHUP), 129, b""),
-                               (lambda one: os.kill(one, signal.SIGTERM), 143, b""),
-                               (lambda one: os.kill(children(one)[0], signal.SIGKILL), 2,
-                                b"1.tbc,fault,,,,,,,,,,,its process was ended by SIGKILL\n")):
-        process, _ = scanning(room, "--csv --html pages 1.tbc", 1, start_new_session=True)
-        until(lambda: os.path.exists(room.named("pages")) and os.listdir(room.named("pages")))
-        names = os.listdir(room.named("pages"))
-        assert names[0].endswith(".part")
-        stop(process.pid)
-        ended(room, process, status, text)
-        assert os.listdir(room.named("pages")) == (["index.html"] if text else [])
+        assert room.names("pages") == ["1.html"]
 
 
 def test_no_reader(room):
@@ -135,15 +103,36 @@ def test_no_reader(room):
     assert (process.wait(DEADLINE), process.stderr.read()) == (2, b"")
 
 
+def test_while_a_page_is_written(room):
+    """A page with drawings of many lines."""
+    worn = line_with(0xF00001, NTSC, [(430, 441, False)])
+    room.add("1.tbc", [[worn, worn, worn]] * 80)
+    for number, to_all, status in ((signal.SIGINT, True, 130), (signal.SIGHUP, True, 129), (signal.SIGTERM, False, 143),
+                                   (signal.SIGKILL, False, 2)):
+        process, _ = scanning(room, "--csv --html pages 1.tbc", 1)
+        until(lambda: os.path.exists(room.named("pages")) and room.names("pages"))
+        assert room.names("pages")[0].endswith(".part")
+        one = children(process.pid)[0] if number == signal.SIGKILL else process.pid
+        (os.killpg if to_all else os.kill)(one, number)
+        row = b"1.tbc,fault,,,,,,,,,,,its process was ended by SIGKILL\n" if number == signal.SIGKILL else b""
+        ended(room, process, status, row)
+        assert room.names("pages") == (["index.html"] if row else [])
+
+
 def test_one_line_for_all(room):
+    """Sides whose pages are kept are no part of it."""
     for name in ("1.tbc", "2.tbc"):
         room.add(name, "Lx200")
-    shown, text = room.on_terminal(4, "scan --csv .")
+    shown, text = room.on_terminal(4, "scan --csv --html pages .")
     assert text.count(b"\n") == 3
     lines = shown.split("\r")
     assert (lines[1], lines[-1]) == ("0 of 2 sides, 0 %\x1b[K", "\x1b[K")
     for line in lines[1:]:
         assert re.search(r"^([012] of 2 sides, [0-9]+ %(, [0-9]+:[0-9]{2} left)?)?\x1b\[K$", line)
+    room.add("3.tbc")
+    shown, text = room.on_terminal(4, "scan --csv --html pages .")
+    assert text.count(b"\n") == 4
+    assert shown.startswith("\r0 of 1 sides, 0 %\x1b[K")
 
 
 def ignores(task, tell):
@@ -186,15 +175,13 @@ def test_one_after_the_other():
     assert children(os.getpid()) == []
 
 
-def test_one_that_stays():
+def test_processes_that_stay_or_end():
+    """One that has to be killed, and those that get signals while they end."""
     ended = []
     with mock.patch.object(processes, "GRACE", 0.1), \
             SideBySide(ignores, [1, 2], 1, lambda task, process: ended.append(task)) as messages:
         assert next(iter(messages)) == (0, 1)
     assert (ended, children(os.getpid())) == ([1], [])
-
-
-def test_signals_to_one_that_ends():
     with SideBySide(tidies, [0, signal.SIGHUP], 1, lambda task, process: None) as messages:
         assert list(messages) == [(0, []), (0, Ended(0)), (1, []), (1, Ended(1))]
 
@@ -231,52 +218,44 @@ def test_whole_texts():
                         ((10, 10, 1, 1.0, True, io.StringIO), ""), ((10, 10, 1, 1.0, False), "")):
         assert run_over(*run) == wanted
     assert shown("1 of 1000 fields, 0 %, 166:30 left") in run_over(1000, 1000, 1, 10.0)
+    text = run_over(1003, 1003, 1, 0.01)
+    assert text.count("\r") == 3 + 10 * 5  # the first, the last, the empty line, and five a second
+    assert text.endswith(shown("1003 of 1003 fields, 100 %", ""))
     with mock.patch("sys.stderr", None), Progress(3) as progress:
         assert list(progress.over("abc")) == ["a", "b", "c"]
 
 
-def test_few_messages_a_second():
-    text = run_over(1003, 1003, 1, 0.01)
-    assert text.count("\r") == 3 + 10 * 5  # the first, the last, the empty line, and five a second
-    assert text.endswith(shown("1003 of 1003 fields, 100 %", ""))
-
-
-def test_the_line_is_emptied_by_an_exception_too():
-    with mock.patch("sys.stderr", Terminal()) as errors, pytest.raises(KeyboardInterrupt), Progress(10):
-        raise KeyboardInterrupt
-    assert errors.getvalue() == shown("0 of 10 fields, 0 %", "")
-
-
-def test_one_who_listens_in_its_place():
+def test_who_listens():
+    """In the place of a terminal, whose line is emptied by an exception, too."""
     heard = []
     with mock.patch("sys.stderr", Terminal()) as errors:
         with heard_by(lambda *one: heard.append(one)), Progress(3) as progress:
             assert list(progress.over("abc")) == ["a", "b", "c"]
         assert (heard, errors.getvalue()) == ([(0, 3), (3, 3)], "")
-        with Progress(3):
-            pass
-    assert errors.getvalue() == shown("0 of 3 fields, 0 %", "")
+        with pytest.raises(KeyboardInterrupt), Progress(10):
+            raise KeyboardInterrupt
+    assert errors.getvalue() == shown("0 of 10 fields, 0 %", "")
 
 
-@pytest.mark.parametrize("sizes, seconds, parts, errors, wanted", (
-    ([200, 100, 100], 1, [(0, 0.5), (1, 1), None, (0, 0.6), (0, 1), (2, 1)], Terminal(), shown(
-        "0 of 3 sides, 0 %", "0 of 3 sides, 25 %, 0:03 left", "1 of 3 sides, 50 %, 0:02 left", "",
-        "1 of 3 sides, 55 %, 0:02 left", "2 of 3 sides, 75 %, 0:01 left", "3 of 3 sides, 100 %", "")),
-    ([1], 0, [*9 * [(0, 0.5)], None, (0, 0.5)], Terminal(), shown(
-        "0 of 1 sides, 0 %", "", "0 of 1 sides, 50 %, 0:00 left", "")),
-    ([], 1, [], Terminal(), shown("")), ([1], 1, [(0, 0.5), None, (0, 1)], io.StringIO(), "")))
-def test_a_line_for_all(sizes, seconds, parts, errors, wanted):
+def test_a_line_for_all():
     """What is written while these parts of sides are reached, each so many seconds after the one before; for None the
     line is emptied. Of the fields of three sides the first has a half, and the others a quarter each."""
     clock = mock.Mock(return_value=100.0)
-    with mock.patch("time.monotonic", clock), mock.patch("sys.stderr", errors), SidesProgress(sizes) as progress:
-        for part in parts:
-            clock.return_value += seconds * (part is not None)
-            if part:
-                progress.reached(*part)
-            else:
-                progress.clear()
-    assert errors.getvalue() == wanted
+    for sizes, seconds, parts, errors, wanted in (
+            ([200, 100, 100], 1, [(0, 0.5), (1, 1), None, (0, 0.6), (0, 1), (2, 1)], Terminal(), shown(
+                "0 of 3 sides, 0 %", "0 of 3 sides, 25 %, 0:03 left", "1 of 3 sides, 50 %, 0:02 left", "",
+                "1 of 3 sides, 55 %, 0:02 left", "2 of 3 sides, 75 %, 0:01 left", "3 of 3 sides, 100 %", "")),
+            ([1], 0, [*9 * [(0, 0.5)], None, (0, 0.5)], Terminal(), shown(
+                "0 of 1 sides, 0 %", "", "0 of 1 sides, 50 %, 0:00 left", "")),
+            ([], 1, [], Terminal(), shown("")), ([1], 1, [(0, 0.5), None, (0, 1)], io.StringIO(), "")):
+        with mock.patch("time.monotonic", clock), mock.patch("sys.stderr", errors), SidesProgress(sizes) as progress:
+            for part in parts:
+                clock.return_value += seconds * (part is not None)
+                if part:
+                    progress.reached(*part)
+                else:
+                    progress.clear()
+        assert errors.getvalue() == wanted
 
 
 def steps(task):
@@ -305,13 +284,3 @@ def test_sides_of_both_kinds_in_one_scan(room):
     for quarter in (first[-1], second[0]):
         assert 17 <= quarter <= 33
     assert max(first) < second[0] < 100 > second[-1] > 90
-
-
-def test_sides_whose_pages_are_kept_are_no_part_of_the_line(room):
-    for name in ("1.tbc", "2.tbc", "3.tbc"):
-        room.add(name)
-        if name != "3.tbc":
-            room.scan("--html pages .")
-    shown, text = room.on_terminal(0, "scan --csv --html pages .")
-    assert text.count(b",yes,") == 3
-    assert shown.startswith("\r0 of 1 sides, 0 %\x1b[K")
