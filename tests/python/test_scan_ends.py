@@ -18,7 +18,7 @@ from ldvbi_side.command.progress import heard_by, Progress, SidesProgress
 from ldvbi_side.command.scan import scan
 import pytest
 from room import children, command_of, DEADLINE
-from streams import line_with, NTSC, PROGRAM
+from streams import line_with, NTSC
 
 
 def until(found):
@@ -57,65 +57,43 @@ def test_faults_that_nobody_thought_of(room):
         assert room.names("copies") == []
 
 
-def scanning(room, words, count, waiting=()):
-    """A scan that has printed so many lines, which are the answer, too. Of the folder some sides are named that are
-    never read, as they are pipes to which nobody writes."""
-    for name in waiting:
-        if name not in room.names():
-            os.mkfifo(room.named(name))
-    process = room.started("scan", *words.split(), *waiting, start_new_session=True)
+def scanning(room, words, count):
+    """A scan that has printed so many lines, which are the answer, too."""
+    process = room.started("scan " + words, start_new_session=True)
     return process, [process.stdout.readline().decode() for _ in range(count)]
 
 
-def ended(room, process, status, text=b""):
-    """As any run, and no process is left over."""
-    of_it = children(process.pid)
-    room.ended(process, status, text)
-    assert not any(b"spawn_main" in command_of(one) for one in of_it)
-
-
 def test_one_side_fails_and_the_others_are_read(room):
+    """One that is named, as it is a pipe to which nobody writes, is never read."""
     for name in ("1.tbc", "3.tbc"):
         room.add(name)
-    process, lines = scanning(room, "--csv -j 1 --html pages .", 2, ["2.vbi.json"])
+    os.mkfifo(room.named("2.vbi.json"))
+    process, lines = scanning(room, "--csv -j 1 --html pages . 2.vbi.json", 2)
     assert lines[1] == "./1.tbc,yes,0,0,cav,1,30,30,0,1,61,,\n"
     os.kill(until(lambda: children(process.pid))[0], signal.SIGKILL)
-    ended(room, process, 2, b"./2.vbi.json,fault,,,,,,,,,,,its process was ended by SIGKILL\n"
+    room.ended(process, 2, b"./2.vbi.json,fault,,,,,,,,,,,its process was ended by SIGKILL\n"
                            b"./3.tbc,yes,0,0,cav,1,30,30,0,1,61,,\n")
     assert room.names("pages") == ["1.html", "3.html", "index.html"]
-
-
-def test_while_sides_are_read(room):
-    """By Ctrl-C at a terminal, which all processes get, and by a signal to the first one alone."""
-    room.add("1.tbc")
-    for stop in (os.killpg, os.kill):
-        process, _ = scanning(room, "--csv -j 2 --html pages .", 2, ["2.vbi.json", "3.vbi.json", "4.vbi.json"])
-        until(lambda: len(children(process.pid)) == 2)
-        stop(process.pid, signal.SIGINT)
-        ended(room, process, 130)
-        assert room.names("pages") == ["1.html"]
-
-
-def test_no_reader(room):
-    room.add("1.tbc")
-    process, _ = scanning(room, "--csv -j 2 .", 1, ["2.vbi.json"])
-    process.stdout.close()
+    process, _ = scanning(room, "--csv -j 2 . 2.vbi.json", 1)
+    process.stdout.close()  # there is no reader any longer
     assert (process.wait(DEADLINE), process.stderr.read()) == (2, b"")
 
 
 def test_while_a_page_is_written(room):
-    """A page with drawings of many lines."""
+    """A page with drawings of many lines, and by Ctrl-C at a terminal, which all processes get, by a signal to the
+    first one alone, or to the one that writes. No process is left over."""
     worn = line_with(0xF00001, NTSC, [(430, 441, False)])
     room.add("1.tbc", [[worn, worn, worn]] * 80)
-    for number, to_all, status in ((signal.SIGINT, True, 130), (signal.SIGHUP, True, 129), (signal.SIGTERM, False, 143),
-                                   (signal.SIGKILL, False, 2)):
+    for number, to_all, status in ((signal.SIGINT, True, 130), (signal.SIGHUP, True, 129), (signal.SIGINT, False, 130),
+                                   (signal.SIGTERM, False, 143), (signal.SIGKILL, False, 2)):
         process, _ = scanning(room, "--csv --html pages 1.tbc", 1)
         until(lambda: os.path.exists(room.named("pages")) and room.names("pages"))
         assert room.names("pages")[0].endswith(".part")
-        one = children(process.pid)[0] if number == signal.SIGKILL else process.pid
-        (os.killpg if to_all else os.kill)(one, number)
+        one, = children(process.pid)
+        (os.killpg if to_all else os.kill)(one if number == signal.SIGKILL else process.pid, number)
         row = b"1.tbc,fault,,,,,,,,,,,its process was ended by SIGKILL\n" if number == signal.SIGKILL else b""
-        ended(room, process, status, row)
+        room.ended(process, status, row)
+        assert b"spawn_main" not in command_of(one)
         assert room.names("pages") == (["index.html"] if row else [])
 
 
@@ -164,14 +142,15 @@ def tells(task, tell):
 
 def test_one_after_the_other():
     """A process that is killed takes the job that it is at with it, and the next one is done by another process."""
-    after = []
-    with SideBySide(tells, [0, 0, signal.SIGKILL, 0, 0], 1, lambda *one: after.append(one)) as messages:
+    after, tasks = [], [0, 0, signal.SIGKILL, 0, 0]
+    with SideBySide(tells, tasks, 1, lambda *one: after.append(one)) as messages:
         found = list(messages)
     one, other = found[0][1], found[-2][1]
     assert one != other
-    assert found == [(0, one), (0, Ended(0)), (1, one), (1, Ended(0)), (2, one), (2, Ended(-signal.SIGKILL)),
-                     (3, other), (3, Ended(0)), (4, other), (4, Ended(0))]
-    assert after == [(0, one), (0, one), (signal.SIGKILL, one), (0, other), (0, other)]
+    ends = [(one, 0), (one, 0), (one, -signal.SIGKILL), (other, 0), (other, 0)]
+    assert found == [message for place, (process, status) in enumerate(ends)
+                     for message in ((place, process), (place, Ended(status)))]
+    assert after == list(zip(tasks, (process for process, _ in ends)))
     assert children(os.getpid()) == []
 
 
@@ -270,7 +249,7 @@ def test_sides_of_both_kinds_in_one_scan(room):
     600 these are about a quarter and three quarters. It is done when it has been judged."""
     room.add("1.tbc", "1..100")
     room.add("long.tbc", "1..300")
-    room.write("2.vbi.json", room.run_command("extract", "LEVELS", "long.tbc", command=[PROGRAM])[1])
+    room.write("2.vbi.json", room.extracted("long.tbc"))
     texts = []
     with mock.patch("ldvbi_side.command.progress.PAUSE", 0), \
             mock.patch("ldvbi_side.command.progress._is_terminal", lambda: True), \
@@ -281,6 +260,6 @@ def test_sides_of_both_kinds_in_one_scan(room):
     assert [done for done, _ in shown] == sorted(done for done, _ in shown)
     first, second = ([part for done, part in shown if done == count] for count in (0, 1))
     assert (first[0], shown[-1]) == (0, (2, 100))
-    for quarter in (first[-1], second[0]):
-        assert 17 <= quarter <= 33
+    assert 17 <= first[-1] <= 33
+    assert 17 <= second[0] <= 33
     assert max(first) < second[0] < 100 > second[-1] > 90
