@@ -70,18 +70,12 @@ def document_of(data):
     return subprocess.run(words, input=data, stdout=subprocess.PIPE, check=True).stdout
 
 
-class Room:
+class Room(contextlib.ExitStack):
     """`path` is that of a TBC file in the folder, which isn't there yet."""
 
     def __init__(self, folder):
-        self.folder, self.cleanup = folder, contextlib.ExitStack()
-        self.path = self.named("side.tbc")
-
-    def __enter__(self):
-        return self
-
-    def __exit__(self, *_):
-        self.cleanup.close()
+        super().__init__()
+        self.folder, self.cleanup, self.path = folder, self, os.path.join(folder, "side.tbc")
 
     def named(self, name):
         return os.path.join(self.folder, name)

@@ -91,8 +91,7 @@ EITHER = """
     by different ones | CHAPTERS 83D0A1/-/- ; 83D0A1/-/- 41..60 ; CHAPTERS | shownBy chapter, users' code
     other chapters of half | CHAPTERS ; 1..40 2:30/2=-/c1/c1 32:40/2=-/c2/c2 42:80/2=-/c3/c3 | shownBy
     of nine | CHAPTERS ; 32..59 2:56/2=-/c5/c5 | shownBy || of others | CHAPTERS ; 50..89 2:80/2=-/c5/c5 | shownBy
-    film and video, nine times | NTSC f1..19 ; NTSC 1..40 | shownBy
-    of others | NTSC f1..40 ; NTSC 41..80 | shownBy
+    film and video, nine times | NTSC f1..19 ; NTSC 1..40 | shownBy || of others | NTSC f1..40 ; NTSC 41..80 | shownBy
 """
 # The same of captures in this order
 IN_ORDER = """

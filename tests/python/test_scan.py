@@ -20,7 +20,6 @@ from ldvbi_side.command.folders import files_of, Found, name_below, page_names, 
 from ldvbi_side.command.into import copies_in
 from ldvbi_side.command.main import answer_of
 from ldvbi_side.command.scan import scan
-import pytest
 from room import in_database, IN_PLACE
 from streams import NTSC, PAL, TOP, worn_line
 
@@ -251,13 +250,6 @@ COPIES = (
     ("c.tbc", "c.tbc", "x/c.tbc.json"))
 
 
-@pytest.fixture
-def folders(room):
-    room.cleanup.callback(os.chdir, os.getcwd())
-    os.chdir(room.folder)
-    return room
-
-
 def make(names):
     """Files, and links, behind which it is said where to."""
     for name, is_link, target in (name.partition(">") for name in names.split()):
@@ -268,7 +260,9 @@ def make(names):
             open(name, "wb").close()
 
 
-def test_sides_in_folders(folders):
+def test_sides_in_folders(monkeypatch, tmp_path):
+    """Which there are, of which files, and where their copies stand."""
+    monkeypatch.chdir(tmp_path)
     for files, paths, wanted in FOLDERS:
         shutil.rmtree("d", ignore_errors=True)
         make(files)
@@ -277,6 +271,10 @@ def test_sides_in_folders(folders):
                                            wanted.split()]
     with mock.patch("os.scandir", side_effect=PermissionError(13, "Permission denied", "d")):
         assert sides_in(["d"]) == [Found("d", "Permission denied")]
+    make("a.tbc a.tbc.db a/1.tbc.json a/b/1.tbc.db a/b/2.vbi.json.json c.tbc.json")
+    assert (files_of("a.tbc"), files_of("b.tbc")) == (["a.tbc", "a.tbc.db"], ["b.tbc"])
+    for paths, sides, wanted in COPIES:
+        assert [one or "-" for one in copies_in("x", paths.split(), sides.split())] == wanted.split()
 
 
 def test_names_of_pages():
@@ -286,15 +284,6 @@ def test_names_of_pages():
     for path, folders, name in (("d/e/a.tbc", "d", "e/a.tbc"), ("d/e/a.tbc", "d/e d/", "e/a.tbc"),
                                 ("./a.tbc", ".", "a.tbc"), ("dd/a.tbc", "d", "a.tbc"), ("/d/a.tbc", "/", "d/a.tbc")):
         assert name_below(path, folders.split()) == name
-
-
-def test_files_of_a_side(folders):
-    """And where their copies stand."""
-    make("a.tbc a.tbc.db a/1.tbc.json a/b/1.tbc.db a/b/2.vbi.json.json c.tbc.json")
-    assert (files_of("a.tbc"), files_of("b.tbc")) == (["a.tbc", "a.tbc.db"], ["b.tbc"])
-    for paths, sides, wanted in COPIES:
-        found = copies_in("x", paths.split(), sides.split())
-        assert " ".join(one or "-" for one in found) == wanted
 
 
 def test_packed_forms():
@@ -335,13 +324,11 @@ def test_refused(drawn):
 
 
 def test_names_and_notes(room):
-    """The processes of a scan read in the file by which the command was started; what is noted has its side. A name
-    that is no text stands in a table as it is."""
-    name = os.fsdecode(b"side \xff\n.tbc")
-    for one in ("side.tbc", "d/" + name):
-        room.add(one)
+    """The processes of a scan read in the file by which the command was started; what is noted has its side. Letters
+    that are none are shown as a mark."""
+    room.add("side.tbc")
     room.metadata("side.tbc.json", black16bIre=16383.5)
+    os.link(room.named("side.tbc"), room.named(os.fsdecode(b"\xff\n.tbc")))
     assert room.run_words("scan --csv side.tbc", command=[os.path.join(TOP, "python", "ldvbi-side")]) == (
         0, "%s\n%s\n" % (",".join(HEAD), YES), "ldvbi-side: side.tbc: black16bIre is 16383.5, rounded to 16384\n")
-    assert room.row("d") == '"d/%s",yes,0,0,cav,1,30,30,0,1,61,,' % name
-    assert room.scan("d")[1].split("\n")[1][:25] == "d/side ??.tbc  yes       "
+    assert [row.split()[0] for row in room.scan(".")[1].splitlines()] == ["side", "./side.tbc", "./??.tbc"]
