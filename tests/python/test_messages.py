@@ -1,7 +1,5 @@
-"""Each fault in its whole message: one line that names the file, and says what is wrong with it or was looked for; and
-the command lines that are refused. The exit statuses of all options and commands, which are those of the table in
-docs/FORMATS.md, and the version; and the parsers of the command, of whose texts the manual page and the completions are
-made."""
+"""Each fault in its whole message: one line that names the file, and says what is wrong with it or was looked for. The
+command lines that are refused, the exit statuses of all options and commands, and the texts of the parsers."""
 
 import bz2
 import gzip
@@ -38,9 +36,9 @@ REFUSED = """
     'my sides' | my sides is a folder: ldvbi-side scan 'my sides'
     join side.vbi.json 'my sides' | my sides is a folder: ldvbi-side scan 'my sides'
     /dev/null LEVELS | /dev/null is no file that can be mapped
-    side.tbc --white 65536 HALF | side.tbc: white is not from 0 to 65535 || scna | scna NO COMMAND
-    scna folder -j 1 | scna NO COMMAND || compare side.vbi.json side.vbi.json | compare NO COMMAND
-    index a.html b.html | index NO COMMAND || lost | lost: No such file or directory
+    side.tbc --white 65536 HALF | side.tbc: white is not from 0 to 65535
+    scna | scna NO COMMAND || compare side.vbi.json side.vbi.json -j 1 | compare NO COMMAND
+    lost | lost: No such file or directory
     side.vbi.json --document | side.vbi.json is a document, and --document is for a TBC file
     side.vbi.json --black 16384 | side.vbi.json: OPTIONS || side.vbi.json --system PAL | side.vbi.json: OPTIONS
     side.tbc --meta meta.json | meta.json: No such file or directory || side.vbi.json -o absent/out | ABSENT
@@ -103,33 +101,35 @@ def test_usage(drawn):
         assert re.search(end, said)
 
 
+# What begins as each form, and files of that, with command lines and what is said, in which ! is a pipe. A database is
+# read by no other program.
+PACKED = {"gzip": gzip.compress(b"video"), "bzip2": bz2.compress(b"video"), "xz": lzma.compress(b"video"),
+          "lzma": lzma.compress(b"video", lzma.FORMAT_ALONE), "zip": b"PK\x03\x04" + bytes(60),
+          "zstd": b"\x28\xb5\x2f\xfd" + bytes(60), "FLAC": b"fLaC\x00\x00\x00\x22" + bytes(60)}
+COMPRESSED = """
+    my side.tbc.gz | 'my side.tbc.gz' | gzip: zcat 'my side.tbc.gz' ! META 'my side.tbc.json' ! ldvbi-side -
+    packed.tbc | packed.tbc LEVELS
+        | bzip2: bzcat packed.tbc ! ldvbi extract --system NTSC --black 16384 --white 51200 ! ldvbi-side -
+    packed.tbc | packed.tbc --white 5 | bzip2: bzcat packed.tbc ! META packed.tbc.json --white 5 ! ldvbi-side -
+    s.tbc.xz | s.tbc.xz --meta one.json | xz: xzcat s.tbc.xz ! META one.json ! ldvbi-side -
+    s.tbc.lzma | s.tbc.lzma | lzma: lzcat s.tbc.lzma ! META s.tbc.json ! ldvbi-side -
+    s.tbc.zip | s.tbc.zip | zip: unzip -p s.tbc.zip ! META s.tbc.json ! ldvbi-side -
+    s.tbc.zst | s.tbc.zst | zstd: zstdcat s.tbc.zst ! META s.tbc.json ! ldvbi-side -
+    s.vbi.json.gz | s.vbi.json.gz | gzip: zcat s.vbi.json.gz ! ldvbi-side -
+    s.tbc.flac | s.tbc.flac | FLAC: UNPACK || a.tbc.gz | a.tbc.gz --meta a.db | gzip: UNPACK
+    b.vbi.json | join side.vbi.json b.vbi.json | gzip: UNPACK || meta.json | side.tbc --meta meta.json | gzip: UNPACK
+    b.tbc.gz | b.tbc.gz | gzip: UNPACK
+"""
+
+
 def test_compressed_files(drawn):
-    """Of a side alone the message has the command that reads it, unless a database is its metadata, which no other
-    program reads."""
-    gzipped, bzipped, extract = gzip.compress(b"video"), bz2.compress(b"video"), "ldvbi extract --meta "
+    """Of a side alone the message has the command that reads it."""
     drawn.write("b.tbc.db", b"")
-    for name, words, data, text in (
-            ("my side.tbc.gz", "'my side.tbc.gz'", gzipped,
-             "gzip): zcat 'my side.tbc.gz' | %s'my side.tbc.json' | ldvbi-side -" % extract),
-            ("packed.tbc", "packed.tbc LEVELS", bzipped, "bzip2): bzcat packed.tbc | "
-             "ldvbi extract --system NTSC --black 16384 --white 51200 | ldvbi-side -"),
-            ("packed.tbc", "packed.tbc --white 5", bzipped,
-             "bzip2): bzcat packed.tbc | %spacked.tbc.json --white 5 | ldvbi-side -" % extract),
-            ("a.tbc.gz", "a.tbc.gz --meta a.db", gzipped, "gzip): unpack it first"),
-            ("b.tbc.gz", "b.tbc.gz", gzipped, "gzip): unpack it first"),
-            ("s.tbc.xz", "s.tbc.xz --meta one.json", lzma.compress(b"video"),
-             "xz): xzcat s.tbc.xz | %sone.json | ldvbi-side -" % extract),
-            ("s.vbi.json.gz", "s.vbi.json.gz", gzipped, "gzip): zcat s.vbi.json.gz | ldvbi-side -"),
-            ("s.tbc.flac", "s.tbc.flac", b"fLaC\x00\x00\x00\x22" + bytes(60), "FLAC): unpack it first"),
-            ("b.vbi.json", "join side.vbi.json b.vbi.json", gzipped, "gzip): unpack it first"),
-            ("meta.json", "side.tbc --meta meta.json", gzipped, "gzip): unpack it first"),
-            *(("s.tbc." + end, "s.tbc." + end, data,
-               "%s): %s s.tbc.%s | %ss.tbc.json | ldvbi-side -" % (form, command, end, extract))
-              for end, form, command, data in (
-                  ("lzma", "lzma", "lzcat", lzma.compress(b"video", lzma.FORMAT_ALONE)),
-                  ("zip", "zip", "unzip -p", b"PK\x03\x04" + bytes(60)),
-                  ("zst", "zstd", "zstdcat", b"\x28\xb5\x2f\xfd" + bytes(60))))):
-        each_file(drawn, name, words, (": it is compressed (" + text, data))
+    for name, words, said in cells_of(COMPRESSED):
+        form, said = said.split(": ", 1)
+        for short, text in (("!", "|"), ("META", "ldvbi extract --meta"), ("UNPACK", "unpack it first")):
+            said = said.replace(short, text)
+        each_file(drawn, name, words, (": it is compressed (%s): %s" % (form, said), PACKED[form]))
 
 
 def test_the_command_for_a_compressed_file_is_taken(drawn):
@@ -150,8 +150,7 @@ def test_standard_input(drawn):
             ("-", drawn.read("side.tbc")[:100000], make % "side.tbc.json"),
             ("- --meta 'a b.json'", b"\0", make % "'a b.json'"), ("- --meta a.db", b"\0", make % "side.tbc.json"),
             ("-", gzip.compress(b"{}"), "standard input: it is compressed (gzip): unpack it first"),
-            ("-", b"", "standard input: " + NOT_JSON), ("-", b" {x", "standard input: not JSON: line 1 is wrong "
-                                                        "from column 3 on")):
+            ("-", b"", "standard input: " + NOT_JSON)):
         with open(drawn.write("in", data), "rb") as file:
             assert drawn.run_command(words, stdin=file) == (2, b"", "ldvbi-side: %s\n" % text)
 
