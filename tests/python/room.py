@@ -63,13 +63,6 @@ def command_of(process):
         return b""
 
 
-@functools.lru_cache(maxsize=None)
-def document_of(data):
-    """The document that the program makes of the pictures 0 to 11."""
-    words = [PROGRAM, "extract", *LEVELS, "-"]
-    return subprocess.run(words, input=data, stdout=subprocess.PIPE, check=True).stdout
-
-
 class Room(contextlib.ExitStack):
     """`path` is that of a TBC file in the folder, which isn't there yet."""
 
@@ -103,7 +96,7 @@ class Room(contextlib.ExitStack):
 
     def draw_side(self):
         write_stream(self.path, NTSC, pictures(12))
-        self.document = document_of(self.read("side.tbc"))
+        self.document = self.extracted("side.tbc")
         self.write("side.vbi.json", self.document)
 
     def metadata(self, name, *, count=None, field=(), **more):

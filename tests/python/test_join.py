@@ -41,7 +41,7 @@ EITHER = """
     what each has | ONE ; OTHER | alone b 21-23 3, a 31 1 | better b 2-4 3, a 5-6 2, a 8 1, b 20 1, a 30 1
         | alike 1 1, 7 1, 9-19 11, 24-29 6, 32-40 9 | @2 b 3 2 read | @5 a 9 5 read | @20 b 39 20 read
     what both lack | 1..40 -21:30 ; 1..40 -29:34 | alone b 11-14 4, a 16-17 2 | better b 10 1 | alike 1-9 9, 18-40 23
-        | missing 15 1 lost | says together: pictures 1 to 40, 1 lost
+        | missing 15 1 lost
     times | PAL t1490..1509 ; t1495..1519 | alike 0:00:59.20-0:01:00.09 15
         | alone a 0:00:59.15-0:00:59.19 5, b 0:01:00.10-0:01:00.19 10 | better
     minutes | m58..59x3000 ; m59x3000 | alone a 0:58 1 | alike 0:59 1
@@ -54,17 +54,15 @@ EITHER = """
     a line of pass 1 | 1..40 3=-/#2/- ; 1..40 3=-/-/#2* | better a 2 1
     line 16 isn't the number's | 1..40 3=#2/#2/- ; 1..40 3=-/#2*/#2* | better b 2 1
     and than fewer bad lines nearby | 1..40 61=?/#31/#31 ; 1..40 51=-/#26*/#26 | better a 26 1
-    a picture that has lost a field comes last | 1..40 -42 ; 1..40 41=-/-/#21*
-        | better b 21 1
+    a picture that has lost a field comes last | 1..40 -42 ; 1..40 41=-/-/#21* | better b 21 1
     and pictures 22 and 23: the one field left before 24 may be any of theirs | 1..40 -42 -42:45 ; 1..40 41=-/-/#21*
         | better b 21 1 | alone b 22-23 2
     at the end | 1..40 -80 ; 1..40 79=-/#40/- | better b 40 1
     seconds count | t100..139 ; t100..139 21.16=s4.10* | better a 0:00:04.10 1
     better than both others | 1..40 3=-/#2*/- ; 1..40 3=-/#2/- 5=? ; 1..39 3=-/#2*/- | better b 2 1
-    another part | 1..10 ; 21..40 | missing 11-20 10 lost | says together: pictures 1 to 40, 10 lost
+    another part | 1..10 ; 21..40 | missing 11-20 10 lost
         | says lacking in all: 10 (pictures 11 to 20 lost) | says alike: none
     what one has a field for isn't lost | 1..40 29=C ; 1..40 -29:30 | missing 15 1 unread
-        | says together: pictures 1 to 40, 1 unread
     lost ones are counted first | 1..40 9=C -29:30 ; 1..40 9=C -29:30 | missing 5 1 unread, 15 1 lost
         | says together: pictures 1 to 40, 1 lost, 1 unread
     what is due isn't missing | 1..40 29=B ; 1..40 -29:30 | missing | says together: pictures 1 to 40, none lost
@@ -109,8 +107,7 @@ IN_ORDER = """
     bad lines of 25 fields on either side | 1..80 102=?/c0/c0 ; 1..80
         | ranges 1-38 a 1-76, 39-64 b 77-128, 65-80 a 129-160
     also of a number | 1..80 101=?/#51/#51 ; 1..80 | ranges 1-38 a 1-76, 39-63 b 77-126, 64-80 a 127-160
-    as many | 1..80 101=?/#51/#51 ; 1..80 101=?/#51/#51 102=!/c0/c0
-        | ranges 1-80 a 1-160
+    as many | 1..80 101=?/#51/#51 ; 1..80 101=?/#51/#51 102=!/c0/c0 | ranges 1-80 a 1-160
     at the end | 1..30 60=?/c0/c0 ; 1..30 | ranges 1-17 a 1-34, 18-30 b 35-60
     a lost field ends a stretch, and b may have lost one of picture 30 | 1..40 -61:62 ; 1..40 -41:46
         | ranges 1-29 a 1-58, 30-31 b 53-56, 32-40 a 61-78

@@ -147,8 +147,8 @@ def test_standard_input(drawn):
     """It has a document: for a TBC file, and what is compressed, the message says what to do."""
     make = "standard input is no document; make one of a TBC file: ldvbi extract --meta %s | ldvbi-side -"
     for words, data, text in (
-            ("-", drawn.read("side.tbc")[:100000], make % "side.tbc.json"),
-            ("- --meta 'a b.json'", b"\0", make % "'a b.json'"), ("- --meta a.db", b"\0", make % "side.tbc.json"),
+            ("- --meta 'a b.json'", drawn.read("side.tbc")[:100000], make % "'a b.json'"),
+            ("- --meta a.db", b"\0", make % "side.tbc.json"),
             ("-", gzip.compress(b"{}"), "standard input: it is compressed (gzip): unpack it first"),
             ("-", b"", "standard input: " + NOT_JSON)):
         with open(drawn.write("in", data), "rb") as file:
@@ -228,10 +228,6 @@ def test_what_is_printed_alone(statuses):
                      re.escape(ldvbi.__version__), text)
     for name in SIDES:
         assert statuses.run_words(name) == statuses.run_words(name, "--summary")
-    assert statuses.run_words("whole.tbc")[1].split("\n")[0] == "whole: yes"
-    # what is written takes the place of what is printed
-    os.rename(statuses.named("lost.tbc.json"), statuses.named("meta.json"))
-    assert statuses.run_words("lost.tbc --meta meta.json --svg side.svg")[:2] == (0, "")
 
 
 def test_the_table():
