@@ -12,7 +12,6 @@ import shutil
 import subprocess
 import sys
 from unittest import mock
-from urllib.parse import quote
 
 from compact import cells_of, words_of
 from ldvbi.packed import packed_as
@@ -49,7 +48,9 @@ OPTIONS = """
 """
 
 
-def add_each(room):
+def test_each_kind(room):
+    """Sides are read one after the other, and side by side; those that have a page aren't read again. In columns those
+    behind the first two are written to the right."""
     more = {"a/cut.tbc": {"rest": 12345}, "a/levels.tbc": {"setup": DARK}}
     for name, fields, *_ in cells_of(SIDES):
         room.add(name, fields.replace("-", "B"), **more.get(name, {}))
@@ -58,12 +59,6 @@ def add_each(room):
                 "CREATE TABLE capture (system TEXT, black_16b_ire INTEGER, white_16b_ire INTEGER)",
                 "INSERT INTO capture VALUES ('NTSC', 16384, 51200)")
     os.unlink(room.named("a/database.tbc.json"))
-
-
-def test_each_kind(room):
-    """Sides are read one after the other, and side by side; those that have a page aren't read again. In columns those
-    behind the first two are written to the right."""
-    add_each(room)
     found = [room.scan(words) for words in ("--csv -j 1 --html one a b", "--json -j 4 --html four b a",
                                             "--html four a b")]
     assert [(status, said) for status, _, said in found] == [(2, "")] * 3
@@ -85,12 +80,6 @@ def test_each_kind(room):
     assert room.names("one") == room.names("four") == sorted(names)
     for name in names:
         assert room.read("one/" + name) == room.read("four/" + name)
-    index = room.text("four/index.html")
-    assert "<h1>9 sides, whole: 3 yes, 3 no, 2 can&#x27;t tell, 1 fault</h1>" in index
-    for name, page in ((os.path.basename(one["side"]), one["page"]) for one in known):
-        linked = page and '<a href="%s">%s</a></td>' % (quote(os.path.basename(page)), name)
-        assert "<td>" + (linked or '%s</td><td class="fault"' % name) in index
-        assert not page or "<title>%s</title>" % name in room.text(page)
 
 
 def listed(room):

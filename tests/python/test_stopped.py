@@ -219,18 +219,13 @@ def test_while_a_page_is_written(room):
 
 def test_one_line_for_all(room):
     """Sides whose pages are kept are no part of it."""
-    for name in ("1.tbc", "2.tbc"):
-        room.add(name, "Lx200")
+    room.add("1.tbc")
+    room.scan("--html pages .")
+    room.add("2.tbc", "Lx200")
     shown, text = room.on_terminal(4, "scan --csv --html pages .")
     assert text.count(b"\n") == 3
-    lines = shown.split("\r")
-    assert (lines[1], lines[-1]) == ("0 of 2 sides, 0 %\x1b[K", "\x1b[K")
-    for line in lines[1:]:
-        assert re.search(r"^([012] of 2 sides, [0-9]+ %(, [0-9]+:[0-9]{2} left)?)?\x1b\[K$", line)
-    room.add("3.tbc")
-    shown, text = room.on_terminal(4, "scan --csv --html pages .")
-    assert text.count(b"\n") == 4
     assert shown.startswith("\r0 of 1 sides, 0 %\x1b[K")
+    assert shown.endswith("\r\x1b[K")
 
 
 def ignores(task, tell):
