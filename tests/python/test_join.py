@@ -70,6 +70,11 @@ EITHER = """
     one that is too short to decide what the clock leaves out | SOME -401:8990 ; SOME | missing | disagreements
         | says skipped by the disc itself: 5
     it leaves out 0:00:00.07 | SOME -1:38 ; SOME | lacks a 0:00:00.00-0:00:00.19 19 b
+    a detour | DETOUR ; 1..100 | says disagreements: 1 (pictures 151 to 170 in fields 101 to 140 of a, where b has
+        pictures 51 to 70 in fields 101 to 140)
+    what the clock leaves out of one | SOME ; NTSC t0..1499 | says disagreements: 2 (time 0:00:00.07 skipped by the disc
+        itself in fields 13 to 15 of a, and shown in fields 15 to 16 of b, time 0:00:33.17 skipped by the disc itself in
+        fields 2011 to 2013 of a, and shown in fields 2015 to 2016 of b)
     a skip | 1..50 31..100 ; 1..100 | disagreements || a way back | 1..50 71..100 ; 1..100 | disagreements
     a still | 1..20 21x6 22..100 ; 1..100 | disagreements || a loss | 1..100 -41 ; 1..100 | disagreements
     swapped fields | 1..100 ~41 ; 1..100 | disagreements
@@ -124,19 +129,10 @@ IN_ORDER = """
     numbers of a detour are taken elsewhere, and the picture before it, which may have lost a field
         | DETOUR ; 1..100 ; 121..180 | @151 c 61 31 read
         | ranges 1-49 a 1-98, 50-70 b 99-140, 71-100 a 141-200, 121-180 c 1-120
-    a detour | DETOUR ; 1..100 | disagreements detour: a 151-170@101-140, b 51-70@101-140
-        | says disagreements: 1 (pictures 151 to 170 in fields 101 to 140 of a, where b has pictures 51 to 70 in fields
-        101 to 140)
-    of the other one | 1..100 ; DETOUR | disagreements detour: b 151-170@101-140, a 51-70@101-140
-    the clock | SOME ; NTSC t0..9 | disagreements clock: a 0:00:00.07@13-15, b 0:00:00.07@15-16
-        | says disagreements: 1 (time 0:00:00.07 skipped by the disc itself in fields 13 to 15 of a, and shown in fields
-        15 to 16 of b)
-    twice | SOME ; NTSC t0..1499 | disagreements clock: a 0:00:00.07@13-15, b 0:00:00.07@15-16; clock: a
-        0:00:33.17@2011-2013, b 0:00:33.17@2015-2016
-    a distance | CUT ; NTSC f1..120 | disagreements distance: a 64-120@157-285, b 64-120@159-300
-        | says disagreements: 1 (pictures 64 to 120 in fields 157 to 285 of a and fields 159 to 300 of b, further from
-        those before them in one than in the other)
-    up to a loss | CUT ; NTSC f1..120 -201:225 | disagreements distance: a 64-80@157-190, b 64-80@159-200
+    a distance | CUT ; NTSC f1..120 | says disagreements: 1 (pictures 64 to 120 in fields 157 to 285 of a and fields 159
+        to 300 of b, further from those before them in one than in the other)
+    up to a loss | CUT ; NTSC f1..120 -201:225 | says disagreements: 1 (pictures 64 to 80 in fields 157 to 190 of a and
+        fields 159 to 200 of b, further from those before them in one than in the other)
     PAL and NTSC | 1..40 ; 1..40 ; NTSC 1..40 | refused a has pictures of PAL, c has pictures of NTSC: two discs?
     most chapters | CHAPTERS ; 1..40 2:30/2=-/c1/c1 32:80/2=-/c3/c3
         | refused a and b differ in the chapter of 25 of 40 numbers (at 16 it is 2 and 3): two discs?
@@ -164,17 +160,11 @@ def together(*texts, names="abc"):
     return join([capture_of(capture(text), name) for name, text in zip(names, texts)])
 
 
-def part_text(one):
-    return "%s %s@%s" % (one["capture"], span(one), span(one, "field", "lastField"))
-
-
 def stretch_text(one):
     if isinstance(one, str):
         return one
     if "source" in one:
         return "%s %s %s" % (span(one), one["source"], span(one, "field", "lastField"))
-    if "between" in one:
-        return "%s: %s" % (one["why"], ", ".join(map(part_text, one["between"])))
     words = one.get("capture"), span(one), str(one["count"]), one.get("why"), *one.get("in", ())
     return " ".join(filter(None, words))
 
@@ -183,7 +173,7 @@ def told(known, name):
     """What plain data say: of @2 where number 2 is taken, else a list."""
     if name[0] == "@":
         return next("%s %d %d %s" % (*row[1:],) for row in known["taken"] if str(row[0]) == name[1:])
-    return ("; " if name == "disagreements" else ", ").join(map(stretch_text, known[name]))
+    return ", ".join(map(stretch_text, known[name]))
 
 
 def check_captures(texts, names, members):
