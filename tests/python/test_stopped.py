@@ -207,8 +207,8 @@ def test_while_a_page_is_written(room):
     for number, to_all, status in ((signal.SIGINT, True, 130), (signal.SIGHUP, True, 129), (signal.SIGINT, False, 130),
                                    (signal.SIGTERM, False, 143), (signal.SIGKILL, False, 2)):
         process, _ = scanning(room, "--csv --html pages 1.tbc", 1)
-        until(lambda: os.path.exists(room.named("pages")) and room.names("pages"))
-        assert room.names("pages")[0].endswith(".part")
+        names = until(lambda: os.path.exists(room.named("pages")) and room.names("pages"))
+        assert names[0].endswith(".part")
         one, = children(process.pid)
         (os.killpg if to_all else os.kill)(one if number == signal.SIGKILL else process.pid, number)
         row = b"1.tbc,fault,,,,,,,,,,,its process was ended by SIGKILL\n" if number == signal.SIGKILL else b""
