@@ -141,16 +141,6 @@ def test_while_a_process_is_started(room):
         assert (raised.value.status, ended, children(os.getpid())) == (128 + number, [], [])
 
 
-def until(found):
-    """What a function finds, as soon as that is something."""
-    for _ in range(200 * DEADLINE):
-        one = found()
-        if one:
-            return one
-        time.sleep(0.005)
-    raise AssertionError("it never came")
-
-
 def fails(*_):
     """Reads no side: what it raises isn't what a file is to blame for."""
     raise KeyError("a fault of the program")
@@ -184,15 +174,16 @@ def scanning(room, words, count):
 
 
 def test_one_side_fails_and_the_others_are_read(room):
-    """One that is named, as it is a pipe to which nobody writes, is never read."""
+    """One that is named, as it is a pipe to which nobody writes, is waited for."""
     for name in ("1.tbc", "3.tbc"):
         room.add(name)
     os.mkfifo(room.named("2.vbi.json"))
     process, lines = scanning(room, "--csv -j 1 --html pages . 2.vbi.json", 2)
     assert lines[1] == "./1.tbc,yes,0,0,cav,1,30,30,0,1,61,,\n"
-    os.kill(until(lambda: children(process.pid))[0], signal.SIGKILL)
-    room.ended(process, 2, b"./2.vbi.json,fault,,,,,,,,,,,its process was ended by SIGKILL\n"
-                           b"./3.tbc,yes,0,0,cav,1,30,30,0,1,61,,\n")
+    with room.opened_by(process, "2.vbi.json"):
+        os.kill(children(process.pid)[0], signal.SIGKILL)
+        room.ended(process, 2, b"./2.vbi.json,fault,,,,,,,,,,,its process was ended by SIGKILL\n"
+                               b"./3.tbc,yes,0,0,cav,1,30,30,0,1,61,,\n")
     assert room.names("pages") == ["1.html", "3.html", "index.html"]
     process, _ = scanning(room, "--csv -j 2 . 2.vbi.json", 1)
     process.stdout.close()  # there is no reader any longer
@@ -207,7 +198,11 @@ def test_while_a_page_is_written(room):
     for number, to_all, status in ((signal.SIGINT, True, 130), (signal.SIGHUP, True, 129), (signal.SIGINT, False, 130),
                                    (signal.SIGTERM, False, 143), (signal.SIGKILL, False, 2)):
         process, _ = scanning(room, "--csv --html pages 1.tbc", 1)
-        names = until(lambda: os.path.exists(room.named("pages")) and room.names("pages"))
+        names = []
+        while not names:
+            assert process.poll() is None
+            time.sleep(0.005)
+            names = os.path.exists(room.named("pages")) and room.names("pages")
         assert names[0].endswith(".part")
         one, = children(process.pid)
         (os.killpg if to_all else os.kill)(one if number == signal.SIGKILL else process.pid, number)
