@@ -136,12 +136,13 @@ def test_broken_texts(hostile):
     """Of documents and metadata, of which there are so many faults at least, and others."""
     field = {"vbi": {"vbiData": [0, 0, 0]}, "dropOuts": {"startx": [100], "endx": [120], "fieldLine": [17]}}
     hostile.metadata("sound.json", count=12, field=field, numberOfSequentialFields=12, fieldWidth=910)
-    for name, text, faults, others, *runs in (
-            ("wrong.vbi.json", hostile.document, 180, 0, "wrong.vbi.json --json", "join side.vbi.json wrong.vbi.json"),
-            ("wrong.json", hostile.read("sound.json"), 120, 10, "side.tbc --meta wrong.json --json",
+    for seed, name, text, faults, others, *runs in (
+            (30, "wrong.vbi.json", hostile.document, 180, 0, "wrong.vbi.json --json",
+             "join side.vbi.json wrong.vbi.json"),
+            (31, "wrong.json", hostile.read("sound.json"), 120, 10, "side.tbc --meta wrong.json --json",
              "side.tbc --meta wrong.json --into copy.json")):
         found = Counter()
-        for data in broken(text, random.Random(30), 30):
+        for data in broken(text, random.Random(seed), 30):
             hostile.write(name, data)
             for words in map(str.split, runs):
                 found[ends(hostile, [name, words[0]], *words, statuses=(0, 2, 3))] += 1
