@@ -1,9 +1,8 @@
 """A folder of its own for a test, in which it runs the command: as a call in this process, or as a process that shows
-more. Why a call is refused, and what a database answers. A folder of sides of every kind for the tests of `scan`."""
+more. Why a call is refused, and what a database answers."""
 
 import contextlib
 import functools
-import gzip
 import io
 import json
 import os
@@ -14,12 +13,10 @@ import subprocess
 import sys
 import time
 
-from compact import cells_of, words_of
+from compact import words_of
 import ldvbi
-from ldvbi import System
-from ldvbi.document import head_of, RECORD, tail_of
 from ldvbi_side.__main__ import main
-from streams import NTSC, PAL, pictures, PROGRAM, write_stream
+from streams import NTSC, pictures, PROGRAM, write_stream
 
 COMMAND = [sys.executable, "-m", "ldvbi_side"]
 LEVELS = ["--system", "NTSC", "--black", "16384", "--white", "51200"]
@@ -27,30 +24,6 @@ SIZE = ldvbi.field_bytes("NTSC")
 DEADLINE = 300  # seconds: for what hangs, not for what is slow
 NO_METADATA = "side.tbc: no side.tbc.json or side.tbc.db beside it; give --meta, or --system, --black and --white"
 IN_PLACE = "%s would be written in the place of an input or of another output"
-# White is less than the middle of the metadata's levels.
-DARK = ("NTSC", 16384, 30000)
-# A folder with a side of every kind, in the order of the table: the side's name, its fields, of which a document and
-# what is packed has none, and its row behind the name: whole, lost, unread, format, from, to, last, lead-in, lead-out,
-# fields, try, and how `why` begins; - is nothing. The metadata has NTSC and white 51200.
-SIDES = """
-    a/broken.vbi.json | - | fault | - | - | - | - | - | - | - | - | - | - | not JSON:
-    a/cut.tbc | 1..30 O | no | 0 | 0 | cav | 1 | 30 | 30 | 0 | 1 | 61 | - | field 62 is cut
-    a/database.tbc | 1..30 O | yes | 0 | 0 | cav | 1 | 30 | 30 | 0 | 1 | 61 | - | -
-    a/joined.tbc | Lx2 1..30 Ox2 Lx2 1..25 Ox2 | no | 0 | 0 | cav | 1 | 30 | 25 | 4 | 4 | 118 | - | lead-in again in
-    a/levels.tbc | 1..30 | can't tell | 0 | 0 | neither | - | - | - | 0 | 0 | 60 | --white 30000
-        | no picture number and no time
-    a/lost.tbc | 1..11 14..30 O | no | 2 | 0 | cav | 1 | 30 | 30 | 0 | 1 | 57 | - | 4 fields lost; 2 pictures lost
-    b/minutes.vbi.json | - | yes | 0 | 0 | clv | 0:00 | 0:02 | 0:02 | 0 | 1 | 9001 | - | -
-    b/missing.tbc | 1..30 | fault | - | - | - | - | - | - | - | - | - | -
-        | no missing.tbc.json or missing.tbc.db beside it
-    b/no codes.tbc | Bx60 | can't tell | 0 | 0 | neither | - | - | - | 0 | 0 | 60 | - | no picture number and no time
-    b/packed.tbc | - | fault | - | - | - | - | - | - | - | - | - | - | it is compressed (gzip): unpack it first
-    b/system.tbc | 1..30 O | no | 0 | 0 | neither | - | - | - | 0 | 0 | 90 | --system PAL --black 16384 --white 51200
-        | field 91 is cut
-    b/unread.tbc | 1..30 23=B O | yes | 0 | 1 | cav | 1 | 30 | 30 | 0 | 1 | 61 | - | -
-    b/whole.tbc | 1..30 O | yes | 0 | 0 | cav | 1 | 30 | 30 | 0 | 1 | 61 | - | -
-"""
-ROWS = {name: row for name, _, *row in cells_of(SIDES)}
 
 
 def reason(call, *words, kind=ValueError, **more):
@@ -90,25 +63,12 @@ def command_of(process):
         return b""
 
 
-@functools.lru_cache(maxsize=None)
-def document_of(data):
-    """The document that the program makes of the pictures 0 to 11."""
-    words = [PROGRAM, "extract", *LEVELS, "-"]
-    return subprocess.run(words, input=data, stdout=subprocess.PIPE, check=True).stdout
-
-
-class Room:
+class Room(contextlib.ExitStack):
     """`path` is that of a TBC file in the folder, which isn't there yet."""
 
     def __init__(self, folder):
-        self.folder, self.cleanup = folder, contextlib.ExitStack()
-        self.path = self.named("side.tbc")
-
-    def __enter__(self):
-        return self
-
-    def __exit__(self, *_):
-        self.cleanup.close()
+        super().__init__()
+        self.folder, self.cleanup, self.path = folder, self, os.path.join(folder, "side.tbc")
 
     def named(self, name):
         return os.path.join(self.folder, name)
@@ -130,12 +90,13 @@ class Room:
         return self.read(name).decode()
 
     def files(self):
-        """What is in each file."""
-        return {name: self.read(name) for name in self.names()}
+        """What is in each file, those of folders with them."""
+        paths = [os.path.join(place, name) for place, _, names in os.walk(self.folder) for name in names]
+        return {os.path.relpath(path, self.folder): self.read(path) for path in paths}
 
     def draw_side(self):
         write_stream(self.path, NTSC, pictures(12))
-        self.document = document_of(self.read("side.tbc"))
+        self.document = self.extracted("side.tbc")
         self.write("side.vbi.json", self.document)
 
     def metadata(self, name, *, count=None, field=(), **more):
@@ -254,21 +215,6 @@ class Room:
         os.makedirs(os.path.dirname(self.named(name)), exist_ok=True)
         write_stream(self.named(name), setup, words_of(fields) if isinstance(fields, str) else fields, rest)
         self.metadata(name + ".json")
-
-    def add_each(self):
-        more = {"a/cut.tbc": {"rest": 12345}, "a/levels.tbc": {"setup": DARK}, "b/system.tbc": {"setup": PAL}}
-        for name, fields, *_ in cells_of(SIDES):
-            if fields != "-":
-                self.add(name, fields, **more.get(name, {}))
-        words = [(0x87FFFF, 0xF0DD00 + field // 3000) for field in range(9000)] + [(0x80EEEE, 0x80EEEE)]
-        records = [RECORD % (field, 0, *two, "blank", "word", "word", 0, 1, 1) for field, two in enumerate(words, 1)]
-        self.write("b/minutes.vbi.json", head_of(2, System.PAL, 16384, 54016) + ",\n".join(records) + tail_of(None))
-        self.write("a/broken.vbi.json", '{"version":2,"videoParameters":{')
-        self.write("b/packed.tbc", gzip.compress(b"video"))
-        os.rename(self.named("b/missing.tbc.json"), self.named("b/packed.tbc.json"))
-        form = "CREATE TABLE capture (system TEXT, black_16b_ire INTEGER, white_16b_ire INTEGER)"
-        in_database(self.named("a/database.tbc.db"), form, "INSERT INTO capture VALUES ('NTSC', 16384, 51200)")
-        os.unlink(self.named("a/database.tbc.json"))
 
     def scan(self, *words):
         """The status of a scan in the folder, and what it writes to standard output and standard error."""

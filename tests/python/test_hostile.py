@@ -2,8 +2,7 @@
 in time with a documented status. Where that is a fault one line says so, which names the file, and nothing is left of
 what was to be written. The same of outputs that take nothing."""
 
-import contextlib
-import html.parser
+import html
 import json
 import os
 import random
@@ -11,7 +10,6 @@ import re
 import resource
 import shutil
 import signal
-import sqlite3
 import xml.etree.ElementTree as xml
 from collections import Counter
 from unittest import mock
@@ -30,8 +28,7 @@ SECONDS = 60  # of one run: for what hangs, not for what is slow
 NAMES = [
     b"new\nline", b"\r", b"'", b'"', b"`x` $(x)", b"-", b"--csv", b"-o", b"\xff\xfe", b"\xed\xa0\x80", b"<script>",
     b"'><script>", b"<!--", b"&lt;", b"]]>", b"-->", b"%s %d %", b"\x1b[2J", b" ", b"..", b"*", b"\\", b"a" * 245,
-    b"\xff" * 245,
-    "\u202e".encode(), "ü\U0001f4bf".encode()]
+    b"\xff" * 245, "\u202e".encode(), "ü\U0001f4bf".encode()]
 
 
 def hangs(*_):
@@ -45,12 +42,9 @@ def hostile(drawn):
     return drawn
 
 
-def run_words(hostile, *words, **more):
+def run_words(hostile, *words):
     signal.alarm(SECONDS)
-    try:
-        return hostile.run_words(*words, **more)
-    finally:
-        signal.alarm(0)
+    return hostile.run_words(*words)
 
 
 def ends(hostile, files, *words, statuses=(2,)):
@@ -65,84 +59,51 @@ def ends(hostile, files, *words, statuses=(2,)):
         assert (printed, hostile.files()) == ("", before)
     else:
         assert re.search(r"\A(ldvbi-side: [^\n]*\n)*\Z", said)
-    look(hostile)
+    if "copy.db" in hostile.names():  # which has all words
+        found, = in_database(hostile.named("copy.db"), "SELECT vbi0, vbi1, vbi2 FROM vbi ORDER BY field_id")
+        assert [list(three) for three in found] == pictures(12)
     for name in set(hostile.files()) - set(before):
         os.unlink(hostile.named(name))
     return status
 
 
-class Page(html.parser.HTMLParser):
-    """What a page has: the names of its elements, and its title."""
-
-    def __init__(self, text):
-        super().__init__()
-        self.elements, self.title = set(), ""
-        self.feed(text)
-        self.close()
-
-    def handle_starttag(self, tag, attrs):
-        self.elements |= {tag, *(name for name, _ in attrs if name.startswith("on"))}
-
-    def handle_data(self, data):
-        self.title += data if self.elements == {"html", "head", "meta", "title"} else ""
-
-    def handle_endtag(self, tag):
-        self.elements |= {"/" + tag}
+def title_of(text, scripts=0):
+    """The title of a page that has so many scripts."""
+    assert text.count("<script") == scripts
+    return html.unescape(re.search("<title>(.*?)</title>", text, re.DOTALL)[1])
 
 
-def test_of_sides(hostile):
-    """In pages and drawings they are text, in tables they stand as they are."""
+def test_names(hostile):
+    """Of sides that are there or absent, and of all that is written. In pages and drawings they are text, in tables
+    they stand as they are."""
+    hostile.metadata("meta.json", count=12)
     os.mkdir(hostile.named("some"))
-    for name in NAMES:
-        for end, levels in ((b".tbc", ["LEVELS"]), (b".vbi.json", [])):
-            name_of_side = os.fsdecode(b"some/" + name + end)
-            os.link(hostile.named("side" + os.fsdecode(end)), hostile.named(name_of_side))
-            check_outputs(hostile, name_of_side, *hostile.words(*levels) if levels else [])
-            os.unlink(hostile.named(name_of_side))
+    for name in (os.fsdecode(b"some/" + name) for name in NAMES):
+        for end in (".tbc", ".vbi.json"):
+            for words in (["--"], ["join", "--", "side.vbi.json"], ["side.tbc", "--meta"]):
+                ends(hostile, [name + end], *words, name + end)
+            os.link(hostile.named("side" + end), hostile.named(name + end))
+            os.mkdir(hostile.named("made"))
+            check_outputs(hostile, name + end)
+            shutil.rmtree(hostile.named("made"))
+            os.unlink(hostile.named(name + end))
 
 
-def check_outputs(hostile, name, *levels):
-    before = hostile.names()
-    drawn = ["--html", "page.html", "--svg", "side.svg"]
-    status, printed, said = run_words(hostile, *levels, *drawn, "--json", "--", name)
-    assert (status, said, json.loads(printed)["fields"]) == (0, "", 12)
-    page = Page(hostile.text("page.html"))
+def check_outputs(hostile, name):
+    paths = [name.replace("some", "made", 1) + end for end in ("", "2", "3", "4", "5")]
+    options = sum(zip(("--html", "--svg", "-o", "--map", "--into"), paths), ())
+    assert run_words(hostile, "--meta", "meta.json", "--json", *options, "--", name) == (0, "", "")
+    assert hostile.names("made") == sorted(map(os.path.basename, paths))
     wanted = shown(os.path.basename(name))
-    assert (page.title, page.elements & {"script", "onload"}) == (wanted, set())
-    title = next(xml.fromstring(hostile.read("side.svg")).iter("{http://www.w3.org/2000/svg}title"))
-    assert title.text == wanted
-    os.unlink(hostile.named("side.svg"))
-    hostile.write("index.html", index_of(hostile.named("index.html"), [hostile.named("page.html")]))
-    if not levels:
-        assert run_words(hostile, "join", "--html", "both.html", "--", "side.vbi.json", name)[::2] == (0, "")
-        assert not Page(hostile.text("both.html")).elements & {"script", "onload"}
-        os.unlink(hostile.named("both.html"))
-    index = hostile.text("index.html")
-    assert (index.count("<script"), Page(index).elements & {"onload"}) == (1, set())  # which is its own
-    for one in ("page.html", "index.html"):
-        os.unlink(hostile.named(one))
-    if not levels:
+    title = next(xml.fromstring(hostile.read(paths[1])).iter("{http://www.w3.org/2000/svg}title"))
+    assert (title_of(hostile.text(paths[0])), title.text) == (wanted, wanted)
+    assert json.loads(hostile.read(paths[2]))["fields"] == 12
+    title_of(index_of(hostile.named("index.html"), [hostile.named(paths[0])]), 1)  # which is its own
+    if name.endswith(".json"):
+        assert run_words(hostile, "join", "--html", "made/both", "--", "side.vbi.json", name)[::2] == (0, "")
+        assert title_of(hostile.text("made/both")) == "side.vbi.json, " + shown(name)
         status, printed, said = run_words(hostile, "scan", "--json", "--", name)
         assert (status, said, json.loads(printed)["sides"][0]["side"]) == (1, "", name)
-    assert hostile.names() == before
-
-
-def test_of_outputs(hostile):
-    hostile.metadata("side.tbc.json", count=12)
-    os.mkdir(hostile.named("made"))
-    for name in NAMES:
-        paths = [os.fsdecode(b"made/" + name + b".html" + number) for number in (b"", b"2", b"3", b"4", b"5")]
-        options = zip(("-o", "--html", "--svg", "--map", "--into"), paths)
-        assert run_words(hostile, "side.tbc", "--summary", *sum(options, ()))[::2] == (1, "")
-        assert sorted(os.listdir(hostile.named("made"))) == sorted(map(os.path.basename, paths))
-        for path in paths:
-            os.unlink(hostile.named(path))
-
-
-@pytest.mark.parametrize("name", (os.fsdecode(name) for name in NAMES if name not in (b"-", b"..", b" ")))
-def test_of_what_is_absent(hostile, name):
-    for words in (["--"], ["join", "--", "side.vbi.json"], ["side.tbc", "--meta=" + name, "--"][:2]):
-        ends(hostile, [name], *words, *[name] * (words[-1] != "--meta=" + name))
 
 
 # What a member of JSON may be
@@ -171,38 +132,26 @@ def broken(text, chance, count):
         yield text[:member + 1] + value + b"," + text[name:]  # there twice
 
 
-def all_end(hostile, name, texts, *runs):
-    """Ends with a fault, and how many other ones: runs with each of these texts in this file."""
-    found = Counter()
-    for data in texts:
-        hostile.write(name, data)
-        for words in runs:
-            found[ends(hostile, [name, *words.split()[:1]], *words.split(), statuses=(0, 2, 3))] += 1
-    return found[2], found[0] + found[3]
-
-
-def test_documents(hostile):
-    faults, _ = all_end(hostile, "wrong.vbi.json", broken(hostile.document, random.Random(30), 30),
-                             "wrong.vbi.json --json", "join side.vbi.json wrong.vbi.json")
-    assert faults > 180
-
-
-def test_metadata(hostile):
+def test_broken_texts(hostile):
+    """Of documents and metadata, of which there are so many faults at least, and others."""
     field = {"vbi": {"vbiData": [0, 0, 0]}, "dropOuts": {"startx": [100], "endx": [120], "fieldLine": [17]}}
-    hostile.metadata("side.tbc.json", count=12, field=field, numberOfSequentialFields=12, fieldWidth=910)
-    text = hostile.read("side.tbc.json")
-    os.unlink(hostile.named("side.tbc.json"))
-    faults, others = all_end(hostile, "wrong.json", broken(text, random.Random(31), 30),
-                             "side.tbc --meta wrong.json --json", "side.tbc --meta wrong.json --into copy.json")
-    assert faults > 120
-    assert others > 10
+    hostile.metadata("sound.json", count=12, field=field, numberOfSequentialFields=12, fieldWidth=910)
+    for seed, name, text, faults, others, *runs in (
+            (30, "wrong.vbi.json", hostile.document, 180, 0, "wrong.vbi.json --json",
+             "join side.vbi.json wrong.vbi.json"),
+            (31, "wrong.json", hostile.read("sound.json"), 120, 10, "side.tbc --meta wrong.json --json",
+             "side.tbc --meta wrong.json --into copy.json")):
+        found = Counter()
+        for data in broken(text, random.Random(seed), 30):
+            hostile.write(name, data)
+            for words in map(str.split, runs):
+                found[ends(hostile, [name, words[0]], *words, statuses=(0, 2, 3))] += 1
+        assert found[2] > faults
+        assert found[0] + found[3] >= others
 
 
-FIELDS = tuple("INSERT INTO field_record VALUES (4, %d, 0.5, %d, 1)" % (place, place % 2) for place in range(12))
-SOUND = (*FORM.split(";"), *FIELDS)
-LOOP = "WITH RECURSIVE n(i) AS (SELECT 1 UNION ALL SELECT i + 1 FROM n) "
-DROPOUTS = ("CREATE VIEW drop_outs AS " + LOOP +
-            "SELECT i AS field_id, 16 AS field_line, %s AS startx, 2 AS endx FROM n ")
+SOUND = (*FORM.split(";"), *("INSERT INTO field_record VALUES (4, %d, 0.5, %d, 1)" % (place, place % 2)
+                             for place in range(12)))
 
 
 def without(table, *statements):
@@ -210,57 +159,43 @@ def without(table, *statements):
     return (*SOUND, "DROP TABLE " + table, *statements)
 
 
-# Databases, each of statements: those that are refused whatever is asked, and others
+# Databases, each of statements, that are refused whatever is asked; test_metadata and test_into have more
 REFUSED = (
-    (),
-    without("capture", "CREATE TABLE one (system, black_16b_ire, white_16b_ire)",
-            "INSERT INTO one VALUES ('NTSC', 16384, 51200)", "CREATE VIEW capture AS SELECT * FROM one"),
     without("drop_outs", "CREATE VIEW drop_outs AS SELECT * FROM other",
             "CREATE VIEW other AS SELECT * FROM drop_outs"),
-    without("drop_outs", DROPOUTS % 1 + "WHERE i < 0"),  # without an end
     *((*SOUND, "UPDATE capture SET " + one) for one in (
-        "black_16b_ire = zeroblob(100)", "white_16b_ire = '51200' || char(0)", "black_16b_ire = 9e999",
-        "system = x'4e545343'")),
-    (*SOUND, "INSERT INTO capture (system) VALUES ('PAL')"), (*SOUND, "DELETE FROM capture"))
+        "black_16b_ire = zeroblob(100)", "white_16b_ire = '51200' || char(0)", "system = x'4e545343'")))
+# and those that may be read
 OTHERS = (
-    without("drop_outs", DROPOUTS % "zeroblob(1000000)" + "LIMIT 100"),
+    without("drop_outs", "CREATE VIEW drop_outs AS WITH RECURSIVE n(i) AS (SELECT 1 UNION ALL SELECT i + 1 FROM n) "
+            "SELECT i AS field_id, 16 AS field_line, zeroblob(1000000) AS startx, 2 AS endx FROM n LIMIT 100"),
     without("capture", "CREATE VIRTUAL TABLE capture USING fts4(system, black_16b_ire, white_16b_ire)"),
     *(without("vbi", "CREATE " + one) for one in (
         "VIEW vbi AS SELECT * FROM vbi", "TABLE vbi (field_id, vbi0 AS (field_id), vbi1, vbi2)",
         "TABLE vbi (capture_id, field_id, vbi0, vbi1, vbi2 CHECK (vbi2 = 0.5))",
         "TABLE vbi (capture_id, field_id, vbi0 TEXT, vbi1, vbi2)",
         "TABLE vbi (capture_id, field_id, vbi0, vbi1, vbi2 UNIQUE ON CONFLICT REPLACE)")),
-    (*SOUND, "CREATE TRIGGER one AFTER INSERT ON vbi BEGIN DELETE FROM capture; END"),
-    (*SOUND, "CREATE TRIGGER one BEFORE INSERT ON vbi BEGIN "
-     "INSERT INTO drop_outs %s SELECT i, i, i FROM n; END" % LOOP),
     (*SOUND, "UPDATE field_record SET field_id = field_id + 9223372036854775700"),
     without("field_record", "CREATE TABLE field_record (field_id TEXT, is_first_field BLOB)",
             "INSERT INTO field_record VALUES ('x', zeroblob(9)), (NULL, 'y'), (1.5, 1)"),
     (*SOUND, 'CREATE TABLE "%s" (field_id, is_first_field)' % ("\x1b\n<script>" * 5000)))
 
 
-def look(hostile):
-    """A copy of a database has all words."""
-    if "copy.db" in hostile.names():
-        found, = in_database(hostile.named("copy.db"), "SELECT vbi0, vbi1, vbi2 FROM vbi ORDER BY field_id")
-        assert [list(three) for three in found] == pictures(12)
-
-
 def end_both(hostile, statuses):
-    with mock.patch.object(database, "MOST_STEPS", 20 * database.STEPS), mock.patch.object(database, "WAIT", 0.1):
+    with mock.patch.object(database, "MOST_STEPS", 20 * database.STEPS):
         for words in (["--json"], ["--into", "copy.db"]):
             ends(hostile, ["wrong.db"], "side.tbc", "--meta", "wrong.db", *words, statuses=statuses)
 
 
-@pytest.mark.parametrize("statements, statuses", [(one, (2,)) for one in REFUSED] + [(one, (0, 2)) for one in OTHERS])
-def test_forms(hostile, statements, statuses):
-    hostile.write("wrong.db", b"")
-    in_database(hostile.named("wrong.db"), *statements)
-    end_both(hostile, statuses)
+def test_forms_of_databases(hostile):
+    for statements in (*REFUSED, *OTHERS):
+        hostile.write("wrong.db", b"")
+        in_database(hostile.named("wrong.db"), *statements)
+        end_both(hostile, (2,) if statements in REFUSED else (0, 2))
 
 
-def test_pages(hostile):
-    """Of a sound database that somebody cut, encrypted, or wrote over."""
+def test_broken_databases(hostile):
+    """Of a sound one that somebody cut, encrypted, or wrote over."""
     in_database(hostile.named("wrong.db"), *SOUND)
     sound, chance = hostile.read("wrong.db"), random.Random(32)
     end_both(hostile, (0,))
@@ -275,50 +210,29 @@ def test_pages(hostile):
         end_both(hostile, (0, 2) if at > len(sound) - 4096 else (2,))  # the last page is empty but for its head
 
 
-def test_one_that_is_in_use(hostile):
-    in_database(hostile.named("wrong.db"), *SOUND)
-    with contextlib.closing(sqlite3.connect(hostile.named("wrong.db"))) as other:
-        other.execute("BEGIN EXCLUSIVE")
-        end_both(hostile, (2,))
-    end_both(hostile, (0,))
-
-
 # What is printed, and what is written to a file
-PRINTED = ("side.tbc --csv", "side.tbc --json", "side.tbc --summary", "side.tbc --seek 3", "side.tbc --document",
-           "side.tbc --document --recovered", "side.tbc --bad-lines", "join side.tbc side.vbi.json --json",
-           "join side.tbc side.vbi.json", "scan --csv side.tbc",
+PRINTED = ("side.tbc --csv", "side.tbc --json", "side.tbc --seek 3", "side.tbc --document", "side.tbc --bad-lines",
+           "join side.tbc side.vbi.json --json", "join side.tbc side.vbi.json", "scan --csv side.tbc",
            "scan --json side.tbc", "scan side.tbc", "--version", "scan --help")
-WRITTEN = ("-o", "--html", "--svg", "--map", "--into", "--document -o", "--csv -o")
+WRITTEN = ("side.tbc -o", "side.tbc --html", "side.tbc --svg", "side.tbc --map", "side.tbc --into",
+           "side.tbc --document -o", "side.tbc --csv -o", "join side.tbc side.vbi.json --html")
 
 
-def test_what_is_printed(drawn):
-    """To a device without room, and to nobody."""
+def test_outputs_that_take_nothing(drawn):
+    """To a device without room, to nobody, and to a disk on which each file has 64 bytes."""
     drawn.metadata("side.tbc.json", count=12)
-    before = drawn.files()
+    in_database(drawn.named("side.db"), *SOUND)
+    before, full = drawn.files(), "No space left on device"
     for words in PRINTED:
-        for path, said in (("/dev/full", "No space left on device"), (None, "Bad file descriptor")):
+        for path, said in (("/dev/full", full), (None, "Bad file descriptor")):
             with open(path or os.devnull, "wb") as file:
                 more = {} if path else {"preexec_fn": lambda: os.close(1)}
                 assert drawn.run_command(words, stdout=file, env=buffered(), **more) == (
                     2, None, "ldvbi-side: standard output: %s\n" % said)
-    assert drawn.files() == before
-
-
-def test_what_is_written(drawn):
-    drawn.metadata("side.tbc.json", count=12)
     for words in WRITTEN:
-        drawn.refused("/dev/full: No space left on device", "side.tbc %s /dev/full" % words)
-    drawn.refused("/dev/full: No space left on device", "join side.tbc side.vbi.json --html /dev/full")
-    drawn.printed("side.tbc --html page.html")
-
-
-def test_a_full_disk(drawn):
-    """Of which each file has 64 bytes."""
-    drawn.metadata("side.tbc.json", count=12)
-    in_database(drawn.named("side.db"), *SOUND)
-    before = drawn.files()
-    for words in (*("side.tbc %s out" % one for one in WRITTEN), "side.tbc --meta side.db --into out",
-                  "join side.tbc side.vbi.json --html out", "scan side.tbc --html pages"):
+        drawn.refused("/dev/full: " + full, words + " /dev/full")
+    for words in (*(words + " out" for words in WRITTEN), "side.tbc --meta side.db --into out",
+                  "scan side.tbc --html pages"):
         status, _, said = drawn.run_command(
             words, preexec_fn=lambda: resource.setrlimit(resource.RLIMIT_FSIZE, (64, 64)))
         shutil.rmtree(drawn.named("pages"), ignore_errors=True)

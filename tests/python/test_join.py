@@ -1,134 +1,208 @@
 """Several captures of one side: what they have together, which one each number is taken from, which one shows it
-better, and where they disagree about a number; and the command `join`."""
+better, and where they disagree about a number; the same of random sets of captures; and the command `join`."""
 
 import functools
 import json
 import xml.etree.ElementTree as xml
+from collections import Counter
 
 from compact import cells_of, made, span, words_of
-from discs import joined, side
-from ldvbi_side.command.join import joined_text, NOTHING_SHOWS, range_rows
+from discs import side
+from ldvbi_side.command.join import joined_text, NOTHING_SHOWS
 from ldvbi_side.draw.bars import bars_of, COLOURS
 from ldvbi_side.draw.together import page_of_joined
 from ldvbi_side.join.captures import capture_of
 from ldvbi_side.join.joined import join
 from ldvbi_side.join.plain import as_json
 from ldvbi_side.judge.places import Showing
+from ldvbi_side.side import side_of_document
 import pytest
 from room import reason
+from simulate import captures
 from streams import NTSC, pictures, worn_line, write_stream
+from truth import number_of, Truth
 
 SPACE = "{http://www.w3.org/2000/svg}"
-DETOUR = "1..50 151..170 71..100"
-SOME = "t0..4499!7%1000"  # without five times, which the clock leaves out
+# What stands for sides, or their ends, in the tables
+NAMES = {
+    # of 4 numbers ONE has 3, 2, none that is read, and 2 of another pass; OTHER has 2, and a line that is doubtful.
+    # Picture 13 is alike, as line 16 isn't the number's. ONE has lost 21 to 23, and OTHER 31, and each may have lost a
+    # field of the picture before
+    "ONE": "1..40 3=-/#2*/#2 5=-/?/#3 7=? 15=-/#8*/#8* -41:46",
+    "OTHER": "1..40 9=-/#5*/#5* 11=-/#6/#70000 15=-/#8/- 25=#13/#13/#13 -61:62",
+    # without five times, which the clock leaves out
+    "SOME": "NTSC t0..4499!7%1000", "DETOUR": "1..50 151..170 71..100",
+    # every fifth field of 30 pictures of film is lost, which looks like a stretch of video. Picture 61 is in field 151;
+    # 64 is 6 fields on, and in the whole side 8
+    "CUT": "NTSC f1..60 61..90 f91..120",
+    "CHAPTERS": "1..40 2:30/2=-/c1/c1 32:80/2=-/c2/c2"}
+# Why it is so, captures, and what is said of them, whichever comes first. Field 2n - 1 has picture n.
+EITHER = """
+    what each has | ONE ; OTHER | alone b 21-23 3, a 31 1 | better b 2-4 3, a 5-6 2, a 8 1, b 20 1, a 30 1
+        | alike 1 1, 7 1, 9-19 11, 24-29 6, 32-40 9 | @2 b 3 2 read | @5 a 9 5 read | @20 b 39 20 read
+    what both lack | 1..40 -21:30 ; 1..40 -29:34 | alone b 11-14 4, a 16-17 2 | better b 10 1 | alike 1-9 9, 18-40 23
+        | missing 15 1 lost
+    times | PAL t1490..1509 ; t1495..1519 | alike 0:00:59.20-0:01:00.09 15
+        | alone a 0:00:59.15-0:00:59.19 5, b 0:01:00.10-0:01:00.19 10 | better
+    minutes | m58..59x3000 ; m59x3000 | alone a 0:58 1 | alike 0:59 1
+    shown again, and worse at first | 1..30 11..40 31=-/#16*/- ; 1..40 | alone | better | alike 1-40 40
+    and later | 1..30 11..40 71=-/#16*/- ; 1..40 | alike 1-40 40
+    due is less than any line | 1..40 7=? ; 1..40 7=-/?/#4* | better b 4 1
+    pass 1 is more than recovered | 1..40 7=-/?/#4 ; 1..40 7=-/?/#4^ | better a 4 1
+    pass 2 isn't | 1..40 7=-/?/#4* ; 1..40 7=-/?/#4^ | better | alike 1-40 40
+    two lines are more than one of pass 1 | 1..40 3=-/#2*/#2* ; 1..40 3=-/#2/- | better a 2 1
+    a line of pass 1 | 1..40 3=-/#2/- ; 1..40 3=-/-/#2* | better a 2 1
+    line 16 isn't the number's | 1..40 3=#2/#2/- ; 1..40 3=-/#2*/#2* | better b 2 1
+    and than fewer bad lines nearby | 1..40 61=?/#31/#31 ; 1..40 51=-/#26*/#26 | better a 26 1
+    a picture that has lost a field comes last | 1..40 -42 ; 1..40 41=-/-/#21* | better b 21 1
+    and pictures 22 and 23: the one field left before 24 may be any of theirs | 1..40 -42 -42:45 ; 1..40 41=-/-/#21*
+        | better b 21 1 | alone b 22-23 2
+    at the end | 1..40 -80 ; 1..40 79=-/#40/- | better b 40 1
+    seconds count | t100..139 ; t100..139 21.16=s4.10* | better a 0:00:04.10 1
+    better than both others | 1..40 3=-/#2*/- ; 1..40 3=-/#2/- 5=? ; 1..39 3=-/#2*/- | better b 2 1
+    another part | 1..10 ; 21..40 | missing 11-20 10 lost
+        | says lacking in all: 10 (pictures 11 to 20 lost) | says alike: none
+    what one has a field for isn't lost | 1..40 29=C ; 1..40 -29:30 | missing 15 1 unread
+    lost ones are counted first | 1..40 9=C -29:30 ; 1..40 9=C -29:30 | missing 5 1 unread, 15 1 lost
+        | says together: pictures 1 to 40, 1 lost, 1 unread
+    what is due isn't missing | 1..40 29=B ; 1..40 -29:30 | missing | says together: pictures 1 to 40, none lost
+    the clock | SOME ; SOME | missing | disagreements | says skipped by the disc itself: 5
+    one that is too short to decide what the clock leaves out | SOME -401:8990 ; SOME | missing | disagreements
+        | says skipped by the disc itself: 5
+    it leaves out 0:00:00.07 | SOME -1:38 ; SOME | lacks a 0:00:00.00-0:00:00.19 19 b
+    a detour | DETOUR ; 1..100 | says disagreements: 1 (pictures 151 to 170 in fields 101 to 140 of a, where b has
+        pictures 51 to 70 in fields 101 to 140)
+    what the clock leaves out of one | SOME ; NTSC t0..1499 | says disagreements: 2 (time 0:00:00.07 skipped by the disc
+        itself in fields 13 to 15 of a, and shown in fields 15 to 16 of b, time 0:00:33.17 skipped by the disc itself in
+        fields 2011 to 2013 of a, and shown in fields 2015 to 2016 of b)
+    a skip | 1..50 31..100 ; 1..100 | disagreements || a way back | 1..50 71..100 ; 1..100 | disagreements
+    a still | 1..20 21x6 22..100 ; 1..100 | disagreements || a loss | 1..100 -41 ; 1..100 | disagreements
+    swapped fields | 1..100 ~41 ; 1..100 | disagreements
+    another speed | 1..30 32..69/2 69..100 ; 1..100 | disagreements
+    between two jumps that take as many fields as on the disc, in steps of three | 1..50 151..210/3 71..100 ; 1..100
+        | disagreements
+    and backwards | 1..50 170..151 71..100 ; 1..100 | disagreements
+    a number on both fields, of which each reads another one | b1..80 2=B 82:160/4=B 83:160/4=B
+        ; b1..80 1=B 81:160/4=B 84:160/4=B | disagreements
+    chapters that begin at one number | CHAPTERS ; CHAPTERS | shownBy chapter
+    one chapter | 1..40 2:80/2=-/c1/c1 ; 1..40 2:80/2=-/c1/c1 | shownBy
+    ten numbers | CHAPTERS ; 12..21 2:8/2=-/c1/c1 10:20/2=-/c2/c2 | shownBy chapter
+    nine | CHAPTERS ; 13..21 2:6/2=-/c1/c1 8:18/2=-/c2/c2 | shownBy
+    ten others | CHAPTERS ; 1..40 2:30/2=-/c1/c1 32:60/2=-/c2/c2 62:80/2=-/c3/c3 | shownBy
+    a programme status | t0..39 ; t30..69 | shownBy programme status || of nine | t0..39 ; t31..69 | shownBy
+    another one | t0..39 ; t0..39 2:20/2.16=8DC0A1 | shownBy || of half | t0..39 ; t0..39 2:40/2.16=8DC0A1 | shownBy
+    a users' code | 83D0A1/-/- 1..40 ; 83D0A1/-/- 1..40 | shownBy users' code
+    another | 83D0A1/-/- 1..40 ; 83D0A2/-/- 1..40 | shownBy
+    one by another | 83D0A1/-/- 1..40 ; 83D0A2/-/- 41..60 ; 83D0A1/-/- 83D0A2/-/- 61..80 | shownBy users' code
+    one by none | 83D0A1/-/- 1..40 ; 83D0A1/-/- 1..40 ; 1..40 | shownBy
+    by different ones | CHAPTERS 83D0A1/-/- ; 83D0A1/-/- 41..60 ; CHAPTERS | shownBy chapter, users' code
+    other chapters of half | CHAPTERS ; 1..40 2:30/2=-/c1/c1 32:40/2=-/c2/c2 42:80/2=-/c3/c3 | shownBy
+    of nine | CHAPTERS ; 32..59 2:56/2=-/c5/c5 | shownBy || of others | CHAPTERS ; 50..89 2:80/2=-/c5/c5 | shownBy
+    film and video, nine times | NTSC f1..19 ; NTSC 1..40 | shownBy || of others | NTSC f1..40 ; NTSC 41..80 | shownBy
+"""
+# The same of captures in this order
+IN_ORDER = """
+    of a still the last one | 1..20 21x4 22..40 ; 1..10 | @21 a 47 24 read
+    alike | 1..40 -42 ; 1..40 -42 | @21 a 41 21 read || due | 1..40 7=B ; 1..40 7=B | @4 a 7 4 neighbours
+    shown again | 1..30 11..40 31=-/#16*/- ; 1..20 | @16 a 71 36 read | @17 a 33 17 read
+    by the other one | 1..20 ; 1..30 11..40 31=-/#16*/- | @16 a 31 16 read
+    fewer bad lines nearby | 1..30 11..40 33.16=? ; 1..10 | @16 a 71 36 read
+    the first one | 1..40 ; 1..40 ; 1..40 | ranges 1-40 a 1-80
+    one that begins with a second field | PAL/1 1..40 -1 ; 1..10 | @1 b 1 1 read | @2 a 2 1 read
+    bad lines of 25 fields on either side | 1..80 102=?/c0/c0 ; 1..80
+        | ranges 1-38 a 1-76, 39-64 b 77-128, 65-80 a 129-160
+    also of a number | 1..80 101=?/#51/#51 ; 1..80 | ranges 1-38 a 1-76, 39-63 b 77-126, 64-80 a 127-160
+    as many | 1..80 101=?/#51/#51 ; 1..80 101=?/#51/#51 102=!/c0/c0 | ranges 1-80 a 1-160
+    at the end | 1..30 60=?/c0/c0 ; 1..30 | ranges 1-17 a 1-34, 18-30 b 35-60
+    a lost field ends a stretch, and b may have lost one of picture 30 | 1..40 -61:62 ; 1..40 -41:46
+        | ranges 1-29 a 1-58, 30-31 b 53-56, 32-40 a 61-78
+    one of a | 1..40 -42 ; 1 | ranges 1-21 a 1-41, 22-40 a 42-79 || at the end | 1..40 -80 ; 1 | ranges 1-40 a 1-79
+    film | NTSC f1..20 ; NTSC f1..2 | ranges 1-20 a 1-50
+    numbers on both fields | b1..10 ; b1..20 | ranges 1-10 a 1-20, 11-20 b 21-40
+    of which the second one alone is read | b1..20 39=B Bx4 ; b1 | ranges 1-20 a 1-40
+    minutes | m59x3000 ; m58..59x3000 | ranges 0:58 b 1-3000, 0:59 a 1-3000
+    what the clock leaves out | SOME ; SOME | ranges 0:00:00.00-0:02:29.29 a 1-8990
+    what is better is taken | ONE ; OTHER | says better in a: 4 (pictures 5 to 6, picture 8, picture 30)
+        | says b: has 39, 3 of them alone, lacks 1 (picture 31 in a), whole: no
+        | says better in b: 4 (pictures 2 to 4, picture 20)
+        | says alike: 28 (picture 1, picture 7, pictures 9 to 19, pictures 24 to 29 and 1 more)
+    numbers of a detour are taken elsewhere, and the picture before it, which may have lost a field
+        | DETOUR ; 1..100 ; 121..180 | @151 c 61 31 read
+        | ranges 1-49 a 1-98, 50-70 b 99-140, 71-100 a 141-200, 121-180 c 1-120
+    a distance | CUT ; NTSC f1..120 | says disagreements: 1 (pictures 64 to 120 in fields 157 to 285 of a and fields 159
+        to 300 of b, further from those before them in one than in the other)
+    up to a loss | CUT ; NTSC f1..120 -201:225 | says disagreements: 1 (pictures 64 to 80 in fields 157 to 190 of a and
+        fields 159 to 200 of b, further from those before them in one than in the other)
+    PAL and NTSC | 1..40 ; 1..40 ; NTSC 1..40 | refused a has pictures of PAL, c has pictures of NTSC: two discs?
+    most chapters | CHAPTERS ; 1..40 2:30/2=-/c1/c1 32:80/2=-/c3/c3
+        | refused a and b differ in the chapter of 25 of 40 numbers (at 16 it is 2 and 3): two discs?
+    statuses | t0..39 ; t0..39 2:80/2.16=8DC0A1 | refused a and b differ in the programme status of 40 of 40 numbers (at
+        0:00:00.00 it is 8BA000 and 8DC0A1): two discs?
+    other numbers | 1..40 ; t0..29 | refused a has pictures of PAL, b has times of PAL: two discs?
+    another system | NTSC 1..9 ; 1..9 | refused a has pictures of NTSC, b has pictures of PAL: two discs?
+    ten pictures of three fields are followed by another one | NTSC f1..20 ; NTSC 1..20
+        | refused a has pictures of film, b has pictures of video: two discs?
+    numbers on both fields | NTSC b1..20 ; NTSC f1..20
+        | refused b has pictures of film, a has pictures of video: two discs?
+    no numbers | 1..40 ; B | refused b has no numbers to join
+    the first one | B ; 1..40 | refused a has no numbers to join
+"""
 
 
 @functools.lru_cache(maxsize=None)
 def capture(text):
+    for name, parts in NAMES.items():
+        text = text.replace(name, parts)
     return made(text, side)
 
 
-def together(*texts, system="PAL"):
-    return joined(*(capture("%s %s" % (system, text)) for text in texts))
+def together(*texts, names="abc"):
+    return join([capture_of(capture(text), name) for name, text in zip(names, texts)])
 
 
-def taken(found, number):
-    """The source, field, frame and how of a number."""
-    return next(list(row[1:]) for row in found.taken if row.number == number)
+def stretch_text(one):
+    if isinstance(one, str):
+        return one
+    if "source" in one:
+        return "%s %s %s" % (span(one), one["source"], span(one, "field", "lastField"))
+    words = one.get("capture"), span(one), str(one["count"]), one.get("why"), *one.get("in", ())
+    return " ".join(filter(None, words))
 
 
-# Field 2n - 1 has picture n. Blank lines aren't bad.
-@pytest.mark.parametrize("one, other, number, source", (
-    ("3=-/#2*/#2*", "3=-/#2/-", 2, "a"), ("3=-/#2/#79999", "3=-/#2*/#2*", 2, "b"),
-    ("3=-/#2*/#2", "", 2, "b"), ("3=-/#2*/#2*", "3=-/#2/#2*", 2, "b"), ("3=-/#2^/#2", "", 2, "b"),
-    ("3=-/#2/-", "3=-/-/#2*", 2, "a"), ("51=-/#26*/#26", "61=?/#31/#31", 26, "b"),
-    # line 16 isn't the number's
-    ("3=#2/#2/-", "3=-/#2*/#2*", 2, "b"),
-    ("7=B", "7=-/-/#4*", 4, "b"), ("-42", "41=-/-/#21*", 21, "b"),
-    # and pictures 22 and 23: the one field that is left before 24 may be any of theirs
-    ("-42 -42:45", "41=-/-/#21*", 21, "b"), ("-80", "79=-/#40/-", 40, "b")))
-def test_the_better_of_two(one, other, number, source):
-    """Whichever comes first: two lines before one, pass 1 before others and before bad lines; what is due, and a
-    picture that has lost a field, come last."""
-    one, other = "1..40 " + one, "1..40 " + other
-    assert taken(together(one, other), number)[0] == source
-    assert taken(together(other, one), number)[0] == {"a": "b", "b": "a"}[source]
+def told(known, name):
+    """What plain data say: of @2 where number 2 is taken, else a list."""
+    if name[0] == "@":
+        return next("%s %d %d %s" % (*row[1:],) for row in known["taken"] if str(row[0]) == name[1:])
+    return ", ".join(map(stretch_text, known[name]))
 
 
-def test_where_it_is_taken():
-    """Of what is shown again the better showing, of a still the last one."""
-    for one, other, number, wanted in (
-            ("1..40 -42", "1..40 -42", 21, ["a", 41, 21, "read"]),
-            ("1..40 7=B", "1..40 7=B", 4, ["a", 7, 4, "neighbours"]),
-            ("1..20 21x4 22..40", "1..10", 21, ["a", 47, 24, "read"]),
-            ("1..30 11..40 31=-/#16*/-", "1..20", 16, ["a", 71, 36, "read"]),
-            ("1..20", "1..30 11..40 31=-/#16*/-", 16, ["a", 31, 16, "read"]),
-            ("1..30 11..40 33.16=?", "1..10", 16, ["a", 71, 36, "read"]),  # fewer bad lines nearby
-            ("1..30 11..40 31=-/#16*/-", "1..10", 17, ["a", 33, 17, "read"])):
-        assert taken(together(one, other), number) == wanted
-    assert {one.source for one in together("1..40", "1..40", "1..40").taken} == {"a"}
-    # frames of a capture that begins with a second field
-    found = joined(made("PAL/1 1..40 -1", side), made("1..10", side))
-    assert [taken(found, 1), taken(found, 2)] == [["b", 1, 1, "read"], ["a", 2, 1, "read"]]
+def check_captures(texts, names, members):
+    if members[0].startswith("refused "):
+        assert reason(together, *texts) == members[0][8:]
+        return
+    found = together(*texts, names=names)
+    known, lines = as_json(found), list(joined_text(found))
+    assert (NOTHING_SHOWS in lines) == (not known["shownBy"])
+    for name, _, wanted in (member.partition(" ") for member in members):
+        assert wanted in lines if name == "says" else wanted == told(known, name)
 
 
-@pytest.mark.parametrize("one, other, numbers", (
-    ("1..80 102=?/C/C", "1..80", range(39, 65)), ("1..80 101=?/#51/#51", "1..80", range(39, 64)),
-    ("1..80 101=?/#51/#51", "1..80 101=?/#51/#51 102=!/C/C", ()),
-    ("1..30 60=?/C/C", "1..30", range(18, 31))))
-def test_bad_lines_nearby(one, other, numbers):
-    """Those of 25 fields on either side, of which there are fewer at the end of a side."""
-    found = together(one.replace("/C", "/800DDD"), other.replace("/C", "/800DDD"))
-    assert [row.number for row in found.taken if row.source == "b"] == list(numbers)
+def test_tables():
+    for _, ones, *members in cells_of(EITHER):
+        texts = ones.split(" ; ")
+        check_captures(texts, "abc", members)
+        check_captures(texts[::-1], "abc"[:len(texts)][::-1], members)
+    for _, ones, *members in cells_of(IN_ORDER):
+        check_captures(ones.split(" ; "), "abc", members)
 
 
 def test_a_confirmed_number_is_between_those_that_are_read_and_due():
-    due, near = made("1..40 7=B", side), made("1..40 7=B", side)
+    near = made("1..40 7=B", side)
     known = near.analysis.answer
     near.analysis = near.analysis._replace(answer=known._replace(
         confirmed=[7], unread=[], showings=[*known.showings, Showing(4, 7, 7)]))
-    assert taken(joined(due, near), 4) == ["b", 7, 4, "near"]
-    assert taken(joined(due, near, made("1..40 7=-/-/#4*", side)), 4) == ["c", 7, 4, "read"]
-
-
-@pytest.mark.parametrize("one, other, system, wanted", (
-    ("1..40 -61:62", "1..40 -41:46", "PAL", "1-29 a 1-58, 30-31 b 53-56, 32-40 a 61-78"),
-    ("1..40 -42", "1", "PAL", "1-21 a 1-41, 22-40 a 42-79"), ("1..40 -80", "1", "PAL", "1-40 a 1-79"),
-    ("f1..20", "f1..2", "NTSC", "1-20 a 1-50"), ("b1..10", "b1..20", "PAL", "1-10 a 1-20, 11-20 b 21-40"),
-    ("b1..20 39=B Bx4", "b1", "PAL", "1-20 a 1-40"),  # picture 20 is read in its second field alone
-    ("m59x3000", "m58..59x3000", "PAL", "0:58 b 1-3000, 0:59 a 1-3000"),
-    (SOME, SOME, "NTSC", "0:00:00.00-0:02:29.29 a 1-8990")))
-def test_ranges(one, other, system, wanted):
-    """A lost field ends a stretch, and the second capture may have lost one of picture 30. What the clock leaves out is
-    in no stretch's way."""
-    found = list(range_rows(together(one, other, system=system)))
-    assert ", ".join("%s %s %d-%d" % (span(row, 0, 1), *row[2:]) for row in found) == wanted
-
-
-def test_the_clock():
-    """A capture that is too short to decide what the clock leaves out goes by the other one."""
-    for one, other in ((SOME, SOME), (SOME + " -401:8990", SOME), (SOME, SOME + " -401:8990")):
-        found = together(one, other, system="NTSC")
-        assert (found.missing, len(found.left_out), found.disagreements) == ([], 5, [])
-        assert "skipped by the disc itself: 5" in joined_text(found)
-    found = as_json(together(SOME + " -1:38", SOME, system="NTSC"))
-    assert found["lacks"] == [  # from 0:00:00.20 on
-        {"capture": "a", "first": "0:00:00.00", "last": "0:00:00.19", "count": 19, "in": ["b"]}]
-
-
-@pytest.mark.parametrize("one, other, wanted, head", (
-    ("1..40 -21:30", "1..40 -29:34", "15 1 lost", "1 lost"),
-    ("1..10", "21..40", "11-20 10 lost", "10 lost"),
-    ("1..40 29=C", "1..40 -29:30", "15 1 unread", "1 unread"),
-    ("1..40 -29:30", "1..40 29=C", "15 1 unread", "1 unread"),
-    ("1..40 9=C -29:30", "1..40 9=C -29:30", "5 1 unread, 15 1 lost", "1 lost, 1 unread"),
-    ("1..40 29=B", "1..40 -29:30", "", "none lost")))
-def test_missing(one, other, wanted, head):
-    """What one has a field for is not lost, and what is due isn't missing. Lost ones are counted first."""
-    found = together(one, other)
-    assert ", ".join("%s %d %s" % (span(each), each["count"], each["why"]) for each in
-                     as_json(found)["missing"]) == wanted
-    assert next(joined_text(found)) == "together: pictures 1 to 40, " + head
+    ones = [capture_of(one, name) for one, name in zip((capture("1..40 7=B"), near, capture("1..40 7=-/-/#4*")), "abc")]
+    assert [told(as_json(join(ones[:count])), "@4") for count in (2, 3)] == ["b 7 4 near", "c 7 4 read"]
 
 
 def test_texts():
@@ -139,143 +213,6 @@ def test_texts():
         "c: has 29, none of them alone, lacks 11 (picture 5 in a and b, picture 31 in a, pictures 32 to 40 in a "
         "and b), whole: no", "better in c: none", "alike: 39 (pictures 1 to 30, pictures 32 to 40)",
         "lacking in all: none", "disagreements: none"]
-    assert list(joined_text(together("1..10", "21..40"))) == [
-        "together: pictures 1 to 40, 10 lost", NOTHING_SHOWS,
-        "a: has 10, 10 of them alone, lacks 20 (pictures 21 to 40 in b), whole: yes", "better in a: none",
-        "b: has 20, 20 of them alone, lacks 10 (pictures 1 to 10 in a), whole: no", "better in b: none", "alike: none",
-        "lacking in all: 10 (pictures 11 to 20 lost)", "disagreements: none"]
-
-
-# Of 4 the first one has 3, 2, none that is read, and 2 of another pass; the other one 2, and a line that is doubtful.
-# Picture 13 is alike, as line 16 isn't the number's. The first one has lost 21 to 23, the other one 31, and each may
-# have lost a field of the picture before.
-ONE = "1..40 3=-/#2*/#2 5=-/?/#3 7=? 15=-/#8*/#8* -41:46"
-OTHER = "1..40 9=-/#5*/#5* 11=-/#6/#70000 15=-/#8/- 25=#13/#13/#13 -61:62"
-# Captures, and which numbers one has alone, shows better than any other, or as well as another
-STANDING = """
-    what each has | %s ; %s | alone b 21-23 3, a 31 1 | better b 2-4 3, a 5-6 2, a 8 1, b 20 1, a 30 1
-        | alike 1 1, 7 1, 9-19 11, 24-29 6, 32-40 9
-    what both lack | 1..40 -21:30 ; 1..40 -29:34 | alone b 11-14 4, a 16-17 2 | better b 10 1 | alike 1-9 9, 18-40 23
-    times | t1490..1509 ; t1495..1519 | alone a 0:00:59.15-0:00:59.19 5, b 0:01:00.10-0:01:00.19 10 | better
-        | alike 0:00:59.20-0:01:00.09 15
-    minutes | m58..59x3000 ; m59x3000 | alone a 0:58 1 | alike 0:59 1
-    shown again, and worse at first | 1..30 11..40 31=-/#16*/- ; 1..40 | alone | better | alike 1-40 40
-    and later | 1..30 11..40 71=-/#16*/- ; 1..40 | alike 1-40 40
-    due is less than any line | 1..40 7=? ; 1..40 7=-/?/#4* | better b 4 1
-    pass 1 is more than recovered | 1..40 7=-/?/#4 ; 1..40 7=-/?/#4^ | better a 4 1
-    pass 2 isn't | 1..40 7=-/?/#4* ; 1..40 7=-/?/#4^ | better | alike 1-40 40
-    seconds count | t100..139 ; t100..139 21.16=s4.10* | better a 0:00:04.10 1
-    better than both others | 1..40 3=-/#2*/- ; 1..40 3=-/#2/- 5=? ; 1..39 3=-/#2*/- | better b 2 1
-""" % (ONE, OTHER)
-
-
-def test_standing_rows():
-    """Each one the other way round, too."""
-    for name, captures, *wanted in cells_of(STANDING):
-        texts = captures.split(" ; ")
-        for ones, names in ((texts, "abc"), (texts[::-1], "abc"[:len(texts)][::-1])):
-            found = as_json(together(*ones))
-            for text in wanted:
-                standing, _, stretches = text.partition(" ")
-                assert ", ".join(" ".join([*(names["abc".index(each["capture"])] for _ in [0] if "capture" in each),
-                                           span(each), str(each["count"])]) for each in found[standing]) == stretches
-
-
-def test_what_is_better_is_taken():
-    found = together(ONE, OTHER)
-    assert [taken(found, one.first)[0] for one in found.better] == [one.capture for one in found.better]
-    assert list(joined_text(found))[3:7] == [
-        "better in a: 4 (pictures 5 to 6, picture 8, picture 30)",
-        "b: has 39, 3 of them alone, lacks 1 (picture 31 in a), whole: no",
-        "better in b: 4 (pictures 2 to 4, picture 20)",
-        "alike: 28 (picture 1, picture 7, pictures 9 to 19, pictures 24 to 29 and 1 more)"]
-
-
-# A capture has lost every fifth field of 30 pictures of film, which looks like a stretch of video. Both have picture 61
-# in field 151. In that capture 64 is 6 fields on, in the whole one 8.
-CUT = "f1..60 61..90 f91..120"
-# Two captures, and where they disagree: of each part the capture, its numbers and fields
-ROWS = (
-    (DETOUR, "1..100", "PAL", "detour: a 151-170@101-140, b 51-70@101-140",
-     "pictures 151 to 170 in fields 101 to 140 of a, where b has pictures 51 to 70 in fields 101 to 140"),
-    ("1..100", DETOUR, "PAL", "detour: b 151-170@101-140, a 51-70@101-140", None),
-    (SOME, "t0..9", "NTSC", "clock: a 0:00:00.07@13-15, b 0:00:00.07@15-16",
-     "time 0:00:00.07 skipped by the disc itself in fields 13 to 15 of a, and shown in fields 15 to 16 of b"),
-    (SOME, "t0..1499", "NTSC",
-     "clock: a 0:00:00.07@13-15, b 0:00:00.07@15-16; clock: a 0:00:33.17@2011-2013, b 0:00:33.17@2015-2016", None),
-    (CUT, "f1..120", "NTSC", "distance: a 64-120@157-285, b 64-120@159-300",
-     "pictures 64 to 120 in fields 157 to 285 of a and fields 159 to 300 of b, further from those before them in one "
-     "than in the other"),
-    (CUT, "f1..120 -201:225", "NTSC", "distance: a 64-80@157-190, b 64-80@159-200", None),  # 81 to 90 are lost
-    # a skip, a way back; and what one capture says of itself: a still, a loss, swapped fields, another speed; a stretch
-    # further on in steps of three, and backwards, between two jumps that take as many fields as on the disc
-    *((one, "1..100", "PAL", "", None) for one in (
-        "1..50 31..100", "1..50 71..100", "1..20 21x6 22..100", "1..100 -41", "1..100 ~41", "1..30 32..69/2 69..100",
-        "1..50 151..210/3 71..100", "1..50 170..151 71..100")),
-    # of the first picture, and of those from 41 on, each capture reads another one of both fields
-    ("b1..80 2=B 82:160/4=B 83:160/4=B", "b1..80 1=B 81:160/4=B 84:160/4=B", "PAL", "", None))
-
-
-def texts(found):
-    return ["%s: %s" % (each["why"], ", ".join("%s %s@%s" % (part["capture"], span(part), span(
-        part, "field", "lastField")) for part in each["between"])) for each in as_json(found)["disagreements"]]
-
-
-def test_disagreements_rows():
-    """Numbers of a detour are taken elsewhere."""
-    for one, other, system, wanted, text in ROWS:
-        found = together(one, other, system=system)
-        assert "; ".join(texts(found)) == wanted
-        if text:
-            assert list(joined_text(found))[-1] == "disagreements: 1 (%s)" % text
-        if not wanted:
-            assert texts(together(other, one, system=system)) == []
-    found = together(DETOUR, "1..100", "121..180")
-    assert [one.source for one in found.ranges] == ["a", "b", "a", "c"]
-    assert taken(found, 151) == ["c", 61, 31, "read"]
-
-
-# Why sides aren't joined. Of chapters nothing is refused where as many numbers are alike, of fewer than ten numbers,
-# and of others.
-CHAPTERS = "1..40 2:30/2=-/c1/c1 32:80/2=-/c2/c2"
-REFUSED = (
-    ("a has pictures of PAL, c has pictures of NTSC: two discs?", "1..40", "1..40", "NTSC 1..40"),
-    ("a and b differ in the chapter of 25 of 40 numbers (at 16 it is 2 and 3): two discs?",
-     CHAPTERS, "1..40 2:30/2=-/c1/c1 32:80/2=-/c3/c3"),
-    (None, CHAPTERS, "1..40 2:30/2=-/c1/c1 32:40/2=-/c2/c2 42:80/2=-/c3/c3"),
-    (None, CHAPTERS, "32..59 2:56/2=-/c5/c5"), (None, CHAPTERS, "50..89 2:80/2=-/c5/c5"),
-    ("a and b differ in the programme status of 40 of 40 numbers (at 0:00:00.00 it is 8BA000 and 8DC0A1): two discs?",
-     "t0..39", "t0..39 2:80/2.16=8DC0A1"), (None, "t0..39", "t0..39 2:40/2.16=8DC0A1"),
-    ("a has pictures of PAL, b has times of PAL: two discs?", "1..40", "t0..29"),
-    ("a has pictures of NTSC, b has pictures of PAL: two discs?", "NTSC 1..9", "1..9"),
-    # of film pictures with an odd number have three fields: ten of these are followed by another one
-    ("a has pictures of film, b has pictures of video: two discs?", "NTSC f1..20", "NTSC 1..20"),
-    ("b has pictures of film, a has pictures of video: two discs?", "NTSC b1..20", "NTSC f1..20"),
-    (None, "NTSC f1..19", "NTSC 1..40"), (None, "NTSC f1..40", "NTSC 41..80"),
-    ("b has no numbers to join", "1..40", "B"), ("a has no numbers to join", "", "1..40"))
-# What shows that captures are of one disc: a chapter that begins at one number, a programme status, or a users' code
-SHOWN = (
-    ("chapter", CHAPTERS, CHAPTERS), ("", "1..40 2:80/2=-/c1/c1", "1..40 2:80/2=-/c1/c1"),
-    ("chapter", CHAPTERS, "12..21 2:8/2=-/c1/c1 10:20/2=-/c2/c2"),
-    ("", CHAPTERS, "13..21 2:6/2=-/c1/c1 8:18/2=-/c2/c2"),
-    ("", CHAPTERS, "1..40 2:30/2=-/c1/c1 32:60/2=-/c2/c2 62:80/2=-/c3/c3"),
-    ("programme status", "t0..39", "t30..69"), ("", "t0..39", "t31..69"), ("", "t0..39", "t0..39 2:20/2.16=8DC0A1"),
-    ("users' code", "83D0A1/-/- 1..40", "83D0A1/-/- 1..40"), ("", "83D0A1/-/- 1..40", "83D0A2/-/- 1..40"),
-    ("users' code", "83D0A1/-/- 1..40", "83D0A2/-/- 41..60", "83D0A1/-/- 83D0A2/-/- 61..80"),
-    ("", "83D0A1/-/- 1..40", "83D0A1/-/- 1..40", "1..40"),
-    ("chapter, users' code", CHAPTERS + " 83D0A1/-/-", "83D0A1/-/- 41..60", CHAPTERS))
-
-
-def test_onedisc_refused():
-    for text, *sides in REFUSED:
-        assert reason(joined, *(made(one, side) for one in sides)) == text
-
-
-def test_shown():
-    for kinds, *texts in SHOWN:
-        found = together(*texts)
-        assert ", ".join(found.shown_by) == kinds
-        assert list(joined_text(found)).count(NOTHING_SHOWS) == int(not kinds)
 
 
 @pytest.fixture
@@ -284,34 +221,30 @@ def found():
 
 
 def boxes(found, name):
-    """The places and titles of the boxes of a class."""
-    return [(box.get("data-places"), box.find(SPACE + "title").text, float(box.get("x")), float(box.get("width")))
+    """The places, the first pixel, the width and the title of the boxes of a class."""
+    return ["%s %s %s %s" % (box.get("data-places"), box.get("x"), box.get("width"), box.find(SPACE + "title").text)
             for box in xml.fromstring(bars_of(found)).iter(SPACE + "rect") if box.get("class") == name]
 
 
 def test_bars(found):
-    # 96 numbers on 960 pixels from 150 on: 10 pixels each
-    assert boxes(found, "taken-from-here") == [("1-19", "1 to 19: taken from fields 1 to 38 of a", 150, 190),
-                                              ("24-96", "24 to 96: taken from fields 41 to 186 of a", 380, 730),
-                                              ("20-21", "20 to 21: taken from fields 37 to 40 of b", 340, 20),
-                                              ("23-23", "23: taken from fields 41 to 42 of b", 370, 10)]
-    assert boxes(found, "in-another-capture-alone") == [("21-21", "21: not in a, but in b", 350, 10),
-                                                       ("23-23", "23: not in a, but in b", 370, 10),
-                                                       ("11-11", "11: not in b, but in a", 250, 10)]
-    assert boxes(found, "in-none") == [("22-22", "22: in no capture, lost", 360, 10)] * 3
+    """96 numbers on 960 pixels from 150 on: 10 pixels each. Those that touch are one."""
+    assert boxes(found, "taken-from-here") == [
+        "1-19 150 190 1 to 19: taken from fields 1 to 38 of a",
+        "24-96 380 730 24 to 96: taken from fields 41 to 186 of a",
+        "20-21 340 20 20 to 21: taken from fields 37 to 40 of b", "23-23 370 10 23: taken from fields 41 to 42 of b"]
+    assert boxes(found, "in-another-capture-alone") == [
+        "21-21 350 10 21: not in a, but in b", "23-23 370 10 23: not in a, but in b",
+        "11-11 250 10 11: not in b, but in a"]
+    assert boxes(found, "in-none") == ["22-22 360 10 22: in no capture, lost"] * 3
     texts = [list(text.itertext())[-1] for text in xml.fromstring(bars_of(found)).iter(SPACE + "text")]
     assert texts[:1] + texts[6:10] == ["2 captures together", "a", "b", "in none: 1", "disagreements: 0"]
     assert (texts[1:6], texts[-1]) == (list(COLOURS), "picture number")
-
-
-def test_marks():
-    found = together("1..3000 -2005:2006 -2001:2002", "1..3000")  # that touch are one
-    assert [box[:2] for box in boxes(found, "in-another-capture-alone")] == [
-        ("1001-1003", "1001: not in a, but in b; and 1 more")]
-    found = together("1..50 151..170 71..100", "1..100")
-    assert [box[:2] for box in boxes(found, "disagreement")] == [
-        ("51-70", "51 to 70: in fields 101 to 140 of b, and a otherwise"),
-        ("151-170", "151 to 170: in fields 101 to 140 of a, and b otherwise")]
+    one, = boxes(together("1..3000 -2005:2006 -2001:2002", "1..3000"), "in-another-capture-alone")
+    assert one.startswith("1001-1003 ")
+    assert one.endswith(" 1001: not in a, but in b; and 1 more")
+    assert [one.split(" ", 3)[3] for one in boxes(together("DETOUR", "1..100"), "disagreement")] == [
+        "51 to 70: in fields 101 to 140 of b, and a otherwise",
+        "151 to 170: in fields 101 to 140 of a, and b otherwise"]
 
 
 def test_page(found):
@@ -329,59 +262,111 @@ def test_page(found):
     assert "<a>" not in page
 
 
-# side.vbi.json has pictures 0 to 11, a number in each field; other.tbc has 4 to 7 and 10 to 15.
-@pytest.fixture
-def command(drawn):
+def test_what_is_printed_and_written(drawn):
+    """Of pictures 0 to 11, and of 4 to 7 and 10 to 15. With one field each has its own stretch."""
     write_stream(drawn.named("other.tbc"), NTSC, pictures(16)[4:8] + pictures(16)[10:])
     drawn.metadata("other.tbc.json")
-    return drawn
-
-
-def both(command, words="", said=""):
-    return command.printed("join side.vbi.json other.tbc " + words, said=said)
-
-
-def test_text_and_tables(command):
-    """Of a picture with one field each has its own stretch."""
-    assert both(command).decode().split("\n")[:3] == [
-        "together: pictures 0 to 15, none lost", NOTHING_SHOWS,
+    words, head = "join side.vbi.json other.tbc ", "together: pictures 0 to 15, none lost"
+    assert drawn.printed(words).decode().split("\n")[:3] == [
+        head, NOTHING_SHOWS,
         "side.vbi.json: has 12, 6 of them alone, lacks 4 (pictures 12 to 15 in other.tbc), whole: no"]
-    said = "ldvbi-side: %s\n" % NOTHING_SHOWS
-    rows = both(command, "--csv", said).decode().split("\n")
-    assert [*rows[:2], *rows[12:14], *rows[16:]] == ["number,source,field,frame,how", "0,side.vbi.json,1,1,read",
-                                                     "11,side.vbi.json,12,6,read", "12,other.tbc,7,4,read",
-                                                     "15,other.tbc,10,5,read", ""]
-    rows = both(command, "--ranges", said).decode().split("\n")
-    assert [*rows[:2], *rows[16:]] == ["first,last,source,first field,last field", "0,0,side.vbi.json,1,1",
-                                       "15,15,other.tbc,10,10", ""]
-    found = json.loads(both(command, "--json"))
-    assert [found["version"], found["system"], found["format"], found["unit"], found["shownBy"], found["captures"][1],
-            found["taken"][12], found["ranges"][12]] == [
-        1, "NTSC", "cav", "picture", [],
-        {"name": "other.tbc", "fields": 10, "whole": "no", "numbers": {"count": 10, "least": 4, "greatest": 15}},
-        [12, "other.tbc", 7, 4, "read"],
-        {"first": 12, "last": 12, "count": 1, "source": "other.tbc", "field": 7, "lastField": 7}]
+    for option, *wanted in (
+            ("--csv", "number,source,field,frame,how", "0,side.vbi.json,1,1,read", "11,side.vbi.json,12,6,read",
+             "12,other.tbc,7,4,read", "15,other.tbc,10,5,read", ""),
+            ("--ranges", "first,last,source,first field,last field", "0,0,side.vbi.json,1,1",
+             "11,11,side.vbi.json,12,12", "12,12,other.tbc,7,7", "15,15,other.tbc,10,10", "")):
+        rows = drawn.printed(words + option, said="ldvbi-side: %s\n" % NOTHING_SHOWS).decode().split("\n")
+        assert [*rows[:2], *rows[12:14], *rows[16:]] == wanted
+    for option, printed in (("", b""), ("--json ", drawn.printed(words + "--json"))):
+        assert drawn.printed(words + option + "--html page.html") == printed
+        assert "<h1>side.vbi.json, other.tbc</h1>\n<p>%s</p>" % head in drawn.text("page.html")
 
 
-def test_a_page(command):
-    assert both(command, "--html page.html") == b""
-    page = command.read("page.html")
-    assert b"<h1>side.vbi.json, other.tbc</h1>\n<p>together: pictures 0 to 15, none lost</p>" in page
-    assert both(command, "--json --html page.html") == both(command, "--json")
-    assert command.read("page.html") == page
-
-
-def test_sides_are_read_as_the_options_say(command):
+def test_sides_are_read_as_the_options_say(drawn):
     """Both end without lead-out, and field 5 is worn. By the metadata the second fields begin frames."""
     fields = words_of("1..8")
     fields[4] = [0, *2 * [worn_line(0xF00003, NTSC, 9, 11)]]
     for name in ("one.tbc", "two.tbc"):
-        write_stream(command.named(name), NTSC, fields)
-    command.metadata("meta.json", count=16)
+        write_stream(drawn.named(name), NTSC, fields)
+    drawn.metadata("meta.json", count=16)
     for words, whole, frame, how in (
             ("LEVELS", "can't tell", 3, "read"), ("--meta meta.json", "can't tell", 2, "read"),
             ("LEVELS --no-recover", "can't tell", 3, "neighbours"), ("LEVELS --open-end", "yes", 3, "read"),
             ("LEVELS --strict", "no", 3, "read")):
-        found = json.loads(command.printed("join --json one.tbc two.tbc " + words))
+        found = json.loads(drawn.printed("join --json one.tbc two.tbc " + words))
         assert ([one["whole"] for one in found["captures"]], found["taken"][2]) == (
             [whole, whole], [3, "one.tbc", 5, frame, how])
+
+
+class Captures:
+    """The captures of a seed, two to four of them, and what they have together. A capture's name is its place."""
+
+    def __init__(self, seed):
+        self.ones = captures(seed, 2 + seed % 3)
+        self.kind = self.ones[0].kind
+        self.joined = as_json(join([capture_of(side_of_document(json.dumps(one.document).encode()), str(place))
+                                    for place, one in enumerate(self.ones)]))
+        self.truths = [Truth(one) for one in self.ones]
+        self.taken = {self.number(row[0]) for row in self.joined["taken"]}
+
+    def number(self, text):
+        return number_of(text, self.truths[0].rate, self.joined["unit"])
+
+    def numbers_in(self, stretches):
+        return {number for one in stretches
+                for number in range(self.number(one["first"]), self.number(one["last"]) + 1)}
+
+    def check_numbers(self):
+        """Each number is taken from a field that has it on the disc, and from the frame of that. None that can be read
+        in a capture is missing. What is lost is in no capture, and what one lacks another has. No two disagree."""
+        # of each capture the numbers that its fields have, read or not
+        having = [set(one.numbers) for one in self.ones]
+        on_disc = set(self.ones[0].on_disc)
+        assert self.joined["disagreements"] == []
+        for number, source, field, frame, _ in self.joined["taken"]:
+            assert self.ones[int(source)].numbers[field - 1] == self.number(number)
+            assert frame == (field + 1) // 2
+        for truth in self.truths:
+            assert truth.read.keys() <= self.taken
+        lost = self.numbers_in(stretch for stretch in self.joined["missing"] if stretch["why"] == "lost")
+        assert lost <= on_disc - set().union(*having)
+        assert self.numbers_in(self.joined["leftOut"]) & on_disc == set()
+        for stretch in self.joined["lacks"]:
+            numbers = self.numbers_in([stretch]) & self.taken
+            assert len(numbers) == stretch["count"]
+            for name in stretch["in"]:
+                assert numbers <= having[int(name)]
+
+    def check_stretches(self):
+        """The fields of a stretch follow each other on the disc, up to that of its last number, and the stretches have
+        each number once. (What comes behind the last number of a capture before a loss may be another one's field.)"""
+        field_of = {row[0]: row[2] for row in self.joined["taken"]}
+        rows = list(field_of)
+        for stretch in self.joined["ranges"]:
+            numbers, rows = rows[:stretch["count"]], rows[stretch["count"]:]
+            assert [stretch["first"], stretch["last"]] == [numbers[0], numbers[-1]]
+            if self.kind != "clv-minutes":
+                last = field_of[stretch["last"]]
+                assert stretch["lastField"] - last in (0, 1, 2)
+                order = self.ones[int(stretch["source"])].order[stretch["field"] - 1:last]
+                assert order == list(range(order[0], order[-1] + 1))
+        assert rows == []
+
+
+@pytest.mark.unrecorded
+def test_random_sets():
+    """Each of one drawn disc with losses, jumps and damage of its own, beside the truth."""
+    counts = Counter()
+    for one in map(Captures, range(100)):
+        one.check_numbers()
+        one.check_stretches()
+        rows, lacks = one.joined["taken"], one.joined["lacks"]
+        counts[one.kind[:3]] += len(one.ones)
+        counts["taken"] += len(rows)
+        counts["due"] += sum(row[4] == "neighbours" for row in rows)
+        counts["lost"] += sum(stretch["count"] for stretch in one.joined["missing"])
+        counts["lacking"] += sum(stretch["count"] for stretch in lacks)
+        counts["alone"] += sum(stretch["count"] for stretch in lacks if len(stretch["in"]) == 1 < len(one.ones) - 1)
+    assert (counts["cav"], counts["clv"]) == (173, 126)
+    for name, least in (("taken", 25000), ("due", 80), ("lost", 90), ("lacking", 2000), ("alone", 200)):
+        assert counts[name] > least

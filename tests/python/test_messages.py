@@ -1,7 +1,5 @@
-"""Each fault in its whole message: one line that names the file, and says what is wrong with it or was looked for; and
-the command lines that are refused. The exit statuses of all options and commands, which are those of the table in
-docs/FORMATS.md, and the version; and the parsers of the command, of whose texts the manual page and the completions are
-made."""
+"""Each fault in its whole message: one line that names the file, and says what is wrong with it or was looked for. The
+command lines that are refused, the exit statuses of all options and commands, and the texts of the parsers."""
 
 import bz2
 import gzip
@@ -19,22 +17,17 @@ from room import in_database, IN_PLACE, NO_METADATA, reason
 from streams import PROGRAM, TOP
 
 NOT_JSON = "not JSON: line 1 is wrong from column 1 on"
-# Command lines that are refused, by how they begin
+# Command lines that are refused, by how they begin, and those in which a name is empty
 USAGE = {
     "side.tbc LEVELS": (
         "--document --csv", "--document --json", "--document --summary", "--document --bad-lines", "--csv --seek 1",
         "--seek x", "--seek -1", "--system SECAM", "--black 1.0", "--recovered", "--recovered --json",
         "--recovered --document --no-recover", "--as-read"),
     "join side.vbi.json": ("", "side.vbi.json --csv --ranges"),
-    "scan": ("", "-j 0 side.tbc", "-j x side.tbc", "--csv --json side.tbc", "--again side.tbc",
-             "--as-read side.tbc")}
-# Those in which a name is empty
+    "scan": ("", "-j 0 side.tbc", "-j x side.tbc", "--csv --json side.tbc", "--again side.tbc", "--as-read side.tbc")}
 UNNAMED = ("side.vbi.json --html", "side.vbi.json --svg", "side.vbi.json -o", "side.vbi.json --map", "side.tbc --into",
            "side.vbi.json --chapters", "side.tbc --meta", "scan side.vbi.json --html", "scan side.vbi.json --into",
-           "scan side.tbc --meta", "join side.vbi.json side.vbi.json --html",
-           "join side.vbi.json side.vbi.json --meta")
-
-
+           "scan side.tbc --meta", "join side.vbi.json side.vbi.json --html", "join side.vbi.json side.vbi.json --meta")
 # Command lines, and what is said: after = the name of an output in the place of an input, or of another output
 REFUSED = """
     absent.tbc | absent.tbc: No such file or directory || side.tbc | NONE || side.tbc --json HALF | NONE
@@ -43,17 +36,14 @@ REFUSED = """
     'my sides' | my sides is a folder: ldvbi-side scan 'my sides'
     join side.vbi.json 'my sides' | my sides is a folder: ldvbi-side scan 'my sides'
     /dev/null LEVELS | /dev/null is no file that can be mapped
-    side.tbc --white 65536 HALF | side.tbc: white is not from 0 to 65535 || scna | scna NO COMMAND
-    scna folder -j 1 | scna NO COMMAND || compare side.vbi.json side.vbi.json | compare NO COMMAND
-    index a.html b.html | index NO COMMAND || lost | lost: No such file or directory
+    side.tbc --white 65536 HALF | side.tbc: white is not from 0 to 65535
+    scna | scna NO COMMAND || compare side.vbi.json side.vbi.json -j 1 | compare NO COMMAND
+    lost | lost: No such file or directory
     side.vbi.json --document | side.vbi.json is a document, and --document is for a TBC file
     side.vbi.json --black 16384 | side.vbi.json: OPTIONS || side.vbi.json --system PAL | side.vbi.json: OPTIONS
     side.tbc --meta meta.json | meta.json: No such file or directory || side.vbi.json -o absent/out | ABSENT
-    side.vbi.json --svg absent/out | ABSENT || side.vbi.json --html absent/out | ABSENT
+    side.vbi.json --svg folder | folder: Is a directory || side.vbi.json --html absent/out | ABSENT
     side.vbi.json --map absent/out | ABSENT || side.vbi.json --chapters absent/out | ABSENT
-    side.vbi.json -o folder | folder: Is a directory || side.vbi.json --svg folder | folder: Is a directory
-    side.vbi.json --html folder | folder: Is a directory || side.vbi.json --map folder | folder: Is a directory
-    side.vbi.json --chapters folder | folder: Is a directory
     join other.tbc side.vbi.json --html absent/out | ABSENT
     join side.vbi.json other.tbc --html other.tbc | =other.tbc
     join side.vbi.json other.tbc --html other.tbc.json | =other.tbc.json
@@ -76,25 +66,25 @@ WORDS = {
     "OPTIONS": "a document has its system and levels; they are options for a TBC file"}
 
 
-@pytest.mark.parametrize("words, said", cells_of(REFUSED))
-def test_refused(drawn, words, said):
+def test_refused(drawn):
     """In the folder all files are as before."""
     drawn.add("other.tbc", "1..6")
     in_database(drawn.named("rows.db"), "CREATE TABLE capture (system, black_16b_ire, white_16b_ire)",
                 "INSERT INTO capture VALUES ('NTSC', 16384, 51200)")
     os.link(drawn.named("other.tbc.json"), drawn.named("hard"))
-    for name, target in (("lost", "nowhere"), ("meta", "other.tbc.json")):
-        os.symlink(target, drawn.named(name))
+    os.symlink("other.tbc.json", drawn.named("meta"))
     for name in ("my sides", "folder"):
         os.mkdir(drawn.named(name))
     for name in ("my sides/one.tbc", "side"):
         drawn.write(name, b"")
-    before = drawn.names(), [drawn.read(name) for name in ("side.tbc", "side.vbi.json", "other.tbc", "hard", "rows.db")]
+    before, table = drawn.files(), REFUSED
+    os.symlink("nowhere", drawn.named("lost"))
     for short, text in WORDS.items():
-        words, said = words.replace(short, text), said.replace(short, text)
-    drawn.refused(IN_PLACE % said[1:] if said[0] == "=" else said, words)
-    assert before == (drawn.names(), [drawn.read(name) for name in (
-        "side.tbc", "side.vbi.json", "other.tbc", "hard", "rows.db")])
+        table = table.replace(short, text)
+    for words, said in cells_of(table):
+        drawn.refused(IN_PLACE % said[1:] if said[0] == "=" else said, words)
+    os.unlink(drawn.named("lost"))
+    assert drawn.files() == before
 
 
 def each_file(drawn, name, words, *rows):
@@ -111,34 +101,35 @@ def test_usage(drawn):
         assert re.search(end, said)
 
 
+# What begins as each form, and files of that, with command lines and what is said, in which ! is a pipe. A database is
+# read by no other program.
+PACKED = {"gzip": gzip.compress(b"video"), "bzip2": bz2.compress(b"video"), "xz": lzma.compress(b"video"),
+          "lzma": lzma.compress(b"video", lzma.FORMAT_ALONE), "zip": b"PK\x03\x04" + bytes(60),
+          "zstd": b"\x28\xb5\x2f\xfd" + bytes(60), "FLAC": b"fLaC\x00\x00\x00\x22" + bytes(60)}
+COMPRESSED = """
+    my side.tbc.gz | 'my side.tbc.gz' | gzip: zcat 'my side.tbc.gz' ! META 'my side.tbc.json' ! ldvbi-side -
+    packed.tbc | packed.tbc LEVELS
+        | bzip2: bzcat packed.tbc ! ldvbi extract --system NTSC --black 16384 --white 51200 ! ldvbi-side -
+    packed.tbc | packed.tbc --white 5 | bzip2: bzcat packed.tbc ! META packed.tbc.json --white 5 ! ldvbi-side -
+    s.tbc.xz | s.tbc.xz --meta one.json | xz: xzcat s.tbc.xz ! META one.json ! ldvbi-side -
+    s.tbc.lzma | s.tbc.lzma | lzma: lzcat s.tbc.lzma ! META s.tbc.json ! ldvbi-side -
+    s.tbc.zip | s.tbc.zip | zip: unzip -p s.tbc.zip ! META s.tbc.json ! ldvbi-side -
+    s.tbc.zst | s.tbc.zst | zstd: zstdcat s.tbc.zst ! META s.tbc.json ! ldvbi-side -
+    s.vbi.json.gz | s.vbi.json.gz | gzip: zcat s.vbi.json.gz ! ldvbi-side -
+    s.tbc.flac | s.tbc.flac | FLAC: UNPACK || a.tbc.gz | a.tbc.gz --meta a.db | gzip: UNPACK
+    b.vbi.json | join side.vbi.json b.vbi.json | gzip: UNPACK || meta.json | side.tbc --meta meta.json | gzip: UNPACK
+    b.tbc.gz | b.tbc.gz | gzip: UNPACK
+"""
+
+
 def test_compressed_files(drawn):
     """Of a side alone the message has the command that reads it."""
-    extract = "ldvbi extract --meta "
     drawn.write("b.tbc.db", b"")
-    for name, words, data, text in (
-            ("my side.tbc.gz", "'my side.tbc.gz'", gzip.compress(b"video"),
-             "gzip): zcat 'my side.tbc.gz' | %s'my side.tbc.json' | ldvbi-side -" % extract),
-            ("packed.tbc", "packed.tbc LEVELS", bz2.compress(b"video"), "bzip2): bzcat packed.tbc | "
-             "ldvbi extract --system NTSC --black 16384 --white 51200 | ldvbi-side -"),
-            ("packed.tbc", "packed.tbc --white 5", bz2.compress(b"video"),
-             "bzip2): bzcat packed.tbc | %spacked.tbc.json --white 5 | ldvbi-side -" % extract),
-            # a database is read by no other program
-            ("a.tbc.gz", "a.tbc.gz --meta a.db", gzip.compress(b"video"), "gzip): unpack it first"),
-            ("b.tbc.gz", "b.tbc.gz", gzip.compress(b"video"), "gzip): unpack it first"),
-            ("side.tbc.xz", "side.tbc.xz --meta one.json", lzma.compress(b"video"),
-             "xz): xzcat side.tbc.xz | %sone.json | ldvbi-side -" % extract),
-            ("s.tbc.lzma", "s.tbc.lzma", lzma.compress(b"video", lzma.FORMAT_ALONE),
-             "lzma): lzcat s.tbc.lzma | %ss.tbc.json | ldvbi-side -" % extract),
-            ("side.tbc.zip", "side.tbc.zip", b"PK\x03\x04" + bytes(60),
-             "zip): unzip -p side.tbc.zip | %sside.tbc.json | ldvbi-side -" % extract),
-            ("side.tbc.zst", "side.tbc.zst", b"\x28\xb5\x2f\xfd" + bytes(60),
-             "zstd): zstdcat side.tbc.zst | %sside.tbc.json | ldvbi-side -" % extract),
-            ("side.vbi.json.gz", "side.vbi.json.gz", gzip.compress(b"{}"),
-             "gzip): zcat side.vbi.json.gz | ldvbi-side -"),
-            ("side.tbc.flac", "side.tbc.flac", b"fLaC\x00\x00\x00\x22" + bytes(60), "FLAC): unpack it first"),
-            ("b.vbi.json", "join side.vbi.json b.vbi.json", gzip.compress(b"{}"), "gzip): unpack it first"),
-            ("meta.json", "side.tbc --meta meta.json", gzip.compress(b"{}"), "gzip): unpack it first")):
-        each_file(drawn, name, words, (": it is compressed (" + text, data))
+    for name, words, said in cells_of(COMPRESSED):
+        form, said = said.split(": ", 1)
+        for short, text in (("!", "|"), ("META", "ldvbi extract --meta"), ("UNPACK", "unpack it first")):
+            said = said.replace(short, text)
+        each_file(drawn, name, words, (": it is compressed (%s): %s" % (form, said), PACKED[form]))
 
 
 def test_the_command_for_a_compressed_file_is_taken(drawn):
@@ -156,29 +147,25 @@ def test_standard_input(drawn):
     """It has a document: for a TBC file, and what is compressed, the message says what to do."""
     make = "standard input is no document; make one of a TBC file: ldvbi extract --meta %s | ldvbi-side -"
     for words, data, text in (
-            ("-", drawn.read("side.tbc")[:100000], make % "side.tbc.json"),
-            ("- --meta 'a b.json'", b"\0", make % "'a b.json'"), ("- --meta a.db", b"\0", make % "side.tbc.json"),
+            ("- --meta 'a b.json'", drawn.read("side.tbc")[:100000], make % "'a b.json'"),
+            ("- --meta a.db", b"\0", make % "side.tbc.json"),
             ("-", gzip.compress(b"{}"), "standard input: it is compressed (gzip): unpack it first"),
-            ("-", b"", "standard input: " + NOT_JSON), ("-", b" {x", "standard input: not JSON: line 1 is wrong "
-                                                        "from column 3 on")):
+            ("-", b"", "standard input: " + NOT_JSON)):
         with open(drawn.write("in", data), "rb") as file:
             assert drawn.run_command(words, stdin=file) == (2, b"", "ldvbi-side: %s\n" % text)
 
 
-def test_documents(drawn):
+def test_documents_and_metadata(drawn):
+    """Faults of a file that can't be read have its name, as those of what it says."""
     each_file(drawn, "wrong.vbi.json", "wrong.vbi.json", (": " + NOT_JSON, b""),
               (": not JSON: line 2 is wrong from column 13 on", b'{"version":2,\n"fields":[],}'),
               (": not JSON: byte 13 is not UTF-8", b'{"version":"\xff"}'),
               (": not JSON: NaN is no number", b'{"version":NaN}'),
               (": not JSON: it is nested too deep", b"[" * 100000), (": not JSON: a number is too long", b"1" * 5000),
               (": field 1: seqNo is not there", drawn.document.replace(b'"seqNo":1,', b'"number":1,')))
-
-
-def test_metadata(drawn):
-    """Faults of a file that can't be read have its name, as those of what it says."""
     each_file(drawn, "meta.json", "side.tbc --meta meta.json", (" is no metadata with videoParameters", b"{}"),
-                   (": no black level given", '{"videoParameters":{"system":"NTSC"}}'),
-                   (": SQLite can't read it: file is not a database", b"SQLite format 3\0" + bytes(1000)))
+              (": no black level given", '{"videoParameters":{"system":"NTSC"}}'),
+              (": SQLite can't read it: file is not a database", b"SQLite format 3\0" + bytes(1000)))
 
 
 def test_a_name_stands_once():
@@ -218,30 +205,19 @@ def statuses(drawn):
     return drawn
 
 
-def check(statuses, status, words):
-    """A run has this status, and only what isn't done is said."""
-    found, _, said = statuses.run_words(*words.split())
-    is_said = status in (2, 3) or status == 1 and "--seek" in words
-    assert (found, said.count("\n")) == (status, int(is_said))
-
-
 def test_each_option_and_command(statuses):
-    for words, wanted in OPTIONS.items():
-        for side, status in zip((*SIDES, "absent.tbc"), (*wanted, 2)):
-            check(statuses, status, "%s %s" % (side, words))
-    for words, wanted in COMMANDS.items():
-        for side, status in zip(SIDES, wanted):
-            check(statuses, status, "%s %s" % (words, side))
-    check(statuses, 2, "join whole.tbc absent")
-
-
-@pytest.mark.parametrize("words, status", (
-    ("scan whole.tbc dark.tbc", 4), ("scan dark.tbc lost.tbc", 1),
-    ("scan lost.tbc dark.tbc", 1), ("scan absent lost.tbc dark.tbc", 2),
-    # a capture that is cut, whichever it is
-    ("join cut.tbc whole.tbc lost.tbc", 3)))
-def test_of_many_sides_the_weightiest(statuses, words, status):
-    assert statuses.run_words(words)[0] == status
+    """Only what isn't done is said. Of many sides the weightiest status counts, and a capture that is cut, whichever it
+    is."""
+    rows = [(form % side, status) for form, wanted in (
+        *(("%s " + words, wanted) for words, wanted in OPTIONS.items()),
+        *((words + " %s", wanted) for words, wanted in COMMANDS.items()))
+            for side, status in zip((*SIDES, "absent.tbc"), (*wanted, 2))]
+    for words, wanted in (
+            *rows, ("scan whole.tbc dark.tbc", 4), ("scan dark.tbc lost.tbc", 1), ("scan lost.tbc dark.tbc", 1),
+            ("scan absent lost.tbc dark.tbc", 2), ("join cut.tbc whole.tbc lost.tbc", 3)):
+        status, _, said = statuses.run_words(*words.split())
+        is_said = "scan" not in words and (status in (2, 3) or status == 1 and "--seek" in words)
+        assert (status, said.count("\n")) == (wanted, int(is_said)), words
 
 
 def test_what_is_printed_alone(statuses):
@@ -252,10 +228,6 @@ def test_what_is_printed_alone(statuses):
                      re.escape(ldvbi.__version__), text)
     for name in SIDES:
         assert statuses.run_words(name) == statuses.run_words(name, "--summary")
-    assert statuses.run_words("whole.tbc")[1].split("\n")[0] == "whole: yes"
-    # what is written takes the place of what is printed
-    os.rename(statuses.named("lost.tbc.json"), statuses.named("meta.json"))
-    assert statuses.run_words("lost.tbc --meta meta.json --svg side.svg")[:2] == (0, "")
 
 
 def test_the_table():
@@ -274,7 +246,9 @@ SIGNALS = [129, 130, 143]
 STATUSES = {"": [0, 1, 2, 3, 4, *SIGNALS], "join": [0, 2, 3, *SIGNALS], "scan": [0, 1, 2, 4, *SIGNALS]}
 
 
-def test_each_says_its_statuses():
+def test_texts_of_commands():
+    """Each says its statuses, and texts of options are parts of sentences: so the manual page makes sentences of them,
+    and zsh shows their first clause."""
     found = parsers("ldvbi-side")
     assert set(found) == set(STATUSES)
     for command, parser in found.items():
@@ -283,11 +257,4 @@ def test_each_says_its_statuses():
         for status, texts in statuses_of(command).items():
             assert "%d %s" % (status, ", or ".join(texts)) in sentence
         assert sentence.count("; ") == len(STATUSES[command]) - 1
-
-
-@pytest.mark.parametrize("command, parser", parsers("ldvbi-side").items())
-def test_texts_of_options_are_parts_of_sentences(command, parser):
-    """So the manual page makes sentences of them, and zsh shows their first clause."""
-    for action in parser._actions:
-        if action.dest != "help":
-            assert re.search("^[a-z-].*[^.]$", action.help)
+        assert all(re.search("^[a-z-].*[^.]$", action.help) for action in parser._actions if action.dest != "help")

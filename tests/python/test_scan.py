@@ -1,20 +1,17 @@
-"""`scan`: the table of a folder of sides, its statuses, and the pages with their index; which files of folders are
-sides, in which order, and what is compressed."""
+"""`scan`: the table of a folder of sides, and the pages with their index; which files of folders are sides, in which
+order, and what is compressed."""
 
-import bz2
 import contextlib
 import csv
 import gzip
 import io
 import json
-import lzma
 import os
 import re
 import shutil
 import subprocess
 import sys
 from unittest import mock
-from urllib.parse import quote
 
 from compact import cells_of, words_of
 from ldvbi.packed import packed_as
@@ -22,26 +19,149 @@ from ldvbi_side.command.folders import files_of, Found, name_below, page_names, 
 from ldvbi_side.command.into import copies_in
 from ldvbi_side.command.main import answer_of
 from ldvbi_side.command.scan import scan
-import pytest
-from room import DARK, IN_PLACE, ROWS
+from room import in_database, IN_PLACE
 from streams import NTSC, PAL, TOP, worn_line
 
-HEAD = ["side", "whole", "lost", "unread", "format", "from", "to", "last", "lead-in", "lead-out", "fields", "try",
-        "why"]
-YES, NO = "side.tbc,yes,0,0,cav,1,30,30,0,1,61,,", "side.tbc,no,2,0,cav,1,8,8,0,1,13,,4 fields lost; 2 pictures lost"
-# A side, its row, and options with the row that they make of it
-OPTIONS = """
-    open.tbc | can't tell,0,0,cav,1,30,30,0,0,60,,no lead-out: the disc may go on after picture 30
-        | --open-end | yes,0,0,cav,1,30,30,0,0,60,,
-    dark.tbc | can't tell,0,0,neither,,,,0,0,61,--white 30000,no picture number and no time
-        | --white 30000 | yes,0,0,cav,1,30,30,0,1,61,,
-    dark.tbc | can't tell,0,0,neither,,,,0,0,61,--white 30000,no picture number and no time
-        | --meta other.json | yes,0,0,cav,1,30,30,0,1,61,,
-    pal.tbc | no,0,0,neither,,,,0,0,90,--system PAL --black 16384 --white 51200,field 91 is cut; ..
-        | --system PAL | yes,0,0,cav,1,30,30,0,1,61,,
-    worn.tbc | yes,0,0,cav,1,30,30,0,1,61,, | --no-recover | yes,0,1,cav,1,30,30,0,1,61,,
-    worn.tbc | yes,0,0,cav,1,30,30,0,1,61,, | --strict | no,0,0,cav,1,30,30,0,1,61,,no lead-in
+HEAD = "side whole lost unread format from to last lead-in lead-out fields try why".split()
+# A side of every kind, in the order of the table: its name, its fields, and its row behind the name, of which the last
+# cell begins so; - is nothing. The metadata has NTSC and white 51200.
+SIDES = """
+    a/cut.tbc | 1..30 O | no | 0 | 0 | cav | 1 | 30 | 30 | 0 | 1 | 61 | - | field 62 is cut
+    a/database.tbc | 1..30 O | yes | 0 | 0 | cav | 1 | 30 | 30 | 0 | 1 | 61 | - | -
+    a/joined.tbc | Lx2 1..30 Ox2 Lx2 1..25 Ox2 | no | 0 | 0 | cav | 1 | 30 | 25 | 4 | 4 | 118 | - | lead-in again in
+    a/levels.tbc | 1..30 | can't tell | 0 | 0 | neither | - | - | - | 0 | 0 | 60 | --white 30000
+        | no picture number and no time
+    a/lost.tbc | 1..11 14..30 O | no | 2 | 0 | cav | 1 | 30 | 30 | 0 | 1 | 57 | - | 4 fields lost; 2 pictures lost
+    b/no codes.tbc | Bx60 | can't tell | 0 | 0 | neither | - | - | - | 0 | 0 | 60 | - | no picture number and no time
+    b/packed.tbc | - | fault | - | - | - | - | - | - | - | - | - | - | it is compressed (gzip): unpack it first
+    b/times.tbc | t0..20 O | yes | 0 | 0 | clv | 0:00:00.00 | 0:00:00.20 | 0:00:00.20 | 0 | 1 | 43 | - | -
+    b/unread.tbc | 1..30 23=B O | yes | 0 | 1 | cav | 1 | 30 | 30 | 0 | 1 | 61 | - | -
 """
+# White is less than the middle of the metadata's levels.
+DARK = ("NTSC", 16384, 30000)
+YES, NO = "side.tbc,yes,0,0,cav,1,30,30,0,1,61,,", "side.tbc,no,2,0,cav,1,8,8,0,1,13,,4 fields lost; 2 pictures lost"
+# A side, how its row begins, and options with the begin that they make of it
+OPTIONS = """
+    open.tbc | can't tell,0,0 | --open-end | yes,0,0 || pal.tbc | no,0,0 | --system PAL | yes,0,0
+    dark.tbc | can't tell,0,0 | --white 30000 | yes,0,0 || dark.tbc | can't tell,0,0 | --meta other.json | yes,0,0
+    worn.tbc | yes,0,0 | --no-recover | yes,0,1 || worn.tbc | yes,0,0 | --strict | no,0,0
+"""
+
+
+def test_each_kind(room):
+    """Sides are read one after the other, and side by side; those that have a page aren't read again. In columns those
+    behind the first two are written to the right."""
+    more = {"a/cut.tbc": {"rest": 12345}, "a/levels.tbc": {"setup": DARK}}
+    for name, fields, *_ in cells_of(SIDES):
+        room.add(name, fields.replace("-", "B"), **more.get(name, {}))
+    room.write("b/packed.tbc", gzip.compress(b"video"))
+    in_database(room.named("a/database.tbc.db"),
+                "CREATE TABLE capture (system TEXT, black_16b_ire INTEGER, white_16b_ire INTEGER)",
+                "INSERT INTO capture VALUES ('NTSC', 16384, 51200)")
+    os.unlink(room.named("a/database.tbc.json"))
+    found = [room.scan(words) for words in ("--csv -j 1 --html one a b", "--json -j 4 --html four b a",
+                                            "--html four a b")]
+    assert [(status, said) for status, _, said in found] == [(2, "")] * 3
+    head, *rows = csv.reader(found[0][1].splitlines())
+    assert (head, len(rows)) == (HEAD, len(cells_of(SIDES)))
+    for (name, *cells, why), (wanted_name, _, *wanted) in zip(rows, cells_of(SIDES)):
+        *wanted, begin = ["" if cell == "-" else cell for cell in wanted]
+        assert (name, cells, why[:len(begin) or None]) == (wanted_name, wanted, begin)
+    known = json.loads(found[1][1])["sides"]
+    assert [(one["side"], one["fields"] or "", "; ".join(one["reasons"]) or one["fault"] or "") for one in known] == [
+        (row[0], row[10] and int(row[10]), row[12]) for row in rows]
+    head, *lines = found[2][1].splitlines()
+    assert head == ("side            whole         lost  unread   format        from          to        last  "
+                    "lead-in  lead-out   fields            try  why")
+    form = "%-14s  %-10s  %6s  %6s  %7s  %10s  %10s  %10s  %7s  %8s  %7s  %13s  "
+    assert lines == [(form % tuple(cell or "-" for cell in cells) + why).rstrip() for *cells, why in rows]
+    names = [os.path.basename(one["page"]) for one in known if one["page"]] + ["index.html"]
+    assert len(names) == len(rows)  # one has a fault; and the index
+    assert room.names("one") == room.names("four") == sorted(names)
+    for name in names:
+        assert room.read("one/" + name) == room.read("four/" + name)
+
+
+def listed(room):
+    """The names of an index, each with its link, how whole its side is, and the end of its row."""
+    found = re.findall('<tr><td>(.*?)</td><td class="[a-z]*" data-key="[0-4]">(.*?)</td>.*<td>(.*)</td></tr>',
+                       room.text("pages/index.html").replace(room.folder, ".."))
+    return [(re.sub('<a href="(.*)">(.*)</a>', r"\2@\1", name), whole, why) for name, whole, why in found]
+
+
+def test_sides_of_two_scans(room):
+    """What a folder lacks that is scanned is gone, and what another one has stays; two of one name have paths."""
+    for name in ("nas/clv/1.tbc", "nas/cav/1.tbc", "more/cav/1.tbc", "more/lost.tbc"):
+        room.add(name, "1..11 14..30 O" if "lost" in name else "1..30 O")
+    room.write("nas/odd.vbi.json", "{")
+    room.write("more/odd.vbi.json", "[")
+    room.scan("--html pages nas")
+    assert [one[:2] for one in listed(room)] == [
+        ("odd.vbi.json", "fault"), ("cav/1.tbc@cav-1.html", "yes"), ("clv/1.tbc@clv-1.html", "yes")]
+    os.unlink(room.named("nas/clv/1.tbc"))
+    os.unlink(room.named("more/odd.vbi.json"))
+    room.scan("--html pages more")
+    assert [one[:2] for one in listed(room)] == [
+        ("lost.tbc@lost.html", "no"), ("odd.vbi.json", "fault"), ("../more/cav/1.tbc@cav-1-2.html", "yes"),
+        ("../nas/cav/1.tbc@cav-1.html", "yes"), ("clv/1.tbc@clv-1.html", "gone")]
+    assert listed(room)[-1][-1] == "../nas/clv/1.tbc isn&#x27;t there any longer; whole: yes"
+    assert "<h1>5 sides, whole: 2 yes, 1 no, 0 can&#x27;t tell, 1 fault, 1 gone</h1>" in room.text("pages/index.html")
+    assert "<h1>cav/1.tbc</h1>" in room.text("pages/cav-1-2.html")
+    os.unlink(room.named("nas/odd.vbi.json"))  # which has no page
+    # a page of another version isn't listed, nor is an index
+    text = room.text("pages/cav-1.html").replace("{&quot;version&quot;: 3", "{&quot;version&quot;: 2")
+    room.write("pages/other.html", text.replace("nas/cav", "nas/x"))
+    room.scan("--html pages more")
+    assert [whole for _, whole, _ in listed(room)] == ["no", "yes", "yes", "gone"]
+
+
+def page_of(room):
+    """The page of side.tbc, which is whole."""
+    status, text, said = room.scan("--json --html pages side.tbc")
+    assert (status, said) == (0, "")
+    return json.loads(text)["sides"][0]["page"]
+
+
+def time_of(room, name):
+    return os.stat(room.named(name)).st_mtime_ns
+
+
+def test_a_page_that_is_newer(room):
+    """The side isn't read again, but keeps its row: what is in its file now isn't looked at. One that is older than its
+    side, or than the metadata, or lacks what a row has, is written anew."""
+    room.add("side.tbc")
+    page = page_of(room)
+    whole = room.text(page)
+    for name in ("side.tbc", "side.tbc.json"):
+        room.write(page, whole + "<p>")
+        assert (page_of(room), room.text(page)) == (page, whole + "<p>")
+        os.utime(room.named(name), ns=(time_of(room, page), time_of(room, page)))
+        assert (page_of(room), room.text(page)) == (page, whole)
+    room.write(page, whole.replace("&quot;options&quot;", "&quot;other&quot;"))
+    assert (page_of(room), room.text(page)) == (page, whole)
+    room.add("side.tbc", "1..3 6..8 O")
+    for name in ("side.tbc", "side.tbc.json"):
+        os.utime(room.named(name), ns=(0, 0))
+    for words, wanted in (("", YES), ("--again", NO), ("", NO)):
+        assert room.row("--html pages side.tbc " + words) == wanted
+    assert "from 1 to 8" in room.text(page)
+    assert re.search('<a href="side.html">side.tbc</a></td><td class="no" [^<]*>no</td>', room.text("pages/index.html"))
+
+
+def test_options(drawn):
+    """A page that was written with other options than those that are given says nothing. A document has its own system
+    and levels; a TBC file beside it may have none of its own."""
+    drawn.add("open.tbc", "1..30")
+    drawn.add("dark.tbc", setup=DARK)
+    drawn.add("pal.tbc", setup=PAL)
+    worn = [0, *[worn_line(0xF00012, NTSC, 7, 10)] * 2]
+    drawn.add("worn.tbc", [*words_of("1..11"), worn, *words_of("B 13..30 O")])
+    drawn.metadata("other.json", white16bIre=30000)
+    for side, begin, words, other in cells_of(OPTIONS):
+        for given, wanted in (("", begin), (words, other), ("", begin)):
+            assert drawn.row("--html pages %s %s" % (given, side)).startswith("%s,%s," % (side, wanted))
+    assert [row.split(",")[1] for row in drawn.scan("--csv LEVELS side.tbc side.vbi.json")[1].split("\n")[1:-1]] == [
+        "no", "no"]
 
 
 def grows(task):
@@ -51,181 +171,31 @@ def grows(task):
     return answer
 
 
-def test_each_kind(drawn):
-    """A folder with a side of every kind, which are read one after the other, and side by side; those that have a page
-    aren't read again. In columns those behind the first two are written to the right."""
-    drawn.add_each()
-    found = [drawn.scan(words) for words in ("--csv -j 1 --html one a b", "--json -j 4 --html four b a",
-                                             "--html four a b")]
-    assert [(status, said) for status, _, said in found] == [(2, "")] * 3
-    head, *rows = csv.reader(found[0][1].splitlines())
-    assert (head, [row[0] for row in rows]) == (HEAD, list(ROWS))
-    for name, *cells, why in rows:
-        *wanted, begin = ["" if cell == "-" else cell for cell in ROWS[name]]
-        assert (cells, why[:len(begin) or None]) == (wanted, begin)
-    known = json.loads(found[1][1])
-    assert (known["version"], len(known)) == (2, 2)
-    members = [{"lead-in": "leadIn", "lead-out": "leadOut"}.get(column, column) for column in HEAD[2:-1]]
-    assert [[one["side"], one["whole"] or "fault", *("" if one[name] is None else str(one[name]) for name in members),
-             one["fault"] or "; ".join(one["reasons"])] for one in known["sides"]] == rows
-    assert ["4 fields lost", "2 pictures lost"] in [one["reasons"] for one in known["sides"]]
-    head, *lines = found[2][1].splitlines()
-    assert head == ("side                whole         lost  unread   format        from          to        last  "
-                    "lead-in  lead-out   fields            try  why")
-    form = "%-18s  %-10s  %6s  %6s  %7s  %10s  %10s  %10s  %7s  %8s  %7s  %13s  "
-    assert lines == [(form % tuple(cell or "-" for cell in cells) + why).rstrip() for *cells, why in rows]
-    pages = {one["side"]: one["page"] for one in known["sides"]}
-    names = [os.path.basename(page) for page in pages.values() if page] + ["index.html"]
-    assert len(names) == 11  # of thirteen sides three have a fault; and the index
-    assert drawn.names("one") == drawn.names("four") == sorted(names)
-    for name in names:
-        assert drawn.read("one/" + name) == drawn.read("four/" + name)
-    index = drawn.text("four/index.html")
-    assert "<h1>13 sides, whole: 4 yes, 4 no, 2 can&#x27;t tell, 3 faults</h1>" in index
-    for name, page in ((os.path.basename(name), page) for name, page in pages.items()):
-        linked = page and '<a href="%s">%s</a></td>' % (quote(os.path.basename(page)), name)
-        assert "<td>" + (linked or '%s</td><td class="fault"' % name) in index
-        assert not page or "<title>%s</title>" % name in drawn.text(page)
-
-
-def listed(drawn):
-    """The names of an index, each with its link, how whole its side is, and the end of its row."""
-    found = re.findall('<tr><td>(.*?)</td><td class="[a-z]*" data-key="[0-4]">(.*?)</td>.*<td>(.*)</td></tr>',
-                       drawn.text("pages/index.html"))
-    return [(re.sub(drawn.folder, "..", re.sub('<a href="(.*)">(.*)</a>', r"\2@\1", name)), whole,
-             why.replace(drawn.folder, "..")) for name, whole, why in found]
-
-
-def test_sides_of_two_scans(drawn):
-    """What a folder lacks that is scanned is gone, and what another one has stays; two of one name have paths."""
-    for name in ("nas/clv/1.tbc", "nas/cav/1.tbc", "more/cav/1.tbc", "more/lost.tbc"):
-        drawn.add(name, "1..11 14..30 O" if "lost" in name else "1..30 O")
-    drawn.write("nas/odd.vbi.json", "{")
-    drawn.write("more/odd.vbi.json", "[")
-    drawn.scan("--html pages nas")
-    assert [(name, whole) for name, whole, _ in listed(drawn)] == [
-        ("odd.vbi.json", "fault"), ("cav/1.tbc@cav-1.html", "yes"), ("clv/1.tbc@clv-1.html", "yes")]
-    os.unlink(drawn.named("nas/clv/1.tbc"))
-    os.unlink(drawn.named("more/odd.vbi.json"))
-    drawn.scan("--html pages more")
-    assert [(name, whole) for name, whole, _ in listed(drawn)] == [
-        ("lost.tbc@lost.html", "no"), ("odd.vbi.json", "fault"), ("../more/cav/1.tbc@cav-1-2.html", "yes"),
-        ("../nas/cav/1.tbc@cav-1.html", "yes"), ("clv/1.tbc@clv-1.html", "gone")]
-    assert listed(drawn)[-1][-1] == "../nas/clv/1.tbc isn&#x27;t there any longer; whole: yes"
-    assert "<h1>5 sides, whole: 2 yes, 1 no, 0 can&#x27;t tell, 1 fault, 1 gone</h1>" in drawn.text("pages/index.html")
-    assert "<h1>cav/1.tbc</h1>" in drawn.text("pages/cav-1-2.html")
-    os.unlink(drawn.named("nas/odd.vbi.json"))  # which has no page
-    # a page of another version isn't listed, nor is an index
-    text = drawn.text("pages/cav-1.html").replace("{&quot;version&quot;: 3", "{&quot;version&quot;: 2")
-    drawn.write("pages/other.html", text.replace("nas/cav", "nas/x"))
-    drawn.scan("--html pages more")
-    assert [whole for _, whole, _ in listed(drawn)] == ["no", "yes", "yes", "gone"]
-
-
-def page_of(drawn, side="side.tbc"):
-    """The page of a side."""
-    status, text, said = drawn.scan("--json", "--html", "pages", side)
-    assert (status, said) == (0, "")
-    return json.loads(text)["sides"][0]["page"]
-
-
-def time_of(drawn, name):
-    return os.stat(drawn.named(name)).st_mtime_ns
-
-
-def test_a_page_that_is_newer(drawn):
-    """The side isn't read again, but keeps its row: what is in its file now isn't looked at."""
-    drawn.add("side.tbc")
-    page = page_of(drawn)
-    before = time_of(drawn, "side.tbc")
-    drawn.add("side.tbc", "1..3 6..8 O")
-    for name in ("side.tbc", "side.tbc.json"):
-        os.utime(drawn.named(name), ns=(before, before))
-    for words, wanted in (("", YES), ("--again", NO), ("", NO)):
-        assert drawn.row("--html pages side.tbc " + words) == wanted
-    assert "from 1 to 8" in drawn.text(page)
-    assert re.search('<a href="side.html">side.tbc</a></td><td class="no" [^<]*>no</td>',
-                     drawn.text("pages/index.html"))
-
-
-def test_other_options(drawn):
-    """A page that was written with other options than those that are given says nothing."""
-    drawn.add("open.tbc", "1..30")
-    drawn.add("dark.tbc", setup=DARK)
-    drawn.add("pal.tbc", setup=PAL)
-    worn = [0, *[worn_line(0xF00012, NTSC, 7, 10)] * 2]
-    drawn.add("worn.tbc", [*words_of("1..11"), worn, *words_of("B 13..30 O")])
-    drawn.metadata("other.json", white16bIre=30000)
-    for side, row, words, other in cells_of(OPTIONS):
-        for given, wanted in (("", row), (words, other), ("", row)):
-            found = drawn.row("--html pages %s %s" % (given, side))
-            begin = "%s,%s" % (side, wanted.rstrip("."))
-            assert (found if wanted[-1] != "." else found[:len(begin)]) == begin
-
-
-def test_options_of_tbc_files(drawn):
-    """A document has its own system and levels; the side beside it has none of its own."""
-    drawn.add_each()
-    os.unlink(drawn.named("b/whole.tbc.json"))
-    words = "scan --csv --system NTSC --black 16384 --white 51200 b/minutes.vbi.json"
-    drawn.refused("b/minutes.vbi.json: a document has its system and levels; they are options for a TBC file", words)
-    assert [row.split(",")[1] for row in drawn.run_words(words + " b/whole.tbc")[1].split("\n")[1:-1]] == [
-        "yes", "yes"]
-
-
-def test_a_file_that_grows_while_it_is_read(drawn):
+def test_a_file_that_grows_while_it_is_read(room):
     """Its page has the time at which it began to be read, so that it is read again."""
-    drawn.add("side.tbc")
+    room.add("side.tbc")
     with contextlib.redirect_stdout(io.StringIO()):
-        assert scan(["--csv", "--html", drawn.named("pages"), drawn.path], grows) == 0
-    page = [name for name in os.listdir(drawn.named("pages")) if name.startswith("side")][0]
-    assert time_of(drawn, "pages/" + page) < time_of(drawn, "side.tbc.json")
+        assert scan(["--csv", "--html", room.named("pages"), room.path], grows) == 0
+    assert time_of(room, "pages/side.html") < time_of(room, "side.tbc.json")
 
 
-def test_each_side_has_one(drawn):
-    """Whatever its page says, but none that has a fault, and no document."""
+def test_copies(drawn):
+    """Each side has one, whatever its page says, but none that has a fault, and no document."""
     for name, count in (("a/1.tbc", 61), ("a/2.tbc", 60), ("c.tbc", 61)):
         drawn.add(name, "1..30 9.18=#79999 O")
         drawn.metadata(name + ".json", count=count)
     drawn.write("a/3.vbi.json", drawn.document)
     drawn.scan("--html pages a c.tbc")
-    for folder in ("one", "two"):
-        status, text, said = drawn.scan("--csv --html pages --into %s a c.tbc" % folder)
-        assert (status, said, text.split("\n")[2]) == (
-            2, "", 'a/2.tbc,fault,,,,,,,,,,,"has 61 whole fields, and a/2.tbc.json has 60"')
-        assert [sorted(os.listdir(drawn.named(folder + end))) for end in ("/a", "")] == [
-            ["1.tbc.json"], ["a", "c.tbc.json"]]
-    known = json.loads(drawn.read("one/a/1.tbc.json"))
-    assert (known["ldvbiWords"], known["fields"][8]["vbi"]) == ("believed", {"vbiData": [0, 0xF00005, 0]})
-    drawn.scan("--html pages --into one --as-read c.tbc")
-    known = json.loads(drawn.read("one/c.tbc.json"))
-    assert (known["ldvbiWords"], known["fields"][8]["vbi"]["vbiData"]) == ("as read", [0, 0xF00005, 0xF79999])
-
-
-# What a scan is asked for, sides that it finds, and where their copies stand; each side has metadata but a/3.tbc
-COPIES = (
-    ("a", "a/1.tbc a/b/1.tbc a/b/2.vbi.json a/3.tbc", "x/1.tbc.json x/b/1.tbc.db - -"),
-    ("a/b a", "a/b/1.tbc a/1.tbc", "x/b/1.tbc.db x/1.tbc.json"),
-    ("a/b ./c.tbc", "a/b/1.tbc ./c.tbc", "x/a/b/1.tbc.db x/c.tbc.json"),
-    ("c.tbc", "c.tbc", "x/c.tbc.json"))
-# Files, what is asked for, and the sides that are found
-FOLDERS = (
-    ("d/b.tbc d/a/z.tbc d/a.tbc d/c/a.tbc c.tbc", "d c.tbc", "c.tbc d/a/z.tbc d/a.tbc d/b.tbc d/c/a.tbc"),
-    ("d/a.tbc d/a.tbc.json d/a.tbc.db d/a.json d/a.efm d/a.html d/b.vbi.json d/tbc d/folder.tbc/x", "d",
-     "d/a.tbc d/b.vbi.json"),
-    # what is named is taken for a side, whatever its name is
-    ("d/a.json d/tbc", "d/a.json d/tbc absent", "absent d/a.json d/tbc"),
-    # a side has one row
-    ("d/a.tbc d/a.vbi.json d/a.tbc.gz d/b.tbc.gz d/c.tbc.zst d/d.tbc.xz d/e.vbi.json d/e/e.tbc d/f.gz d/g.zip", "d",
-     "d/a.tbc d/b.tbc.gz d/c.tbc.zst d/d.tbc.xz d/e/e.tbc d/e.vbi.json"),
-    ("d/a.vbi.json d/a.tbc", "d/a.vbi.json d/a.tbc", "d/a.tbc d/a.vbi.json"),
-    ("d/a.tbc d/b.tbc", "d/a.tbc d ./d/a.tbc", "./d/a.tbc d/b.tbc"))
-# Sides 1, 2, .. by their names, pages that are there with their sides, and the names of the sides' pages
-PAGES = (
-    ("nas/cav/side1.tbc nas/clv/side1.tbc b.vbi.json c.tbc.gz d", "",
-     "nas-cav-side1.html nas-clv-side1.html b.html c.html d.html"),
-    ("a-b.tbc a/b.tbc A/b.tbc a-b-2.tbc", "", "a-b.html a-b-2.html A-b-3.html a-b-2-2.html"),
-    ("a.tbc b.tbc .tbc index.tbc", "a.html:/2 b.html:/3 c.html:", "a-2.html a.html b.html index-2.html"))
+    status, text, said = drawn.scan("--csv --html pages --into one a c.tbc")
+    assert (status, said, text.split("\n")[2]) == (
+        2, "", 'a/2.tbc,fault,,,,,,,,,,,"has 61 whole fields, and a/2.tbc.json has 60"')
+    assert [drawn.names("one"), drawn.names("one/a")] == [["a", "c.tbc.json"], ["1.tbc.json"]]
+    for path, words, said, wanted in (
+            ("one/a/1.tbc.json", "--into one a", "believed", [0, 0xF00005, 0]),
+            ("one/c.tbc.json", "--into one --as-read c.tbc", "as read", [0, 0xF00005, 0xF79999])):
+        drawn.scan("--html pages " + words)
+        known = json.loads(drawn.read(path))
+        assert (known["ldvbiWords"], known["fields"][8]["vbi"]["vbiData"]) == (said, wanted)
 
 
 def test_what_is_loaded():
@@ -238,74 +208,79 @@ def test_what_is_loaded():
                 "ldvbi_side.join.joined"} & set(loaded)
 
 
-@pytest.fixture
-def folders(room):
-    room.cleanup.callback(os.chdir, os.getcwd())
-    os.chdir(room.folder)
-    return room
+# Files, what is asked for, and the sides that are found
+FOLDERS = (
+    ("d/b.tbc d/a/z.tbc d/a.tbc d/c/a.tbc c.tbc", "d c.tbc", "c.tbc d/a/z.tbc d/a.tbc d/b.tbc d/c/a.tbc"),
+    ("d/a.tbc d/a.tbc.json d/a.tbc.db d/a.json d/a.efm d/a.html d/b.vbi.json d/tbc d/folder.tbc/x", "d",
+     "d/a.tbc d/b.vbi.json"),
+    # what is named is taken for a side, whatever its name is
+    ("d/a.json d/tbc", "d/a.json d/tbc absent", "absent d/a.json d/tbc"),
+    # a side has one row
+    ("d/a.tbc d/a.vbi.json d/a.tbc.gz d/b.tbc.gz d/c.tbc.zst d/d.tbc.xz d/e.vbi.json d/e/e.tbc d/f.gz d/g.zip", "d",
+     "d/a.tbc d/b.tbc.gz d/c.tbc.zst d/d.tbc.xz d/e/e.tbc d/e.vbi.json"),
+    ("d/a.vbi.json d/a.tbc", "d/a.vbi.json d/a.tbc", "d/a.tbc d/a.vbi.json"),
+    ("d/a.tbc d/b.tbc", "d/a.tbc d ./d/a.tbc", "./d/a.tbc d/b.tbc"),
+    # which links to folders lead to, unless they are named, is none
+    ("d/a.tbc d/e/b.tbc d/e/again>../d d/c.tbc>a.tbc", "d", "d/a.tbc d/e/b.tbc"),
+    ("d/a.tbc d/e/b.tbc d/e/again>../d l>d", "l", "l/a.tbc l/e/b.tbc"))
+# Sides 1, 2, .. by their names, pages that are there with their sides, and the names of the sides' pages
+LONG = "ü" * 127 + ".tbc"  # the longest name that there is, in bytes
+PAGES = (
+    ("nas/cav/side1.tbc nas/clv/side1.tbc b.vbi.json c.tbc.gz d", "",
+     "nas-cav-side1.html nas-clv-side1.html b.html c.html d.html"),
+    ("a-b.tbc a/b.tbc A/b.tbc a-b-2.tbc", "", "a-b.html a-b-2.html A-b-3.html a-b-2-2.html"),
+    ("a.tbc b.tbc .tbc index.tbc", "a.html:/2 b.html:/3 c.html:", "a-2.html a.html b.html index-2.html"),
+    (LONG + " " + LONG, "side.html:", "ü" * 100 + ".html " + "ü" * 100 + "-2.html"))
+# What a scan is asked for, sides that it finds, and where their copies stand; each side has metadata but a/3.tbc
+COPIES = (
+    ("a", "a/1.tbc a/b/1.tbc a/b/2.vbi.json a/3.tbc", "x/1.tbc.json x/b/1.tbc.db - -"),
+    ("a/b a", "a/b/1.tbc a/1.tbc", "x/b/1.tbc.db x/1.tbc.json"),
+    ("a/b ./c.tbc", "a/b/1.tbc ./c.tbc", "x/a/b/1.tbc.db x/c.tbc.json"),
+    ("c.tbc", "c.tbc", "x/c.tbc.json"))
 
 
-def make(folders, *names):
-    for name in names:
+def make(names):
+    """Files, and links, behind which it is said where to."""
+    for name, is_link, target in (name.partition(">") for name in names.split()):
         os.makedirs(os.path.dirname(name) or ".", exist_ok=True)
-        folders.write(name, b"")
+        if is_link:
+            os.symlink(target, name)
+        else:
+            open(name, "wb").close()
 
 
-def check(paths, wanted):
-    named = set(map(os.path.realpath, paths.split()))
-    assert sides_in(paths.split()) == [Found(path, is_named=os.path.realpath(path) in named) for path in
-                                       wanted.split()]
-
-
-@pytest.mark.parametrize("files, paths, wanted", FOLDERS)
-def test_rows(folders, files, paths, wanted):
-    shutil.rmtree("d", ignore_errors=True)
-    make(folders, *files.split())
-    check(paths, wanted)
-
-
-def test_links(folders):
-    make(folders, "d/a.tbc", "d/e/b.tbc")
-    os.symlink("../d", "d/e/again")
-    os.symlink("a.tbc", "d/c.tbc")
-    os.symlink("d", "l")
-    check("d", "d/a.tbc d/e/b.tbc")
-    check("l", "l/a.tbc l/e/b.tbc")
+def test_sides_in_folders(monkeypatch, tmp_path):
+    """Which there are, of which files, and where their copies stand."""
+    monkeypatch.chdir(tmp_path)
+    for files, paths, wanted in FOLDERS:
+        shutil.rmtree("d", ignore_errors=True)
+        make(files)
+        named = set(map(os.path.realpath, paths.split()))
+        assert sides_in(paths.split()) == [Found(path, is_named=os.path.realpath(path) in named) for path in
+                                           wanted.split()]
     with mock.patch("os.scandir", side_effect=PermissionError(13, "Permission denied", "d")):
         assert sides_in(["d"]) == [Found("d", "Permission denied")]
+    make("a.tbc a.tbc.db a/1.tbc.json a/b/1.tbc.db a/b/2.vbi.json.json c.tbc.json")
+    assert (files_of("a.tbc"), files_of("b.tbc")) == (["a.tbc", "a.tbc.db"], ["b.tbc"])
+    for paths, sides, wanted in COPIES:
+        assert [one or "-" for one in copies_in("x", paths.split(), sides.split())] == wanted.split()
 
 
 def test_names_of_pages():
     for names, known, wanted in PAGES:
         sides = [("/%d" % place, name) for place, name in enumerate(names.split(), 1)]
         assert page_names(sides, dict(one.split(":") for one in known.split())) == wanted.split()
-    long = "ü" * 127 + ".tbc"  # the longest name that there is, in bytes
-    assert page_names([("/1", long), ("/2", long)], {"side.html": None}) == [
-        "ü" * 100 + ".html", "ü" * 100 + "-2.html"]
     for path, folders, name in (("d/e/a.tbc", "d", "e/a.tbc"), ("d/e/a.tbc", "d/e d/", "e/a.tbc"),
                                 ("./a.tbc", ".", "a.tbc"), ("dd/a.tbc", "d", "a.tbc"), ("/d/a.tbc", "/", "d/a.tbc")):
         assert name_below(path, folders.split()) == name
 
 
-def test_files_of_a_side(folders):
-    """And where their copies stand."""
-    make(folders, "a.tbc", "a.tbc.db", "a/1.tbc.json", "a/b/1.tbc.db", "a/b/2.vbi.json.json", "c.tbc.json")
-    assert (files_of("a.tbc"), files_of("b.tbc")) == (["a.tbc", "a.tbc.db"], ["b.tbc"])
-    for paths, sides, wanted in COPIES:
-        found = copies_in("x", paths.split(), sides.split())
-        assert " ".join(one or "-" for one in found) == wanted
-
-
-@pytest.mark.parametrize("begin, name", (
-    (gzip.compress(b""), "gzip"), (b"\x1f\x8b\x08\x08" + bytes(8), "gzip"),
-    (b"\x28\xb5\x2f\xfd" + bytes(8), "zstd"), (b"fLaC\x00\x00\x00\x22", "FLAC"),
-    (b"fLaC\x80\x00\x00\x22\x10", "FLAC"), (b"", None), (bytes(64), None),
-    (lzma.compress(b""), "xz"), (lzma.compress(b"", lzma.FORMAT_ALONE), "lzma"),
-    (bz2.compress(b"x"), "bzip2"), (b"PK\x03\x04" + bytes(8), "zip"),
-    (b"\x1f\x8b\x09\x00" + bytes(8), None), (b"\x1f\x8b\x08\x40" + bytes(8), None),
-    (b"fLaC" + bytes(8), None), (b"\x00" + gzip.compress(b""), None)))
-def test_packed_forms(begin, name):
-    assert packed_as(begin) == name
+def test_packed_forms():
+    """Of one that begins in another way, too, and of none; test_messages has more."""
+    for begin, name in ((b"\x1f\x8b\x08\x08", "gzip"), (b"fLaC\x80\x00\x00\x22\x10", "FLAC"), (b"", None),
+                        (b"\x1f\x8b\x09", None), (b"\x1f\x8b\x08\x40", None), (b"fLaC", None),
+                        (b"\x00\x1f\x8b\x08", None)):
+        assert packed_as(begin + bytes(8)) == name
 
 
 def test_refused(drawn):
@@ -322,7 +297,8 @@ def test_refused(drawn):
                         (IN_PLACE % "pages/index.html", "--html pages pages/index.html"),
                         ("side.tbc/pages/deep: Not a directory", "side.tbc --html side.tbc/pages/deep"),
                         ("absent: No such file or directory", "side.tbc --meta absent"),
-                        (IN_PLACE % "./side.tbc.json", "side.tbc --into ."),
+                        ("side.vbi.json: a document has its system and levels; they are options for a TBC file",
+                         "side.vbi.json LEVELS"), (IN_PLACE % "./side.tbc.json", "side.tbc --into ."),
                         ("side.tbc/a: Not a directory", "side.tbc --into side.tbc/a")):
         drawn.refused(text, "scan " + words)
     assert drawn.row("--into copies side.tbc").split(",")[-1] == "copies/side.tbc.json is no file"
@@ -336,27 +312,12 @@ def test_refused(drawn):
     drawn.refused("pages/index.html is no file", "scan --html pages side.tbc")
 
 
-def test_names_and_notes(drawn):
-    """The processes of a scan read in the file by which the command was started; what is noted has its side. A name
-    that is no text stands in a table as it is."""
-    name = os.fsdecode(b"side \xff\n.tbc")
-    for one in ("side.tbc", "d/" + name):
-        drawn.add(one)
-    drawn.metadata("side.tbc.json", black16bIre=16383.5)
-    assert drawn.run_words("scan --csv side.tbc", command=[os.path.join(TOP, "python", "ldvbi-side")]) == (
+def test_names_and_notes(room):
+    """The processes of a scan read in the file by which the command was started; what is noted has its side. Letters
+    that are none are shown as a mark."""
+    room.add("side.tbc")
+    room.metadata("side.tbc.json", black16bIre=16383.5)
+    os.link(room.named("side.tbc"), room.named(os.fsdecode(b"\xff\n.tbc")))
+    assert room.run_words("scan --csv side.tbc", command=[os.path.join(TOP, "python", "ldvbi-side")]) == (
         0, "%s\n%s\n" % (",".join(HEAD), YES), "ldvbi-side: side.tbc: black16bIre is 16383.5, rounded to 16384\n")
-    assert drawn.row("d") == '"d/%s",yes,0,0,cav,1,30,30,0,1,61,,' % name
-    assert drawn.scan("d")[1].split("\n")[1][:25] == "d/side ??.tbc  yes       "
-
-
-@pytest.mark.parametrize("name", ("side.tbc", "side.tbc.json", "page"))
-def test_a_page_that_is_written_anew(drawn, name):
-    """One that is older than its side, or than the metadata, or lacks what a row has; a newer one isn't."""
-    drawn.add("side.tbc")
-    page = page_of(drawn)
-    whole = drawn.text(page)
-    drawn.write(page, whole + "<p>" if name != "page" else whole.replace("&quot;options&quot;", "&quot;other&quot;"))
-    if name != "page":
-        assert (page_of(drawn), drawn.text(page)) == (page, whole + "<p>")
-        os.utime(drawn.named(name), ns=(time_of(drawn, page), time_of(drawn, page)))
-    assert (page_of(drawn), drawn.text(page)) == (page, whole)
+    assert [row.split()[0] for row in room.scan(".")[1].splitlines()] == ["side", "./side.tbc", "./??.tbc"]
