@@ -26,7 +26,7 @@ pytest.register_assert_rewrite("room", "compact")
 import room as rooms  # noqa: E402
 
 # The files with tests that take longest, which come first
-LONGEST = ("test_simulated", "test_stopped", "test_hostile", "test_joined_sets", "test_scan")
+LONGEST = ("test_simulated", "test_stopped", "test_hostile", "test_join", "test_scan")
 
 
 def pytest_collection_modifyitems(items):
