@@ -1,6 +1,6 @@
-"""Hands lines that are drawn here to the library, and compares what is drawn, read and nearest with them: 4,000 words a
-system, and lines of other sample rates, 8-bit samples among them, with changes of level a sample early or late. Lines
-end where no page follows.
+"""Hands lines that are drawn here to the library, and compares what is drawn, read and nearest with them: words of
+either system, and lines of other sample rates, 8-bit samples among them, with changes of level a sample early or late.
+Lines end where no page follows.
 
 usage: lines.py"""
 
@@ -9,11 +9,11 @@ import struct
 from array import array
 from collections import namedtuple
 
-from border import Guarded, call, expect, finish
+from border import Guarded, NUMBERS, call, expect, finish, layout
 
-READING, NEAR = struct.Struct("<BBHI"), struct.Struct("<IIQQQ")
-BLANK, FIELDS, WORDS, MOST_LINES = 1, 3, 500, 28
-SAMPLES, ANSWER, ROOM = map(Guarded, (FIELDS * 313 * 2270, FIELDS * 3 * READING.size, 2270))
+READING, NEAR = layout("Reading"), layout("Near")
+BLANK, FIELDS, WORDS, MOST_LINES = NUMBERS.BLANK, 3, 500, 28
+SAMPLES, LIST, ANSWER = map(Guarded, (FIELDS * 313 * 2270, 4096, 4096))
 chance = random.Random(60856)
 
 
@@ -37,20 +37,20 @@ def drawn(tv, word, off=0):
     return line
 
 
-def answered(name, tv, address, length, size, *count):
-    """What a call writes that reads these bytes: so many."""
+def answered(name, asked, samples, size, *count, erased=None):
+    """What a call writes that reads these samples, or bytes from an address on (with their length): so many bytes.
+    `erased` are the entries of a list."""
+    read = samples if isinstance(samples, tuple) else (SAMPLES.put(samples.tobytes()), 2 * len(samples))
+    listed = () if erased is None else (
+        LIST.put(b"".join(struct.pack("4I", *entry) for entry in erased)) if erased else None, len(erased))
     answer = ANSWER.put(b"\xAA" * size)
-    status = call(name)(*tv[:3], address, length, answer, *count)
-    expect(status == 0, name, tv.system, length, "has the status", status)
+    status = call(name)(*asked, *read, *listed, answer, *count)
+    expect(status == NUMBERS.DONE, name, asked, erased, "has the status", status)
     return ANSWER.get(size)
 
 
-def answered_of(name, tv, samples, size, *count):
-    return answered(name, tv, SAMPLES.put(samples.tobytes()), 2 * len(samples), size, *count)
-
-
 def read(tv, line):
-    return READING.unpack(answered_of("read_line", tv, line, READING.size))
+    return READING.unpack(answered("read_line", tv[:3], line, READING.size))
 
 
 def some_words(count=WORDS):
@@ -61,14 +61,15 @@ def some_words(count=WORDS):
 # ---- Words, and the sizes of lines. Causes at their limits are tested in crates/vbi_line_tests.
 
 def test_words(tv):
-    """Each word as the library draws it, and as it reads it."""
-    draw_line = call("draw_line")
-    for word in (0, *some_words(4000)):
+    """Each word as the library draws it, and as it reads it, drawn here with changes a sample early or late as well."""
+    for word in (0, *some_words()):
         line = drawn(tv, word).tobytes()
-        at = ROOM.put(b"\xAA" * len(line))
-        expect(draw_line(*tv[:3], word, at, len(line)) == 0 and ROOM.get(len(line)) == line, "draws", hex(word))
-        found = read(tv, array("H", line))
-        expect(found == ((0, 1, 0, word) if word else (BLANK, 0, 0, 0)), tv.system, hex(word), "is read as", found)
+        at = SAMPLES.put(b"\xAA" * len(line))
+        status = call("draw_line")(*tv[:3], word, at, len(line))
+        expect(status == 0 and SAMPLES.get(len(line)) == line, tv.system, "draws", hex(word))
+        for off in (0, 1):
+            found = read(tv, drawn(tv, word, off))
+            expect(found == ((0, 1, 0, word) if word else (BLANK, 0, 0, 0)), tv.system, hex(word), "is read as", found)
 
 
 def test_sizes():
@@ -88,8 +89,8 @@ WHOLE, JITTERED = (11500, 12000, 13500, 14318, 14750, 17000, 17700), (13000, 135
 RATES = (
     (WHOLE, None, 0, 0, WORDS, WORDS), ((10400, 18600), None, 0, 0, 0, 0),
     (JITTERED, None, 0, 1, WORDS, WORDS), ((12000, 17000), None, 0, 1, 0, WORDS // 10),
-    ((17700, ), 9, 0, 0, WORDS, WORDS), ((17700, ), 9.5, 0, 0, WORDS, WORDS), ((17700, ), 10.4, 0, 0, WORDS, WORDS),
-    ((17700, ), 9, 10, 0, 0, 0), ((17700, ), 9.5, 10, 0, 0, 0), ((17700, ), 10.4, 10, 0, 0, 0))
+    *(((17700, ), begin, 0, 0, WORDS, WORDS) for begin in (9, 9.5, 10.4)),
+    *(((17700, ), begin, 10, 0, 0, 0) for begin in (9, 9.5, 10.4)))
 
 
 def at_rate(kilohertz):
@@ -115,14 +116,8 @@ def test_rates():
         for kilohertz in rates:
             test_rate(kilohertz, *more)
     # At 13.5 MHz the half cells of a PAL disc, too, are too short for PAL.
-    tv = at_rate(13500)
-    expect(read(tv, drawn(tv, 0xF12345)[:910]) == (0, 1, 0, 0xF12345), "13.5 MHz as NTSC")
-    cause, _, _, word = read(tv._replace(system=PAL.system), drawn(tv, 0xF12345)[:1135])
+    cause, _, _, word = read(at_rate(13500)._replace(system=PAL.system), drawn(at_rate(13500), 0xF12345)[:PAL.samples])
     expect(cause != 0 and word == 0, "13.5 MHz as PAL")
-    # At the rates of ld-decode, with changes a sample early or late
-    for tv in TELEVISIONS:
-        for word in some_words():
-            expect(read(tv, drawn(tv, word, 1)) == (0, 1, 0, word), tv.system, hex(word))
 
 
 # ---- The nearest word, off by what is counted on paper, in columns, each of which costs white - black
@@ -135,7 +130,7 @@ NEARS = ((NTSC, 224, 28, 14, 14, 24 * 14, 15 * 15 + 9 * 14), (PAL, 285, 35, 17, 
 
 
 def near(tv, samples):
-    return NEAR.unpack(answered_of("nearest", tv, samples, NEAR.size))
+    return NEAR.unpack(answered("nearest", tv[:3], samples, NEAR.size))
 
 
 def test_near(tv, starts, cell, shorter, longer, fewest, most):
@@ -144,25 +139,21 @@ def test_near(tv, starts, cell, shorter, longer, fewest, most):
     for start in range(starts):
         found = near(tv, drawn(tv._replace(start=start * tv.over), 0xF12345))
         expect(found == (0xF12345, start, 0, cell * column, shorter * column), tv.system, start, found)
-    # Lines of one word, of which the first is off by 700 in all, in its high byte and its low one, and the last by 1;
-    # black lines, of which the row of no word is nearest; and white ones, whose sums are greatest. Several words have
-    # the most high columns.
+    # Lines of one word, of which the first is off by 700 in all, in its high byte and its low one; and black lines, of
+    # which the row of no word is nearest.
     one, blank = drawn(tv, 0x82CFFF), drawn(tv, 0)
-    first, last, farther = one[:], one[:], one[:]
+    first, farther, start = one[:], one[:], tv.start // tv.over
     first[0] += 612
     first[-1] -= 88
-    last[7] += 1
     for count in range(1, MOST_LINES + 1):
-        lines, off = first + one * (count - 1), 700
-        if count == MOST_LINES:
-            lines, off = first + one * (count - 2) + last, 701
-        wanted = 0x82CFFF, tv.start // tv.over, off, count * cell * column + off, count * shorter * column + off
-        expect(near(tv, lines) == wanted, tv.system, count, "lines")
+        wanted = 0x82CFFF, start, 700, count * cell * column + 700, count * shorter * column + 700
+        expect(near(tv, first + one * (count - 1)) == wanted, tv.system, count, "lines")
         expect(near(tv, blank * count) == (0, 0, 0, count * fewest * column, 0), tv.system, count, "black lines")
     # A sample that is farther from black than white is counts as much as one of white.
     farther[3], farther[-2] = 65535, tv.white + 1
-    wanted = 0x82CFFF, tv.start // tv.over, 2 * column, (cell + 2) * column, (shorter + 2) * column
+    wanted = 0x82CFFF, start, 2 * column, (cell + 2) * column, (shorter + 2) * column
     expect(near(tv, farther) == wanted, tv.system, "farther than white", near(tv, farther))
+    # White lines, whose sums are greatest: several words have the most high columns.
     found = near(tv._replace(black=0, white=65535), array("H", [65535]) * tv.samples * MOST_LINES)
     off = MOST_LINES * (tv.samples - most) * 65535
     expect(found[0] >= 0x800000 and found[2:] == (off, off, off - MOST_LINES * longer * 65535), tv.system, found)

@@ -10,7 +10,7 @@ from array import array
 from itertools import accumulate
 
 from border import expect, finish
-from lines import READING, TELEVISIONS, answered_of
+from lines import READING, TELEVISIONS, answered
 
 chance = random.Random(1)
 NOISE = [chance.gauss(0, 1) for _ in range(50000)]
@@ -109,7 +109,7 @@ def test_kind(tv, name, signal_of, noise, wrong, fields):
         signals = [signal_of(us, tv.system)[:int((END - BEGIN) * us)] for _ in range(3)]
         signals[2] = signals[chance.randint(1, 2)]
         rows = array("H", [sample for signal in signals for sample in shown(tv, signal, noise)])
-        packed = answered_of("recover_rows", tv, rows, 3 * READING.size)
+        packed = answered("recover_rows", tv[:3], rows, 3 * READING.size)
         recovered += sum(word != 0 for *_, word in READING.iter_unpack(packed))
     most = wrong and 1 + 3 * fields * wrong // 100000
     expect(recovered <= most, tv.system, name, recovered, "of", 3 * fields, "and not", most)

@@ -12,7 +12,7 @@ from array import array
 from collections import Counter
 
 from border import Guarded, call, expect, finish
-from lines import READING, TELEVISIONS, answered_of, drawn, edges_of
+from lines import READING, TELEVISIONS, answered, drawn, edges_of
 from nearest import SYSTEMS, codes_of, value_of
 from rule import Field, Line
 
@@ -122,7 +122,7 @@ def test_field(tv, place, lines, dropouts):
     erased = [(number, *one) for number, of_line in zip(LINES, dropouts) for one in of_line if place % 2]
     marks = [[any(line == number and first <= column <= last for line, first, last in erased)
               for column in range(tv.samples)] for number in LINES]
-    readings = READING.iter_unpack(answered_of("read_rows", tv, rows, 3 * READING.size))
+    readings = READING.iter_unpack(answered("read_rows", tv[:3], rows, 3 * READING.size))
     field = Field(tv.system, (tv.black, tv.white), [
         Line(number, line, marked, (cause, of_pass, word))
         for number, line, marked, (cause, of_pass, _, word) in zip(LINES, lines, marks, readings)])

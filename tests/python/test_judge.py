@@ -122,7 +122,7 @@ def packed(fields):
     return b"".join(ldvbi.PACKED_FIELD.pack(*sum(map(tuple, field), ())) for field in fields)
 
 
-# Times without their minute, in each form. What the library completes has tests/library/completed.py.
+# Times without their minute, in each form. What the library completes has tests/library/judged.txt.
 def test_minutes():
     numbers = range(1496, 1504)
     whole, none = packed(fields_of(numbers)), packed(fields_of(numbers, numbers))
