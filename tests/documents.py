@@ -248,9 +248,9 @@ def fault_texts():
 
 HEADER, JUDGING, NEAR = "include/ldvbi.h", "python/ldvbi/judging.py", "python/ldvbi/near.py"
 PROMISES, README, DECISIONS = "docs/PROMISES.md", "README.md", "docs/DECISIONS.md"
-BELIEFS, RULE = "crates/vbi_side/specs/Beliefs.antt", "tests/library/rule.py"
+BELIEFS, SAID = "crates/vbi_side/specs/Beliefs.antt", "crates/vbi_near/specs/Said.antt"
 SCHEMA = "share/schema/ldvbi-side.schema.json"
-TWO = r"Margins\((\d+), (\d+)\)"
+TWO = r"_margins = record \{ code = (\d+); other = (\d+);"
 # Where numbers stand in the source, and sentences with the same ones, in which # stands for each in turn, or for one;
 # of the order of bytes it stands for a word
 NUMBERS = (
@@ -281,11 +281,12 @@ NUMBERS = (
         "docs/LIBRARY.md": ("at most # fields are read",), "docs/RUST.md": ("at most # fields, as",)}),
     (NEAR, r"^MOST_LINES = (\d+) ", {HEADER: ("of 1 to # lines", "that 1 to # lines", "be 1 to # times"),
                                       NEAR: ("of 1 to # lines", "that 1 to # lines")}),
-    (RULE, "^LONE, APART, BOTH = " + TWO, {HEADER: ("one line # #",)}),
-    (RULE, "^LONE, APART, BOTH = .*, " + TWO + "$", {HEADER: ("lines 17 and 18 together # #",)}),
-    (RULE, r"^LONE, APART, BOTH = .*, Margins\((\d+), \d+\)$", {DECISIONS: ("Two lines need # columns",)}),
-    (RULE, "^NO_SHARES, BOTH_SHARES = .*, " + TWO + "$", {HEADER: ("at least #/144 for a code, and #/144 for",)}),
-    (RULE, r"^LONE, APART, BOTH = [^)]*\), " + TWO, {HEADER: ("either, if they don't agree # #",)}),
+    (SAID, "^lone" + TWO, {HEADER: ("one line # #",)}),
+    (SAID, "^apart" + TWO, {HEADER: ("either, if they don't agree # #",)}),
+    (SAID, "^both" + TWO, {HEADER: ("lines 17 and 18 together # #",)}),
+    (SAID, r"^both_margins = record \{ code = (\d+);", {DECISIONS: ("Two lines need # columns",)}),
+    (SAID, r"^both_margins = .* code_share = (\d+); other_share = (\d+) \}", {
+        HEADER: ("at least #/144 for a code, and #/144 for",)}),
     ("crates/vbi_side/specs/Lines.antt", r"nat_lt minutes (\d+) ", {
         "docs/FORMATS.md": ("Minute #, PAL picture",), SCHEMA: ("shows it, as minute #",)}),
     ("crates/vbi_words/specs/Levels.antt", r"^samples_of \((\w+) ∷ \w+ ∷ bytes\) = \(\1 [+] 256 ", {

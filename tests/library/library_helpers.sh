@@ -40,15 +40,3 @@ discs() {
     output_of draw $ntsc "$top/examples/cav.words" > cav.tbc
     output_of draw $pal "$top/examples/clv.words" > clv.tbc
 }
-
-# refuses TEXT COMMAND..: checks that a command ends with status 2, and writes this line to standard error alone
-refuses() {
-    printf '%s\n' "$1" > wanted
-    shift
-    ! does "$@" && [ "$status" = 2 ] && [ ! -s out ] && cmp -s err wanted
-}
-
-# is_a_line_of NAME: whether what was said is one line, which begins with this name and a colon
-is_a_line_of() {
-    [ "$(grep -c "^$1: " err)" = 1 ] && [ "$(wc -l < err)" = 1 ]
-}

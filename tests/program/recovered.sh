@@ -1,6 +1,6 @@
 #!/bin/sh
 # Runs `extract --recover` on fields of worn lines, however reads are cut: the document has the records that the library
-# writes of them. That these are what the rule says, tests/library/ruled.py finds.
+# writes of them. What the rule says of some, tests/library/worn.py has.
 # Needs libldvbi.so.1 beside the program, or at the top of the repository (`make lib`).
 # usage: sh tests/program/recovered.sh PROGRAM
 # runs: library rust

@@ -1,5 +1,5 @@
 """The nearest word of lines, and the word that piles say, as the library answers them, of which tests/library has more
-rows (lines.py, nearest.py, worn.py); due numbers that are the nearest words of their lines, and count as read; and what
+rows (lines.py, worn.py); due numbers that are the nearest words of their lines, and count as read; and what
 the command reads of noisy and worn sides. Dropouts: columns of lines that count for no nearest word, in the module's
 calls, in ld-decode's metadata, and where the command recovers words. Distances are counted on paper."""
 
