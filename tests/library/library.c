@@ -29,45 +29,35 @@ static void test_version(void)
     snprintf(text, sizeof text, "%d.%d.%d", LDVBI_VERSION / 1000000, LDVBI_VERSION / 1000 % 1000, LDVBI_VERSION % 1000);
     CHECK(strcmp(text, LDVBI_VERSION_TEXT) == 0);
     CHECK(LDVBI_VERSION_MAJOR < 1000 && LDVBI_VERSION_MINOR < 1000 && LDVBI_VERSION_PATCH < 1000);
+    CHECK(LDVBI_REACH == 24 && LDVBI_PART == 97 && LDVBI_LOOKED == 1000 && LDVBI_VOTE_REACH == 240);
 }
 
-/* ---- Texts by their numbers' names, of which one is the last, and that of any other number */
+/* ---- Texts of the numbers from 0 on, and that of any other number */
 
-static void are_texts(const char *(*text_of)(uint32_t), uint32_t last, const char *const *texts)
+static void are_texts(const char *(*text_of)(uint32_t), const char *const *texts)
 {
     static const uint32_t wide[] = {256, 257, 65535, 65536, 1u << 31, UINT32_MAX};
 
-    for (uint32_t number = 0; number < 256 + sizeof wide / sizeof *wide; number++) {
-        uint32_t any = number < 256 ? number : wide[number - 256];
-
-        CHECK(strcmp(text_of(any), any <= last ? texts[any] : "unknown") == 0);
-    }
+    for (uint32_t number = 0; number < 256; number++, texts += *texts != NULL)
+        CHECK(strcmp(text_of(number), *texts != NULL ? *texts : "unknown") == 0);
+    for (size_t i = 0; i < sizeof wide / sizeof *wide; i++)
+        CHECK(strcmp(text_of(wide[i]), "unknown") == 0);
 }
 
 static void test_texts(void)
 {
-    are_texts(ldvbi_status_text, LDVBI_BAD_KNOWN, (const char *[]){
-        [LDVBI_DONE] = "done", [LDVBI_BAD_SYSTEM] = "system is neither NTSC nor PAL",
-        [LDVBI_BAD_LEVELS] = "black is not below white, or one of them is above 65535",
-        [LDVBI_BAD_LENGTH] = "length does not fit the system", [LDVBI_BAD_WORD] = "number is no code word",
-        [LDVBI_BAD_COUNTED] = "neither pictures nor times are counted",
-        [LDVBI_BAD_PACE] = "pace is neither that of video nor of film, nor to be found",
-        [LDVBI_BAD_ERASED] = "list of erased columns is not sorted, or has columns of no line",
-        [LDVBI_BAD_LINE] = "line is none of 16, 17 and 18",
-        [LDVBI_BAD_KNOWN] = "whether dropouts are known is neither 0 nor 1"});
-    are_texts(ldvbi_cause_text, LDVBI_HOLD, (const char *[]){
-        [LDVBI_WORD] = "word", [LDVBI_BLANK] = "blank", [LDVBI_UNFINISHED] = "unfinished", [LDVBI_CHANGE] = "change",
-        [LDVBI_HOLD] = "hold"});
-    are_texts(ldvbi_kind_text, LDVBI_CLV_MARK, (const char *[]){
-        [LDVBI_OTHER] = "other", [LDVBI_PICTURE] = "picture", [LDVBI_CHAPTER] = "chapter", [LDVBI_TIME] = "time",
-        [LDVBI_CLV_PICTURE] = "clv picture", [LDVBI_CX_ON] = "cx on", [LDVBI_CX_OFF] = "cx off",
-        [LDVBI_USERS] = "users", [LDVBI_LEAD_IN] = "lead-in", [LDVBI_LEAD_OUT] = "lead-out",
-        [LDVBI_PICTURE_STOP] = "picture stop", [LDVBI_CLV_MARK] = "clv"});
-    are_texts(ldvbi_format_text, LDVBI_BOTH, (const char *[]){
-        [LDVBI_NEITHER] = "neither", [LDVBI_CAV] = "cav", [LDVBI_CLV] = "clv", [LDVBI_BOTH] = "both"});
-    are_texts(ldvbi_state_text, LDVBI_DUE, (const char *[]){
-        [LDVBI_NOTHING] = "nothing", [LDVBI_BELIEVED] = "believed", [LDVBI_DOUBTFUL] = "doubtful",
-        [LDVBI_DUE] = "due"});
+    are_texts(ldvbi_status_text, (const char *[]){
+        "done", "system is neither NTSC nor PAL", "black is not below white, or one of them is above 65535",
+        "length does not fit the system", "number is no code word", "neither pictures nor times are counted",
+        "pace is neither that of video nor of film, nor to be found",
+        "list of erased columns is not sorted, or has columns of no line", "line is none of 16, 17 and 18",
+        "whether dropouts are known is neither 0 nor 1", NULL});
+    are_texts(ldvbi_cause_text, (const char *[]){"word", "blank", "unfinished", "change", "hold", NULL});
+    are_texts(ldvbi_kind_text, (const char *[]){
+        "other", "picture", "chapter", "time", "clv picture", "cx on", "cx off", "users", "lead-in", "lead-out",
+        "picture stop", "clv", NULL});
+    are_texts(ldvbi_format_text, (const char *[]){"neither", "cav", "clv", "both", NULL});
+    are_texts(ldvbi_state_text, (const char *[]){"nothing", "believed", "doubtful", "due", NULL});
 }
 
 /* ---- Threads that each read a line of their own, over and over: its word is 0 then where one reading had another */
