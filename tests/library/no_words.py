@@ -1,11 +1,11 @@
 """Hands the library signals that are no words, as stand on lines 16, 17 and 18 of other discs and tapes, and counts in
-how many lines it recovers one nevertheless. The lines are made here, the same in each run: 0 is black and 1 is white.
+how many lines it recovers one nevertheless; bench/channel measures more of them. The lines are made here, the same in
+each run: 0 is black and 1 is white.
 
-usage: no_words.py [FIELDS]     of each signal, of three lines each, or 75; with a number, counts are printed"""
+usage: no_words.py"""
 
 import math
 import random
-import sys
 from array import array
 from itertools import accumulate
 
@@ -15,6 +15,7 @@ from lines import READING, TELEVISIONS, answered
 chance = random.Random(1)
 NOISE = [chance.gauss(0, 1) for _ in range(50000)]
 BEGIN, END = 10, 62  # of a signal, in microseconds of its line
+FIELDS = 75  # of each signal, of three lines each
 
 
 def held(levels, columns):
@@ -42,13 +43,6 @@ def bits(rates, count, high):
         [high * bit for bit in held([1, 0] * 8 + some(count - 16), us / rates[system])], 3)
 
 
-def captions(us, _):
-    """Seven cycles, three start bits of which the last is high, and 16 bits."""
-    columns = us / 0.5035
-    run_in = [0.25 * (1 - math.cos(2 * math.pi * place / columns)) for place in range(int(7 * columns))]
-    return run_in + [0.5 * bit for bit in held([0, 0, 1] + some(16), columns)]
-
-
 def biphase(count):
     """Each bit changes in its middle. Half cells last a microsecond."""
     return lambda us, _: held([level for bit in some(count) for level in (1 - bit, bit)], us)
@@ -59,10 +53,6 @@ def sine(us, _):
     return [0.5 + 0.5 * math.sin(2 * math.pi * place / columns + phase) for place in range(int(52 * us))]
 
 
-def video(us, _):
-    return smeared([0.5 + 0.35 * math.sqrt(11) * noise for noise in noise_of(int(52 * us))], 11)
-
-
 def steps(us, _):
     return [level for _ in range(int(52 * us / 5)) for level in [chance.random()] * chance.randint(5, 40)]
 
@@ -70,9 +60,8 @@ def steps(us, _):
 # Name, the signal by the samples of a microsecond and the system, noise, and of how many of 100,000 lines a word may be
 # recovered
 KINDS = (
-    ("blank, noise 50 %", lambda us, _: [], 0.5, 0), ("white", lambda us, _: [1] * int(52 * us), 0.05, 0),
-    ("video of 11 columns", video, 0.05, 120), ("steps", steps, 0.05, 100),
-    ("teletext", bits({1: 5.7273, 2: 6.9375}, 360, 0.66), 0.05, 200), ("captions, noise", captions, 0.5, 60),
+    ("blank, noise 50 %", lambda us, _: [], 0.5, 0), ("steps", steps, 0.05, 100),
+    ("teletext", bits({1: 5.7273, 2: 6.9375}, 360, 0.66), 0.05, 200),
     ("time code", bits({1: 1.79, 2: 1.79}, 90, 1), 0.05, 800), ("20 biphase bits", biphase(20), 0.05, 0),
     ("26 biphase bits", biphase(26), 0.05, 0), ("26 biphase bits, noise", biphase(26), 0.5, 3000),
     ("a sine of 0.1 to 1.6 MHz", sine, 0.05, 2200))
@@ -86,31 +75,24 @@ def shown(tv, signal, noise):
             for level, more in zip(line, noise_of(tv.samples))]
 
 
-def test_kind(tv, name, signal_of, noise, wrong, fields):
+def test_kind(tv, name, signal_of, noise, wrong):
     """In half of the fields line 18 has the signal of line 17. By chance one line more may have a word, and as many as
     the count is usually off."""
     recovered, us = 0, tv.rate / tv.over
     chance.seed("%s %d 2" % (name, tv.system))
-    for _ in range(fields):
+    for _ in range(FIELDS):
         signals = [signal_of(us, tv.system)[:int((END - BEGIN) * us)] for _ in range(3)]
         signals[2] = signals[chance.randint(1, 2)]
         rows = array("H", [sample for signal in signals for sample in shown(tv, signal, noise)])
         packed = answered("recover_rows", tv[:3], rows, 3 * READING.size)
         recovered += sum(word != 0 for *_, word in READING.iter_unpack(packed))
-    usual = 3 * fields * wrong / 100000
+    usual = 3 * FIELDS * wrong / 100000
     most = wrong and 1 + int(usual + math.sqrt(usual))
-    expect(recovered <= most, tv.system, name, recovered, "of", 3 * fields, "and not", most)
-    return recovered
-
-
-def main():
-    fields = int(sys.argv[1]) if sys.argv[1:] else 75
-    for name, *kind in KINDS:
-        found = [test_kind(tv, name, *kind, fields) for tv in TELEVISIONS]
-        if sys.argv[1:]:
-            print("%-26s NTSC %4d, PAL %4d of %d" % (name, *found, 3 * fields))
-    finish()
+    expect(recovered <= most, tv.system, name, recovered, "of", 3 * FIELDS, "and not", most)
 
 
 if __name__ == "__main__":
-    main()
+    for kind in KINDS:
+        for television in TELEVISIONS:
+            test_kind(television, *kind)
+    finish()
