@@ -210,7 +210,7 @@ def main():
              "alone": test_alone, "completed": test_completed, "first": test_first}
     rows = [(tests[kind], setting, row) for kind, settings, rows in tables("judged.txt")
             for setting in settings for row in rows]
-    expect(len(rows) == 447, "judged.txt has more rows, or fewer:", len(rows))
+    expect(len(rows) == 368, "judged.txt has more rows, or fewer:", len(rows))
     for test, setting, row in rows:
         test(setting, *row)
     finish()

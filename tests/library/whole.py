@@ -109,7 +109,7 @@ def test_both(setting, text, wanted):
 def main():
     rows = [({"side": test_side, "odd": test_odd, "both": test_both}[kind], setting, row)
             for kind, settings, rows in tables("whole.txt") for setting in settings for row in rows]
-    expect(len(rows) == 285, "whole.txt has more rows, or fewer:", len(rows))
+    expect(len(rows) == 234, "whole.txt has more rows, or fewer:", len(rows))
     for test, setting, row in rows:
         test(setting, *row)
     finish()
