@@ -34,6 +34,9 @@ WORN = (
     # of two words
     ((0, 0xF12345, 0xF54321), (0, 9, 10), (0, 3, 0), ""), ((0, 0xF54321, 0xF1234A), (0, 10, 8), (0, 0, 3), ""),
     ((0, 0xF1234A, 0xF54321), (0, 9, 9), (0, 0, 3), ""), ((0, 0xF12345, 0xF16345), (0, 8, 8), (0, 3, 3), ""),
+    # glitches, by which a word is of pass 2: it stays where it is ahead, and falls where the cell is erased
+    ((0x85D0A1, 0xF12345, 0), (1, 2, 0), (2, 2, 0), ""), ((0x85D0A1, 0xF12345, 0), (1, 2, 0), (0, 2, 0), "16 0 cell"),
+    ((0x85D0A1, 0xF12345, 0), (1, 2, 0), (2, 0, 0), "17 1 rest"),
     # erased columns
     ((0x85D0A1, 0, 0), (14, 0, 0), (0, 0, 0), "17 0 turned, 18 0 turned"),
     ((0x8DC0A1, 0xF12345, 0), (0, 14, 0), (1, 0, 0), "16 1 turned, 18 1 turned"),
