@@ -28,13 +28,6 @@ header_version() {
     sed -n 's/^#define LDVBI_VERSION_TEXT "\(.*\)"$/\1/p' "$top/include/ldvbi.h"
 }
 
-# program_in_readme: makes say.c, of which README has three lines, and the line that it reads
-program_in_readme() {
-    cp "$top/examples/say.c" say.c
-    echo '- F12345 -' | bounded "$program" draw $ntsc > said.tbc
-    tail -c +29121 said.tbc | head -c 1820 > line.raw
-}
-
 # discs: makes cav.tbc and clv.tbc of the words in examples/
 discs() {
     output_of draw $ntsc "$top/examples/cav.words" > cav.tbc
