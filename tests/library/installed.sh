@@ -1,8 +1,8 @@
 #!/bin/sh
 # Installs program and library as a new user does, and builds on them by pkg-config and by CMake: nothing but these
 # tells the loader where the library is (no LD_LIBRARY_PATH). Then the wheel of the Python module, which brings the
-# library. Of what was proved also by the lines in LIBRARY.md, moved, in other folders, and from rust/; the wheel without
-# the net, and its tag; and `pip install` of the source. What is installed where, tests/program/packaging.sh tries.
+# library. Of what was proved also by the lines in LIBRARY.md, moved, and in other folders; the wheel without the net, and
+# its tag; and `pip install` of the source. What is installed where, tests/program/packaging.sh tries.
 # Needs libldvbi.a and libldvbi.so.1 beside the program, or at the top of the repository (`make lib`), and of what was
 # proved Debian's python3-venv and python3-setuptools.
 # usage: sh tests/library/installed.sh PROGRAM
@@ -123,7 +123,7 @@ sort wheel/ldvbi-*.dist-info/RECORD > found
 check 'its record has each file, with its hash' cmp found wanted
 check 'and the library' cmp wheel/ldvbi/libldvbi.so.1 "$built/libldvbi.so.1"
 if [ $from = rust ]; then
-    leave_out 46
+    leave_out 42
     finish
 fi
 
@@ -166,14 +166,6 @@ ln -s "$work/usr/bin/ldvbi-side" linked
 for command in usr/bin/ldvbi-side ./linked; do
     seeks "$command reads a TBC file" $command
 done
-
-# What `make rust` leaves is taken from there
-mv user/ldvbi user/libldvbi.* user/rust
-from=rust
-check 'make install FROM=rust' makes install PREFIX="$work/rust"
-check 'CMake builds on it' cmake_builds "$work/rust"
-check 'make wheel FROM=rust' makes wheel WHEELS="$work/again"
-check 'it is the same' cmp wheels/$wheel again/$wheel
 
 # The wheel, installed and used
 check 'a folder for Python' does /usr/bin/python3 -m venv venv

@@ -3,6 +3,7 @@ time, and compares what it answers with what stands there.
 
 usage: judged.py"""
 
+import functools
 import os
 import re
 import struct
@@ -128,10 +129,6 @@ def test_numbers(setting, text, wanted, is_found=False):
         compare((setting, text, "pace"), answered("find_pace", asked, fields, 0xAA, STATE)[0], [(pace, )])
 
 
-def test_found(setting, text, wanted):
-    test_numbers(setting, text, wanted, is_found=True)
-
-
 def test_chapters(setting, text, wanted):
     for before in BEFORE:
         answers = answered("judge_chapters", (), side_of(text, setting, 0), before)[0]
@@ -199,18 +196,19 @@ def test_completed(setting, text):
 def test_first(setting, text, first):
     """Of the first so many answers, which end where no page follows; of none nothing is read. States are as numbers."""
     numbers = [NUMBER.pack(*map(int, one.split("*"))) for one in text.split()]
-    at_end = FOUND.put(b"".join(numbers))
-    for count, at in ((len(numbers), at_end), (0, FOUND.end), (0, None)):
+    at_end, is_found = FOUND.put(b"".join(numbers)), int(first) < len(numbers)
+    # Where one is found, nothing is read behind it, however many are said to follow.
+    for count, at in ((len(numbers), at_end), (0, FOUND.end), (0, None), *[(2 ** 64 - 1, at_end)] * is_found):
         found = call("first_of")(at, count, int(setting))
         expect(found == (int(first) if count else 0), "first of", setting, "in", text, "is", found)
 
 
 def main():
-    tests = {"numbers": test_numbers, "found": test_found, "chapters": test_chapters, "shown": test_shown,
-             "alone": test_alone, "completed": test_completed, "first": test_first}
+    tests = {"numbers": test_numbers, "found": functools.partial(test_numbers, is_found=True), "shown": test_shown,
+             "chapters": test_chapters, "alone": test_alone, "completed": test_completed, "first": test_first}
     rows = [(tests[kind], setting, row) for kind, settings, rows in tables("judged.txt")
             for setting in settings for row in rows]
-    expect(len(rows) == 368, "judged.txt has more rows, or fewer:", len(rows))
+    expect(len(rows) == 370, "judged.txt has more rows, or fewer:", len(rows))
     for test, setting, row in rows:
         test(setting, *row)
     finish()

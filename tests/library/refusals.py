@@ -1,6 +1,6 @@
 """What each call of the library refuses, and in which order. Some numbers have bits that a parameter of 8 or of 16 bits
 would cut off. A call that refuses touches no array: here none can be touched. A list of erased columns is looked at
-last of all, and before that it may be of any length. And what is answered of no word.
+last of all, and before that it may be of any length. And what some calls answer.
 
 usage: refusals.py"""
 
@@ -69,7 +69,7 @@ def answered(name, words, is_open, is_listed=True):
             arguments.append(OPEN[key].put(words[key]) if words[key] else None)
         elif is_open:
             size *= words[behind] if behind_kind == "size_t" else 1
-            arguments.append(OPEN[key].put(bytes(size)) if size else None)
+            arguments.append(OPEN[key].put(b"\x55" * size) if size else None)
         else:
             arguments.append(CLOSED.end - 8)
     return call(name)(*arguments)
@@ -150,6 +150,7 @@ def test_judges():
                   BAD_LENGTH=[dict(count=count, field=field) for count, field in (
                       (0, 0), (5, 5), (5, MOST_BYTES), (part + 1, 5), (MOST_BYTES, 0))])
         test_call("seek", {**right, "black": 5, "white": 6, "length": 0, "number": 7})
+        expect(OPEN["sought"].get(24) == bytes(24), "what was sought in a side without fields")
 
 
 def test_words():
@@ -163,29 +164,12 @@ def test_words():
         expect(OPEN["format"].get(4) == struct.pack("I", wanted), "format", words, OPEN["format"].get(4))
 
 
-def test_nothing():
-    """What is answered of a side without fields, and of readings without a word."""
-    two = OPEN["numbers"].put(struct.pack("4I", 7, 1, 5, 1))  # of which one is found, however many are said to follow
-    for count in (2, 1 << 61, 1 << 63, MOST_BYTES):
-        expect(call("first_of")(two, count, 5) == 1, "the first of", count)
-    part = OPEN["readings"].put(bytes(24 * NUMBERS.PART))
-    seen = OPEN["seen"].put(b"\xAA" * 60)
-    for name, words, wanted in (
-            ("find_pace", (2, 2, None, 0, None, 0), b"\1\0\0\0"), ("find_pace", (1, 1, part, 2, seen, 2), b"\1\0\0\0"),
-            ("judge_field", (2, 2, 2, part, NUMBERS.PART, NUMBERS.PART - 1), bytes(8)),
-            ("seek", (2, 5, 6, 2, 3, None, 0, 7), bytes(24))):
-        answer = OPEN["answer"].put(b"\x55" * len(wanted))
-        expect(call(name)(*words, answer) == NUMBERS.DONE and OPEN["answer"].get(len(wanted)) == wanted, name, words)
-    expect(OPEN["seen"].get(60) == bytes(40) + b"\xAA" * 20, "what was seen in two fields")
-
-
 def main():
     CLOSED.close()
     for system in LINE_BYTES:
         test_video(system)
     test_judges()
     test_words()
-    test_nothing()
     finish()
 
 
