@@ -98,8 +98,7 @@ for part in 4_478659 5_1 8_32760; do
 done
 
 # What examples are asked: their status, what they write, sides, words, both parted by ;, and what is said. In place of
-# @ stand the side's system and levels, and in that of & what the example is asked that is told no other words. `stops`
-# says nothing of pictures.
+# @ stand the side's system and levels, and in that of & what the example is asked else. `stops` says no pictures.
 cut='the last field is cut: field'
 off="first and last number don't fit"
 gaps=$(awk 'BEGIN { for (part = 0; part < 10; part++)
@@ -180,12 +179,6 @@ while IFS='|' read -r examples ended text side words said; do
         check "$name $side $words" answers_so $ended "$shown" "$said"
     done
 done < rows
-for name in seek.py player.py; do
-    called $name
-    more='search N|play ..'
-    [ $name = player.py ] || more='NUMBER|H:MM:SS.PP|chapter N'
-    check "$name: without words" answers_so 2 '' "$usage $more"
-done
 
 # Sides as long as one block of fields or two, or a field shorter or longer: the last picture is found. The pages are
 # asked for a block of 64 fields ahead, those with lines 16 to 18 of each field once; the last block is as long as what
@@ -234,7 +227,6 @@ for name in $stops; do
     check "$name of a file from its second field on" answers_so 0 "field 4$picture;1 stops" \
         "$cut 5 has 1 of 478660 bytes"
 done
-rm long.tbc part.tbc
 
 # A file that can't be mapped; and want of memory for what is judged of 220,000 fields, of which the file has no block
 truncate -s $((478660 * 220000)) great.tbc
@@ -243,7 +235,6 @@ command="sh -c 'ulimit -v 500000 && exec ./seek great.tbc $on_cav 3'"
 check 'seek: a file that cannot be mapped' answers_so 2 '' 'great.tbc: Cannot allocate memory'
 command="sh -c 'ulimit -d 4000 && exec ./seek great.tbc $on_cav 3'"
 check 'seek: no memory' answers_so 2 '' 'Cannot allocate memory'
-rm great.tbc
 
 # ends_unread: whether the command ends and says nothing where nobody reads what it prints, as one in C does by itself
 ends_unread() {

@@ -14,7 +14,7 @@ from discs import chapter, minutes, picture, second
 NOTHING, BELIEVED, DOUBTFUL, DUE = named("nothing", "believed", "doubtful", "due")
 ALL = {"=": BELIEVED, "?": DOUBTFUL}  # answers of each number of a side
 RATES = {"NTSC": 30, "PAL": 25}
-BEFORE = (0xAA, 0x00, 0xFF, 0x01)  # what the bytes of arrays are before a call
+BEFORE = b"\xAA", b"\0", b"\xFF", b"\1"  # what the bytes of arrays are before a call
 LINE, FIELD, SEEN, NUMBER = map(layout, ("Reading", "FieldReadings", "Sightings", "Number"))
 STATE = struct.Struct("I")
 BLANK = LINE.pack(NUMBERS.BLANK, 0, 0, 0)
@@ -94,21 +94,20 @@ def answers_of(text, side):
 
 # ---- The judging
 
-def answered(name, asked, fields, before, answer=NUMBER):
-    """What is answered, which may be of each field, and what was seen. What is read stays as it is."""
-    count, read = len(fields), b"".join(fields)
+def answered(name, asked, fields, answer=NUMBER):
+    """What is answered, which may be of each field, and what was seen, whatever stands there before the call. What is
+    read stays as it is."""
+    count, read, found = len(fields), b"".join(fields), []
     length = 1 if name == "find_pace" else count
-    room = () if name in ("judge_stops", "judge_ends") else (ROOM.put(bytes([before]) * SEEN.size * count), count)
-    found = [FOUND.put(bytes([before]) * answer.size * length)] + [count] * (name != "find_pace")
-    expect(call(name)(*asked, READ.put(read), count, *room, *found) == 0, name, asked, "refused")
-    expect(READ.get(len(read)) == read, name, asked, "has changed what it read")
-    return list(answer.iter_unpack(FOUND.get(answer.size * length))), ROOM.get(SEEN.size * count)
-
-
-def compare(where, answers, wanted):
-    expect(len(answers) == len(wanted), *where, "has", len(answers), "fields, and", len(wanted), "answers")
-    for field, (one, other) in enumerate(zip(answers, wanted)):
-        expect(one == other, *where, "field", field, one)
+    for before in BEFORE:
+        room = () if name in ("judge_stops", "judge_ends") else (ROOM.put(before * SEEN.size * count), count)
+        at = FOUND.put(before * answer.size * length)
+        status = call(name)(*asked, READ.put(read), count, *room, at, *[count] * (name != "find_pace"))
+        seen = ROOM.get(SEEN.size * count if room else 0)
+        found.append((list(answer.iter_unpack(FOUND.get(answer.size * length))), seen))
+        expect((status, READ.get(len(read))) == (0, read), name, asked, "refused, or changed what it read")
+    expect(found == found[:1] * len(BEFORE), name, asked, "leaves what was there", found)
+    return found[0]
 
 
 def test_numbers(setting, text, wanted, is_found=False):
@@ -117,8 +116,8 @@ def test_numbers(setting, text, wanted, is_found=False):
     *asked, pace = named(*setting.split(":"))
     fields, wanted = side_of(text, counted, RATES[name]), answers_of(wanted, text)
     for judged_at in [pace] + [NUMBERS.FIND_PACE] * is_found:
-        for before in BEFORE:
-            compare((setting, text), answered("judge", (*asked, judged_at), fields, before)[0], wanted)
+        found, _ = answered("judge", (*asked, judged_at), fields)
+        expect(found == wanted, setting, text, found)
     for field, answer in enumerate(wanted):
         begin, number = max(field - 2 * NUMBERS.REACH, 0), FOUND.put(bytes(NUMBER.size))
         part = fields[begin:begin + NUMBERS.PART]
@@ -126,13 +125,13 @@ def test_numbers(setting, text, wanted, is_found=False):
         found = NUMBER.unpack(FOUND.get(NUMBER.size))
         expect((status, found) == (0, answer), setting, text, "alone", field, status, found)
     if is_found:
-        compare((setting, text, "pace"), answered("find_pace", asked, fields, 0xAA, STATE)[0], [(pace, )])
+        found, _ = answered("find_pace", asked, fields, STATE)
+        expect(found == [(pace, )], setting, text, "pace", found)
 
 
 def test_chapters(setting, text, wanted):
-    for before in BEFORE:
-        answers = answered("judge_chapters", (), side_of(text, setting, 0), before)[0]
-        compare((setting, text), answers, answers_of(wanted, text))
+    found, _ = answered("judge_chapters", (), side_of(text, setting, 0))
+    expect(found == answers_of(wanted, text), setting, text, found)
 
 
 def lines_of(text, cause=0, column=0):
@@ -149,17 +148,15 @@ def test_shown(setting, text, wanted):
     number = next(((number, DOUBTFUL) for number, weight in lines if weight), (0, NOTHING))
     name, asked = ("judge_chapters", ()) if setting == "chapters" else ("judge", named(*setting.split(":"), "video"))
     for place, cause in enumerate((0, 1, 2, 3, 4, 5, 255)):
-        answers, seen = answered(name, asked, [lines_of(text, cause, 1000 * place)], 0xAA)
-        compare((setting, text), answers, [number])
-        expect(seen == SEEN.pack(*lines[0], *lines[1], len(instead)), setting, text, "shows", SEEN.unpack(seen))
+        found = answered(name, asked, [lines_of(text, cause, 1000 * place)])
+        expect(found == ([number], SEEN.pack(*lines[0], *lines[1], len(instead))), setting, text, "shows", found)
 
 
 def test_alone(setting, text, wanted):
     """Of a call that judges each field by itself: the field, and it again behind one without words."""
     fields, state = [lines_of(text), 3 * BLANK, lines_of(text)], tuple(named(wanted))
-    for before in BEFORE:
-        answers = answered("judge_" + setting, (), fields, before, STATE)[0]
-        compare((setting, text), answers, [state, (0, ), state])
+    found, _ = answered("judge_" + setting, (), fields, STATE)
+    expect(found == [state, (0, ), state], setting, text, found)
 
 
 # ---- Times that are completed
@@ -184,11 +181,10 @@ def test_completed(setting, text):
     """What is completed. What is seen is what the judge of times sees."""
     system, counted, pace = named(setting, "times", "video")
     fields, wanted = times_of(text, False), times_of(text, True)
-    for before in BEFORE:
-        done, seen = answered("complete_times", (system, ), fields, before, FIELD)
-        compare((setting, text), done, list(FIELD.iter_unpack(b"".join(wanted))))
-        judged = answered("judge", (system, counted, pace), fields, before)
-        expect(seen == judged[1], setting, text, "sees something else than the judge")
+    done, seen = answered("complete_times", (system, ), fields, FIELD)
+    expect(done == list(FIELD.iter_unpack(b"".join(wanted))), setting, text, done)
+    _, judged = answered("judge", (system, counted, pace), fields)
+    expect(seen == judged, setting, text, "sees something else than the judge")
 
 
 # ---- The first of some numbers
