@@ -1,8 +1,7 @@
-/* Calls the library for C as its header has it: its version, texts, threads, and a file that is cut meanwhile. What the
-   structs and the other numbers of the header mean, border.py takes from there. */
+/* Calls the library for C as its header has it: its version, texts, and a file that is cut meanwhile. What the structs
+   and the other numbers of the header mean, border.py takes from there. */
 #define _DEFAULT_SOURCE
 #include <ldvbi.h>
-#include <pthread.h>
 #include <setjmp.h>
 #include <signal.h>
 #include <stdio.h>
@@ -60,33 +59,6 @@ static void test_texts(void)
     are_texts(ldvbi_state_text, (const char *[]){"nothing", "believed", "doubtful", "due", NULL});
 }
 
-/* ---- Threads that each read a line of their own, over and over: its word is 0 then where one reading had another */
-
-static void *read_often(void *word)
-{
-    uint32_t *shown = word, drawn = *shown;
-    uint8_t line[1820];
-    LdvbiReading reading;
-
-    CHECK(ldvbi_draw_line(LDVBI_NTSC, 16384, 51200, drawn, line, sizeof line) == LDVBI_DONE);
-    for (int i = 0; i < 20000; i++)
-        if (ldvbi_read_line(LDVBI_NTSC, 16384, 51200, line, sizeof line, &reading) || reading.word != drawn)
-            *shown = 0;
-    return NULL;
-}
-
-static void test_threads(void)
-{
-    enum { THREADS = 4 };
-    uint32_t words[THREADS] = {0xF12345, 0x82CFFF, 0x800000, 0xFFFFFF};
-    pthread_t threads[THREADS];
-
-    for (int i = 0; i < THREADS; i++)
-        CHECK(pthread_create(&threads[i], NULL, read_often, &words[i]) == 0);
-    for (int i = 0; i < THREADS; i++)
-        CHECK(pthread_join(threads[i], NULL) == 0 && words[i] != 0);
-}
-
 /* ---- A file that is cut off while it is mapped */
 
 static sigjmp_buf before;
@@ -120,7 +92,6 @@ int main(void)
 {
     test_version();
     test_texts();
-    test_threads();
     test_cut_file();
     printf("%d wrong\n", wrong);
     return wrong != 0;

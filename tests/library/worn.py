@@ -196,8 +196,7 @@ def test_levelled_first(tv):
 RECORDS = (
     (11, "", 1, {NTSC: (1100, 1800), PAL: (1400, 2100)}), (14, "16 1 turned", 0, {NTSC: (), PAL: ()}),
     (14, "17 1 turned", 4294967295, {NTSC: (0, 1500), PAL: (0, 1800)}))
-# The first column that is turned over, at which a level has lasted 4 columns
-FIRST_TURNED = {NTSC: 411, PAL: 513}
+FIRST_TURNED = {NTSC: 411, PAL: 513}  # the first column that is turned over, at which a level has lasted 4 columns
 
 
 def test_records(tv):
@@ -218,19 +217,15 @@ def test_records(tv):
 # The line's number, whether dropouts are known, and the word that is said, or 0; the word that is drawn; of each line
 # in which of three cells how many of its columns are turned over, as above, and whether these are erased (e).
 SAID = (
-    (17, 0, 0xF12345, 0xF12345, "0:0"), (17, 0, 0, 0, "0:0"), (17, 1, 0, 0, "0:0 1:0"),
-    # a code that may stand on the line, where dropouts are known or not
-    (17, 1, 0xF12345, 0xF12345, "1:11"), (17, 1, 0, 0xF12345, "1:12"),
-    (17, 0, 0xF12345, 0xF12345, "1:9"), (17, 0, 0, 0xF12345, "1:10"),
-    # another word
-    (16, 1, 0xF12345, 0xF12345, "0:9"), (16, 1, 0, 0xF12345, "0:10"), (16, 0, 0, 0xF12345, "0:10"),
-    # lines that say it only together: worn in two cells, or in one
-    (17, 0, 0xF12345, 0xF12345, "1:13 2:13"), (18, 1, 0xF12345, 0xF12345, "0:13 1:13 2:13"),
-    (17, 0, 0xF12345, 0xF12345, "1:11 1:11"), (17, 1, 0, 0xF12345, "1:14 1:14"),
+    (17, 0, 0, 0, "0:0"), (17, 1, 0, 0, "0:0 1:0"),
+    # a code that may stand on the line, where dropouts are known or not, and another word
+    (17, 1, 0xF12345, 0xF12345, "1:11"), (17, 1, 0, 0xF12345, "1:12"), (17, 0, 0xF12345, 0xF12345, "1:9"),
+    (17, 0, 0, 0xF12345, "1:10"), (16, 1, 0xF12345, 0xF12345, "0:9"), (16, 1, 0, 0xF12345, "0:10"),
+    # lines that say it only together: worn in two cells, or in one; and as many as are taken
+    (18, 1, 0xF12345, 0xF12345, "0:13 1:13 2:13"), (17, 0, 0xF12345, 0xF12345, "1:11 1:11"),
+    (17, 1, 0, 0xF12345, "1:14 1:14"), (17, 0, 0xF12345, 0xF12345, " ".join(["1:13"] * 14 + ["2:13"] * 14)),
     # the same where the columns of one line are erased, and count neither for a word nor against it
-    (17, 1, 0xF12345, 0xF12345, "1:14e 1:14"), (17, 0, 0xF12345, 0xF12345, "1:14 1:14e"),
-    # as many lines as are taken
-    (17, 0, 0xF12345, 0xF12345, " ".join(["1:13"] * 14 + ["2:13"] * 14)))
+    (17, 1, 0xF12345, 0xF12345, "1:14e 1:14"), (17, 0, 0xF12345, 0xF12345, "1:14 1:14e"))
 
 
 def test_pile(tv):
