@@ -9,7 +9,6 @@ import math
 import random
 import struct
 from array import array
-from itertools import accumulate
 
 from border import expect, finish, layout
 from lines import BLANK, FIELDS, NEAR, NTSC, PAL, READING, TELEVISIONS, answered, drawn, edges_of
@@ -257,25 +256,16 @@ def held(levels, columns):
     return [levels[int(place / columns)] for place in range(int(len(levels) * columns))]
 
 
-def smeared(levels, columns):
-    """Each is the mean of so many."""
-    before = list(accumulate([0] * (columns // 2 + 1) + levels + [0] * (columns // 2)))
-    return [(last - first) / columns for first, last in zip(before, before[columns:])]
-
-
 def some(count):
     return [chance.randrange(2) for _ in range(count)]
 
 
-def noise_of(count):
-    begin = chance.randrange(len(NOISE) - count)
-    return NOISE[begin:begin + count]
-
-
 def bits(rates, count, high):
-    """Bits of so many megahertz, of which the first sixteen come by turns, smeared over three columns."""
-    return lambda us, system: smeared(
-        [high * bit for bit in held([1, 0] * 8 + some(count - 16), us / rates[system])], 3)
+    """Bits of so many megahertz, of which the first sixteen come by turns. Each column is the mean of three."""
+    def signal(us, system):
+        levels = [high * bit for bit in held([1, 0] * 8 + some(count - 16), us / rates[system])]
+        return [sum(three) / 3 for three in zip([0] + levels, levels, levels[1:] + [0])]
+    return signal
 
 
 def biphase(count):
@@ -305,9 +295,9 @@ KINDS = (
 def shown(tv, signal, noise):
     """The samples of a line, which has noise of its own."""
     line = ([0] * int(BEGIN * tv.rate / tv.over) + signal + [0] * tv.samples)[:tv.samples]
-    unit = tv.white - tv.black
+    unit, begin = tv.white - tv.black, chance.randrange(len(NOISE) - tv.samples)
     return [min(max(int(tv.black + unit * (level + noise * more)), 0), 65535)
-            for level, more in zip(line, noise_of(tv.samples))]
+            for level, more in zip(line, NOISE[begin:])]
 
 
 def test_kind(tv, name, signal_of, noise, wrong):
