@@ -26,19 +26,32 @@ def named(*names):
     return [getattr(NUMBERS, name.upper()) for name in names]
 
 
+# The members of each struct, in the order in which the tests give and take them
+_MEMBERS = {
+    "Reading": "cause pass column word", "FieldReadings": "lines", "Near": "word start distance rival longer",
+    "Erased": "field line first last", "Record": "length text", "Code": "kind first second",
+    "Sighting": "number weight", "Sightings": "line_17 line_18 instead", "Number": "number state",
+    "Sought": "field number pace looked", "Gap": "after before fields shown from to kind",
+    "Tally": "gaps lost held stood stills still_end back joined open_gaps lost_numbers undecided unread",
+    "Side": "tally first last swap verdict reasons"}
+_LETTERS = {"uint8_t": "B", "uint16_t": "H", "uint32_t": "I", "uint64_t": "Q", "size_t": "Q"}
+
+
+@functools.lru_cache(maxsize=None)
 def layout(name):
     """The struct Ldvbi.. of this name, in which the members of structs stand in their place."""
-    return struct.Struct(_members(name) + "0Q" * ("Q" in _members(name)))
+    return struct.Struct(_types(name) + "0Q" * ("Q" in _types(name)))
 
 
-def _members(name):
-    letters = {"uint8_t": "B", "uint16_t": "H", "uint32_t": "I", "uint64_t": "Q", "size_t": "Q"}
-    found = ""
+def _types(name):
+    types_of, members = "", []
     for kind, names in re.findall(r"(\w+) ([^;]+);", re.search(r"struct Ldvbi%s {(.*?)}" % name, _HEADER, re.S)[1]):
-        for count in re.findall(r"\w+(?:\[(\d+)\])?", names):
-            one = letters.get(kind) or _members(kind[5:])
-            found += count + "s" if count and one == "B" else one * int(count or 1)
-    return found
+        for member, count in re.findall(r"(\w+)(?:\[(\d+)\])?", names):
+            one = _LETTERS.get(kind) or _types(kind[5:])
+            types_of += count + "s" if count and one == "B" else one * int(count or 1)
+            members.append(member)
+    expect(members == _MEMBERS[name].split(), "the members of", name, "are", members)
+    return types_of
 
 
 @functools.lru_cache(maxsize=None)

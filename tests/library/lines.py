@@ -7,13 +7,12 @@ usage: lines.py"""
 import ctypes
 import mmap
 import random
-import struct
 from array import array
 from collections import namedtuple
 
 from border import Guarded, NUMBERS, call, expect, finish, layout
 
-READING, NEAR = layout("Reading"), layout("Near")
+READING, NEAR, ERASED = map(layout, ("Reading", "Near", "Erased"))
 BLANK, FIELDS, WORDS, MOST_LINES = NUMBERS.BLANK, 3, 500, 28
 SAMPLES, LIST, ANSWER = map(Guarded, (FIELDS * 313 * 2270, 4096, 4096))
 chance = random.Random(60856)
@@ -44,7 +43,7 @@ def answered(name, asked, samples, size, *count, erased=None):
     `erased` are the entries of a list."""
     read = samples if isinstance(samples, tuple) else (SAMPLES.put(samples.tobytes()), 2 * len(samples))
     listed = () if erased is None else (
-        LIST.put(b"".join(struct.pack("4I", *entry) for entry in erased)) if erased else None, len(erased))
+        LIST.put(b"".join(ERASED.pack(*entry) for entry in erased)) if erased else None, len(erased))
     answer = ANSWER.put(b"\xAA" * size)
     status = call(name)(*asked, *read, *listed, answer, *count)
     expect(status == NUMBERS.DONE, name, asked, erased, "has the status", status)

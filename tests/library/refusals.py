@@ -36,7 +36,7 @@ REFUSED = {
 
 def erased(text):
     """The arguments of a list, whose bytes stand for their address."""
-    entries = [struct.pack("4I", *map(int, entry.split())) for entry in text.split(",") if entry]
+    entries = [layout("Erased").pack(*map(int, entry.split())) for entry in text.split(",") if entry]
     return {"erased": b"".join(entries), "erased_count": len(entries)}
 
 
@@ -156,7 +156,7 @@ def test_judges():
 def test_words():
     """Codes and formats. What each word says, tests/python/test_classes.py compares."""
     test_call("classify", {"word": 0xF9DD59}, BAD_WORD=one("word", (0, )))
-    expect(OPEN["code"].get(12) == struct.pack("3I", NUMBERS.TIME, 9, 59), "classify", OPEN["code"].get(12))
+    expect(OPEN["code"].get(12) == layout("Code").pack(NUMBERS.TIME, 9, 59), "classify", OPEN["code"].get(12))
     for *words, wanted in ((0, 0, 0, NUMBERS.NEITHER), (0x88FFFF, 0x88FFFF, 0x88FFFF, NUMBERS.NEITHER),
                            (0, 0xF00001, 0, NUMBERS.CAV), (0, 0, 0xF0DD00, NUMBERS.CLV),
                            (0x82CFFF, 0x87FFFF, 0, NUMBERS.BOTH)):
