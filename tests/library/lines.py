@@ -136,10 +136,10 @@ def near(tv, samples):
 
 def test_near(tv, starts, cell, shorter, longer, fewest, most):
     column = tv.white - tv.black
-    # Another word differs by one cell, a longer one by one half cell.
-    for start in range(starts):
-        found = near(tv, drawn(tv._replace(start=start * tv.over), 0xF12345))
-        expect(found == (0xF12345, start, 0, cell * column, shorter * column), tv.system, start, found)
+    # Another word differs by one cell, a longer one by one half cell. The level of the second changes at each edge.
+    for start, word in [(start, word) for start in range(starts) for word in (0xF12345, 0xFFFFFF)]:
+        found = near(tv, drawn(tv._replace(start=start * tv.over), word))
+        expect(found == (word, start, 0, cell * column, shorter * column), tv.system, start, found)
     # Lines of one word, of which the first is off by 700 in all, in its high byte and its low one; and black lines, of
     # which the row of no word is nearest.
     one, blank = drawn(tv, 0x82CFFF), drawn(tv, 0)

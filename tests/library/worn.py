@@ -137,7 +137,7 @@ def test_worn(tv):
 
 # Columns of a word's first high half cell that are black, and columns that are high where a one behind the word would
 # have its half cell: up to so many the signal is that of the word. Of a half cell of 14 columns 9 are 4 more than those
-# that are left, and 10 are 6 more; of one of 18 that are 11 and 12.
+# that are left, and with half of another 5 more; of one of 18 that are 11.
 ENDS = {NTSC: (14, 9), PAL: (18, 11)}
 
 
@@ -149,6 +149,8 @@ def test_ends(tv):
         for first, level in ((edges[1], tv.black), (edges[48] + edges[1] - edges[0], tv.white)):
             line = drawn(tv, 0xF12345)
             line[first:first + columns] = array("H", [level]) * columns
+            if columns > most:
+                line[first + most] = (tv.black + tv.white) // 2
             rows_are_recovered(tv, row, drawn(tv, 0) + line + drawn(tv, 0))
 
 
