@@ -1,19 +1,74 @@
-"""Memory for the tests that call the library from Python: bytes that end where a page begins that can't be touched, so
-that a look behind them ends Python by a signal. And the count of what was wrong."""
+"""What the tests share that call the library from Python: calls, structs and numbers of include/ldvbi.h; memory that
+ends where a page begins that can't be touched, so that a look behind it ends Python by a signal; and what was wrong."""
 
 import ctypes
 import functools
 import mmap
 import os
 import re
+import struct
 import sys
+import types
 
-LIBRARY = ctypes.CDLL(os.environ["LDVBI_LIBRARY"])
 _SYSTEM = ctypes.CDLL(None, use_errno=True)
-with open(os.path.join(os.path.dirname(__file__), "../../include/ldvbi.h"), encoding="ascii") as _header:
-    _HEADER = _header.read()
+with open(os.path.join(os.path.dirname(__file__), "../../include/ldvbi.h"), encoding="ascii") as _file:
+    _HEADER = re.sub(r"/\*.*?\*/", "", _file.read(), flags=re.S)
 _TYPES = {"uint32_t": ctypes.c_uint32, "size_t": ctypes.c_size_t}
 _wrong = []
+
+# The header's numbers, by their names without LDVBI_
+NUMBERS = types.SimpleNamespace(**{
+    name: int(number) for name, number in re.findall(r"\bLDVBI_(\w+) = (\d+)", _HEADER)})
+
+
+def named(*names):
+    """The numbers of these names, whatever their case."""
+    return [getattr(NUMBERS, name.upper()) for name in names]
+
+
+# The members of each struct, in the order in which the tests give and take them
+_MEMBERS = {
+    "Reading": "cause pass column word", "FieldReadings": "lines", "Near": "word start distance rival longer",
+    "Erased": "field line first last", "Record": "length text", "Code": "kind first second",
+    "Sighting": "number weight", "Sightings": "line_17 line_18 instead", "Number": "number state",
+    "Sought": "field number pace looked", "Gap": "after before fields shown from to kind",
+    "Tally": "gaps lost held stood stills still_end back joined open_gaps lost_numbers undecided unread",
+    "Side": "tally first last swap verdict reasons"}
+_LETTERS = {"uint8_t": "B", "uint16_t": "H", "uint32_t": "I", "uint64_t": "Q", "size_t": "Q"}
+
+
+@functools.lru_cache(maxsize=None)
+def layout(name):
+    """The struct Ldvbi.. of this name, in which the members of structs stand in their place."""
+    return struct.Struct(_types(name) + "0Q" * ("Q" in _types(name)))
+
+
+def _types(name):
+    types_of, members = "", []
+    for kind, names in re.findall(r"(\w+) ([^;]+);", re.search(r"struct Ldvbi%s {(.*?)}" % name, _HEADER, re.S)[1]):
+        for member, count in re.findall(r"(\w+)(?:\[(\d+)\])?", names):
+            one = _LETTERS.get(kind) or _types(kind[5:])
+            types_of += count + "s" if count and one == "B" else one * int(count or 1)
+            members.append(member)
+    expect(members == _MEMBERS[name].split(), "the members of", name, "are", members)
+    return types_of
+
+
+@functools.lru_cache(maxsize=None)
+def parameters(name):
+    """The name, the type, and whether it is a pointer, of each parameter of a call."""
+    taken = re.search(r"ldvbi_%s\(([^)]+)\);" % name, _HEADER)[1]
+    return [(one.split()[-1].strip("*"), re.sub("const |Ldvbi", "", one).split()[0], "*" in one)
+            for one in taken.split(",")]
+
+
+@functools.lru_cache(maxsize=None)
+def call(name):
+    """A call of the library, as the header declares it."""
+    function = getattr(ctypes.CDLL(os.environ["LDVBI_LIBRARY"]), "ldvbi_" + name)
+    function.argtypes = [ctypes.c_void_p if is_pointer else _TYPES[kind] for _, kind, is_pointer in parameters(name)]
+    function.restype = _TYPES[re.search(r"(\w+) ldvbi_%s\(" % name, _HEADER)[1]]
+    return function
 
 
 def expect(is_right, *what):
@@ -27,16 +82,6 @@ def finish():
     """Prints how much was wrong, and ends with the status that says so."""
     print(len(_wrong), "wrong")
     sys.exit(bool(_wrong))
-
-
-@functools.lru_cache(maxsize=None)
-def call(name):
-    """A call of the library, as the header declares it."""
-    function = getattr(LIBRARY, "ldvbi_" + name)
-    result, taken = re.search(r"(\w+) ldvbi_%s\(([^)]+)\);" % name, _HEADER).groups()
-    function.argtypes = [ctypes.c_void_p if "*" in one else _TYPES[one.split()[0]] for one in taken.split(",")]
-    function.restype = _TYPES[result]
-    return function
 
 
 class Guarded:

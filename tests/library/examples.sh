@@ -1,7 +1,7 @@
 #!/bin/sh
 # Runs the examples in C, C++ and Python on drawn sides, beside what the table answers.txt asks of them: sides that few
-# numbers are judged of, stops, gaps, cut fields, worn lines, long sides and want of memory; what they refuse; and those
-# in Python where nobody reads what they print.
+# numbers are judged of, stops, gaps, cut fields, worn lines, long sides and want of memory; what they refuse; those in
+# Python where nobody reads what they print; and pixels.c on lines of 8 bits at 13.5 MHz, as no TBC file has them.
 # Needs libldvbi.so.1 beside the program, or at the top of the repository (`make lib`).
 # usage: sh tests/library/examples.sh PROGRAM
 # runs: library rust
@@ -13,59 +13,43 @@
 
 with_python
 
-# The examples, of which some answer alike; a player has at most 60 lines
+# The examples, of which some answer alike; a player has at most 60 lines. That all are built, answers.sh checks.
 seek='seek seek.py'
 stops='stops stops_cpp'
 player='player player_cpp player.py'
 whole='whole whole_cpp'
-for name in seek.c stops.c player.c whole.c; do
-    check "$name is built" does $cc -std=c99 $strict -o ${name%.c} "$top/examples/$name" $linked
+for name in seek stops player whole pixels; do
+    bounded $cc -std=c99 $strict -o $name "$top/examples/$name.c" $linked
 done
-for name in stops player; do
-    check "$name.cpp is built" does $cxx -std=c++17 $strict -o ${name}_cpp "$top/examples/$name.cpp" $linked
+for name in stops.cpp player.cpp whole.c; do
+    bounded $cxx -x c++ -std=c++17 $strict -o ${name%.*}_cpp "$top/examples/$name" $linked
 done
-check 'whole.c is built as C++' does $cxx -x c++ -std=c++17 $strict -o whole_cpp "$top/examples/whole.c" $linked
 for name in player.c player.cpp player.py; do
     check "$name has at most 60 lines" [ "$(wc -l < "$top/examples/$name")" -le 60 ]
 done
-# said_by EXAMPLE: the name by which an example speaks
-said_by() {
-    case $1 in *.py) echo $1 ;; *) echo ${1%_cpp} ;; esac
-}
-# usage_of EXAMPLE: what it says where the words are too few or too many
-usage_of() {
-    on="$(said_by $1) FILE NTSC|PAL BLACK WHITE"
-    case $1 in
-        stops*) echo 'usage: stops NTSC|PAL BLACK WHITE < FILE' ;;
-        seek*) echo "usage: $on NUMBER|H:MM:SS.PP|chapter N" ;;
-        player*) echo "usage: $on search N|play .." ;;
-        whole*) echo "usage: $on [cut]" ;;
-    esac
-}
-# called NAME [SIDE WORD..]: makes `command` of what runs this example, on this side
+# called NAME [SIDE WORD..]: makes `command` of what runs this example, on this side, and `speaker` of the name by which
+# it speaks
 called() {
-    example=$1
     command=./$1
+    speaker=${1%_cpp}
     case $1 in *.py) command="python3 $top/examples/$1" ;; esac
     [ $# -gt 1 ] || return 0
     on_file=$2.tbc
     shift 2
-    case $example in
-        stops*) command="sh -c 'exec $command $* < $on_file'" ;;
+    case $speaker in
+        stops) command="sh -c 'exec $command $* < $on_file'" ;;
         *) command="$command $on_file $*" ;;
     esac
 }
 # answers_so STATUS OUT SAID: whether the command ends with this status, and writes these lines, which ; parts. It says
-# nothing, or this line behind its name, or one of its own where that is *, or its usage.
+# nothing, or this line behind its name, for which % stands in it, or one line of its own where that is *.
 answers_so() {
-    line=$3
-    [ "$line" != usage ] || line=$(usage_of $example)
+    said_line "${3:+$speaker: $(echo "$3" | sed "s/%/$speaker/")}"
     printf '%s' "${2:+$2;}" | tr ';' '\n' > wanted_out
-    said_line "${line:+$(said_by $example): $line}"
     status=0
     eval "bounded $command" < empty > out 2> err || status=$?
-    [ "$status" = "$1" ] && cmp -s out wanted_out || return
-    if [ "$3" = '*' ]; then is_a_line_of "$(said_by $example)"; else cmp -s err wanted; fi
+    [ "$3" != '*' ] || [ "$(grep -c "^$speaker: " err)" != 1 ] || cp err wanted
+    [ "$status" = "$1" ] && cmp -s out wanted_out && cmp -s err wanted && [ "$(wc -l < err)" -le 1 ]
 }
 
 # Discs by the standards' lines: stops and marks where the number is on line 18 alone, and lines 17 and 18 that differ,
@@ -83,11 +67,16 @@ stops|$ntsc|- F00001 F00001;- 800DDD 800DDD;- F00002 F00007;- 800DDD 800DDD;82CF
 ;- F00004 -;82CFFF 801DDD 801DDD;82CFFF F00005 F00005;- 802DDD 802DDD;- - 82CFFF;80EEEE 80EEEE 80EEEE
 marks|$pal|8AE000 87FFFF F0DD00;- 800DDD 800DDD;8AE001 F0DD00 F0DD00;8AE002 F0DD00 F0DD01;8AE003 87FFFF F1DD09
 END
-# Sides of ten pictures in order, and of twelve parts of five pictures, with a gap between two of these
-seq -f 'F%05g' 10 | sed 's/.*/- & &\n- - -/' | bounded "$program" draw $ntsc - > ten.tbc
-awk 'BEGIN { for (part = 0; part < 12; part++) for (picture = 1; picture <= 5; picture++)
-    printf "- F%05d F%05d\n- - -\n", 100 * part + picture, 100 * part + picture }' |
-    bounded "$program" draw $ntsc - > gaps.tbc
+# Sides of ten pictures in order; of twelve parts of five pictures, with a gap between two of these; and of 129 fields
+awk 'BEGIN {
+    for (picture = 1; picture <= 10; picture++) printf "- F%05d F%05d\n- - -\n", picture, picture > "ten.words"
+    for (part = 0; part < 12; part++) for (picture = 1; picture <= 5; picture++)
+        printf "- F%05d F%05d\n- - -\n", 100 * part + picture, 100 * part + picture > "gaps.words"
+    for (field = 1; field <= 129; field++) printf "- F%05d -\n", (field + 1) / 2 > "long.words"
+}'
+for name in ten gaps long; do
+    output_of draw $ntsc $name.words > $name.tbc
+done
 # A worn side, where no line shows its word: whoever finds one has recovered it. A stop on line 16 alone isn't enough.
 awk 'BEGIN { for (picture = 1; picture <= 24; picture++) {
     worn = " @170-174L"
@@ -109,8 +98,7 @@ for part in 4_478659 5_1 8_32760; do
 done
 
 # What examples are asked: their status, what they write, sides, words, both parted by ;, and what is said. In place of
-# @ stand the side's system and levels, and in that of & what the example is asked that is told no other words. `stops`
-# says nothing of pictures.
+# @ stand the side's system and levels, and in that of & what the example is asked else. `stops` says no pictures.
 cut='the last field is cut: field'
 off="first and last number don't fit"
 gaps=$(awk 'BEGIN { for (part = 0; part < 10; part++)
@@ -118,8 +106,10 @@ gaps=$(awk 'BEGIN { for (part = 0; part < 10; part++)
         100 * part + 101 }')
 few='of this side is supported by those around it, so this is what the lines say'
 is_a_picture='neither a picture from 0 to 79999, a time as 0:59:29.07, nor a chapter from 0 to 79'
-awk -F '|' -v OFS='|' '{ split($4, sides, ";"); count = split($5, words, ";")
-    for (i in sides) for (j = 1; j <= count; j++) print $1, $2, $3, sides[i], words[j], $6 }' > rows << END
+usage='usage: % FILE NTSC|PAL BLACK WHITE'
+awk -F '|' -v OFS='|' '{ split($4, sides, ";"); count = split($5, words, ";"); said = $0
+    for (i = 0; i < 5; i++) sub("[^|]*[|]", "", said)
+    for (i in sides) for (j = 1; j <= count; j++) print $1, $2, $3, sides[i], words[j], said }' > rows << END
 $seek|0|field 5|stops|@ 3|
 $seek|1|not found|few|@ 2;@ 7|
 $seek|3|field 1|few|@ 1|no number $few
@@ -133,13 +123,11 @@ $seek|0|field 23|worn|@ 12|
 $seek|0|field 2|worn|@ chapter 0|
 $seek|1|not found|stops_4_478659|@ 3|$cut 5 has 478659 of 478660 bytes
 $seek|0|field 5|stops_8_32760|@ 3|$cut 9 has 32760 of 478660 bytes
-$seek|2||cav|@;@ chapter 3 4;@ 3 4;@ 3 chapter|usage
+$seek|2||cav|@;@ chapter 3 4;@ 3 4;@ 3 chapter|$usage NUMBER|H:MM:SS.PP|chapter N
 $seek|2||cav|SECAM 16384 51200 3;pal 1 2 3|system is neither NTSC nor PAL
-$seek|2||cav|1 16384 51200 3;NTSC 16384 16384 3;NTSC 81920 90000 3;NTSC 16384 +51200 3;NTSC 16384x 51200 3|*
 $seek|2||cav|@ xyz;@ 3x;@ -3;@ 80000;@ 4294967299|$is_a_picture
 $seek|2||cav|@ 0:00:60.00;@ 0:100:00.00;@ 0:00:00.100;@ 10:00:00.00;@ 0:00:00;@ 0:00:00.00.00|$is_a_picture
-$seek|2||cav|@ chapter 80;@ chapter -1;@ chapter 3x;@ chapter 256;@ chapter 4294967299|$is_a_picture
-$seek|2||cav|@ chapter 0:00:00.00|$is_a_picture
+$seek|2||cav|@ chapter 80;@ chapter -1;@ chapter 3x;@ chapter 256;@ chapter 0:00:00.00|$is_a_picture
 $seek|2||empty|NTSC 51200 16384 3|*
 $seek|2||nowhere;folder;null|@ 3|*
 $stops|0|0 stops|clv;empty|@|
@@ -150,7 +138,7 @@ stops_cpp|0|0 stops|stops_4_478659|@|$cut 5 has 478659 of 478660 bytes
 $stops|0|field 5 picture 3;1 stops|stops_5_1|@|$cut 6 has 1 of 478660 bytes
 stops|2||folder|@|Is a directory
 stops_cpp|2||folder|@|standard input: Is a directory
-$stops|2||cav|@ cav.tbc|usage
+$stops|2||cav|@ cav.tbc|usage: % NTSC|PAL BLACK WHITE < FILE
 $player|1|search: field 65 picture 30;play: field 97 picture 46;search: not found|side|@ search 30 play search 79999|
 $player|0|search: field 49 picture 22;search: field 21 picture 7;play: field 33 picture 17|side\
 |@ search 22 search 7 play|
@@ -162,11 +150,12 @@ $player|0|play: field 23 picture 112;play: field 35 picture 118|misread|@ play p
 $player|0|search: field 23 picture 12;play: field 39 picture 20|worn|@ search 12 play|
 $player|1|search: not found|clv|@ search 3|
 $player|1|play: not found|stops_4_478659|@ play|
-$player|2||cav|@|usage
+$player|2||cav|@|$usage search N|play ..
 $player|2||cav|@ search 3x;@ search;@ stop|*
-$seek $stops $player $whole|2||cav|NTSC 51200 16384 &;SECAM 16384 51200 &;pal 1 2 &;NTSC 16384 81920 &;NTSC -1 51200 &|*
-$seek $stops $player $whole|2||cav|NTSC 16384 xyz &;NTSC 16384 4294967297 &;NTSC 16384 99999999999999999999 &|*
 $player|2||nowhere;empty;folder|@ play|*
+$seek $stops $player $whole|2||cav|NTSC 51200 16384 &;SECAM 16384 51200 &;pal 1 2 &;1 16384 51200 &;NTSC 16384 81920 &|*
+$seek $stops $player $whole|2||cav|NTSC -1 51200 &;NTSC 16384x 51200 &;NTSC 16384 4294967297 &|*
+$seek $stops $player $whole|2||cav|NTSC 16384 16384 &;NTSC 16384 xyz &;NTSC 16384 99999999999999999999 &|*
 $whole|0|whole: yes|cav|@;@ cut|
 $whole|0|whole: yes|ten;worn|@ cut|
 $whole|4|whole: can't tell: no lead-out|ten|@|
@@ -176,7 +165,7 @@ $whole|1|whole: no: fields are lost, $off;lost 8: field 25 has 9, field 27 has 1
 ;still 2: field 45 has 21, field 47 has 21|side|@;@ cut|
 $whole|1|whole: no: it begins late, fields may be lost;open 4: field 23 has 107999, field 25 has 108002|clock|@ cut|
 $whole|1|whole: no: fields are lost, $off, no lead-out;${gaps}gaps left out: 1|gaps|@|
-$whole|2||cav|NTSC 16384;@ cut cut;@ whole|usage
+$whole|2||cav|NTSC 16384;@ cut cut;@ whole|$usage [cut]
 $whole|2||nowhere;empty;folder|@|*
 END
 while IFS='|' read -r examples ended text side words said; do
@@ -190,16 +179,10 @@ while IFS='|' read -r examples ended text side words said; do
         check "$name $side $words" answers_so $ended "$shown" "$said"
     done
 done < rows
-for name in $seek $player; do
-    called $name
-    check "$name: without words" answers_so 2 '' usage
-done
 
 # Sides as long as one block of fields or two, or a field shorter or longer: the last picture is found. The pages are
 # asked for a block of 64 fields ahead, those with lines 16 to 18 of each field once; the last block is as long as what
 # is left.
-awk 'BEGIN { for (field = 1; field <= 129; field++) printf "- F%05d -\n", (field + 1) / 2 }' |
-    bounded "$program" draw $ntsc - > long.tbc
 for fields in 63 64 65 127 128; do
     head -c $((478660 * fields)) long.tbc > part.tbc
     check "seek: the last picture of $fields fields" prints 0 "field $((fields - (fields + 1) % 2))" \
@@ -237,20 +220,21 @@ for name in $stops; do
     check "$name reads few bytes of a file" reads_few ./$name $on_cav
     picture=
     [ $name = stops ] || picture=' picture 3'
+    called $name
     command="sh -c 'cat stops_5_1.tbc | ./$name $on_cav'"
-    example=$name
     check "$name of a pipe" answers_so 0 "field 5$picture;1 stops" "$cut 6 has 1 of 478660 bytes"
-    check "$name of a file from its second field on" prints 0 "field 4$picture
-1 stops" sh -c "{ dd bs=478660 count=1 of=skipped 2> said; ./$name $on_cav; } < stops_5_1.tbc"
+    command="sh -c '{ dd bs=478660 count=1 of=skipped 2> said; ./$name $on_cav; } < stops_5_1.tbc'"
+    check "$name of a file from its second field on" answers_so 0 "field 4$picture;1 stops" \
+        "$cut 5 has 1 of 478660 bytes"
 done
-rm long.tbc part.tbc
 
 # A file that can't be mapped; and want of memory for what is judged of 220,000 fields, of which the file has no block
 truncate -s $((478660 * 220000)) great.tbc
-check 'seek: a file that cannot be mapped' refuses 'seek: great.tbc: Cannot allocate memory' \
-    sh -c "ulimit -v 500000 && exec ./seek great.tbc $on_cav 3"
-check 'seek: no memory' refuses 'seek: Cannot allocate memory' sh -c "ulimit -d 4000 && exec ./seek great.tbc $on_cav 3"
-rm great.tbc
+called seek
+command="sh -c 'ulimit -v 500000 && exec ./seek great.tbc $on_cav 3'"
+check 'seek: a file that cannot be mapped' answers_so 2 '' 'great.tbc: Cannot allocate memory'
+command="sh -c 'ulimit -d 4000 && exec ./seek great.tbc $on_cav 3'"
+check 'seek: no memory' answers_so 2 '' 'Cannot allocate memory'
 
 # ends_unread: whether the command ends and says nothing where nobody reads what it prints, as one in C does by itself
 ends_unread() {
@@ -264,8 +248,43 @@ ends_unread() {
     exec 3>&-
     [ "$status" = 141 ] && [ ! -s err ] # by SIGPIPE
 }
-called seek.py cav $on_cav 3
-check "seek.py: its output isn't read" ends_unread
-called player.py cav $on_cav search 3 play
-check "player.py: its output isn't read" ends_unread
+for words in 'seek.py 3' 'player.py search 3 play'; do
+    called ${words%% *} cav $on_cav ${words#* }
+    check "${words%% *}: its output isn't read" ends_unread
+done
+
+# Lines at 13.5 MHz, drawn by the standards alone, with a little noise: words as the disc has them, and nearly as short
+# as the library takes them, where samples that lie too far apart read nothing. Each begins at another part of a pixel.
+cat > pixels.py << 'END'
+import random, sys
+from lines import Television, drawn
+BEFORE = {"NTSC": 122, "PAL": 132}[sys.argv[1]]  # pixels of a line before those of active video
+chance = random.Random(60856)
+for row in sys.stdin:
+    for word in row.split()[:3]:
+        begin = 13.5 * (10.5 + chance.uniform(-0.25, 0.25)) - BEFORE
+        tv = Television(1, 28, 223, 720, 263, 1000, int(1000 * begin), int(13500 * float(sys.argv[2])))
+        line = drawn(tv, 0 if word == "-" else int(word, 16))
+        sys.stdout.buffer.write(bytes(level + chance.randint(-12, 12) for level in line))
+END
+printf '%s\n' '- F00001 F00001' '- - -' '82CFFF F00004 F00004 stop' '- F79999 82CFFF' '8AE712 87FFFF F0DD09' \
+    '8BA0A1 807DDD 88FFFF' 'AAAAAA 800000 FFFFFF' > pixels.txt
+for half_cell in 1 0.82; do
+    for system in NTSC PAL; do
+        PYTHONPATH=$PYTHONPATH:$here bounded python3 pixels.py $system $half_cell < pixels.txt > lines.y8
+        check "pixels: lines of $system at 13.5 MHz, half cells of $half_cell microseconds" \
+            prints 0 "$(cat pixels.txt)" sh -c "./pixels $system 16 235 < lines.y8"
+    done
+done
+called pixels
+command='./pixels NTSC 16 235'
+check 'pixels: no line' answers_so 0 '' ''
+head -c 2159 lines.y8 > part.y8
+command='./pixels PAL 16 235 < part.y8'
+check 'pixels: a field that is cut' answers_so 2 '' 'the last field is cut'
+for on in 'NTSC 16 256' 'NTSC -1 235' 'NTSC 51200 16384' 'SECAM 16 235' 'NTSC 235 16' 'NTSC 16 16' 'NTSC 16 x' \
+    'NTSC 16'; do
+    command="./pixels $on"
+    check "pixels: $on" answers_so 2 '' '*'
+done
 finish

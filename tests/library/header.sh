@@ -52,26 +52,19 @@ check 'the first declaration stands before line 60' \
     [ "$(grep -n '^enum\|^[a-z].*);$' "$top/include/ldvbi.h" | head -n 1 | cut -d : -f 1)" -lt 60 ]
 
 # Makes of each call that returns a status one on a line of its own. A pointer with a number of bytes or of items behind
-# it is an array, which may be null if it has none; any other is what is written, and mustn't be null. What a call reads
-# can't be written.
+# it is an array, which may be null if it has none; any other is what is written, and mustn't be null.
 cat > calls.py << 'END'
 import re, sys
 with open(sys.argv[1]) as header:
     heads = re.findall(r"\buint32_t (ldvbi_\w+)\(([^)]+)\);", header.read())
-externs, calls = {}, []
-for name, taken in [head for head in heads if "*" in head[1] and head[0] != "ldvbi_find_both"]:
-    taken = re.sub(r"\s+", " ", taken).split(", ")
-    arrays = [one for one, after in zip(taken, taken[1:]) if "*" in one and after.startswith("size_t")]
-    words = []
-    for one in taken:
-        named = re.sub(r"\W+", "_", one.rpartition("*")[0]).strip("_") + "_given" * ("*" in one)
-        if "*" in one:
-            externs[named] = "extern %s*%s;" % (one.rpartition("*")[0], named)
-        is_null = "*" in one and sys.argv[2] == ("array" if one in arrays else "written")
-        words.append("NULL" if is_null else named if "*" in one else "0")
-    calls.append((sys.argv[3] % "{}(%s)".format(name) % ", ".join(words)))
-print("#include <ldvbi.h>", *externs.values(), "uint32_t called(void); uint32_t called(void) {", *calls, "return 0; }",
-      sep="\n")
+print("#include <ldvbi.h>\nextern void *given; uint32_t called(void); uint32_t called(void) {")
+for name, text in [head for head in heads if "*" in head[1] and head[0] != "ldvbi_find_both"]:
+    taken, words = re.sub(r"\s+", " ", text).split(", "), []
+    for one, behind in zip(taken, taken[1:] + [""]):
+        is_null = sys.argv[2] == ("array" if behind.startswith("size_t") else "written")
+        words.append("0" if "*" not in one else "NULL" if is_null else "(%s*)given" % one.rpartition("*")[0])
+    print(sys.argv[3] % "{}({})".format(name, ", ".join(words)))
+print("return 0; }")
 END
 # called NULL FORM: makes that file, with null for each array or for what is written, and each call in this form
 called() {

@@ -1,10 +1,8 @@
 #!/bin/sh
 # Installs program and library as a new user does, and builds on them by pkg-config and by CMake: nothing but these
 # tells the loader where the library is (no LD_LIBRARY_PATH). Then the wheel of the Python module, which brings the
-# library. Of what was proved also by the lines in LIBRARY.md, where it is moved, and in other folders; the same from
-# rust/, as which the proved files stand here; the wheel is installed without the net; by which rule a library's wheel
-# gets its tag; and `pip install` of the source. What is installed where, and what is refused, is tried by
-# tests/program/packaging.sh.
+# library. Of what was proved also by the lines in LIBRARY.md, moved, and in other folders; the wheel without the net,
+# and its tag; and `pip install` of the source. What is installed where, tests/program/packaging.sh tries.
 # Needs libldvbi.a and libldvbi.so.1 beside the program, or at the top of the repository (`make lib`), and of what was
 # proved Debian's python3-venv and python3-setuptools.
 # usage: sh tests/library/installed.sh PROGRAM
@@ -32,14 +30,20 @@ ln -s libldvbi.so.1 $place/libldvbi.so
 makes() {
     does env PATH=/usr/bin:/bin make -s -C user FROM=$from "$@"
 }
-program_in_readme
-cp say.c line.raw user
+# The program of which README has three lines, and the line that it reads
+cp "$top/examples/say.c" .
+echo '- F12345 -' | bounded "$program" draw $ntsc > said.tbc
+tail -c +29121 said.tbc | head -c 1820 > line.raw
 discs
-cp cav.tbc user
+cp say.c line.raw cav.tbc user
 version=$(header_version)
 processor=$(uname -m)
 says() {
     prints 0 'picture 12345' sh -c "$1 < line.raw"
+}
+# seeks NAME COMMAND..: checks that this command of ldvbi-side finds picture 3
+seeks() {
+    check "$1" prints 0 'field 7, frame 4' env "$2" cav.tbc $ntsc --seek 3
 }
 
 # Builds on a place of the library by pkg-config, as LIBRARY.md has it, and by CMake, shared and as an archive
@@ -108,20 +112,18 @@ with zipfile.ZipFile(sys.argv[1]) as wheel:
         data, name = wheel.read(info), info.filename
         digest = base64.urlsafe_b64encode(hashlib.sha256(data).digest()).decode().rstrip("=")
         print(name + (",," if name.endswith("/RECORD") else ",sha256=%s,%d" % (digest, len(data))))
-        if info.external_attr >> 16 != (0o100755 if name == "ldvbi/libldvbi.so.1" else 0o100644):
-            print("the mode of", name)
-        if name.endswith("/WHEEL") and "\nTag: %s\n" % tag not in data.decode():
-            print("another tag inside")
+        assert info.external_attr >> 16 == (0o100755 if name == "ldvbi/libldvbi.so.1" else 0o100644), name
+        assert not name.endswith("/WHEEL") or "\nTag: %s\n" % tag in data.decode()
     wheel.extractall("wheel")
 END
-does python3 listed.py wheels/$wheel
+check 'it has modes and its tag' does python3 listed.py wheels/$wheel
 sort out > wanted
 check 'it has these files' [ "$(cut -d , -f 1 wanted)" = "$(cat files)" ]
 sort wheel/ldvbi-*.dist-info/RECORD > found
 check 'its record has each file, with its hash' cmp found wanted
 check 'and the library' cmp wheel/ldvbi/libldvbi.so.1 "$built/libldvbi.so.1"
 if [ $from = rust ]; then
-    leave_out 46
+    leave_out 42
     finish
 fi
 
@@ -143,18 +145,14 @@ cp -r usr moved
 mv usr gone
 builds_on moved "$work/moved/lib"
 mv gone usr
-while IFS='|' read -r which wanted_version fits; do
-    configures "$work/usr" "$wanted_version"
-    check "$which version: $fits" [ "$status $(head -n 1 err | grep -c '^CMake Error')" = "$fits" ]
-done << END
-this|$version|0 0
-an earlier|0.0.9|0 0
-exactly this|$version;EXACT|0 0
-a later|$version.1|1 1
-the next minor|0.$((1 + $(echo "$version" | cut -d . -f 2)))|1 1
-the next major|1.0|1 1
-exactly an earlier|0.0.9;EXACT|1 1
-END
+for wanted_version in 0.0.9 "$version;EXACT"; do
+    check "CMake finds version $wanted_version" configures "$work/usr" "$wanted_version"
+done
+# a later one, the next minor one, the next major one, and an earlier one exactly
+for wanted_version in $version.1 0.$((1 + $(echo "$version" | cut -d . -f 2))) 1.0 '0.0.9;EXACT'; do
+    ! configures "$work/usr" "$wanted_version"
+    check "CMake finds no version $wanted_version" sh -c 'head -n 1 err | grep -q "^CMake Error"'
+done
 makes install-lib PREFIX="$work/debian" LIBDIR="$work/debian/lib/x86_64-linux-gnu"
 builds_on 'below its architecture' "$work/debian/lib/x86_64-linux-gnu"
 makes install-lib PREFIX="$work/apart" LIBDIR="$work/elsewhere"
@@ -166,21 +164,13 @@ check 'seek is built' does sh -c "export PKG_CONFIG_PATH=$work/usr/lib/pkgconfig
 check 'seek finds a picture' prints 0 'field 7' ./seek cav.tbc $on_cav 3
 ln -s "$work/usr/bin/ldvbi-side" linked
 for command in usr/bin/ldvbi-side ./linked; do
-    check "$command reads a TBC file" prints 0 'field 7, frame 4' $command cav.tbc $ntsc --seek 3
+    seeks "$command reads a TBC file" $command
 done
-
-# What `make rust` leaves is taken from there
-mv user/ldvbi user/libldvbi.* user/rust
-from=rust
-check 'make install FROM=rust' makes install PREFIX="$work/rust"
-check 'CMake builds on it' cmake_builds "$work/rust"
-check 'make wheel FROM=rust' makes wheel WHEELS="$work/again"
-check 'it is the same' cmp wheels/$wheel again/$wheel
 
 # The wheel, installed and used
 check 'a folder for Python' does /usr/bin/python3 -m venv venv
 check 'pip installs the wheel' does venv/bin/pip install -q wheels/$wheel
-check 'its command reads a TBC file' prints 0 'field 7, frame 4' venv/bin/ldvbi-side cav.tbc $ntsc --seek 3
+seeks 'its command reads a TBC file' venv/bin/ldvbi-side
 check 'the library is that of the wheel' prints 0 "$work/venv/lib" venv/bin/python -c '
 from ldvbi.library import _library_file
 print(_library_file().split("/python3")[0])'
@@ -220,8 +210,8 @@ mkdir tree tree/crates
 (cd "$top" && cp -r Makefile README.md packaging pyproject.toml python include share "$work/tree")
 check 'a folder that sees the system' does /usr/bin/python3 -m venv --system-site-packages --without-pip source
 check 'pip installs the source' does source/bin/python -m pip install -q --no-build-isolation "$work/tree"
-check 'its command reads a TBC file from the source' prints 0 'field 7, frame 4' \
-    env LDVBI_LIBRARY="$built/libldvbi.so.1" source/bin/ldvbi-side cav.tbc $ntsc --seek 3
+export LDVBI_LIBRARY="$built/libldvbi.so.1"
+seeks 'its command reads a TBC file from the source' source/bin/ldvbi-side
 # about FOLDER: what the package that is there says of itself
 about() {
     cat "$1"/ldvbi-*.dist-info/entry_points.txt

@@ -1,5 +1,5 @@
-"""Judges the sides of judged.txt by the library, in arrays that end where no page follows and hold other bytes each
-time, and compares what it answers with what stands there.
+"""Judges the sides of judged.txt and whole.txt by the library, in arrays that end where no page follows and hold other
+bytes each time, and compares what it answers with what stands there.
 
 usage: judged.py"""
 
@@ -8,37 +8,33 @@ import os
 import re
 import struct
 
-from border import Guarded, call, expect, finish
+from border import Guarded, NUMBERS, call, expect, finish, layout, named
 from discs import chapter, minutes, picture, second
-from ldvbi import Counted, Pace, State, System
 
-NOTHING, BELIEVED, DOUBTFUL, DUE = State
-ENDS = {"no end": 0, "lead-out": 1, "doubtful end": 2, "lead-in": 3}  # of enum LdvbiEnd
+NOTHING, BELIEVED, DOUBTFUL, DUE = named("nothing", "believed", "doubtful", "due")
 ALL = {"=": BELIEVED, "?": DOUBTFUL}  # answers of each number of a side
 RATES = {"NTSC": 30, "PAL": 25}
-REACH, PART, MOST = 24, 97, 2000
-BEFORE = (0xAA, 0x00, 0xFF, 0x01)  # what the bytes of arrays are before a call
-LINE, SEEN, NUMBER, STATE = (struct.Struct("<" + members) for members in ("BBHI", "5I", "2I", "I"))
-BLANK = LINE.pack(1, 0, 0, 0)
-READINGS, ROOM, FOUND = (Guarded(size * MOST) for size in (3 * LINE.size, SEEN.size, NUMBER.size))
+BEFORE = b"\xAA", b"\0", b"\xFF", b"\1"  # what the bytes of arrays are before a call
+LINE, FIELD, SEEN, NUMBER = map(layout, ("Reading", "FieldReadings", "Sightings", "Number"))
+STATE = struct.Struct("I")
+BLANK = LINE.pack(NUMBERS.BLANK, 0, 0, 0)
+READ, ROOM, FOUND = (Guarded(2000 * one.size) for one in (FIELD, SEEN, FIELD))
 LETTERS = {"c": "801DDD", "i": "88FFFF", "o": "80EEEE", "s": "82CFFF", "m": "87FFFF", "t": "F0DD09", "p": "F12345"}
-PARTS = re.compile(r"(\(?)(\w*)(?:\.\.(\d+))?\)?([=~^?]*)(?:/(\w+)([~^]?))?(?:\*(\d+))?")
+PART = re.compile(r"(\(?)(\w*)(?:\.\.(\d+))?\)?([=~^?]*)(?:/(\w+)([~^]?))?(?:\*(\d+))?")
+TIME = re.compile(r"(\d+):(\d+)\.(\d+)([~^]?)([-+/=]?)([~^]?)(c?)")
+PASSES = {"": 1, "=": 1, "~": 2, "^": 3}
 
 
 # ---- Sides and answers from text
 
 def tables(name):
     """Of each table of this file its kind, its settings, and its rows with their columns."""
-    found = []
     with open(os.path.join(os.path.dirname(__file__), name)) as file:
-        text = file.read().replace("\n    ", " ")
-    for line in text.split("\n"):
-        if line.startswith("= "):
-            kind, *settings = line[2:].split()
-            found.append((kind, settings, []))
-        elif line and line[0] != "#":
-            found[-1][2].extend([column.strip() for column in row.split("|")] for row in expanded(line))
-    return found
+        text = re.sub("^#.*\n|^\n", "", file.read().replace("\n    ", " "), flags=re.M)
+    for table in re.split("^= ", text, flags=re.M)[1:]:
+        head, *rows = table.splitlines()
+        kind, *settings = head.split()
+        yield kind, settings, [[column.strip() for column in row.split("|")] for text in rows for row in expanded(text)]
 
 
 def expanded(text):
@@ -48,29 +44,6 @@ def expanded(text):
     return [before + choice + behind for choice in choices.split(",")] if brace else [text]
 
 
-def word_of(item, counted, rate):
-    if item in LETTERS:
-        return LETTERS[item]
-    if counted == "times":
-        return minutes(*divmod(int(item) // rate // 60, 60))
-    return (picture if counted == "pictures" else chapter)(int(item))
-
-
-def field_of(items, marks, counted, rate):
-    """The readings of a field with these items on lines 17 and 18, where there are any. A time is on line 16, too."""
-    lines = [BLANK] * 3
-    for line, item in enumerate(items, 1):
-        if item:
-            of_pass = 2 if "~" in marks[line - 1] else 3 if "^" in marks[line - 1] else 1
-            lines[line] = LINE.pack(0, of_pass, 0, int(word_of(item, counted, rate), 16))
-            if counted == "times" and item.isdigit():
-                seconds, number = divmod(int(item), rate)
-                lines[0] = LINE.pack(0, 1, 0, int(second(seconds % 60, number), 16))
-    if "=" in marks[0]:
-        lines[2] = lines[1]
-    return b"".join(lines)
-
-
 def spread(text, of_part, nothing):
     """What stands in each field of a text."""
     found = []
@@ -78,16 +51,37 @@ def spread(text, of_part, nothing):
         if part[0] == ".":
             found += [nothing] * int(part[1:] or 1)
             continue
-        due, first, last, marks, other, marked, count = PARTS.fullmatch(part).groups("")
+        due, first, last, marks, other, marked, count = PART.fullmatch(part).groups("")
         for item in map(str, range(int(first), int(last) + 1)) if last else [first]:
             found += [of_part((item, other), (due + marks, marked))] * int(count or 1) + [nothing]
         found.pop()
     return found
 
 
+def line(word, of_pass=1, cause=0, column=0):
+    return LINE.pack(cause, of_pass, column, int(word, 16))
+
+
 def side_of(text, counted, rate):
-    """The readings of each field."""
-    return spread(text, lambda items, marks: field_of(items, marks, counted, rate), 3 * BLANK)
+    """The readings of each field: its items on lines 17 and 18. A time is on line 16, too."""
+    def word_of(item):
+        if item in LETTERS:
+            return LETTERS[item]
+        if counted == "times":
+            return minutes(*divmod(int(item) // rate // 60, 60))
+        return (picture if counted == "pictures" else chapter)(int(item))
+
+    def field_of(items, marks):
+        lines = [BLANK] * 3
+        for at, (item, mark) in enumerate(zip(items, marks), 1):
+            lines[at] = line(word_of(item), PASSES[mark[-1:]]) if item else BLANK
+        for item in filter(str.isdigit, items if counted == "times" else ()):
+            seconds, number = divmod(int(item), rate)
+            lines[0] = line(second(seconds % 60, number))
+        if "=" in marks[0]:
+            lines[2] = lines[1]
+        return b"".join(lines)
+    return spread(text, field_of, 3 * BLANK)
 
 
 def answers_of(text, side):
@@ -100,110 +94,217 @@ def answers_of(text, side):
 
 # ---- The judging
 
-def answered(name, asked, fields, before, answer=NUMBER):
-    """What is answered, which may be of each field, and what was seen. What is read stays as it is."""
-    count, read = len(fields), b"".join(fields)
+def answered(name, asked, fields, answer=NUMBER):
+    """What is answered, which may be of each field, and what was seen, whatever stands there before the call. What is
+    read stays as it is."""
+    count, read, found = len(fields), b"".join(fields), []
     length = 1 if name == "find_pace" else count
-    room = () if name in ("judge_stops", "judge_ends") else (ROOM.put(bytes([before]) * SEEN.size * count), count)
-    found = [FOUND.put(bytes([before]) * answer.size * length)] + [count] * (name != "find_pace")
-    expect(call(name)(*asked, READINGS.put(read), count, *room, *found) == 0, name, asked, "refused")
-    expect(READINGS.get(len(read)) == read, name, asked, "has changed what it read")
-    return list(answer.iter_unpack(FOUND.get(answer.size * length))), ROOM.get(SEEN.size * count)
-
-
-def answered_alone(asked, part, field):
-    """What is answered of one field of these."""
-    number = FOUND.put(bytes(NUMBER.size))
-    status = call("judge_field")(*asked, READINGS.put(b"".join(part)), len(part), field, number)
-    expect(status == 0, asked, "refused a field")
-    return NUMBER.unpack(FOUND.get(NUMBER.size))
-
-
-def compare(where, answers, wanted):
-    expect(len(answers) == len(wanted), *where, "has", len(answers), "fields, and", len(wanted), "answers")
-    for field, (one, other) in enumerate(zip(answers, wanted)):
-        expect(one == other, *where, "field", field, one)
+    for before in BEFORE:
+        room = () if name in ("judge_stops", "judge_ends") else (ROOM.put(before * SEEN.size * count), count)
+        at = FOUND.put(before * answer.size * length)
+        status = call(name)(*asked, READ.put(read), count, *room, at, *[count] * (name != "find_pace"))
+        seen = ROOM.get(SEEN.size * count if room else 0)
+        found.append((list(answer.iter_unpack(FOUND.get(answer.size * length))), seen))
+        expect((status, READ.get(len(read))) == (0, read), name, asked, "refused, or changed what it read")
+    expect(found == found[:1] * len(BEFORE), name, asked, "leaves what was there", found)
+    return found[0]
 
 
 def test_numbers(setting, text, wanted, is_found=False):
     """A side as a whole, and each field by the part around it that its answer depends on."""
-    system, counted, pace = setting.split(":")
-    asked, pace = (System[system], Counted[counted]), Pace[pace]
-    fields, wanted = side_of(text, counted, RATES[system]), answers_of(wanted, text)
-    for judged_at in (pace, Pace.find) if is_found else (pace, ):
-        for before in BEFORE:
-            compare((setting, text), answered("judge", (*asked, judged_at), fields, before)[0], wanted)
-    begins = [max(field - 2 * REACH, 0) for field in range(len(fields))]
-    compare((setting, text, "alone"), [answered_alone((*asked, pace), fields[begin:begin + PART], field - begin)
-                                       for field, begin in enumerate(begins)], wanted)
+    name, counted, _ = setting.split(":")
+    *asked, pace = named(*setting.split(":"))
+    fields, wanted = side_of(text, counted, RATES[name]), answers_of(wanted, text)
+    for judged_at in [pace] + [NUMBERS.FIND_PACE] * is_found:
+        found, _ = answered("judge", (*asked, judged_at), fields)
+        expect(found == wanted, setting, text, found)
+    for field, answer in enumerate(wanted):
+        begin, number = max(field - 2 * NUMBERS.REACH, 0), FOUND.put(bytes(NUMBER.size))
+        part = fields[begin:begin + NUMBERS.PART]
+        status = call("judge_field")(*asked, pace, READ.put(b"".join(part)), len(part), field - begin, number)
+        found = NUMBER.unpack(FOUND.get(NUMBER.size))
+        expect((status, found) == (0, answer), setting, text, "alone", field, status, found)
     if is_found:
-        compare((setting, text, "pace"), answered("find_pace", asked, fields, 0xAA, STATE)[0], [(pace, )])
+        found, _ = answered("find_pace", asked, fields, STATE)
+        expect(found == [(pace, )], setting, text, "pace", found)
 
 
-def test_chapters(counted, text, wanted):
-    for before in BEFORE:
-        answers = answered("judge_chapters", (), side_of(text, counted, 0), before)[0]
-        compare((counted, text), answers, answers_of(wanted, text))
+def test_chapters(setting, text, wanted):
+    found, _ = answered("judge_chapters", (), side_of(text, setting, 0))
+    expect(found == answers_of(wanted, text), setting, text, found)
 
 
 def lines_of(text, cause=0, column=0):
     """The readings of words, of which - is none, behind which their passes may stand."""
     words = [word.partition("/") for word in text.replace("-", "0/0").split()]
-    return b"".join(LINE.pack(cause, int(of_pass or 1), column, int(word, 16)) for word, _, of_pass in words)
+    return b"".join(line(word, int(of_pass or 1), cause, column) for word, _, of_pass in words)
 
 
 def test_shown(setting, text, wanted):
     """The field alone, so that what it shows is in doubt: its number on line 17, else that on line 18. The causes and
     the columns of its readings say nothing."""
-    system, counted = setting.split(":")
     first, other, *instead = wanted.replace("-", "0*0").split()
-    lines = [tuple(map(int, line.split("*"))) for line in (first, other)]
+    lines = [tuple(map(int, shown.split("*"))) for shown in (first, other)]
     number = next(((number, DOUBTFUL) for number, weight in lines if weight), (0, NOTHING))
-    name, asked = "judge_chapters", ()
-    if counted != "chapters":
-        name, asked = "judge", (System[system], Counted[counted], Pace.video)
+    name, asked = ("judge_chapters", ()) if setting == "chapters" else ("judge", named(*setting.split(":"), "video"))
     for place, cause in enumerate((0, 1, 2, 3, 4, 5, 255)):
-        answers, seen = answered(name, asked, [lines_of(text, cause, 1000 * place)], 0xAA)
-        compare((setting, text), answers, [number])
-        expect(seen == SEEN.pack(*lines[0], *lines[1], len(instead)), setting, text, "shows", SEEN.unpack(seen))
+        found = answered(name, asked, [lines_of(text, cause, 1000 * place)])
+        expect(found == ([number], SEEN.pack(*lines[0], *lines[1], len(instead))), setting, text, "shows", found)
 
 
-def test_alone(name, rows):
-    """Of a call that judges each field by itself: each field alone, and all of them as a side."""
-    for part in [[row] for row in rows] + [rows]:
-        for before in BEFORE:
-            answers = answered(name, (), [lines_of(text) for text, _ in part], before, STATE)[0]
-            compare((name, part), answers, [(ENDS[state] if state in ENDS else State[state], ) for _, state in part])
+def test_alone(setting, text, wanted):
+    """Of a call that judges each field by itself: the field, and it again behind one without words."""
+    fields, state = [lines_of(text), 3 * BLANK, lines_of(text)], tuple(named(wanted))
+    found, _ = answered("judge_" + setting, (), fields, STATE)
+    expect(found == [state, (0, ), state], setting, text, found)
+
+
+# ---- Times that are completed
+
+def times_of(text, is_completed):
+    """The readings of each field, before and after."""
+    fields = []
+    for part in text.split():
+        if part[0] == ".":
+            fields += [3 * BLANK] * int(part[1:] or 1)
+            continue
+        minute, seconds, number, passed, where, minute_passed, has_chapter = TIME.fullmatch(part).groups()
+        lines = [line(second(int(seconds), int(number)), PASSES[passed])] + [
+            line(chapter(5)) if has_chapter else BLANK] * 2
+        for at in {"": (1, ), "/": (2, ), "=": (1, 2), "+": (1, ) * is_completed, "-": ()}[where]:
+            lines[at] = line(minutes(*divmod(int(minute), 60)), PASSES[passed if where == "+" else minute_passed])
+        fields.append(b"".join(lines))
+    return fields
+
+
+def test_completed(setting, text):
+    """What is completed. What is seen is what the judge of times sees."""
+    system, counted, pace = named(setting, "times", "video")
+    fields, wanted = times_of(text, False), times_of(text, True)
+    done, seen = answered("complete_times", (system, ), fields, FIELD)
+    expect(done == list(FIELD.iter_unpack(b"".join(wanted))), setting, text, done)
+    _, judged = answered("judge", (system, counted, pace), fields)
+    expect(seen == judged, setting, text, "sees something else than the judge")
 
 
 # ---- The first of some numbers
 
-def test_first_of():
-    """Of the first so many answers, which end where no page follows; of none nothing is read."""
-    first_of = call("first_of")
-    some = [(0, NOTHING), (7, NOTHING), (7, DOUBTFUL), (5, BELIEVED), (7, 4), (7, 257), (7, DUE), (7, BELIEVED),
-            (5, DUE), (2 ** 32 - 1, BELIEVED)]
-    zeros = [(0, NOTHING), (0, DOUBTFUL), (0, BELIEVED), (0, DUE)]
-    for numbers, number, first in (
-            (some, 7, 6), (some[:6], 7, 6), (some[:7], 7, 6), (some[:0], 7, 0), (some, 5, 3), (some[:3], 5, 3),
-            (some, 0, 10), (some, 6, 10), (some, 263, 10), (some, 65543, 10), (some, 2 ** 32 - 1, 9), (some, 8, 10),
-            (some[:9], 2 ** 32 - 1, 9), (zeros, 0, 2), (zeros[:2], 0, 2), (zeros[3:], 0, 0), ([], 0, 0)):
-        at_end = FOUND.put(b"".join(NUMBER.pack(*one) for one in numbers))
-        found = [first_of(at_end, len(numbers), number), first_of(FOUND.end, 0, number), first_of(None, 0, number)]
-        expect(found == [first, 0, 0], "first of", number, "in", numbers, "is", found)
+def test_first(setting, text, first):
+    """Of the first so many answers, which end where no page follows; of none nothing is read. States are as numbers."""
+    numbers = [NUMBER.pack(*map(int, one.split("*"))) for one in text.split()]
+    at_end, is_found = FOUND.put(b"".join(numbers)), int(first) < len(numbers)
+    # Where one is found, nothing is read behind it, however many are said to follow.
+    for count, at in ((len(numbers), at_end), (0, FOUND.end), (0, None), *[(2 ** 64 - 1, at_end)] * is_found):
+        found = call("first_of")(at, count, int(setting))
+        expect(found == (int(first) if count else 0), "first of", setting, "in", text, "is", found)
+
+
+# ---- Whole sides, which are judged already
+
+GAP, SIDE = layout("Gap"), layout("Side")
+VERDICTS = {"?": NUMBERS.CANNOT_TELL, "yes": NUMBERS.WHOLE, "no": NUMBERS.NOT_WHOLE}
+REASONS = dict(zip("lost held back joined late swapped off none end begin doubtful open".split(), named(
+    "is_lost", "is_held", "goes_back", "is_joined", "begins_late", "is_swapped", "is_off", "no_numbers", "end_unseen",
+    "begin_unseen", "many_doubtful", "is_open")))
+NUMBERED = ("gaps lost held stood stills still_end back joined open_gaps lost_numbers undecided unread first last "
+            "swap").split()  # the members of LdvbiSide before its verdict
+PARTS = [Guarded(size * 300) for size in (SEEN.size, NUMBER.size, STATE.size)]  # so many fields at most
+GAPS, ANSWER = Guarded(GAP.size * 8), Guarded(SIDE.size)
+ENDS = {"e": NUMBERS.IS_LEAD_OUT, "i": NUMBERS.IS_LEAD_IN, "": NUMBERS.NO_END, "e?": NUMBERS.DOUBTFUL_END}
+
+
+def judged_field(items, marks):
+    """What a field shows, its judged number, and whether it is of lead-out or lead-in."""
+    item, other = items
+    if item in ENDS and not other:
+        return *NO_FIELD[:2], STATE.pack(ENDS[item + marks[0]])
+    state = DUE if "(" in marks[0] else DOUBTFUL if "?" in marks[0] else BELIEVED
+    line_17, line_18 = ((int(one), 1 if "~" in mark else 2) if one.isdigit() else (0, 0)
+                        for one, mark in zip(items, marks))
+    if state == DUE:
+        line_17 = (0, 0)
+    elif "=" in marks[0]:
+        line_18 = line_17
+    number = NUMBER.pack(int(item or other), state)
+    return SEEN.pack(*line_17, *line_18, 0), number, STATE.pack(ENDS.get(other, NUMBERS.NO_END))
+
+
+NO_FIELD = SEEN.pack(0, 0, 0, 0, 0), NUMBER.pack(0, NOTHING), STATE.pack(NUMBERS.NO_END)
+
+
+def gap_of(text):
+    """KIND FIELDS AFTER:FROM BEFORE:TO, and /SHOWN after it if that isn't 0."""
+    text, _, shown = text.partition("/")
+    kind, fields, begin, end = text.split()
+    (after, from_number), (before, to_number) = (map(int, place.split(":")) for place in (begin, end))
+    return after, before, int(fields), int(shown or 0), from_number, to_number, *named(kind)
+
+
+def side_found(text, gaps):
+    """The members of LdvbiSide."""
+    verdict, *words = text.split()
+    found, reasons = {**dict.fromkeys(NUMBERED, 0), "gaps": len(gaps)}, 0
+    for word in words:
+        name, is_count, count = word.partition("=")
+        if is_count:
+            found[name] = int(count)
+        elif ".." in word:
+            found["first"], found["last"] = map(int, word.split(".."))
+        else:
+            reasons += REASONS[word]
+    return *found.values(), VERDICTS[verdict], reasons
+
+
+def answer_of_side(asked, fields, room, said=None):
+    """What is answered, and the gaps that are written into room for so many, or for as many as is said. What is read
+    stays as it is. Without fields, or without room, null stands for the array."""
+    parts = [b"".join(part) for part in zip(*fields)] or [b""] * 3
+    arrays = [(memory.put(part) if fields else None, len(fields)) for memory, part in zip(PARTS, parts)]
+    gaps, side = GAPS.put(BEFORE[0] * GAP.size * room) if room else None, ANSWER.put(BEFORE[0] * SIDE.size)
+    status = call("judge_side")(*asked, *(word for array in arrays for word in array), gaps, said or room, side)
+    expect(status == 0, asked, "refused", status)
+    expect([memory.get(len(part)) for memory, part in zip(PARTS, parts)] == parts, "has changed")
+    side = SIDE.unpack(ANSWER.get(SIDE.size))
+    written, written_bytes = GAPS.get(GAP.size * room), GAP.size * min(room, side[0])
+    expect(written[written_bytes:] == BEFORE[0] * (len(written) - written_bytes), asked, "writes after the gaps")
+    return side, list(GAP.iter_unpack(written[:written_bytes]))
+
+
+def test_side(setting, text, gaps, wanted, nothing=NO_FIELD):
+    """A side with room for none of its gaps, for some, for all, and for one more. A number in a setting stands for
+    itself."""
+    asked = [int(word) if word.isdigit() else named(word)[0] for word in setting.split(":")]
+    fields, gaps = spread(text, judged_field, nothing), [gap_of(gap) for gap in gaps.split(",") if gap]
+    wanted = side_found(wanted, gaps)
+    for room in range(len(gaps) + 2):
+        found = answer_of_side(asked, fields, room)
+        expect(found == (wanted, gaps[:room]), setting, text, room, *found)
+    for said in (2 ** 64 - 1, 2 ** 63, 2 ** 60) if gaps else ():
+        expect(answer_of_side(asked, fields, len(gaps), said) == (wanted, gaps), setting, text, "room for", said)
+
+
+def test_odd(setting, text, gaps, wanted):
+    """Of what no call answers nothing is believed, and nothing is in doubt."""
+    for state in (4, 257, 258, 65537, 65538, 0x80000001, 2 ** 32 - 1):
+        test_side(setting, text, gaps, wanted, (NO_FIELD[0], NUMBER.pack(700, state), STATE.pack(state)))
+
+
+def test_both(setting, text, wanted):
+    """Of one side alone, whatever its fields show."""
+    numbers = b"".join(number for _, number, _ in spread(text, judged_field, NO_FIELD))
+    found = call(setting)(PARTS[1].put(numbers) if numbers else None, len(numbers) // NUMBER.size)
+    expect(found == int(wanted) and PARTS[1].get(len(numbers)) == numbers, "find both", text, found)
 
 
 def main():
-    tests = {"numbers": test_numbers, "found": functools.partial(test_numbers, is_found=True),
-             "chapters": test_chapters, "shown": test_shown}
-    expect(sum(len(rows) for _, _, rows in tables("judged.txt")) == 236, "judged.txt has more rows, or fewer")
-    for kind, settings, rows in tables("judged.txt"):
-        if kind in ("stops", "ends"):
-            test_alone("judge_" + kind, rows)
-        for setting in settings:
-            for row in rows:
-                tests[kind](setting, *row)
-    test_first_of()
+    tests = {"numbers": test_numbers, "found": functools.partial(test_numbers, is_found=True), "shown": test_shown,
+             "chapters": test_chapters, "alone": test_alone, "completed": test_completed, "first": test_first,
+             "side": test_side, "odd": test_odd, "both": test_both}
+    rows = [(tests[kind], setting, row) for name in ("judged.txt", "whole.txt") for kind, settings, rows in tables(name)
+            for setting in settings for row in rows]
+    expect(len(rows) == 604, "there are more rows, or fewer:", len(rows))
+    for test, setting, row in rows:
+        test(setting, *row)
     finish()
 
 

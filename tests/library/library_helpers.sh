@@ -28,27 +28,8 @@ header_version() {
     sed -n 's/^#define LDVBI_VERSION_TEXT "\(.*\)"$/\1/p' "$top/include/ldvbi.h"
 }
 
-# program_in_readme: makes say.c, of which README has three lines, and the line that it reads
-program_in_readme() {
-    cp "$top/examples/say.c" say.c
-    echo '- F12345 -' | bounded "$program" draw $ntsc > said.tbc
-    tail -c +29121 said.tbc | head -c 1820 > line.raw
-}
-
 # discs: makes cav.tbc and clv.tbc of the words in examples/
 discs() {
     output_of draw $ntsc "$top/examples/cav.words" > cav.tbc
     output_of draw $pal "$top/examples/clv.words" > clv.tbc
-}
-
-# refuses TEXT COMMAND..: checks that a command ends with status 2, and writes this line to standard error alone
-refuses() {
-    printf '%s\n' "$1" > wanted
-    shift
-    ! does "$@" && [ "$status" = 2 ] && [ ! -s out ] && cmp -s err wanted
-}
-
-# is_a_line_of NAME: whether what was said is one line, which begins with this name and a colon
-is_a_line_of() {
-    [ "$(grep -c "^$1: " err)" = 1 ] && [ "$(wc -l < err)" = 1 ]
 }

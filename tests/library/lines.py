@@ -1,19 +1,20 @@
-"""Hands lines that are drawn here to the library, and compares what is drawn, read and nearest with them: 4,000 words a
-system, and lines of other sample rates, 8-bit samples among them, with changes of level a sample early or late. Lines
-end where no page follows.
+"""Hands lines that are drawn here to the library, and compares what is drawn, read and nearest with them: words of
+either system, and lines of other sample rates, 8-bit samples among them, with changes of level a sample early or late.
+Lines end where no page follows; of fields the pages of lines 16 to 18 alone can be read.
 
 usage: lines.py"""
 
+import ctypes
+import mmap
 import random
-import struct
 from array import array
 from collections import namedtuple
 
-from border import Guarded, call, expect, finish
+from border import Guarded, NUMBERS, call, expect, finish, layout
 
-READING, NEAR = struct.Struct("<BBHI"), struct.Struct("<IIQQQ")
-BLANK, FIELDS, WORDS, MOST_LINES = 1, 3, 500, 28
-SAMPLES, ANSWER, ROOM = map(Guarded, (FIELDS * 313 * 2270, FIELDS * 3 * READING.size, 2270))
+READING, NEAR, ERASED = map(layout, ("Reading", "Near", "Erased"))
+BLANK, FIELDS, WORDS, MOST_LINES = NUMBERS.BLANK, 3, 500, 28
+SAMPLES, LIST, ANSWER = map(Guarded, (FIELDS * 313 * 2270, 4096, 4096))
 chance = random.Random(60856)
 
 
@@ -37,20 +38,20 @@ def drawn(tv, word, off=0):
     return line
 
 
-def answered(name, tv, address, length, size, *count):
-    """What a call writes that reads these bytes: so many."""
+def answered(name, asked, samples, size, *count, erased=None):
+    """What a call writes that reads these samples, or bytes from an address on (with their length): so many bytes.
+    `erased` are the entries of a list."""
+    read = samples if isinstance(samples, tuple) else (SAMPLES.put(samples.tobytes()), 2 * len(samples))
+    listed = () if erased is None else (
+        LIST.put(b"".join(ERASED.pack(*entry) for entry in erased)) if erased else None, len(erased))
     answer = ANSWER.put(b"\xAA" * size)
-    status = call(name)(*tv[:3], address, length, answer, *count)
-    expect(status == 0, name, tv.system, length, "has the status", status)
+    status = call(name)(*asked, *read, *listed, answer, *count)
+    expect(status == NUMBERS.DONE, name, asked, erased, "has the status", status)
     return ANSWER.get(size)
 
 
-def answered_of(name, tv, samples, size, *count):
-    return answered(name, tv, SAMPLES.put(samples.tobytes()), 2 * len(samples), size, *count)
-
-
 def read(tv, line):
-    return READING.unpack(answered_of("read_line", tv, line, READING.size))
+    return READING.unpack(answered("read_line", tv[:3], line, READING.size))
 
 
 def some_words(count=WORDS):
@@ -61,14 +62,15 @@ def some_words(count=WORDS):
 # ---- Words, and the sizes of lines. Causes at their limits are tested in crates/vbi_line_tests.
 
 def test_words(tv):
-    """Each word as the library draws it, and as it reads it."""
-    draw_line = call("draw_line")
-    for word in (0, *some_words(4000)):
+    """Each word as the library draws it, and as it reads it, drawn here with changes a sample early or late as well."""
+    for word in (0, *some_words()):
         line = drawn(tv, word).tobytes()
-        at = ROOM.put(b"\xAA" * len(line))
-        expect(draw_line(*tv[:3], word, at, len(line)) == 0 and ROOM.get(len(line)) == line, "draws", hex(word))
-        found = read(tv, array("H", line))
-        expect(found == ((0, 1, 0, word) if word else (BLANK, 0, 0, 0)), tv.system, hex(word), "is read as", found)
+        at = SAMPLES.put(b"\xAA" * len(line))
+        status = call("draw_line")(*tv[:3], word, at, len(line))
+        expect(status == 0 and SAMPLES.get(len(line)) == line, tv.system, "draws", hex(word))
+        for off in (0, 1):
+            found = read(tv, drawn(tv, word, off))
+            expect(found == ((0, 1, 0, word) if word else (BLANK, 0, 0, 0)), tv.system, hex(word), "is read as", found)
 
 
 def test_sizes():
@@ -88,8 +90,8 @@ WHOLE, JITTERED = (11500, 12000, 13500, 14318, 14750, 17000, 17700), (13000, 135
 RATES = (
     (WHOLE, None, 0, 0, WORDS, WORDS), ((10400, 18600), None, 0, 0, 0, 0),
     (JITTERED, None, 0, 1, WORDS, WORDS), ((12000, 17000), None, 0, 1, 0, WORDS // 10),
-    ((17700, ), 9, 0, 0, WORDS, WORDS), ((17700, ), 9.5, 0, 0, WORDS, WORDS), ((17700, ), 10.4, 0, 0, WORDS, WORDS),
-    ((17700, ), 9, 10, 0, 0, 0), ((17700, ), 9.5, 10, 0, 0, 0), ((17700, ), 10.4, 10, 0, 0, 0))
+    *(((17700, ), begin, 0, 0, WORDS, WORDS) for begin in (9, 9.5, 10.4)),
+    *(((17700, ), begin, 10, 0, 0, 0) for begin in (9, 9.5, 10.4)))
 
 
 def at_rate(kilohertz):
@@ -115,14 +117,8 @@ def test_rates():
         for kilohertz in rates:
             test_rate(kilohertz, *more)
     # At 13.5 MHz the half cells of a PAL disc, too, are too short for PAL.
-    tv = at_rate(13500)
-    expect(read(tv, drawn(tv, 0xF12345)[:910]) == (0, 1, 0, 0xF12345), "13.5 MHz as NTSC")
-    cause, _, _, word = read(tv._replace(system=PAL.system), drawn(tv, 0xF12345)[:1135])
+    cause, _, _, word = read(at_rate(13500)._replace(system=PAL.system), drawn(at_rate(13500), 0xF12345)[:PAL.samples])
     expect(cause != 0 and word == 0, "13.5 MHz as PAL")
-    # At the rates of ld-decode, with changes a sample early or late
-    for tv in TELEVISIONS:
-        for word in some_words():
-            expect(read(tv, drawn(tv, word, 1)) == (0, 1, 0, word), tv.system, hex(word))
 
 
 # ---- The nearest word, off by what is counted on paper, in columns, each of which costs white - black
@@ -135,37 +131,81 @@ NEARS = ((NTSC, 224, 28, 14, 14, 24 * 14, 15 * 15 + 9 * 14), (PAL, 285, 35, 17, 
 
 
 def near(tv, samples):
-    return NEAR.unpack(answered_of("nearest", tv, samples, NEAR.size))
+    return NEAR.unpack(answered("nearest", tv[:3], samples, NEAR.size))
 
 
 def test_near(tv, starts, cell, shorter, longer, fewest, most):
     column = tv.white - tv.black
-    # Another word differs by one cell, a longer one by one half cell.
-    for start in range(starts):
-        found = near(tv, drawn(tv._replace(start=start * tv.over), 0xF12345))
-        expect(found == (0xF12345, start, 0, cell * column, shorter * column), tv.system, start, found)
-    # Lines of one word, of which the first is off by 700 in all, in its high byte and its low one, and the last by 1;
-    # black lines, of which the row of no word is nearest; and white ones, whose sums are greatest. Several words have
-    # the most high columns.
+    # Another word differs by one cell, a longer one by one half cell. The level of the second changes at each edge.
+    for start, word in [(start, word) for start in range(starts) for word in (0xF12345, 0xFFFFFF)]:
+        found = near(tv, drawn(tv._replace(start=start * tv.over), word))
+        expect(found == (word, start, 0, cell * column, shorter * column), tv.system, start, found)
+    # Lines of one word, of which the first is off by 700 in all, in its high byte and its low one; and black lines, of
+    # which the row of no word is nearest.
     one, blank = drawn(tv, 0x82CFFF), drawn(tv, 0)
-    first, last, farther = one[:], one[:], one[:]
+    first, farther, start = one[:], one[:], tv.start // tv.over
     first[0] += 612
     first[-1] -= 88
-    last[7] += 1
     for count in range(1, MOST_LINES + 1):
-        lines, off = first + one * (count - 1), 700
-        if count == MOST_LINES:
-            lines, off = first + one * (count - 2) + last, 701
-        wanted = 0x82CFFF, tv.start // tv.over, off, count * cell * column + off, count * shorter * column + off
-        expect(near(tv, lines) == wanted, tv.system, count, "lines")
+        wanted = 0x82CFFF, start, 700, count * cell * column + 700, count * shorter * column + 700
+        expect(near(tv, first + one * (count - 1)) == wanted, tv.system, count, "lines")
         expect(near(tv, blank * count) == (0, 0, 0, count * fewest * column, 0), tv.system, count, "black lines")
     # A sample that is farther from black than white is counts as much as one of white.
     farther[3], farther[-2] = 65535, tv.white + 1
-    wanted = 0x82CFFF, tv.start // tv.over, 2 * column, (cell + 2) * column, (shorter + 2) * column
+    wanted = 0x82CFFF, start, 2 * column, (cell + 2) * column, (shorter + 2) * column
     expect(near(tv, farther) == wanted, tv.system, "farther than white", near(tv, farther))
+    # White lines, whose sums are greatest: several words have the most high columns.
     found = near(tv._replace(black=0, white=65535), array("H", [65535]) * tv.samples * MOST_LINES)
     off = MOST_LINES * (tv.samples - most) * 65535
     expect(found[0] >= 0x800000 and found[2:] == (off, off, off - MOST_LINES * longer * 65535), tv.system, found)
+
+
+# ---- Fields of which the pages of rows 15 to 17 alone can be read: a call that looks at any other ends Python by a
+# signal. The rows begin where a page does, and then end where one does: a page is the least that can be taken away.
+
+def word_of(field, row):
+    return 0 if (field, row) == (0, 2) else 0x800000 + 1000 * field + row
+
+
+class Stream:
+    """Fields one after the other, of which the rows of the one `at` begin where a page does, or end where one does. No
+    page can be touched but those that hold rows of these fields."""
+
+    def __init__(self, tv, at, is_end, fields):
+        self.row, self.field = 2 * tv.samples, 2 * tv.samples * tv.lines
+        self.memory = Guarded(FIELDS * self.field + 2 * mmap.PAGESIZE)
+        edge = at * self.field + (18 if is_end else 15) * self.row
+        self.begin = self.memory.end - self.memory.pages + mmap.PAGESIZE - edge % mmap.PAGESIZE
+        for field in range(FIELDS):
+            rows = b"".join(drawn(tv, word_of(field, row)).tobytes() for row in range(3))
+            ctypes.memmove(self.rows(field), rows, len(rows))
+        self.memory.close()
+        for field in fields:
+            self.memory.open(self.rows(field), 3 * self.row)
+
+    def rows(self, field):
+        return self.begin + field * self.field + 15 * self.row
+
+
+def are_read(tv, name, address, length, places, *count):
+    """The call answers with the words that these rows of fields show."""
+    packed = answered(name, tv[:3], (address, length), READING.size * len(places), *count)
+    wanted = [(0, 1, 0, word) if word else (BLANK, 0, 0, 0) for word in (word_of(*place) for place in places)]
+    expect([*READING.iter_unpack(packed)] == wanted, name, tv.system, places, packed)
+
+
+def test_pages(tv, at, is_end):
+    """The calls that take one field, or its rows, or one of these; and those that take all fields."""
+    alone, together = Stream(tv, at, is_end, [at]), Stream(tv, at, is_end, range(FIELDS))
+    rows, row, field = alone.rows(at), alone.row, alone.field
+    places = [(at, line) for line in range(3)]
+    are_read(tv, "read_field", alone.begin + at * field, field, places)
+    for name in ("read_rows", "recover_rows"):
+        are_read(tv, name, rows, 3 * row, places)
+    are_read(tv, "read_line", rows + 2 * row if is_end else rows, row, places[2:] if is_end else places[:1])
+    for name in ("read_fields", "recover_fields"):
+        are_read(tv, name, alone.begin + at * field, field, places, 1)
+        are_read(tv, name, together.begin, FIELDS * field, [divmod(line, 3) for line in range(3 * FIELDS)], FIELDS)
 
 
 def main():
@@ -175,6 +215,9 @@ def main():
         test_near(*row)
     for tv in TELEVISIONS:
         test_words(tv)
+        for field in range(FIELDS):
+            test_pages(tv, field, False)
+            test_pages(tv, field, True)
     finish()
 
 

@@ -1,36 +1,55 @@
 """Hands worn lines to the library whose words and distances are counted on paper, and compares what is recovered: alone
-and in a stream, levelled, with erased columns, and of lines of one word. Lines and lists end where no page follows.
+and in a stream, levelled, with erased columns, and of lines of one word. Lines and lists end where no page follows. And
+signals that are no words, the same in each run.
 
 usage: worn.py"""
 
+import json
+import math
+import random
 import struct
 from array import array
 
-from border import Guarded, call, expect, finish
-from lines import BLANK, FIELDS, NEAR, NTSC, PAL, READING, SAMPLES, TELEVISIONS, answered_of, drawn, edges_of
+from border import expect, finish, layout
+from lines import BLANK, FIELDS, NEAR, NTSC, PAL, READING, TELEVISIONS, answered, drawn, edges_of
 
-RECORD = struct.Struct("<I448s")
-LIST, WRITTEN = Guarded(4096), Guarded(RECORD.size)
+RECORD = layout("Record")
 
-# ---- Columns of one cell are turned over, so that no levels show a word
-
-# Words, how many of the 28 columns of a cell of NTSC (29 of some) are turned over on lines 16, 17 and 18, and the
-# passes in which they are recovered, 0 where they aren't, or another word that is recovered. Of the 35 or 36 columns of
-# PAL it is three more. So 9 leave a word ahead of the one with this bit turned by 10 or 11 columns, 8 by 12 or 13, and
-# so on to 12 by 4 or 5.
+# Words, how many of the 28 columns of a cell of NTSC (29 of some) are turned over on lines 16, 17 and 18, so that no
+# levels show the word, and the passes in which they are recovered, 0 where they aren't, or another word that is
+# recovered. Of the 35 or 36 columns of PAL it is three more. So 9 leave a word ahead of the one with this bit turned by
+# 10 or 11 columns, 8 by 12 or 13, and so on to 12 by 4 or 5; 14 leave two words as near, or all but. Then for which
+# line which columns are erased: those that are turned over on this row, one by one ("turned"), or of a line that is
+# longer ("beyond"); or in one piece the whole cell in which they lie ("cell"), or all from there on ("rest"). Without
+# the columns that are turned over, 14 or more of the cell leave the word ahead by as many; without the cell two words
+# are as near.
 WORN = (
-    ((0x8DC0A1, 0xF12345, 0xF12345), (0, 0, 0), (1, 1, 1)),
+    ((0x8DC0A1, 0xF12345, 0xF12345), (0, 0, 0), (1, 1, 1), ""),
     # one line: a code that may stand on it, as the one with this bit turned may, or not
-    ((0x85D0A1, 0, 0), (11, 0, 0), (3, 0, 0)), ((0x85D0A1, 0, 0), (12, 0, 0), (0, 0, 0)),
-    ((0xF12345, 0, 0), (10, 0, 0), (3, 0, 0)), ((0xF12345, 0, 0), (11, 0, 0), (0, 0, 0)),
-    ((0x8DC0A1, 0xF12345, 0), (0, 11, 0), (1, 3, 0)), ((0, 0xF12345, 0xF54321), (0, 0, 11), (0, 1, 3)),
+    ((0x85D0A1, 0, 0), (11, 0, 0), (3, 0, 0), ""), ((0x85D0A1, 0, 0), (12, 0, 0), (0, 0, 0), ""),
+    ((0xF12345, 0, 0), (10, 0, 0), (3, 0, 0), ""), ((0xF12345, 0, 0), (11, 0, 0), (0, 0, 0), ""),
+    ((0x8DC0A1, 0xF12345, 0), (0, 11, 0), (1, 3, 0), ""), ((0, 0xF12345, 0xF54321), (0, 0, 11), (0, 1, 3), ""),
     # a code, where no other has this bit turned: 89C0A1 is nearer by 7 or 8 columns, or by 11 or 12
-    ((0x8DC0A1, 0, 0), (18, 0, 0), (3, 0, 0)), ((0x8DC0A1, 0, 0), (20, 0, 0), (0x89C0A1, 0, 0)),
+    ((0x8DC0A1, 0, 0), (18, 0, 0), (3, 0, 0), ""), ((0x8DC0A1, 0, 0), (20, 0, 0), (0x89C0A1, 0, 0), ""),
     # lines 17 and 18 of one word, where neither alone is enough
-    ((0, 0xF12345, 0xF12345), (0, 13, 13), (0, 3, 3)), ((0x85D0A1, 0xF1234A, 0xF1234A), (12, 12, 12), (0, 3, 3)),
+    ((0, 0xF12345, 0xF12345), (0, 13, 13), (0, 3, 3), ""),
+    ((0x85D0A1, 0xF1234A, 0xF1234A), (12, 12, 12), (0, 3, 3), ""),
     # of two words
-    ((0, 0xF12345, 0xF54321), (0, 9, 10), (0, 3, 0)), ((0, 0xF54321, 0xF1234A), (0, 10, 8), (0, 0, 3)),
-    ((0, 0xF1234A, 0xF54321), (0, 9, 9), (0, 0, 3)), ((0, 0xF12345, 0xF16345), (0, 8, 8), (0, 3, 3)))
+    ((0, 0xF12345, 0xF54321), (0, 9, 10), (0, 3, 0), ""), ((0, 0xF54321, 0xF1234A), (0, 10, 8), (0, 0, 3), ""),
+    ((0, 0xF1234A, 0xF54321), (0, 9, 9), (0, 0, 3), ""), ((0, 0xF12345, 0xF16345), (0, 8, 8), (0, 3, 3), ""),
+    # glitches, by which a word is of pass 2: it stays where it is ahead, and falls where the cell is erased
+    ((0x85D0A1, 0xF12345, 0), (1, 2, 0), (2, 2, 0), ""), ((0x85D0A1, 0xF12345, 0), (1, 2, 0), (0, 2, 0), "16 0 cell"),
+    ((0x85D0A1, 0xF12345, 0), (1, 2, 0), (2, 0, 0), "17 1 rest"),
+    # erased columns
+    ((0x85D0A1, 0, 0), (14, 0, 0), (0, 0, 0), "17 0 turned, 18 0 turned"),
+    ((0x8DC0A1, 0xF12345, 0), (0, 14, 0), (1, 0, 0), "16 1 turned, 18 1 turned"),
+    ((0x8DC0A1, 0xF12345, 0), (0, 14, 0), (1, 3, 0), "17 1 turned"),
+    ((0x8DC0A1, 0xF12345, 0), (0, 14, 0), (1, 0, 0), "16 1 beyond, 17 1 beyond"),
+    ((0, 0xF12345, 0xF54321), (0, 0, 14), (0, 1, 3), "18 2 turned"),
+    ((0x85D0A1, 0xF12345, 0xF54321), (14, 0, 14), (3, 1, 3), "16 0 turned, 17 1 rest, 18 2 turned"),
+    ((0x85D0A1, 0xF12345, 0), (8, 8, 0), (3, 3, 0), ""),
+    ((0x85D0A1, 0xF12345, 0), (8, 8, 0), (0, 3, 0), "16 0 cell"),
+    ((0x85D0A1, 0xF12345, 0), (8, 8, 0), (3, 0, 0), "17 1 rest"))
 
 # Lines 17 and 18 that begin in one column. The word of line 18 is 12 or 13 columns farther from line 17 than its own,
 # so that both have it. Words that differ in the last cell alone are 28 columns apart, so that none of the two is said,
@@ -65,52 +84,73 @@ def worn_rows(tv, words, turned, late=1):
                 for row, (word, columns) in enumerate(zip(words, turned))), array("H"))
 
 
+def erased_of(tv, field, turned, erased):
+    """The list of what is erased in a field."""
+    entries = []
+    for line, row, which in (one.split() for one in erased.split(",") if one):
+        row = int(row)
+        cell = edges_of(begun(tv, row))[2 * (5 + 4 * row):][:3:2]
+        columns = sorted(turned_over(begun(tv, row), row, turned[row]))
+        pieces = {"turned": [(column, column) for column in columns], "cell": [(cell[0], cell[1] - 1)],
+                  "beyond": [(column + tv.samples, column + tv.samples) for column in columns],
+                  "rest": [(cell[0], 2 ** 32 - 1)]}[which]
+        entries += [(field, int(line), *piece) for piece in pieces]
+    return entries
+
+
 def are_recovered(tv, fields, packed):
-    for (words, turned, shown), row in zip(fields, range(0, len(packed), 24)):
+    for (words, turned, shown, *more), row in zip(fields, range(0, len(packed), 24)):
         for word, wanted, (cause, *found) in zip(words, shown, READING.iter_unpack(packed[row:row + 24])):
             of_pass, word = (wanted, word) if wanted <= 3 else (3, wanted)
             is_right = found == ([of_pass, 0, word] if of_pass else [0, found[1], 0])
             is_right = is_right and (cause == 0, cause == BLANK) == (of_pass > 0, word == 0)
-            expect(is_right, tv.system, words, turned, "is read as", cause, *found)
+            expect(is_right, tv.system, words, turned, *more, "is read as", cause, *found)
 
 
 def rows_are_recovered(tv, row, rows):
-    are_recovered(tv, [row], answered_of("recover_rows", tv, rows, 24))
+    are_recovered(tv, [row], answered("recover_rows", tv[:3], rows, 24))
 
 
 def test_worn(tv):
-    """Each row alone, and each three that follow each other as the fields of a stream."""
-    for row in WORN:
-        rows_are_recovered(tv, row, worn_rows(tv, *row[:2]))
+    """Each row alone, and each three as the fields of a stream, between other lines."""
+    before, behind = (array("H", b"\xAA" * 2 * tv.samples * lines) for lines in (15, tv.lines - 18))
     for row in (*EVEN, LAST_CELL[tv]):
         rows_are_recovered(tv, row, worn_rows(tv, *row[:2], 0))
     for first in range(0, len(WORN), FIELDS):
-        fields = WORN[first:first + FIELDS]
-        are_recovered(tv, fields, answered_of("recover_fields", tv, stream_of(tv, fields), 24 * FIELDS, FIELDS))
-
-
-def stream_of(tv, fields):
-    """Fields with these lines, between others."""
-    before, behind = (array("H", b"\xAA" * 2 * tv.samples * lines) for lines in (15, tv.lines - 18))
-    return sum((before + worn_rows(tv, *row[:2]) + behind for row in fields), array("H"))
+        fields, stream, entries = WORN[first:first + FIELDS], array("H"), []
+        for field, row in enumerate(fields):
+            words, turned, _, erased = row
+            rows = worn_rows(tv, words, turned)
+            stream += before + rows + behind
+            entries += erased_of(tv, field, turned, erased)
+            are_recovered(tv, [row], answered("recover_rows_without", tv[:3], rows, 24,
+                                              erased=erased_of(tv, 0, turned, erased)))
+            if not erased:
+                rows_are_recovered(tv, row, rows)
+        asked = tv[:3], stream, 24 * FIELDS, FIELDS
+        are_recovered(tv, fields, answered("recover_fields_without", *asked, erased=entries))
+        if not entries:
+            are_recovered(tv, fields, answered("recover_fields", *asked))
 
 
 # ---- Words that are cut short, and that go on
 
 # Columns of a word's first high half cell that are black, and columns that are high where a one behind the word would
 # have its half cell: up to so many the signal is that of the word. Of a half cell of 14 columns 9 are 4 more than those
-# that are left, and 10 are 6 more; of one of 18 that are 11 and 12.
-ENDS = ((NTSC, 14, 9), (PAL, 18, 11))
+# that are left, and with half of another 5 more; of one of 18 that are 11.
+ENDS = {NTSC: (14, 9), PAL: (18, 11)}
 
 
-def test_ends(tv, half, most):
-    edges = edges_of(tv)
+def test_ends(tv):
+    edges, (half, most) = edges_of(tv), ENDS[tv]
+    expect(edges[2] - edges[1] == half, tv.system, "has another half cell")
     for columns in (most, most + 1):
         row = (0, 0xF12345, 0), columns, (0, 3 * (columns == most), 0)
         for first, level in ((edges[1], tv.black), (edges[48] + edges[1] - edges[0], tv.white)):
             line = drawn(tv, 0xF12345)
-            expect(edges[2] - edges[1] == half, tv.system, "has another half cell")
             line[first:first + columns] = array("H", [level]) * columns
+            if columns > most:
+                line[first + most] = (tv.black + tv.white) // 2
             rows_are_recovered(tv, row, drawn(tv, 0) + line + drawn(tv, 0))
 
 
@@ -145,71 +185,12 @@ def test_levelled_first(tv):
     far from black as from white, and one at 90 is nearer to white by eight tenths. So the nearest word has the other
     value in each cell but the first, and any other word is farther by eight tenths of a half cell of 14 columns, or
     more: that would be enough. But the levelled line says the word that was drawn."""
-    tv, words = tv._replace(black=8000, white=28000), (0, 0xF12345, 0)
-    line, edges = drawn(tv._replace(black=26000, white=54000), words[1]), edges_of(tv)
-    line[:edges[0]], line[edges[-1]:] = (array("H", [tv.black]) * (end - begin)
-                                         for begin, end in ((0, edges[0]), (edges[-1], tv.samples)))
-    found, start, *_ = NEAR.unpack(answered_of("nearest", tv, line, NEAR.size))
+    tv, edges = tv._replace(black=8000, white=28000), edges_of(tv)
+    line, black = drawn(tv._replace(black=26000, white=54000), 0xF12345), array("H", [8000])
+    line[:edges[0]], line[edges[-1]:] = black * edges[0], black * (tv.samples - edges[-1])
+    found, start, *_ = NEAR.unpack(answered("nearest", tv[:3], line, NEAR.size))
     expect((found, start) == (0x8EDCBA, edges[0]), tv.system, "as it is the line is nearest to", hex(found))
-    rows_are_recovered(tv, (words, "90 to 230", (0, 3, 0)), drawn(tv, 0) + line + drawn(tv, 0))
-
-
-# ---- Erased columns
-
-# Words, and how many columns are turned over, as above: 14 of 28 or 29, or 17 of 35 or 36, leave two words as near, or
-# all but; the passes in which the lines are recovered; and for which line which columns are erased: those that are
-# turned over on this row, one by one ("turned"), or of a line that is longer ("beyond"); or in one piece the whole cell
-# in which they lie ("cell"), or all from there on ("rest"). Without the columns that are turned over, 14 or more of the
-# cell leave the word ahead by as many; without the cell two words are as near.
-ERASED = (
-    ((0x85D0A1, 0, 0), (14, 0, 0), (0, 0, 0), ()),
-    ((0x85D0A1, 0, 0), (14, 0, 0), (3, 0, 0), ((16, 0, "turned"), )),
-    ((0x85D0A1, 0, 0), (14, 0, 0), (0, 0, 0), ((17, 0, "turned"), (18, 0, "turned"))),
-    ((0x8DC0A1, 0xF12345, 0), (0, 14, 0), (1, 0, 0), ((16, 1, "turned"), (18, 1, "turned"))),
-    ((0x8DC0A1, 0xF12345, 0), (0, 14, 0), (1, 3, 0), ((17, 1, "turned"), )),
-    ((0x8DC0A1, 0xF12345, 0), (0, 14, 0), (1, 0, 0), ((16, 1, "beyond"), (17, 1, "beyond"))),
-    ((0, 0xF12345, 0xF54321), (0, 0, 14), (0, 1, 3), ((18, 2, "turned"), )),
-    ((0, 0xF12345, 0xF54321), (0, 0, 14), (0, 1, 0), ((17, 2, "beyond"), )),
-    ((0x85D0A1, 0xF12345, 0xF54321), (14, 0, 14), (3, 1, 3), ((16, 0, "turned"), (17, 1, "rest"), (18, 2, "turned"))),
-    ((0x85D0A1, 0xF12345, 0), (8, 8, 0), (3, 3, 0), ()),
-    ((0x85D0A1, 0xF12345, 0), (8, 8, 0), (0, 3, 0), ((16, 0, "cell"), )),
-    ((0x85D0A1, 0xF12345, 0), (8, 8, 0), (3, 0, 0), ((17, 1, "rest"), )))
-
-
-def erased_of(tv, field, turned, erased):
-    """The list of what is erased in a field."""
-    entries = []
-    for line, row, which in erased:
-        cell = edges_of(begun(tv, row))[2 * (5 + 4 * row):][:3:2]
-        columns = sorted(turned_over(begun(tv, row), row, turned[row]))
-        pieces = {"turned": [(column, column) for column in columns], "cell": [(cell[0], cell[1] - 1)],
-                  "beyond": [(column + tv.samples, column + tv.samples) for column in columns],
-                  "rest": [(cell[0], 2 ** 32 - 1)]}[which]
-        entries += [(field, line, *piece) for piece in pieces]
-    return entries
-
-
-def answered_without(name, asked, samples, entries, size, *count):
-    """So many bytes that are written with these entries, which end where no page follows."""
-    erased = LIST.put(b"".join(struct.pack("<4I", *entry) for entry in entries)) if entries else None
-    answer = WRITTEN.put(b"\xAA" * size)
-    read = (SAMPLES.put(samples.tobytes()) if samples else None), 2 * len(samples)
-    status = call(name)(*asked, *read, erased, len(entries), answer, *count)
-    expect(status == 0, name, asked, entries, "has the status", status)
-    return WRITTEN.get(size)
-
-
-def test_erased(tv):
-    """Each row alone, and each three as the fields of a stream."""
-    for row in ERASED:
-        entries = erased_of(tv, 0, row[1], row[3])
-        packed = answered_without("recover_rows_without", tv[:3], worn_rows(tv, *row[:2]), entries, 24)
-        are_recovered(tv, [row[:3]], packed)
-    for first in range(0, len(ERASED), FIELDS):
-        fields = ERASED[first:first + FIELDS]
-        entries = sum((erased_of(tv, field, row[1], row[3]) for field, row in enumerate(fields)), [])
-        packed = answered_without("recover_fields_without", tv[:3], stream_of(tv, fields), entries, 24 * FIELDS, FIELDS)
-        are_recovered(tv, [row[:3] for row in fields], packed)
+    rows_are_recovered(tv, ((0, 0xF12345, 0), "90 to 230", (0, 3, 0)), drawn(tv, 0) + line + drawn(tv, 0))
 
 
 # ---- The record of a field
@@ -218,45 +199,38 @@ def test_erased(tv):
 # number; and how far the word is off, and any other, in hundredths of a column, if it is recovered. The cell has 29
 # columns, or 35. Of those that are turned over none counts where they are erased.
 RECORDS = (
-    (11, (), 1, {NTSC: (1100, 1800), PAL: (1400, 2100)}),
-    (14, ((17, 1, "turned"), ), 4294967295, {NTSC: (0, 1500), PAL: (0, 1800)}),
-    (14, ((16, 1, "turned"), ), 0, {NTSC: (), PAL: ()}))
-# The first column that is turned over, at which a level has lasted 4 columns
-FIRST_TURNED = {NTSC: 411, PAL: 513}
+    (11, "", 1, {NTSC: (1100, 1800), PAL: (1400, 2100)}), (14, "16 1 turned", 0, {NTSC: (), PAL: ()}),
+    (14, "17 1 turned", 4294967295, {NTSC: (0, 1500), PAL: (0, 1800)}))
+FIRST_TURNED = {NTSC: 411, PAL: 513}  # the first column that is turned over, at which a level has lasted 4 columns
 
 
 def test_records(tv):
     for turned, erased, number, found in RECORDS:
-        near = '{"word":15803205,"distance":%d,"rival":%d}' % found[tv] if found[tv] else "null"
-        word, of_pass = (15803205, 3) if found[tv] else (0, 0)
-        text = ('{"seqNo":%d,"vbi":{"vbiData":[9289889,%d,0]},"vbiCause":["word","change %d","blank"],'
-                '"vbiPass":[1,%d,0],"vbiNear":[null,%s,null]}' % (number, word, FIRST_TURNED[tv], of_pass, near))
-        rows = worn_rows(tv, (0x8DC0A1, 0xF12345, 0), (0, turned, 0))
-        entries = erased_of(tv, 0, (0, turned, 0), erased)
-        found = answered_without("recovered_record", (*tv[:3], number), rows, entries, RECORD.size)
-        expect(found == RECORD.pack(len(text), text.encode("ascii")), tv.system, number, found)
+        near = dict(zip(("word", "distance", "rival"), (0xF12345, *found[tv]))) if found[tv] else None
+        word, of_pass = (0xF12345, 3) if near else (0, 0)
+        record = {"seqNo": number, "vbi": {"vbiData": [0x8DC0A1, word, 0]},
+                  "vbiCause": ["word", "change %d" % FIRST_TURNED[tv], "blank"], "vbiPass": [1, of_pass, 0],
+                  "vbiNear": [None, near, None]}
+        text = json.dumps(record, separators=(",", ":")).encode("ascii")
+        written = answered("recovered_record", (*tv[:3], number), worn_rows(
+            tv, (0x8DC0A1, 0xF12345, 0), (0, turned, 0)), RECORD.size, erased=erased_of(tv, 0, (0, turned, 0), erased))
+        expect(written == RECORD.pack(len(text), text), tv.system, number, written)
 
 
 # ---- Some lines of one word
 
 # The line's number, whether dropouts are known, and the word that is said, or 0; the word that is drawn; of each line
-# in which of three cells how many of its 28 or 29 columns are turned over (of PAL three more of 35 or 36), and whether
-# these are erased (e). So 9 leave a word ahead of the one with this bit turned by 10 or 11 columns, 11 by 6 or 7, 14
-# by none or one.
+# in which of three cells how many of its columns are turned over, as above, and whether these are erased (e).
 SAID = (
-    (17, 0, 0xF12345, 0xF12345, "0:0"), (17, 0, 0, 0, "0:0"), (17, 1, 0, 0, "0:0 1:0"),
-    # a code that may stand on the line, where dropouts are known or not
-    (17, 1, 0xF12345, 0xF12345, "1:11"), (17, 1, 0, 0xF12345, "1:12"),
-    (17, 0, 0xF12345, 0xF12345, "1:9"), (17, 0, 0, 0xF12345, "1:10"), (17, 0, 0, 0xF12345, "1:11"),
-    # another word
-    (16, 1, 0xF12345, 0xF12345, "0:9"), (16, 1, 0, 0xF12345, "0:10"), (16, 0, 0, 0xF12345, "0:10"),
-    # lines that say it only together: worn in two cells, or in one
-    (17, 0, 0xF12345, 0xF12345, "1:13 2:13"), (18, 1, 0xF12345, 0xF12345, "0:13 1:13 2:13"),
-    (17, 0, 0xF12345, 0xF12345, "1:11 1:11"), (17, 1, 0, 0xF12345, "1:14 1:14"),
+    (17, 0, 0, 0, "0:0"), (17, 1, 0, 0, "0:0 1:0"),
+    # a code that may stand on the line, where dropouts are known or not, and another word
+    (17, 1, 0xF12345, 0xF12345, "1:11"), (17, 1, 0, 0xF12345, "1:12"), (17, 0, 0xF12345, 0xF12345, "1:9"),
+    (17, 0, 0, 0xF12345, "1:10"), (16, 1, 0xF12345, 0xF12345, "0:9"), (16, 1, 0, 0xF12345, "0:10"),
+    # lines that say it only together: worn in two cells, or in one; and as many as are taken
+    (18, 1, 0xF12345, 0xF12345, "0:13 1:13 2:13"), (17, 0, 0xF12345, 0xF12345, "1:11 1:11"),
+    (17, 1, 0, 0xF12345, "1:14 1:14"), (17, 0, 0xF12345, 0xF12345, " ".join(["1:13"] * 14 + ["2:13"] * 14)),
     # the same where the columns of one line are erased, and count neither for a word nor against it
-    (17, 1, 0xF12345, 0xF12345, "1:14e 1:14"), (17, 0, 0xF12345, 0xF12345, "1:14 1:14e"),
-    # as many lines as are taken
-    (17, 0, 0xF12345, 0xF12345, " ".join(["1:13"] * 14 + ["2:13"] * 14)))
+    (17, 1, 0xF12345, 0xF12345, "1:14e 1:14"), (17, 0, 0xF12345, 0xF12345, "1:14 1:14e"))
 
 
 def test_pile(tv):
@@ -267,23 +241,87 @@ def test_pile(tv):
             samples += worn(tv, word, row, count)
             if columns.endswith("e"):
                 entries += [(place, number, column, column) for column in sorted(turned_over(tv, row, count))]
-        found, = struct.unpack("<I", answered_without(
-            "recover_pile", (*tv[:3], number, known), samples, entries, 4))
-        expect(found == wanted, tv.system, number, known, turned, "says", hex(found))
+        packed = answered("recover_pile", (*tv[:3], number, known), samples, 4, erased=entries)
+        expect(packed == struct.pack("I", wanted), tv.system, number, known, turned, "says", packed)
 
 
-def main():
-    for row in ENDS:
-        test_ends(*row)
-    for tv in TELEVISIONS:
-        test_worn(tv)
-        test_levelled(tv)
-        test_levelled_first(tv)
-        test_erased(tv)
-        test_records(tv)
-        test_pile(tv)
-    finish()
+# ---- Signals that are no words, as stand on lines 16, 17 and 18 of other discs and tapes: in how many lines one is
+# recovered nevertheless. bench/channel measures more of them. 0 is black and 1 is white.
+
+chance = random.Random(1)
+NOISE = [chance.gauss(0, 1) for _ in range(50000)]
+BEGIN, END = 10, 62  # of a signal, in microseconds of its line
+SIGNALS = 75  # of each kind, of three lines each
+
+
+def held(levels, columns):
+    return [levels[int(place / columns)] for place in range(int(len(levels) * columns))]
+
+
+def some(count):
+    return [chance.randrange(2) for _ in range(count)]
+
+
+def bits(rates, count, high):
+    """Bits of so many megahertz, of which the first sixteen come by turns. Each column is the mean of three."""
+    def signal(us, system):
+        levels = [high * bit for bit in held([1, 0] * 8 + some(count - 16), us / rates[system])]
+        return [sum(three) / 3 for three in zip([0] + levels, levels, levels[1:] + [0])]
+    return signal
+
+
+def biphase(count):
+    """Each bit changes in its middle. Half cells last a microsecond."""
+    return lambda us, _: held([level for bit in some(count) for level in (1 - bit, bit)], us)
+
+
+def sine(us, _):
+    columns, phase = us / chance.uniform(0.1, 1.6), chance.uniform(0, 2 * math.pi)
+    return [0.5 + 0.5 * math.sin(2 * math.pi * place / columns + phase) for place in range(int(52 * us))]
+
+
+def steps(us, _):
+    return [level for _ in range(int(52 * us / 5)) for level in [chance.random()] * chance.randint(5, 40)]
+
+
+# Name, the signal by the samples of a microsecond and the system, noise, and of how many of 100,000 lines a word may be
+# recovered
+KINDS = (
+    ("blank, noise 50 %", lambda us, _: [], 0.5, 0), ("steps", steps, 0.05, 100),
+    ("teletext", bits({1: 5.7273, 2: 6.9375}, 360, 0.66), 0.05, 200),
+    ("time code", bits({1: 1.79, 2: 1.79}, 90, 1), 0.05, 800), ("20 biphase bits", biphase(20), 0.05, 0),
+    ("26 biphase bits", biphase(26), 0.05, 0), ("26 biphase bits, noise", biphase(26), 0.5, 3000),
+    ("a sine of 0.1 to 1.6 MHz", sine, 0.05, 2200))
+
+
+def shown(tv, signal, noise):
+    """The samples of a line, which has noise of its own."""
+    line = ([0] * int(BEGIN * tv.rate / tv.over) + signal + [0] * tv.samples)[:tv.samples]
+    unit, begin = tv.white - tv.black, chance.randrange(len(NOISE) - tv.samples)
+    return [min(max(int(tv.black + unit * (level + noise * more)), 0), 65535)
+            for level, more in zip(line, NOISE[begin:])]
+
+
+def test_kind(tv, name, signal_of, noise, wrong):
+    """In half of the fields line 18 has the signal of line 17. By chance one line more may have a word, and as many as
+    the count is usually off."""
+    recovered, us = 0, tv.rate / tv.over
+    chance.seed("%s %d 2" % (name, tv.system))
+    for _ in range(SIGNALS):
+        signals = [signal_of(us, tv.system)[:int((END - BEGIN) * us)] for _ in range(3)]
+        signals[2] = signals[chance.randint(1, 2)]
+        rows = array("H", [sample for signal in signals for sample in shown(tv, signal, noise)])
+        packed = answered("recover_rows", tv[:3], rows, 3 * READING.size)
+        recovered += sum(word != 0 for *_, word in READING.iter_unpack(packed))
+    usual = 3 * SIGNALS * wrong / 100000
+    most = wrong and 1 + int(usual + math.sqrt(usual))
+    expect(recovered <= most, tv.system, name, recovered, "of", 3 * SIGNALS, "and not", most)
 
 
 if __name__ == "__main__":
-    main()
+    for system in TELEVISIONS:
+        for test in (test_worn, test_ends, test_levelled, test_levelled_first, test_records, test_pile):
+            test(system)
+        for kind in KINDS:
+            test_kind(system, *kind)
+    finish()

@@ -97,7 +97,7 @@ def test_refused():
 
 
 def test_times_that_are_completed(room):
-    """Times without their minute, in each form. What the library completes has tests/library/completed.py. It is judged
+    """Times without their minute, in each form. What the library completes has tests/library/judged.txt. It is judged
     as what was read: by itself no field here would be believed."""
     text = "t1496..1497 s59.23/-/- B s59.24/-/- B s0.0/-/- B s0.1/-/- B s0.2/-/-"
     fields, none = made(text, side).readings, made("u1..9", side).readings

@@ -1,4 +1,4 @@
-"""The nearest word of lines (tests/library has more rows: lines.py, nearest.py, worn.py); due numbers that are the
+"""The nearest word of lines (tests/library has more rows: lines.py, worn.py); due numbers that are the
 nearest words of their lines, and count as read. Dropouts: columns of lines that count for no nearest word, in the
 module's calls, in ld-decode's metadata, and where the command recovers words. Distances are counted on paper."""
 
