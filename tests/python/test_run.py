@@ -295,3 +295,9 @@ def test_what_has_no_end(drawn):
         assert drawn.run_command("-", stdin=zeros) == (
             2, b"", "ldvbi-side: standard input is no document; make one of a TBC file: ldvbi extract --meta "
             "side.tbc.json | ldvbi-side -\n")
+
+
+def test_names_that_begin_as_options_do(drawn):
+    drawn.write("-x", drawn.document)
+    for status, words in ((1, "-- -x"), (0, "join -- -x -x"), (1, "scan -- -x")):
+        assert drawn.run_command(words)[::2] == (status, "")
