@@ -36,6 +36,8 @@ FIT = {"--meta": ["meta.json"], "--system": ["NTSC", "NTSC", "PAL"], "--black": 
        "--white": ["16448", "51200", "65535"], "--max-fields": ["1", "5", "0", "1000000"]}
 # What clap says of its own options, by its version
 OF_CLAP = re.compile(rb"Print (?:help|version)(?: information)?(?: \((?:see|use) [^()]*\))?")
+# How a program was built, which --version says
+HOW_BUILT = re.compile(rb" \((?:proved|plain Rust)\)\n")
 # Members of metadata, most of them right, some of them otherwise than the program takes them
 MEMBERS = {
     "system": ['"NTSC"', '"PAL"', '"ntsc"', "3", "null"],
@@ -93,6 +95,8 @@ def answer_alike(one, other):
         return other[:2] == one[:2] and other[2].startswith(b"error: ")
     if b"\nUsage: " in one[1]:
         return (one[0], of_help(one[1]), one[2]) == (other[0], of_help(other[1]), other[2])
+    if one[1].startswith(b"ldvbi "):
+        return (one[0], HOW_BUILT.sub(b"", one[1]), one[2]) == (other[0], HOW_BUILT.sub(b"", other[1]), other[2])
     return one == other
 
 
