@@ -7,9 +7,11 @@ function go into different rounds. Each round begins from what `rt lib`, or `rt 
 as it stands, and looks at the edited functions alone, so nothing that is right is proved again. Rounds run side by
 side. What a round doesn't refuse is tried once more alone.
 
-An edit has lines 'file: src/x.rt', 'old: TEXT' (once in that file) and 'new: TEXT', as for `rt must-fail`. One that
-changes more than bodies, as a constant or a head, gets a round of its own. The function that the prover has to refuse
-is the one that a row of must-fail/refuses.md names, else the one whose body the edit changes, else any of the crate.
+An edit has lines 'file: src/x.rt', 'old: TEXT' (once in that file) and 'new: TEXT', as for `rt must-fail`. The function
+that the prover has to refuse is the one that a row of must-fail/refuses.md names, else the one whose body the edit
+changes, else any of the crate. An edit that changes more than bodies, as a constant or a head, gets a round of its own,
+but for those which change definitions of specs/ and which a law without a written proof has to refuse: these share
+rounds in which no law rests on a definition that another edit changes.
 Each public function needs an edit that has to be refused there, or changes its body or what that names itself: a
 function or constant of the same file, or the only one of that name.
 
@@ -36,6 +38,10 @@ ITEM = re.compile(r"^( *)(pub )?(?:pub\([^)]*\) )?"
 OPENS = re.compile(r"^(?!.*\b(?:requires|ensures|ghost)\b).*\{ *$", re.M)
 # Texts, characters and comments, which name nothing
 SILENT = re.compile(r'"(?:\\.|[^"\\])*"|\'(?:\\.|[^\'\\])\'|//[^\n]*', re.S)
+# What begins a definition of specs/, with its name; a name; and what begins a text of specs/ that defines no function
+DEFINES = re.compile(r"^(?:(?:pub|abbrev|unfoldable|record|data) )*([A-Za-z][\w']*)", re.M)
+NAME = re.compile(r"[A-Za-z_][\w']*")
+NO_FUNCTION = re.compile(r"^(?:pub )?(?:use|module|record|data)\b", re.M)
 # A function refused by itself: by an error in its written proof, or by a goal that has no proof. One that is right and
 # only calls such a function reads 'no proof: it calls ..', or that the borrow checker's part isn't made for that call.
 # Nor is a function refused that the borrow checker doesn't cover yet.
@@ -77,8 +83,9 @@ class Item:
         opens = OPENS.search(self.text, head.start(), ends.start())
         self.begin = head.start() if constant else opens.end() if opens else head.end()
         self.end = ends.end() if constant else ends.start()
-        # A law has an empty body, and so no wrong one.
-        self.is_public = bool(public and function) and "{}" not in ends[0]
+        # A law has an empty body, and so no wrong one; all that it says is what it names.
+        self.law = NAME.findall(self.text[head.start():ends.end()]) if function and "{}" in ends[0] else None
+        self.is_public = bool(public and function) and self.law is None
         self.simple_name = function or constant
         _, self.crate, _, *inside = path[:-len(".rt")].split("/")
         names = [*inside, *self.owner(head.start()) * bool(indent), self.simple_name]
@@ -99,6 +106,27 @@ class Item:
 @functools.lru_cache(maxsize=None)
 def items(path):
     return [Item(path, head) for head in ITEM.finditer(read(path))]
+
+
+@functools.lru_cache(maxsize=None)
+def blocks(path):
+    """Returns the texts of a file of specs/ between empty lines, without comments, each with the place of its begin."""
+    text = re.sub("--.*", lambda comment: " " * len(comment[0]), read(path))
+    return [(it.start(), it[0]) for it in re.finditer(r"(?:^.*\S.*\n)+", text, re.M)]
+
+
+@functools.lru_cache(maxsize=None)
+def resting_on(folder, names):
+    """Returns these names with all that the crate's definitions of them name, and so on."""
+    named = collections.defaultdict(set)
+    for text in (text for path in glob.glob(f"{folder}/specs/**/*.antt", recursive=True) for _, text in blocks(path)):
+        for name in DEFINES.findall(text):
+            named[name].update(NAME.findall(text))
+    found, new = set(), {*names}
+    while new:
+        found |= new
+        new = {other for name in new for other in named[name]} - found
+    return found
 
 
 def public_functions(changed):
@@ -143,11 +171,38 @@ class Edit:
         self.alone = [] in functions
         self.refuses = refuses or list(dict.fromkeys(sum(functions, []))) or ["*"]
         self.changes = {*self.refuses, *(it.name for around in touched for it in around[-1:])}
+        redefined = [self.redefined_at(path, old) for path, old in places if old in read(path)]
+        self.redefined = {*sum(redefined, [])}
+        self.law = self.law_of(folder) if self.alone and [] not in redefined else None
 
     @staticmethod
     def items_around(path, old):
         at = read(path).find(old)
         return [it for it in items(path) if it.begin <= at and at + len(old) <= it.end]
+
+    def redefined_at(self, path, old):
+        """Returns the names of what this text defines, "" for a body, on which no law rests; none where it is neither
+        in a body, nor a constant, nor in definitions of functions."""
+        if path.endswith(".rt"):
+            return ["" if it.is_function else it.simple_name for it in self.items_around(path, old)[-1:]]
+        at = read(path).find(old)
+        texts = [text for begin, text in blocks(path) if begin < at + len(old) and at < begin + len(text)]
+        return [] if any(map(NO_FUNCTION.search, texts)) else [name for text in texts for name in DEFINES.findall(text)]
+
+    def law_of(self, folder):
+        """Returns what the law may rest on that has to refuse this, or None where it isn't one without a proof."""
+        laws = [it.law for path in glob.glob(f"{folder}/src/**/*.rt", recursive=True) for it in items(path)
+                if it.law and [it.name] == self.refuses]
+        is_written = os.path.exists(f"{folder}/proofs/{self.refuses[0].replace('::', '/')}")
+        return resting_on(folder, frozenset(laws[0])) if laws and not is_written else None
+
+    def can_share(self, other):
+        """Whether neither of two edits has an effect on what the other one is judged by."""
+        if {*self.refuses} & {*other.refuses} or (self.law is None) != (other.law is None):
+            return False
+        if self.law is None:
+            return not self.alone and not other.alone
+        return not self.law & other.redefined and not other.law & self.redefined
 
 
 def texts_with(edits, folder):
@@ -166,9 +221,8 @@ def rounds_of(edits, folder):
     change one function, and each applies beside the others."""
     made = []
     for edit in sorted(edits, key=lambda it: -sum(it.refuses == other.refuses for other in edits)):
-        for others in [] if edit.alone else made:
-            is_taken = others[0].alone or any({*edit.refuses} & {*other.refuses} for other in others)
-            if not is_taken and texts_with([*others, edit], folder) is not None:
+        for others in made:
+            if all(map(edit.can_share, others)) and texts_with([*others, edit], folder) is not None:
                 others.append(edit)
                 break
         else:
