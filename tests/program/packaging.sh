@@ -23,11 +23,12 @@ GIT_AUTHOR_DATE='@1000000000 +0000' GIT_COMMITTER_DATE='@1000000000 +0000' \
     git -C tree -c user.name=test -c user.email=test@localhost commit -qm source
 cp "$program" tree/ldvbi
 
-# made WORD..: `make` in the copy, by somebody whose new files are for themselves alone
+# made WORD..: `make` in the copy, by somebody whose new files are for themselves alone, or as `mask` says
 path=$work/tools
+mask=077
 made() {
     status=0
-    (cd tree && umask 077 && bounded env PATH="$path" make -s "$@") < empty > out 2> err || status=$?
+    (cd tree && umask $mask && bounded env PATH="$path" make -s "$@") < empty > out 2> err || status=$?
 }
 # has FOLDER FILES [SED]: whether a folder has just these files, once the names of those found are changed so
 has() {
@@ -83,11 +84,9 @@ while IFS='|' read -r words said; do
 done << END
 install 'PREFIX=/a b'|PREFIX, LIBDIR and DESTDIR can't have a space
 install-lib 'LIBDIR=/c d'|PREFIX, LIBDIR and DESTDIR can't have a space
-uninstall 'PREFIX=/a b'|PREFIX, LIBDIR and DESTDIR can't have a space
-install 'DESTDIR=/e f'|PREFIX, LIBDIR and DESTDIR can't have a space
+uninstall 'DESTDIR=/e f'|PREFIX, LIBDIR and DESTDIR can't have a space
 install FROM=here|FROM is 'proved' or 'rust'
 install FROM=rust|rust/.* isn't there: make rust builds it
-install-lib FROM=rust|rust/.* isn't there: make rust builds it
 wheel FROM=rust|rust/libldvbi.so.1 isn't there
 END
 check 'nothing is installed then' [ ! -e stage ]
@@ -116,17 +115,7 @@ done
 touch tree/ldvbi
 
 # Archives of source and program, of that program and its crate, which have nothing of this machine. They are the same
-# ones each time, whoever packs them: of somebody who isn't root, too, and whose new files are for all.
-made_by_another() {
-    chmod 711 "$work"
-    cp -a tree theirs
-    set -- env HOME=/nowhere PATH="$work/tools" make -s -C theirs dist
-    if [ "$(id -u)" = 0 ]; then
-        chown -R 65534:65534 theirs
-        set -- setpriv --reuid=65534 --regid=65534 --clear-groups "$@"
-    fi
-    bounded "$@" > out 2> err && cmp tree/dist/SHA256SUMS theirs/dist/SHA256SUMS
-}
+# ones each time, whoever packs them.
 # packed NAME FILES: whether an archive of dist/ has these below its folder
 packed() {
     rm -rf unpacked
@@ -148,9 +137,12 @@ $release.crate crate_files
 END
 for archive in tree/dist/*.tar.gz tree/dist/*.crate; do tar --numeric-owner -tvzf "$archive"; done > packed
 check "the files in the archives are root's" [ "$(awk '{ print $2 }' packed | sort -u)" = 0/0 ]
+mv tree/dist/SHA256SUMS before
 sleep 1
-check 'the archives of one who is not root are the same' made_by_another
-rm -rf theirs
+mask=022
+made dist
+check 'the archives of one whose files are for all are the same, and later ones' cmp before tree/dist/SHA256SUMS
+mask=077
 touch -d @1300000000 tree/rust/ldvbi
 made dist
 check 'nothing of it is packed that is older than its source' [ "$(wc -l < tree/dist/SHA256SUMS)" = 2 ]
@@ -218,21 +210,8 @@ proves() {
     made "$@"
     sed -i 's/, [0-9][0-9]* s$/, N s/' out
 }
-# On so many processors, where make has this word, each large crate is proved by so many jobs.
-while IFS='|' read -r processors word jobs; do
-    rm tree/ldvbi
-    stub toolchain/nproc "echo $processors"
-    proves ldvbi $word
-    printf "rt lib --jobs %s\n" $jobs $jobs $jobs $jobs 1 $jobs > wanted
-    echo 'rt run --jobs 1 -- --help' >> wanted
-    for crate in $program_crates; do sed -n 1p "tree/crates/$crate/out/make.log"; done > found
-    check "$processors processors, make $word" cmp found wanted
-done << 'END'
-1||1
-3||3
-8||4
-8|JOBS=3|3
-END
+rm tree/ldvbi
+proves ldvbi JOBS=3
 printf '%s proved, N s\n' $program_crates > wanted_text
 judge 'make says one line of a crate' 0 wanted_text ''
 { echo 'rt run --jobs 1 -- --help'; seq 99; } > wanted
@@ -265,34 +244,27 @@ head -n 21 err > found
 check 'the end of the log stands above its name' cmp found wanted
 check 'the status is that of the toolchain' [ "$(sed -n '22s/.*\(Error [0-9]*\)$/\1/p' err)" = 'Error 7' ]
 
-# What is built is built anew where `make -W` says that a source has changed, and after no other change. Of the sources
-# there is one of each kind for each crate.
+# What is built is built anew after a change of one of its crates, and after no other one
 path=$work/tools
 find tree -exec touch -h -d @1000000000 {} +
 touch -d @1100000000 tree/libldvbi.a
 touch -d @1200000000 tree/ldvbi tree/libldvbi.so.1
-# due TARGET FILE..: says of which of these files, if it is the latest, this has to be built
-due() {
-    target=$1
-    shift
-    for file; do
-        made -q -W "$file" "$target"
-        case $status in 1) echo "$file" ;; 0) ;; *) echo "$file: status $status" ;; esac
-    done
+# is_due TARGET FILE: whether this has to be built after a change of that file
+is_due() {
+    made -q -W "$2" "$1"
+    [ $status = 1 ]
 }
-# sources CRATE..: one of each kind for each crate
-sources() {
-    echo crates.txt
-    for crate; do
-        for kind in src specs proofs; do (cd tree && git ls-files "crates/$crate/$kind" | head -n 1); done
+while read -r target files; do
+    for file in $files crates.txt crates/vbi_near/specs/Apart.antt; do
+        is_due $target $file || echo "$target doesn't depend on $file"
     done
-}
-others='README.md Makefile docs/pictures/make.py include/ldvbi.h tests/gate.sh'
-check 'the program is built anew after a change of a source' \
-    [ "$(due ldvbi $(sources $program_crates) $others)" = "$(sources $program_crates)" ]
-check 'the library is built anew after a change of a source' \
-    [ "$(due libldvbi.a $(sources $library_crates) $others)" = "$(sources $library_crates)" ]
-check 'the shared library is built anew after the library' [ "$(due libldvbi.so libldvbi.a $others)" = libldvbi.a ]
+    for file in README.md Makefile include/ldvbi.h; do ! is_due $target $file || echo "$target depends on $file"; done
+done > err << END
+ldvbi $(printf 'crates/%s/src/lib.rt ' $program_crates | sed 's,ldvbi/src/lib,ldvbi/src/main,')
+libldvbi.a $(printf 'crates/%s/src/lib.rt ' $library_crates)
+END
+check 'program and library are built anew after a change of a source alone' [ ! -s err ]
+check 'the shared library is built anew after the library' is_due libldvbi.so libldvbi.a
 
 # `make clean` takes away what was built, and leaves the source
 mkdir -p tree/rust/out tree/rust/x86_64-pc-windows-gnu
