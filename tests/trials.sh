@@ -49,13 +49,6 @@ done < tried > err
 check 'there are scripts to try' [ -s tried ]
 check 'each script fails where it says' [ ! -s err ]
 
-# A script is ended when its time is over, though it ignores that
-mkdir -p slow/tests
-cp "$tests/scripts.sh" slow/tests
-printf '%s\n' '# runs: everywhere' "trap '' TERM" 'sleep 60' 'sleep 60' finish > slow/tests/slow.sh
-RAN='' SCRIPT_SECONDS=1 timeout -k 5 50 sh slow/tests/scripts.sh "$program" slow < empty > out 2> err
-check 'a script that ignores TERM is ended' [ $? = 1 ]
-
 # A gate of one crate, one test, one wrong body and one check, whose parts are stubs
 mkdir -p gate/tests gate/crates/words/must-fail gate/.ci stubs
 cp "$tests/gate.sh" "$tests/ran.sh" gate/tests

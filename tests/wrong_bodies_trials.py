@@ -13,7 +13,7 @@ import sys
 import tempfile
 
 sys.dont_write_bytecode = True
-from wrong_bodies import Crate, FOLDER, REFUSED, REFUSES, public_functions, read, write  # noqa: E402
+from wrong_bodies import Crate, FOLDER, REFUSED, REFUSES, public_functions, read, resting_on, write  # noqa: E402
 
 CRATE = "vbi_words"
 # Name, file, old text, new text, and what the script has to say of it
@@ -64,6 +64,8 @@ def checks():
     """Yields the name of each check, what was found and what was wanted."""
     refuses = {line: re.search(REFUSED.format("f"), f"fn {line}") is not None for line in LINES}
     yield "what refuses", refuses, LINES
+    names = resting_on(f"crates/{CRATE}", frozenset(["IsCode"]))
+    yield "what IsCode rests on", {"picture_of", "digit_of", "fits"} & names, {"picture_of", "digit_of"}
     public = public_functions(set())
     yield "without edits a public function has one", (public != {}, {*public.values()}), (True, {False})
     with tempfile.TemporaryDirectory(prefix="wrong-bodies-trials-", dir=os.getcwd()) as room:
