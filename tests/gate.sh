@@ -3,10 +3,10 @@
 # tests/wrong_bodies.py, then the scripts on the built program and library; then the same source is built by cargo, and
 # compared with what was proved. What was run is compared with the list in git (tests/ran.sh), count by count.
 #
-# `rt ci` works on a copy without must-fail/, whose edits it would try one at a time, while program and library are
-# built here; what these keep, the wrong bodies are tried over. So the program is proved and built twice, and the two
-# are compared byte for byte. The last line counts crates and wrong bodies, 'N passed, 0 failed'; the status is 0 only
-# where all of it passed. Before it stands when each part ended.
+# `rt ci` works on a copy without must-fail/, whose edits it would try one at a time, while the crates are proved here
+# for the wrong bodies, and then built. So the program is proved and built twice, and the two are compared byte for byte.
+# The last line counts crates and wrong bodies, 'N passed, 0 failed'; the status is 0 only where all of it passed. Before
+# it stands when each part ended.
 # usage: sh tests/gate.sh
 set -eu
 
@@ -65,8 +65,6 @@ if [ "$(awk '/^MemAvailable/ { print $2 }' /proc/meminfo)" -lt "$memory_of_both"
     ends_proofs
     part 'proofs and tests'
 fi
-make JOBS=1 ldvbi lib || fails 'program and library are not built'
-part 'program and library'
 python3 tests/wrong_bodies.py > "$work/wrong" || { cat "$work/wrong"; fails 'a wrong body is missing or not refused'; }
 cat "$work/wrong"
 sed -n 's,^\(\w*/\w*\): refused by a .*,wrong body \1,p' "$work/wrong" > "$work/bodies"
@@ -74,6 +72,8 @@ sed -n 's,^\(\w*/\w*\): refused by a .*,wrong body \1,p' "$work/wrong" > "$work/
 tail -n 1 "$work/wrong" | sed 's/ (.*)//' | cat "$work/bodies" - >> "$work/ran"
 python3 tests/wrong_bodies_trials.py || fails 'the script that tries wrong bodies takes what it has to refuse'
 part 'wrong bodies'
+make JOBS=1 ldvbi lib || fails 'program and library are not built'
+part 'program and library'
 if [ -n "$proofs" ]; then
     ends_proofs
     part 'proofs and tests, where they took longer'

@@ -13,7 +13,8 @@ import sys
 import tempfile
 
 sys.dont_write_bytecode = True
-from wrong_bodies import Crate, FOLDER, REFUSED, REFUSES, public_functions, read, resting_on, write  # noqa: E402
+from wrong_bodies import Crate, FOLDER, REFUSED, REFUSES, write  # noqa: E402
+from wrong_edits import public_functions, read, resting_on  # noqa: E402
 
 CRATE = "vbi_words"
 # Name, file, old text, new text, and what the script has to say of it
