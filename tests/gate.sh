@@ -4,9 +4,9 @@
 # compared with what was proved. What was run is compared with the list in git (tests/ran.sh), count by count.
 #
 # `rt ci` works on a copy without must-fail/, whose edits it would try one at a time, while the crates are proved here
-# for the wrong bodies, and then built. So the program is proved and built twice, and the two are compared byte for byte.
-# The last line counts crates and wrong bodies, 'N passed, 0 failed'; the status is 0 only where all of it passed. Before
-# it stands when each part ended.
+# for the wrong bodies, and then built. So the program is proved and built twice, and the two are compared byte for
+# byte. The last line counts crates and wrong bodies, 'N passed, 0 failed'; the status is 0 only where all of it
+# passed. Before it stands when each part ended.
 # usage: sh tests/gate.sh
 set -eu
 
