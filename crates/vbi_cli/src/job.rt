@@ -1,9 +1,10 @@
 //! A job: settings from metadata and options, and then the command.
 
-ghost use Rattle.std.specs.Prelude.{◌≡◌, ◌≢◌, IfOk, IfErr, Err, false, option_map};
+ghost use Rattle.std.specs.Prelude.{◌≡◌, ◌≢◌, IfOk, IfErr, Err, true, false, option_map};
 ghost use Rattle.vbi_line.specs.Counted.{IsSameDevice};
 ghost use Rattle.vbi_line.specs.Intake as lines;
 ghost use Rattle.vbi_field.specs.Outlet as outlets;
+ghost use Rattle.vbi_field.specs.RowIntake as row_intakes;
 ghost use Rattle.vbi_meta.specs.DocumentValue.{IsConfig};
 ghost use Rattle.vbi_cli.specs.Jobs.{Settles, Refuses, Under, Counting, Did, IfMeta, UnlessMeta, IsEndedBy};
 ghost use Rattle.vbi_cli.specs.Jobs.{IsAnsweredBy, IsDrawnBy, Does, app_status};
@@ -17,8 +18,8 @@ use crate::source::Source;
 use std::alloc::Global;
 use std::io::{Read, Write};
 use vbi_field::{
-    Config, DrawFault, Outlet, RunFault, Summary, draw, extract, extract_recovered, show,
-    show_recovered,
+    Config, DrawFault, Outlet, RowIntake, RunFault, Summary, draw, extract, extract_recovered,
+    show, show_recovered,
 };
 use vbi_line::Intake;
 use vbi_meta::{MetaFault, read_meta, settings};
@@ -101,10 +102,7 @@ pub fn do_command<R: Read, W: Write>(
     ensures did { Does R.remaining W.contents config.now source.old source.new outlet.old outlet.new result }
 {
     match source {
-        Source::Line(intake) => {
-            let outcome = run_line(config, intake, outlet);
-            line_end(config.system(), outcome)
-        }
+        Source::Line(intake) => line_job(config, intake, outlet),
         Source::Extract {
             intake,
             recover: false,
@@ -112,20 +110,34 @@ pub fn do_command<R: Read, W: Write>(
         Source::Extract {
             intake,
             recover: true,
-        } => end_of(extract_recovered(config, intake, outlet)),
+        } => extract_recovered_job(config, intake, outlet),
         Source::Show {
             intake,
             recover: false,
-        } => end_of(show(config, intake, outlet)),
+        } => show_job(config, intake, outlet),
         Source::Show {
             intake,
             recover: true,
-        } => end_of(show_recovered(config, intake, outlet)),
-        Source::Draw(rows) => {
-            let fields = draw(config, rows, outlet);
-            drawing_end(fields)
-        }
+        } => show_recovered_job(config, intake, outlet),
+        Source::Draw(rows) => draw_job(config, rows, outlet),
     }
+}
+
+/// The command `line`.
+fn line_job<R: Read, W: Write>(
+    config: &Config,
+    intake: &mut Intake<R>,
+    outlet: &mut Outlet<W>,
+) -> Result<Ended, AppFault>
+    requires intake { lines.IsFresh intake.old config.now.system }
+    requires outlet { outlets.IsFresh outlet.old }
+    ensures same_reader { IsSameDevice (lines.counted_of intake.old) (lines.counted_of intake.new) }
+    ensures same_writer { IsSameDevice (outlets.counted_of outlet.old) (outlets.counted_of outlet.new) }
+    ensures did { Does R.remaining W.contents config.now (source.Line intake.old) (source.Line intake.new)
+        outlet.old outlet.new result }
+{
+    let outcome = run_line(config, intake, outlet);
+    line_end(config.system(), outcome)
 }
 
 /// The job's answer to a run over one line.
@@ -143,8 +155,8 @@ fn line_end(system: System, outcome: Result<Outcome, LineFault>) -> Result<Ended
     }
 }
 
-/// The command `extract` without recovered words. It stands by itself, since its document is also known to be read back
-/// as the words that the lines show.
+/// The command `extract` without recovered words, whose document is also known to be read back as the words that the
+/// lines show.
 fn extract_job<R: Read, W: Write>(
     config: &Config,
     intake: &mut Intake<R>,
@@ -171,6 +183,54 @@ fn numbers(config: &Config)
     let _max_fields = config.max_fields();
 }
 
+/// The command `extract` with recovered words.
+fn extract_recovered_job<R: Read, W: Write>(
+    config: &Config,
+    intake: &mut Intake<R>,
+    outlet: &mut Outlet<W>,
+) -> Result<Ended, AppFault>
+    requires intake { lines.IsFresh intake.old config.now.system }
+    requires outlet { outlets.IsFresh outlet.old }
+    ensures same_reader { IsSameDevice (lines.counted_of intake.old) (lines.counted_of intake.new) }
+    ensures same_writer { IsSameDevice (outlets.counted_of outlet.old) (outlets.counted_of outlet.new) }
+    ensures did { Does R.remaining W.contents config.now (source.Extract intake.old true)
+        (source.Extract intake.new true) outlet.old outlet.new result }
+{
+    end_of(extract_recovered(config, intake, outlet))
+}
+
+/// The command `show` without recovered words.
+fn show_job<R: Read, W: Write>(
+    config: &Config,
+    intake: &mut Intake<R>,
+    outlet: &mut Outlet<W>,
+) -> Result<Ended, AppFault>
+    requires intake { lines.IsFresh intake.old config.now.system }
+    requires outlet { outlets.IsFresh outlet.old }
+    ensures same_reader { IsSameDevice (lines.counted_of intake.old) (lines.counted_of intake.new) }
+    ensures same_writer { IsSameDevice (outlets.counted_of outlet.old) (outlets.counted_of outlet.new) }
+    ensures did { Does R.remaining W.contents config.now (source.Show intake.old false)
+        (source.Show intake.new false) outlet.old outlet.new result }
+{
+    end_of(show(config, intake, outlet))
+}
+
+/// The command `show` with recovered words.
+fn show_recovered_job<R: Read, W: Write>(
+    config: &Config,
+    intake: &mut Intake<R>,
+    outlet: &mut Outlet<W>,
+) -> Result<Ended, AppFault>
+    requires intake { lines.IsFresh intake.old config.now.system }
+    requires outlet { outlets.IsFresh outlet.old }
+    ensures same_reader { IsSameDevice (lines.counted_of intake.old) (lines.counted_of intake.new) }
+    ensures same_writer { IsSameDevice (outlets.counted_of outlet.old) (outlets.counted_of outlet.new) }
+    ensures did { Does R.remaining W.contents config.now (source.Show intake.old true)
+        (source.Show intake.new true) outlet.old outlet.new result }
+{
+    end_of(show_recovered(config, intake, outlet))
+}
+
 /// The job's answer to a run over a stream.
 fn end_of(summary: Result<Summary, RunFault>) -> Result<Ended, AppFault>
     requires { summary ≢ Err RunFault.Failed }
@@ -184,6 +244,23 @@ fn end_of(summary: Result<Summary, RunFault>) -> Result<Ended, AppFault>
         Err(RunFault::TooManyFields) => Err(AppFault::TooManyFields),
         Err(RunFault::Failed) => unreachable!("a run never answers it"),
     }
+}
+
+/// The command `draw`.
+fn draw_job<R: Read, W: Write>(
+    config: &Config,
+    rows: &mut RowIntake<R>,
+    outlet: &mut Outlet<W>,
+) -> Result<Ended, AppFault>
+    requires rows { row_intakes.IsFresh rows.old }
+    requires outlet { outlets.IsFresh outlet.old }
+    ensures same_reader { IsSameDevice (row_intakes.counted_of rows.old) (row_intakes.counted_of rows.new) }
+    ensures same_writer { IsSameDevice (outlets.counted_of outlet.old) (outlets.counted_of outlet.new) }
+    ensures did { Does R.remaining W.contents config.now (source.Draw rows.old) (source.Draw rows.new)
+        outlet.old outlet.new result }
+{
+    let fields = draw(config, rows, outlet);
+    drawing_end(fields)
 }
 
 /// The job's answer to a run of drawing.
