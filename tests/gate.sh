@@ -1,7 +1,8 @@
 #!/bin/sh
 # The whole gate, at the top of the repository: every proof, test and stored run by `rt ci`, each wrong body by
-# tests/wrong_bodies.py, then the scripts on the built program and library, and on the same source, built by cargo, which
-# is compared with what was proved. What was run is compared with the list in git (tests/ran.sh), count by count.
+# tests/wrong_bodies.py, then the scripts on the built program and library, and on the same source, built by cargo,
+# which is compared with what was proved. What was run is compared with the list in git (tests/ran.sh), count by
+# count.
 #
 # `rt ci` works on a copy without must-fail/, whose edits it would try one at a time, while the crates are proved here
 # for the wrong bodies, and then built. So the program is proved and built twice, and the two are compared byte for
@@ -71,13 +72,10 @@ sed -n 's,^\(\w*/\w*\): refused by a .*,wrong body \1,p' "$work/wrong" > "$work/
 # The last line says how many were refused, and by what: that nobody can know before, and it isn't in the list.
 tail -n 1 "$work/wrong" | sed 's/ (.*)//' | cat "$work/bodies" - >> "$work/ran"
 part 'wrong bodies'
-# None of these three takes all processors.
-python3 tests/wrong_bodies_trials.py > "$work/trials" 2>&1 &
-trials=$!
 make -s rust > "$work/rust" 2>&1 &
 rust=$!
+python3 tests/wrong_bodies_trials.py || fails 'the script that tries wrong bodies takes what it has to refuse'
 make JOBS=1 ldvbi lib || fails 'program and library are not built'
-wait "$trials" || { cat "$work/trials"; fails 'the script that tries wrong bodies takes what it has to refuse'; }
 wait "$rust" || { cat "$work/rust"; fails 'the Rust program is not built'; }
 part 'programs and libraries'
 if [ -n "$proofs" ]; then
