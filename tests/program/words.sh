@@ -2,7 +2,7 @@
 # Runs the built program on a few words that it refuses, on each kind of path, and on words that ask for help.
 # usage: sh tests/program/words.sh PROGRAM
 # runs: everywhere rust
-# fails where: tests/program/help/ldvbi.txt|s/Turns rows/Turns words/
+# fails where: crates/vbi_cli/src/commands.rt|s/Turns rows/Turns words/
 
 . "$(dirname "$0")/../helpers.sh"
 
@@ -48,57 +48,33 @@ width.json width.json |field width differs|$levels --meta 'width.json ' line.raw
 line.raw --black|82CFFF|$levels -- --black
 END
 
-# help_of NAME: the help of this file, whose lines `@input` and `@help` stand for what all commands have, and `@recover`
-# for a flag of two. The short help of a command is its line in that of the program, and then the same from the usage
-# on, with the input in one line; that of the program has another first line, and options in one line each.
-help_of() {
-    of=${1%-short}
-    short=${1#"$of"}
-    usage="Usage: ldvbi $of [OPTIONS] [INPUT]\\n\\nArguments:\\n  [INPUT]$([ "$short" ] || echo '\\n        ')"
-    case $1 in
-        ldvbi-short)
-            echo "Reads the biphase code words of LaserDiscs from fields in ld-decode's TBC format"
-            sed -n '/^$/,$p' "$here/help/ldvbi.txt" | sed "s/^  -h, --help\$/&     Print help (see more with '--help')/
-                s/^  -V, --version\$/&  Print version/; /^   .*\(rint version\|a summary\)/d; /^  -h/{n;N;d;}"
-            ;;
-        "$of") cat "$here/help/$1.txt" ;;
-        *)
-            sed -n "s/^  $of  *//p" "$here/help/ldvbi.txt"
-            sed -n '/^$/,$p' "$here/help/$of.txt"
-            ;;
-    esac | sed "s/^@input \(.*\)/$usage  \1; standard input where there is none, or for -\n\n@options/" |
-        sed -e "/^@options\$/{r $here/help/options$short.txt" -e 'd;}' \
-            -e "/^@recover\$/{r $here/help/recover$short.txt" -e 'd;}' \
-            -e "/^@help\$/{r $here/help/help$short.txt" -e 'd;}'
-}
-# helped NAME: whether the last run printed this help. Of the Rust program, whose clap may be of any version, the words
-# have to be the same, but for what clap says of its own options.
+# helped WORDS: whether the last run printed the help that these words ask for, in lines that are no longer than those
+# of its texts. Of the Rust program, whose clap may be of any version, the words have to be the same, but for what clap
+# says of its own options.
 helped() {
-    help_of "$1" > wanted
+    python3 "$here/help.py" $1 | lines_of > wanted
+    lines_of < out > lines
+    [ "$status" = 0 ] && [ ! -s err ] && cmp -s lines wanted && [ "$(wc -L < out)" -le 105 ]
+}
+lines_of() {
     if [ "${DIFFERENCES:-}" ]; then
-        words_of wanted > wanted_words
-        words_of out > words
-        [ "$status" = 0 ] && [ ! -s err ] && cmp -s words wanted_words
+        tr -s ' \n' ' ' | sed -E 's/Print (help|version)( information)?( \((see|use) [^()]*\))?//g'
     else
-        ended 0 wanted empty
+        tr -s ' ' | sed 's/^ //; /^$/d'
     fi
 }
-words_of() {
-    tr -s ' \n' ' ' < "$1" | sed -E 's/Print (help|version)( information)?( \((see|use) [^()]*\))?//g'
-}
 
-# Help, and the version: files of the folder `help`, and words that print them
-while IFS='|' read -r text words; do
+# Words that ask for help, and others that ask for the same
+while IFS='|' read -r same words; do
     run $words
-    check "the help by $words" helped $text
+    check "the help by $words" helped "${same:-$words}"
 done << END
-$(for name in line extract show draw; do
-    printf "$name|%s\n" "$name --help" "help $name" "$name --meta absent.json --help --black dark"
-    echo "$name-short|$name -h"
-done)
-ldvbi|--help
-ldvbi|help
-ldvbi-short|-h
+$(for name in line extract show draw; do printf '|%s\n' "$name --help" "$name -h"; done)
+line --help|line --meta absent.json --help --black dark
+line --help|help line
+|--help
+--help|help
+|-h
 END
 kind=${DIFFERENCES:+plain Rust}
 sed -n "s/^VERSION := \(.*\)/ldvbi \1 (${kind:-proved})/p" "$top/Makefile" > version
