@@ -8,10 +8,8 @@
    `error`), an interruption (`interrupt`) or 0 (`end`); or they move at most so many bytes (KIND is a number). A call
    before that is cut at BYTE. Behind DESCRIPTOR all may be left out.
 
-   In the end two lines, of the reads and of the writes, go to the file that DEVICE_RECORD names: how often the device
-   was asked in all, how many of these calls had a fault, and how often it was asked after an error or an answer of 0.
-   The file that REFUSE_MARK names gets a byte for each allocation that is refused, here or by the system, so that its
-   absence says that there was none. The programs ask for no aligned memory. */
+   In the end the file that DEVICE_RECORD names says how often the two were asked. The file that REFUSE_MARK names is
+   there from the first allocation on that is refused, here or by the system. The programs ask for no aligned memory. */
 #define _GNU_SOURCE
 #include <dlfcn.h>
 #include <errno.h>
@@ -29,8 +27,7 @@ struct device {
     char kind[16];
     unsigned long left; /* and how often it still is */
     size_t moved;
-    unsigned long asked, given, again;
-    int is_over;
+    unsigned long asked;
 };
 
 static struct device input = {-1, SIZE_MAX, "", ULONG_MAX}, output = {-1, SIZE_MAX, "", ULONG_MAX};
@@ -42,7 +39,6 @@ static ssize_t allow(struct device *device, size_t size)
 
     if (device->moved >= device->at && device->left > 0) {
         device->left--;
-        device->given++;
         errno = strcmp(device->kind, "error") == 0 ? EIO : strcmp(device->kind, "interrupt") == 0 ? EINTR : 0;
         if (errno != 0)
             return -1;
@@ -60,12 +56,10 @@ static ssize_t move(struct device *device, const char *name, int descriptor, voi
     if (descriptor != device->descriptor)
         return real(descriptor, bytes, size);
     device->asked++;
-    device->again += device->is_over;
     count = allow(device, size);
     if (count > 0)
         count = real(descriptor, bytes, count);
     device->moved += count > 0 ? count : 0;
-    device->is_over |= count == 0 || (count < 0 && errno != EINTR);
     return count;
 }
 
@@ -98,8 +92,7 @@ __attribute__((destructor)) static void record(void)
 
     if (file == NULL)
         return;
-    fprintf(file, "read %lu %lu %lu\n", input.asked, input.given, input.again);
-    fprintf(file, "write %lu %lu %lu\n", output.asked, output.given, output.again);
+    fprintf(file, "%lu reads, %lu writes\n", input.asked, output.asked);
     fclose(file);
 }
 
@@ -114,9 +107,9 @@ static int is_refused(void)
 static void mark(void)
 {
     const char *path = getenv("REFUSE_MARK");
-    int file = path == NULL ? -1 : open(path, O_WRONLY | O_CREAT | O_APPEND, 0600);
+    int file = path == NULL ? -1 : open(path, O_WRONLY | O_CREAT, 0600);
 
-    if (file < 0 || pwrite(file, "x", 1, 0) != 1)
+    if (file < 0)
         abort();
     close(file);
     errno = ENOMEM;

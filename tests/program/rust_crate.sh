@@ -9,36 +9,24 @@
 
 . "$(dirname "$0")/../helpers.sh"
 
-# stops PLACE WHY FILE SED: whether the script stops with this place and reason once the file is altered by this program
-# of sed
-stops() {
-    rm -rf crates crate
-    mkdir crates
-    (cd "$top/crates" && cp -r vbi_words vbi_line vbi_field vbi_meta vbi_cli vbi_c "$work/crates")
-    sed -i "$4" "crates/$3"
-    ! cmp -s "crates/$3" "$top/crates/$3" || return 1
+# What the script that takes contracts out says of a file with such a second line
+mkdir -p crates/vbi_words/src
+while IFS='|' read -r file line why; do
+    printf '\n%s' "$line" > "crates/vbi_words/src/$file.rt"
     does python3 "$top/rust/erase.py" crates "$top/rust/hand" crate
-    echo "erase.py: crates/$3:$1: $2" > wanted
-    [ "$status" = 1 ] && cmp -s err wanted
-}
-levels=vbi_words/src/levels.rt
-laws=vbi_line/src/laws.rt
-clause=$(sed -n '/    ensures/{=;q;}' "$top/crates/$levels")
-body=$(sed -n '/^{}$/{=;q;}' "$top/crates/$laws")
-behind=$(($(wc -l < "$top/crates/$levels") + 1))
-while IFS='|' read -r name line why file altered; do
-    check "$name" stops "$line" "$why" "$file" "$altered"
-done << END
-an unknown clause|$clause|'decreases' is no keyword that is known|$levels|${clause}s/ensures/decreases/
-an unknown item|1|'lemma' is no keyword that is known|$levels|1s/.*/lemma small { }/
-a clause that is not closed|$behind|a clause isn't closed|$levels|\$a\\    ensures { (result ≡ 0
-a ghost line that is not closed|$behind|a ghost line isn't closed|$levels|\$aghost use Rattle.std
-a law with a body|$body|a law has a body|$laws|${body}s/{}/{ one_outcome() }/
-a function without a body|$behind|a function has no body|$levels|\$apub fn levels_differ();
-an unknown macro|$behind|'print' is no macro that is known|$levels|\$aconst PRINTED: () = print!("");
-an unknown attribute|$behind|'ensures' is no attribute that is known|$levels|\$a#[ensures(true)]
-a sign of contracts|$behind|'≡' is unknown here|$levels|\$aconst SAME: bool = 1 ≡ 1;
-a let .. else in another place|$behind|a let .. else of another form|$levels|\$afn few() { let Some(_) = None::<u8> }
+    judge "$line" 1 empty "erase.py: crates/vbi_words/src/$file.rt:2: $why"
+    rm crates/vbi_words/src/*
+done << 'END'
+code|    decreases { count }|'decreases' is no keyword that is known
+code|lemma small { }|'lemma' is no keyword that is known
+code|    ensures { (result ≡ 0|a clause isn't closed
+code|ghost use Rattle.std|a ghost line isn't closed
+laws|pub fn has_body() { one_outcome() }|a law has a body
+code|pub fn differs();|a function has no body
+code|const PRINTED: () = print!("");|'print' is no macro that is known
+code|#[ensures(true)]|'ensures' is no attribute that is known
+code|const SAME: bool = 1 ≡ 1;|'≡' is unknown here
+code|fn few() { let Some(_) = None::<u8> }|a let .. else of another form
 END
 
 version=$(sed -n 's/^version = "\(.*\)"$/\1/p' "$top/rust/hand/Cargo.toml")
@@ -79,8 +67,8 @@ mod neon {
     pub unsafe fn vaddvq_u16(a: Lanes) -> u16 { a.iter().sum() }
 }
 END
-check 'that of 64-bit ARM' quiet rustc --edition 2021 --test -A dead_code -O -o "$work/neon" "$work/neon.rs"
-check 'is the plain loop, too' quiet "$work/neon"
+quiet rustc --edition 2021 --test -A dead_code -O -o "$work/neon" "$work/neon.rs"
+check 'that of 64-bit ARM is the plain loop, too' quiet "$work/neon"
 check 'a panic ends the process' sh -c "cargo rustc --quiet --release --lib -- --print cfg | grep -qx 'panic=\"abort\"'"
 # Who takes the library takes none of what the program alone needs.
 bounded cargo tree --quiet --edges normal --prefix none > "$work/out" 2> "$work/err"
@@ -119,20 +107,10 @@ cd "$work" || exit 1
 # What it answers of drawn sides is tried by tests/answers/rust_answers.sh; here what it plays, and what it refuses.
 bounded sh "$top/examples/side.sh" "$program" || exit 1
 head -c 100 side.tbc > cut.tbc
-cat > twice.words << 'END'
-- F00001 F00001
-- 800DDD 800DDD
-- F00002 F00002
-- 800DDD 800DDD
-82CFFF 82CFFF F00003
-82CFFF 82CFFF 800DDD
-82CFFF 82CFFF F00004
-82CFFF 82CFFF 800DDD
-- F00005 F00005
-END
+printf '%s\n' '- F00001 F00001' '- 800DDD 800DDD' '- F00002 F00002' '- 800DDD 800DDD' '82CFFF 82CFFF F00003' \
+    '82CFFF 82CFFF 800DDD' '82CFFF 82CFFF F00004' '82CFFF 82CFFF 800DDD' '- F00005 F00005' > twice.words
 output_of draw $ntsc twice.words > twice.tbc
 on='NTSC 16384 51200'
-usage='usage: player FILE SYSTEM BLACK WHITE search PLACE, chapter N, play ..'
 while IFS='|' read -r ended words played said; do
     printf "$played" > wanted_text
     said_line "${said:+player: $said}"
@@ -142,16 +120,14 @@ done << END
 0|side.tbc $on search 30 play search 7 play chapter 0|search: field 65 picture 30\nplay: field 97 picture 46\n\
 search: field 21 picture 7\nplay: field 33 picture 17\nchapter: field 10\n|
 1|twice.tbc $on play play play|play: field 5 picture 3\nplay: field 7 picture 4\nplay: not found\n|
-2|||$usage
-2|side.tbc $on search||$usage
+2|side.tbc $on search||usage: player FILE SYSTEM BLACK WHITE search PLACE, chapter N, play ..
 2|side.tbc SECAM 16384 51200 play||system is neither NTSC nor PAL
 2|side.tbc NTSC 51200 16384 play||black level is not below white level
 2|side.tbc $on search 1:2||neither a picture nor a time: 1:2
 2|side.tbc $on stop||no such command: stop
 2|cut.tbc $on play||a field has 478660 bytes, and these are 100
 END
-check 'what looks on is built' \
-    does ${CC:-cc} -shared -fPIC -I"$top/include" -o advised.so "$tests/library/advised.c" -ldl
+does ${CC:-cc} -shared -fPIC -I"$top/include" -o advised.so "$tests/library/advised.c" -ldl
 does env ADVISED=advice LD_PRELOAD="$work/advised.so" "$player" side.tbc $on search 30
 check 'the player: nothing is read ahead' [ "$(head -n 1 advice)" = "random 0 $(wc -c < side.tbc)" ]
 # The pipe is closed before the player writes.

@@ -12,20 +12,14 @@
 echo 'ldvbi: out of memory' > wanting
 REFUSE_MARK=$work/mark
 export REFUSE_MARK
-# metadata BLACK WHITE: metadata with these samples
-metadata() {
-    printf '{"videoParameters":{"system":"NTSC","fieldWidth":910,"fieldHeight":263,"black16bIre":%s,' "$1"
-    printf '"white16bIre":%s,"sampleRate":14318181.5},"fields":[]}' "$2"
-}
 printf '{"a":NaN}' > nan.json
-metadata 8224 16448 > line.json
-metadata 16384 51200 > full.json
-echo '-|-|-' | signal NTSC 1 > black.tbc
-cp black.tbc beside.tbc
-cp full.json beside.tbc.json
+printf '{"videoParameters":{"system":"NTSC","fieldWidth":910,"fieldHeight":263,"black16bIre":8224,%s' \
+    '"white16bIre":16448,"sampleRate":14318181.5},"fields":[]}' > line.json
+echo '-|-|-' | signal NTSC 1 8224 16448 > beside.tbc
+cp line.json beside.tbc.json
 
 # Each of the allocations of a run is refused in turn. The runs have 50 to 150 of them, by the program.
-while IFS='|' read -r name input words; do
+while IFS='|' read -r input words; do
     run_with "$input" $words
     whole=$status
     cp out whole.out
@@ -45,18 +39,16 @@ while IFS='|' read -r name input words; do
         } < "$input"
     done
     cp wrong err
-    echo "$script: $name: $((number - 1)) allocations, each refused in turn"
-    check "$name: no wrong answer" [ ! -s wrong ]
-    check "$name: at least 40 allocations" [ $number -gt 40 ]
+    check "$words: each of over 40 allocations may be refused" [ "$(cat wrong)$((number > 40))" = 1 ]
 done << END
-the stored run|$stored/stdin|$(paste -s -d " " "$stored/args")
-no command|empty|
-help|empty|line --help
-a refused option|empty|line --black 65536
-metadata that is not JSON|$stored/stdin|line --meta nan.json
-the stored run with metadata|$stored/stdin|line --meta line.json
-the joined run|black.tbc|extract --meta full.json
-metadata beside the input|black.tbc|extract --recover beside.tbc
+$stored/stdin|$(paste -s -d " " "$stored/args")
+empty|
+empty|line --help
+empty|line --black 65536
+$stored/stdin|line --meta nan.json
+$stored/stdin|line --meta line.json
+beside.tbc|extract --meta line.json
+empty|extract --recover beside.tbc
 END
 
 # What the program says of metadata of each length: a quote and letters, a text without its end. No allocation may be
@@ -67,14 +59,13 @@ rm -f mark
 does sh -c '
     while read -r length; do
         head -c $length letters > text.json
-        code=0
-        LD_PRELOAD=$2 "$1" line --meta text.json < empty 2>&1 || code=$?
-        echo "$length $code"
+        LD_PRELOAD=$2 "$1" line --meta text.json < empty 2>&1
+        echo "$length $?"
     done < lengths' sh "$program" "$work/devices.so"
 sed 's/^/ldvbi: metadata is not JSON\n/; s/$/ 1/' lengths > wanted
 diff wanted out | head -n 20 >> err
-check 'what is said of a text of each length' [ "$status$(cat err)" = 0 ]
-check 'no allocation is refused for it' [ ! -e mark ]
+[ ! -e mark ] || echo 'an allocation was refused' >> err
+check 'what is said of a text of each length' [ ! -s err ]
 
 # Metadata of 10 MB, as ld-decode writes it; here what is wanted stands behind the records of fields. Want of memory is
 # said exactly where an allocation was refused, with so many times its bytes of memory at most.
@@ -84,11 +75,10 @@ field='"audioSamples":735,"diskLoc":1.1,"isFirstField":true,"medianBurstIRE":19.
     yes ",{$field,\"vitsMetrics\":{\"bPSNR\":38.1}}" | head -c 10000000 | sed '$d'
     printf '],"videoParameters":{"system":"NTSC","black16bIre":8224,"white16bIre":16448}}'
 } > long.json
-bytes=$(wc -c < long.json)
-for times in 2 4 6 8 10 12 14 16 18 20; do
+for times in 2 8 14 20; do
     rm -f mark
     does sh -c 'ulimit -v $1; LD_PRELOAD=$2 "$3" line --meta long.json "$4"' \
-        sh $((bytes * times / 1024)) "$work/devices.so" "$program" "$stored/stdin"
+        sh $((times * 10000000 / 1024)) "$work/devices.so" "$program" "$stored/stdin"
     set -- 0 "$stored/stdout" ''
     [ ! -e mark ] || set -- 1 empty 'ldvbi: out of memory'
     judge "10 MB of metadata within $times times its bytes" "$@"
