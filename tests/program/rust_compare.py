@@ -4,9 +4,8 @@ whatever clap says, and what is printed has to have the same words.
 usage: python3 tests/program/rust_compare.py WHAT PROVED OTHER COUNT SEED [RUNNER..]
 
 WHAT is words (of the command line), streams (of fields, and lines), rows (of words to be drawn), metadata, or library.
-PROVED and OTHER are programs, or libraries that can be loaded; RUNNER is what runs OTHER, as wine or qemu. Prints how
-many runs there were, and of those that differ how many there are and the first ten; its status is 1 where one does, or
-where there were fewer than COUNT, or none."""
+PROVED and OTHER are programs, or libraries that can be loaded; RUNNER is what runs OTHER, as wine or qemu. Ends with
+status 1 at the first run that differs, which it prints, or where there were fewer runs than COUNT, or none."""
 import ctypes
 import pathlib
 import random
@@ -15,6 +14,7 @@ import struct
 import subprocess
 import sys
 import tempfile
+from collections import namedtuple
 
 TOP = pathlib.Path(__file__).resolve().parents[2]
 sys.path.insert(0, str(TOP / "bench" / "sides"))
@@ -50,39 +50,41 @@ MEMBERS = {
 def put_files(folder):
     """The files that words of the command line name."""
     # A ramp, of which the answer has the column of the middle of black and white
-    ramp = packed("NTSC", list(range(0, 72 * 910, 72)))
+    ramp = packed(NTSC, list(range(0, 72 * 910, 72)))
     videos = b'{"videoParameters":{"system":"NTSC","black16bIre":8224,"white16bIre":16448}}'
-    for name in ("line", "beside", "wrong"):
-        (folder / f"{name}.raw").write_bytes(ramp)
-    for name, data in (("meta", videos), ("beside.raw", videos), ("bad", videos[:-1]), ("wrong.raw", videos[:-1])):
-        (folder / f"{name}.json").write_bytes(data)
+    for name, data in (("line.raw", ramp), ("beside.raw", ramp), ("wrong.raw", ramp), ("meta.json", videos),
+                       ("beside.raw.json", videos), ("bad.json", videos[:-1]), ("wrong.raw.json", videos[:-1])):
+        (folder / name).write_bytes(data)
 
 
-def rarely(choose, wrong, right):
+def rarely(wrong, right):
     """What is right, and seldom one of those that are wrong."""
-    return choose.choice(wrong) if choose.random() < 0.05 else right
+    return random.choice(wrong) if random.random() < 0.05 else right
 
 
-def words(choose):
+def option(name, values):
+    value = random.choice(values)
+    return [f"{name}={value}"] if random.random() < 0.4 else [name, value]
+
+
+def any_words():
+    """An option with any value, or a word of any kind."""
+    if random.random() < 0.5:
+        return option(random.choice(OPTIONS[:5]), VALUES)
+    return [random.choice(random.choice([OPTIONS, VALUES, STRAY, COMMANDS]))]
+
+
+def words():
     """Words of a command line: half of them make a job but for one part, if any; the others are of any kind."""
-    def option(name, values):
-        value = choose.choice(values)
-        return [f"{name}={value}"] if choose.random() < 0.4 else [name, value]
-
-    def part():
-        if choose.random() < 0.5:
-            return option(choose.choice(OPTIONS[:5]), VALUES)
-        return [choose.choice(choose.choice([OPTIONS, VALUES, STRAY, COMMANDS]))]
-
-    begun = [choose.choice(COMMANDS)]
-    if choose.random() < 0.5:
-        parts = [option(name, values) for name, values in FIT.items() if choose.random() < 0.8]
-        parts += [[choose.choice(["line.raw", "line.raw", "beside.raw", "wrong.raw"])]] * (choose.random() < 0.8)
-        parts += [["--recover"]] * (choose.random() < 0.1) + [part()] * (choose.random() < 0.6)
-        choose.shuffle(parts)
+    begun = [random.choice(COMMANDS)]
+    if random.random() < 0.5:
+        parts = [option(name, values) for name, values in FIT.items() if random.random() < 0.8]
+        parts += [[random.choice(["line.raw", "line.raw", "beside.raw", "wrong.raw"])]] * (random.random() < 0.8)
+        parts += [["--recover"]] * (random.random() < 0.1) + [any_words()] * (random.random() < 0.6)
+        random.shuffle(parts)
     else:
-        begun = choose.choice([begun, begun, [], [choose.choice(STRAY)], ["help", *begun]])
-        parts = [part() for _ in range(choose.randrange(5))]
+        begun = random.choice([begun, begun, [], [random.choice(STRAY)], ["help", *begun]])
+        parts = [any_words() for _ in range(random.randrange(5))]
     yield sum(parts, begun), b""
 
 
@@ -94,135 +96,120 @@ def compared(what, answer):
     return status, MAY_DIFFER.sub(b"", b" ".join(out.split())), said.startswith(b"error: ") and status == 2 or said
 
 
-# ---- Lines: drawn ones with damage, and samples of any kind
-
-# The number of the system, the samples of its lines, and the lines of its fields
-SYSTEMS = {"NTSC": (1, 910, 263), "PAL": (2, 1135, 313)}
-# The column at which words begin, the columns of half a cell, and others of which a word may still be read
-CELLS = {"NTSC": (150, 315 / 22, [14, 14, 14, 15, 13, 12]), "PAL": (190, 709379 / 40000, [18, 18, 17, 19, 15, 21])}
-
-
-def packed(system, line):
-    """The bytes of a line of samples, which is filled up or cut."""
-    width = SYSTEMS[system][1]
-    return struct.pack(f"<{width}H", *(line + [0] * width)[:width])
-
-
-def drawn_line(choose, word, black, white, start, half, moved):
-    """The samples of a line that shows a word from this column on, with halves of cells of so many columns, whose edges
-    are moved by up to so many."""
-    line = [black] * start
-    for place in range(48):
-        end = start + int((place + 1) * half) + choose.randint(-moved, moved)
-        is_high = word >> 23 - place // 2 & 1 == place % 2
-        line += [white if is_high else black] * (end - len(line))
-    return line
-
-
-def random_line(choose, system, black, white):
-    """The bytes of a line: drawn, with glitches, held levels or noise, and swinging more or less than from black to
-    white; of random runs; or of random samples."""
-    width, (first, half, halves) = SYSTEMS[system][1], CELLS[system]
-    kind, line, middle, swing = choose.random(), [], (black + white) // 2, white - black
-    if kind > 0.9:
-        return packed(system, [choose.randrange(65536) for _ in range(width)])
-    if kind > 0.75:
-        while len(line) < width:
-            line += [choose.choice([black, white])] * choose.choice([1, 2, 3, 11, 14, 18, 28, 29, 36, 60, 300])
-        return packed(system, line)
-    start = choose.choice([*range(first - 3, first + 4), first, 40, 0])
-    word, half = choose.randrange(2 ** 23, 2 ** 24), choose.choice([half, half, half, half, *halves])
-    line = drawn_line(choose, word, black, white, start, half, choose.choice([0, 0, 0, 1, 1, 3, 5]))
-    line += [black] * (width - len(line))
-    for _ in range(choose.choice([0, 1, 1, 2, 5, 20])):
-        at, length = choose.randrange(width), choose.choice([1, 1, 2, 3, 3, 4, 7, 20, 40, 60])
-        level = choose.choice([black, white, middle, middle + 1, 0, 65535])
-        line[at:at + length] = [level] * len(line[at:at + length])
-    if choose.random() < 0.2:
-        factor, above = choose.choice([1, 2, 5, 8, 13, 15, 17]), choose.choice([-3, 0, 2, 4]) * swing // 10
-        line = [middle + (sample - middle) * factor // 10 + above for sample in line]
-    spread = choose.choice([0, 0, 0, 0, 1, 500, abs(swing) // 4, 3 * abs(swing) // 4])
-    return packed(system, [min(65535, max(0, sample + choose.randint(-spread, spread))) for sample in line])
-
-
-def random_rows(choose, system, black, white, count):
-    """The bytes of so many lines: of one word or of several, blank ones, and lines of any kind."""
-    kinds = [random_line(choose, system, black, white) for _ in range(3)] + [packed(system, [black])]
-    return b"".join(choose.choices(kinds, [6, 4, 2, 1], k=count))
-
-
-def random_field(choose, system, black, white):
-    """The bytes of a field."""
-    _, width, height = SYSTEMS[system]
-    return bytes(2 * width * 15) + random_rows(choose, system, black, white, 3) + bytes(2 * width * (height - 18))
-
-
-def random_levels(choose):
-    """Black and white, the wrong way round but seldom."""
-    levels = [0, 1, 8224, 16384, 16448, 51200, 54016, 65534, 65535, choose.randrange(65536)]
-    black, white = sorted(choose.sample(levels, 2))
-    return (black, white) if choose.random() < 0.97 else (white, black)
-
-
-def options_of(system, black, white):
-    return ["--system", system, "--black", str(black), "--white", str(white)]
-
-
-def streams(choose):
+def streams():
     """A stream of fields, and a line."""
-    system = choose.choice(list(SYSTEMS))
-    black, white = random_levels(choose)
-    stream = bytearray()
-    for _ in range(choose.randrange(4)):
-        stream += random_field(choose, system, black, white)
-    stream += bytes(choose.random() < 0.3 and choose.randrange(500000))
-    given = [choose.choice(["extract", "show"]), *options_of(system, black, white)]
-    given += ["--recover"] * (choose.random() < 0.5)
-    given += ["--max-fields", str(choose.randrange(4))] if choose.random() < 0.2 else []
-    yield given, bytes(stream)
-    line = random_line(choose, system, black, white)
-    yield ["line", *options_of(system, black, white)], line[:len(line) - choose.choice([0, 0, 0, 1, 500])]
+    setup = random_setup()
+    options = ["--system", setup.system.name, "--black", str(setup.black), "--white", str(setup.white)]
+    stream = b"".join(field_of(setup.system, random_rows(setup, 3)) for _ in range(random.randrange(4)))
+    stream += bytes(random.random() < 0.3 and random.randrange(500000))
+    recover = ["--recover"] * (random.random() < 0.5) + ["--max-fields=2"] * (random.random() < 0.2)
+    yield [random.choice(["extract", "show"]), *options, *recover], stream
+    yield ["line", *options], random_line(setup)[:rarely([1000, -1], None)]
 
-
-def rows(choose):
+def rows():
     """Rows of words to be drawn."""
-    items = ["-", "F12345", "82CFFF", "8ae012", "800000", "FFFFFF", "7FFFFF", "12345", "G12345", "f12345", "1234567"]
-    texts = []
-    for _ in range(choose.randrange(6)):
-        row = [choose.choice(items[:6]) for _ in range(3)]
-        row[choose.randrange(3)] = rarely(choose, items, row[0])
-        texts.append(" ".join(row) + rarely(choose, [" ", "\r", "\t", " -", "\0"], ""))
-    given = ["draw", *options_of(choose.choice(list(SYSTEMS)), *random_levels(choose))]
-    yield given, ("\n".join(texts) + choose.choice(["\n", "\n", ""])).encode()
+    right, wrong = ["-", "F12345", "82CFFF", "8ae012", "800000", "FFFFFF"], ["7FFFFF", "12345", "G12345", "1234567"]
+    texts = [" ".join(rarely(wrong, random.choice(right)) for _ in range(3)) + rarely([" ", "\r", "\t", " -", "\0"], "")
+             for _ in range(random.randrange(6))]
+    options = ["--system", random.choice(["NTSC", "PAL"]), "--black", "16384", "--white", "51200"]
+    yield ["draw", *options], ("\n".join(texts) + random.choice(["\n", "\n", ""])).encode()
 
 
-def metadata(choose):
+def metadata():
     """Metadata, and sometimes an option."""
-    names = choose.sample(list(MEMBERS)[:-1], choose.randrange(2, 7))
-    names += ["other"] * (choose.random() < 0.15) + [choose.choice(names)] * (choose.random() < 0.1)
-    members = [f'"{name}":{choose.choice(MEMBERS[name][:choose.choice([2, 2, None])])}' for name in names]
-    ending = choose.choice(["}}", "}}", "}}\n ", '},"fields":[]}'])
+    names = random.sample(list(MEMBERS)[:-1], random.randrange(2, 7))
+    names += ["other"] * (random.random() < 0.15) + [random.choice(names)] * (random.random() < 0.1)
+    members = [f'"{name}":{random.choice(MEMBERS[name][:random.choice([2, 2, None])])}' for name in names]
+    ending = random.choice(["}}", "}}", "}}\n ", '},"fields":[]}'])
     data = bytearray(f'{{"videoParameters":{{{",".join(members)}{ending}'.encode())
-    if choose.random() < 0.2:
-        data[choose.randrange(len(data))] = choose.randrange(256)
-    depth = choose.choice([125, 126, 127, 128])
-    data = rarely(choose, [b'{"videoParameters":{},"a":' + b"[" * depth + b"]" * depth + b"}"], data)
-    options = choose.choice(["--system NTSC", "--black 5", "--white 60000", "--max-fields 0", *[""] * 8])
+    if random.random() < 0.2:
+        data[random.randrange(len(data))] = random.randrange(256)
+    depth = random.choice([125, 126, 127, 128])
+    data = rarely([b'{"videoParameters":{},"a":' + b"[" * depth + b"]" * depth + b"}"], data)
+    options = random.choice(["--system NTSC", "--black 5", "--white 60000", "--max-fields 0", *[""] * 8])
     yield ["extract", "--meta", "given", "/dev/null", *options.split()], bytes(data)
 
 
-def compare_programs(kind, commands, choose, count):
+def compare_programs(kind, commands, count):
     """Runs of one kind, each in a folder with the files of `put_files` and what the run is given, which is on standard
     input as well. What a program answered is its status, output, and what it said."""
     with tempfile.TemporaryDirectory() as name:
         folder = pathlib.Path(name)
         put_files(folder)
         for _ in range(count):
-            for arguments, given in kind(choose):
+            for arguments, given in kind():
                 (folder / "given").write_bytes(given)
                 runs = [subprocess.run([*command, *arguments], input=given, capture_output=True, cwd=folder,
                                        timeout=120, check=False) for command in commands]
                 yield (arguments, given), [(done.returncode, done.stdout, done.stderr) for done in runs]
+
+
+# ---- Lines: drawn ones with damage, and samples of any kind
+
+# `first` is the column at which words begin, `half` the columns of half a cell, and `halves` are others of which a word
+# may still be read.
+System = namedtuple("System", "name number width height first half halves")
+NTSC = System("NTSC", 1, 910, 263, 150, 315 / 22, [14, 14, 14, 15, 13, 12])
+PAL = System("PAL", 2, 1135, 313, 190, 709379 / 40000, [18, 18, 17, 19, 15, 21])
+Setup = namedtuple("Setup", "system black white")
+
+
+def random_setup():
+    """A system and its levels, the wrong way round but seldom."""
+    levels = random.sample([0, 1, 8224, 16384, 16448, 51200, 54016, 65534, 65535, random.randrange(65536)], 2)
+    return Setup(random.choice([NTSC, PAL]), *sorted(levels, reverse=random.random() < 0.03))
+
+
+def packed(system, line):
+    """The bytes of a line of samples, which is filled up or cut."""
+    return struct.pack(f"<{system.width}H", *(line + [0] * system.width)[:system.width])
+
+
+def drawn_line(word, setup, start, half, moved):
+    """The samples of a line that shows a word from this column on, with halves of cells of so many columns, whose edges
+    are moved by up to so many."""
+    line = [setup.black] * start
+    for place in range(48):
+        end = start + int((place + 1) * half) + random.randint(-moved, moved)
+        is_high = word >> 23 - place // 2 & 1 == place % 2
+        line += [setup.white if is_high else setup.black] * (end - len(line))
+    return line + [setup.black] * (setup.system.width - len(line))
+
+
+def random_line(setup):
+    """The bytes of a line: drawn, with glitches, held levels or noise, and swinging more or less than from black to
+    white; of random runs; or of random samples."""
+    system, black, white = setup
+    kind, line, middle, swing = random.random(), [], (black + white) // 2, white - black
+    if kind > 0.9:
+        return packed(system, [random.randrange(65536) for _ in range(system.width)])
+    if kind > 0.75:
+        while len(line) < system.width:
+            line += [random.choice([black, white])] * random.choice([1, 2, 3, 11, 14, 18, 28, 29, 36, 60, 300])
+        return packed(system, line)
+    start = random.choice([*range(system.first - 3, system.first + 4), system.first, 40, 0])
+    half = random.choice([system.half] * 4 + system.halves)
+    line = drawn_line(random.randrange(2 ** 23, 2 ** 24), setup, start, half, random.choice([0, 0, 0, 1, 1, 3, 5]))
+    for _ in range(random.choice([0, 1, 1, 2, 5, 20])):
+        at, length = random.randrange(system.width), random.choice([1, 1, 2, 3, 3, 4, 7, 20, 40, 60])
+        level = random.choice([black, white, middle, middle + 1, 0, 65535])
+        line[at:at + length] = [level] * len(line[at:at + length])
+    if random.random() < 0.2:
+        factor, above = random.choice([1, 2, 5, 8, 13, 15, 17]), random.choice([-3, 0, 2, 4]) * swing // 10
+        line = [middle + (sample - middle) * factor // 10 + above for sample in line]
+    spread = random.choice([0, 0, 0, 0, 1, 500, abs(swing) // 4, 3 * abs(swing) // 4])
+    return packed(system, [min(65535, max(0, sample + random.randint(-spread, spread))) for sample in line])
+
+
+def random_rows(setup, count):
+    """The bytes of so many lines: of one word or of several, blank ones, and lines of any kind."""
+    kinds = [random_line(setup) for _ in range(3)] + [packed(setup.system, [])]
+    return b"".join(random.choices(kinds, [6, 4, 2, 1], k=count))
+
+
+def field_of(system, lines):
+    """The bytes of a field with these three lines."""
+    return bytes(2 * system.width * 15) + lines + bytes(2 * system.width * (system.height - 18))
 
 
 # ---- The library, whose calls and their parameters are those of its header
@@ -236,7 +223,7 @@ ITEMS = {"void": 1, "uint32_t": 4, "LdvbiNumber": 8, "LdvbiErased": 16, "LdvbiSi
 PATTERN = b"\xa5" * 2 ** 13
 
 
-def arguments_of(name, given, choose):
+def arguments_of(name, given):
     """The arguments of a call by the names of its parameters, with ... for what is written. A length is that of the
     array before it, where it isn't given. Numbers and lengths are seldom wrong."""
     count, wrong = 0, (-2, -1)
@@ -248,128 +235,122 @@ def arguments_of(name, given, choose):
             wrong = (-2, -1, 1)
             yield ...
         elif kind == "size_t":
-            yield ctypes.c_size_t(max(0, given.get(parameter, count) + rarely(choose, wrong, 0)))
+            yield ctypes.c_size_t(max(0, given.get(parameter, count) + rarely(wrong, 0)))
         else:
-            yield ctypes.c_uint32(rarely(choose, (0, 3, 4, 257, 65536, 2 ** 32 - 1), given[parameter]))
+            yield ctypes.c_uint32(rarely((0, 3, 4, 257, 65536, 2 ** 32 - 1), given[parameter]))
 
 
 def answer_of(library, name, arguments):
     """What a library answers, and what it writes over a pattern."""
     function = getattr(library, name)
     function.restype = NUMBERS[CALLS[name][0]]
-    written = [ctypes.create_string_buffer(PATTERN, len(PATTERN)) for one in arguments if one is ...]
-    places = iter(written)
-    answer = function(*[next(places) if one is ... else one for one in arguments])
-    parts = [bytearray(one.raw) for one in written]
+    places = [ctypes.create_string_buffer(PATTERN, len(PATTERN)) if one is ... else one for one in arguments]
+    answer = function(*places)
+    written = [bytearray(place.raw) for place, one in zip(places, arguments) if one is ...]
     if name == "ldvbi_judge_side":
         for gap in range(0, len(PATTERN) - 48, 48):  # Anything may stand between two members of a gap.
-            parts[0][gap + 44:gap + 48] = bytes(4)
-    return answer, parts
+            written[0][gap + 44:gap + 48] = bytes(4)
+    return answer, written
 
 
-def random_readings(choose):
+def random_readings():
     """The readings of a stretch of a simulated side, some of which are others, and stand at a column by their line."""
-    records = simulated(choose.randrange(2 ** 30), count=80).document["fields"][choose.randrange(40):]
+    records = simulated(random.randrange(2 ** 30), count=80).document["fields"][random.randrange(40):]
     readings = bytearray()
-    for record in records[:choose.choice([0, 1, 2, 24, 25, 49, 50, choose.randrange(150), 300])]:
+    for record in records[:random.choice([0, 1, 2, 24, 25, 49, 50, random.randrange(150), 300])]:
         for line, (word, passed) in enumerate(zip(record["vbi"]["vbiData"], record["vbiPass"])):
-            if choose.random() < 0.06:
-                word = choose.choice([0, word ^ 1 << choose.randrange(24), 0x82CFFF, choose.randrange(2 ** 32)])
-                passed = choose.choice([1, 2, 3, choose.randrange(256)])
-            readings += struct.pack("<BBHI", choose.randrange(5), passed, line, word)
+            word = rarely([0, word ^ 1 << random.randrange(24), 0x82CFFF, random.randrange(2 ** 32)], word)
+            passed = rarely([1, 2, 3, random.randrange(256)], passed)
+            readings += struct.pack("<BBHI", random.randrange(5), passed, line, word)
     return bytes(readings)
 
 
-def compare_judges(call, choose):
-    """A side judged in each way, and whole, with some answers altered and room for some of its gaps; and a search in
-    answers of any kind."""
-    readings = random_readings(choose)
-    count = len(readings) // 24
-    given = {"system": choose.choice([1, 2]), "counted": choose.choice([1, 2]), "pace": choose.choice([1, 2, 3]),
-             "both": choose.choice([0, 1, 3, 3]), "may_end": choose.choice([0, 1, 256]), "readings": readings}
-    judged, ends = call("ldvbi_judge", given), call("ldvbi_judge_ends", given)
-    yield from (judged, ends)
-    for name in ("judge_chapters", "complete_times", "judge_stops", "find_pace"):
-        yield call(f"ldvbi_{name}", given)
-    few = min(count, choose.choice([count, 97, 97, 98]))
-    yield call("ldvbi_judge_field", given, readings=readings[:24 * few], field=choose.randrange(few + 1))
-    answers = b"".join(part[:size * count] for part, size in zip(judged[1][0][1] + ends[1][0][1], (20, 8, 4)))
+def altered(answers):
+    """Answers of which some numbers are others."""
     answers = bytearray(answers)
-    for _ in range(choose.choice([0, 0, 1, 20]) if count else 0):
-        at = 4 * choose.randrange(8 * count)
-        answers[at:at + 4] = choose.choice([0, 1, 2, 3, 2 ** 32 - 1, choose.randrange(79999)]).to_bytes(4, "little")
-    seen, numbers, ends = (bytes(answers[begin * count:end * count]) for begin, end in ((0, 20), (20, 28), (28, 32)))
+    for _ in range(random.choice([0, 0, 1, 20]) if answers else 0):
+        at = 4 * random.randrange(len(answers) // 4)
+        answers[at:at + 4] = random.choice([0, 1, 2, 3, 2 ** 32 - 1, random.randrange(79999)]).to_bytes(4, "little")
+    return bytes(answers)
+
+
+def compare_judges(call):
+    """A side judged in each way, and whole, with some answers altered and room for some of its gaps."""
+    readings = random_readings()
+    count = len(readings) // 24
+    given = {"system": random.choice([1, 2]), "counted": random.choice([1, 2]), "pace": random.choice([1, 2, 3]),
+             "both": random.choice([0, 1, 3, 3]), "may_end": random.choice([0, 1, 256]), "readings": readings}
+    for name in ("judge_chapters", "complete_times", "judge_stops", "find_pace", "judge_ends", "judge"):
+        yield call(f"ldvbi_{name}", given)
+    few = min(count, random.choice([count, 97, 97, 98]))
+    yield call("ldvbi_judge_field", given, readings=readings[:24 * few], field=random.randrange(few + 1))
+    judged, ends = call("ldvbi_judge", given), call("ldvbi_judge_ends", given)
+    (_, (seen, numbers)), (_, (ends,)) = judged[1][0], ends[1][0]
+    numbers = altered(numbers[:8 * count])
     yield call("ldvbi_find_both", given, numbers=numbers)
-    yield call("ldvbi_judge_side", given, pace=choose.choice([1, 2]), seen=seen, numbers=numbers, ends=ends,
-               gap_room=choose.choice([0, 1, 2, 9]))
-    numbers = b"".join(struct.pack("<II", choose.randrange(4), choose.randrange(6)) for _ in range(count))
-    yield call("ldvbi_first_of", given, numbers=numbers, number=choose.randrange(4))
+    yield call("ldvbi_first_of", given, numbers=numbers, number=int.from_bytes(numbers[-8:-4], "little"))
+    yield call("ldvbi_judge_side", given, pace=random.choice([1, 2]), seen=altered(seen[:20 * count]), numbers=numbers,
+               ends=altered(ends[:4 * count]), gap_room=random.choice([0, 1, 2, 9]))
 
 
-def compare_seek(call, choose):
+def compare_seek(call):
     """A number sought in the bytes of a few fields, not all of which show theirs."""
-    system = choose.choice(list(SYSTEMS))
-    code, width, height = SYSTEMS[system]
-    begin, side = choose.randrange(79000), b""
-    for field in range(choose.randrange(14)):
-        line = bytes(2 * width)
-        if field % 2 == 0 and choose.random() < 0.9:
+    setup = Setup(random.choice([NTSC, PAL]), 16384, 51200)
+    begin, side = random.randrange(79000), b""
+    for field in range(random.randrange(14)):
+        line = []
+        if field % 2 == 0 and random.random() < 0.9:
             word = 0xF00000 | int(str(begin + field // 2), 16)
-            line = packed(system, drawn_line(choose, word, 0, 65535, *CELLS[system][:2], 0))
-        side += bytes(2 * width * 16) + 2 * line + bytes(2 * width * (height - 18))
-    yield call("ldvbi_seek", {"system": code, "black": 16384, "white": 51200, "bytes": side}, counted=1,
-               pace=choose.choice([1, 2, 3]), number=begin + choose.randrange(8))
+            line = drawn_line(word, setup, setup.system.first, setup.system.half, 0)
+        side += field_of(setup.system, 3 * packed(setup.system, line))
+    yield call("ldvbi_seek", {"system": setup.system.number, "black": setup.black, "white": setup.white},
+               bytes=side, counted=1, pace=random.choice([1, 2, 3]),
+               number=begin + random.randrange(8))
 
 
-def random_erased(choose, fields):
+def random_erased(fields):
     """A list of erased columns, which is sorted but rarely."""
-    columns = (sorted(choose.randrange(1200) for _ in range(2)) for _ in range(choose.randrange(6)))
-    entries = sorted((choose.randrange(fields), choose.randrange(16, 19), *both) for both in columns)
-    if choose.random() < 0.1:
-        choose.shuffle(entries)
-    return b"".join(struct.pack("<4I", *entry) for entry in entries)
+    entries = [(random.randrange(fields), random.randrange(16, 19), *sorted(random.sample(range(1200), 2)))
+               for _ in range(random.randrange(6))]
+    return b"".join(struct.pack("<4I", *entry) for entry in rarely([entries], sorted(entries)))
 
 
-def compare_lines(call, choose):
+def compare_lines(call):
     """Lines of any kind, read alone, as rows and as fields, and drawn; words classified; nearest and recovered ones."""
-    system = choose.choice(list(SYSTEMS))
-    code, width, _ = SYSTEMS[system]
-    black, white = random_levels(choose)
-    lines = [random_line(choose, system, black, white) for _ in range(3)]
-    word = choose.choice([0, choose.randrange(2 ** 24), choose.randrange(2 ** 23, 2 ** 24), 2 ** 32 - 1])
-    given = {"system": code, "black": black, "white": white, "word": word, "line": 17}
-    yield call("ldvbi_read_line", given, samples=lines[0])
-    yield call("ldvbi_read_rows", given, samples=b"".join(lines))
-    yield call("ldvbi_draw_line", given, length=2 * width)
-    words = [choose.choice([0, 0x82CFFF, 0x87FFFF, 0xF12345, 0xF0DD09, word]) for _ in range(3)]
-    for value in (*words, choose.randrange(2 ** 32), choose.randrange(2 ** 23, 2 ** 24)):
+    setup = random_setup()
+    word = random.choice([0, random.randrange(2 ** 24), random.randrange(2 ** 23, 2 ** 24), 2 ** 32 - 1])
+    given = {"system": setup.system.number, "black": setup.black, "white": setup.white, "word": word, "line": 17}
+    yield call("ldvbi_read_line", given, samples=random_line(setup))
+    yield call("ldvbi_read_rows", given, samples=random_rows(setup, 3))
+    yield call("ldvbi_draw_line", given, length=2 * setup.system.width)
+    words = [random.choice([0, 0x82CFFF, 0x87FFFF, 0xF12345, 0xF0DD09, word]) for _ in range(3)]
+    for value in (*words, random.randrange(2 ** 32), random.randrange(2 ** 23, 2 ** 24)):
         yield call("ldvbi_classify", {"word": value})
     yield call("ldvbi_format", dict(zip(("first", "second", "third"), words)))
-    if choose.random() < 0.2:
-        rows = random_rows(choose, system, black, white, 3)
-        worn = random_rows(choose, system, black, white, choose.choice([1, 1, 2, 2, 3, 28, 29]))
-        erased = b"".join(struct.pack("<4I", place, 17, 300, 300 + choose.randrange(200)) for place in range(2))
+    if random.random() < 0.2:
+        worn = random_rows(setup, random.choice([1, 1, 2, 2, 3, 28, 29]))
+        erased = b"".join(struct.pack("<4I", place, 17, 300, 300 + random.randrange(200)) for place in range(2))
         yield call("ldvbi_nearest", given, samples=worn)
-        yield call("ldvbi_recover_pile", given, known=choose.choice([0, 1, 1, 2]), samples=worn,
-                   erased=erased[:choose.choice([0, 16, 32])])
+        yield call("ldvbi_recover_pile", given, known=random.choice([0, 1, 1, 2]), samples=worn,
+                   erased=erased[:random.choice([0, 16, 32])])
         for name in ("ldvbi_recover_rows", "ldvbi_recover_rows_without", "ldvbi_recovered_record"):
-            yield call(name, given, samples=rows, erased=random_erased(choose, 1),
-                       number=choose.randrange(2 ** choose.randrange(33)))
-    if choose.random() < 0.05:
-        field = random_field(choose, system, black, white)
+            yield call(name, given, samples=random_rows(setup, 3), erased=random_erased(1),
+                       number=random.randrange(2 ** random.randrange(33)))
+    if random.random() < 0.05:
+        field = field_of(setup.system, random_rows(setup, 3))
         yield call("ldvbi_read_field", given, samples=field)
         for name in ("ldvbi_read_fields", "ldvbi_recover_fields", "ldvbi_recover_fields_without"):
-            yield call(name, given, samples=2 * field, erased=random_erased(choose, 2),
-                       count=choose.choice([1, 2, 2, 2, 3, 2 ** 40]))
-        yield from compare_seek(call, choose)
+            yield call(name, given, samples=2 * field, erased=random_erased(2),
+                       count=random.choice([1, 2, 2, 2, 3, 2 ** 40]))
+        yield from compare_seek(call)
 
 
-def compare_library(paths, choose, count):
+def compare_library(paths, count):
     """Each call, with arguments of which most fit."""
     libraries = [ctypes.CDLL(path) for path in paths]
 
     def call(name, given, **others):
-        arguments = list(arguments_of(name, {**given, **others}, choose))
+        arguments = list(arguments_of(name, {**given, **others}))
         return (name, arguments), [answer_of(library, name, arguments) for library in libraries]
 
     for name, (_, parameters) in CALLS.items():
@@ -377,27 +358,25 @@ def compare_library(paths, choose, count):
             for system in (0, 1, 2, 3, 257, 2 ** 32 - 1):
                 yield call(name, {"system": system})
     for _ in range(count):
-        yield from compare_lines(call, choose)
-        yield from compare_judges(call, choose)
+        yield from compare_lines(call)
+        yield from compare_judges(call)
 
 
 def main(what, proved, other, count, seed, *runner):
-    choose = random.Random(f"{what} {seed}")
+    random.seed(f"{what} {seed}")
     if what == "library":
-        pairs = compare_library([proved, other], choose, int(count))
+        pairs = compare_library([proved, other], int(count))
     else:
         kind = {"words": words, "streams": streams, "rows": rows, "metadata": metadata}[what]
-        pairs = compare_programs(kind, [[proved], [*runner, other]], choose, int(count))
-    runs = different = 0
-    for given, (one, two) in pairs:
-        runs += 1
+        pairs = compare_programs(kind, [[proved], [*runner, other]], int(count))
+    runs = 0
+    for runs, (given, (one, two)) in enumerate(pairs, 1):
         if compared(what, one) != compared(what, two):
-            different += 1
-            if different <= 10:
-                print(f"{what}, seed {seed}, run {runs}: {str(given)[:500]}")
-                print(f"  proved: {str(one)[:500]}\n  other:  {str(two)[:500]}")
-    print(f"{what}: {runs} runs, {different} different")
-    return different != 0 or runs < max(1, int(count))
+            print(f"{what}, seed {seed}, run {runs}: {str(given)[:500]}")
+            print(f"  proved: {str(one)[:500]}\n  other:  {str(two)[:500]}")
+            return 1
+    print(f"{what}: {runs} runs, all the same")
+    return runs < max(1, int(count))
 
 
 if __name__ == "__main__":

@@ -34,7 +34,7 @@ fi
 # A difference is found: in the letters of help, in a status, in what is said, and in what a library writes
 different() {
     ! (COMPARE_SEED=1 COMPARE_RUNNER=${5:-} times=1 && compared "$1" "$2" "$3" "$4") > found &&
-        grep -q "^$script: $1: [0-9]* runs, [1-9][0-9]* different$" found && [ ! -s err ]
+        grep -q "^$script:   other: " found && [ ! -s err ]
 }
 while read -r what count altering; do
     stub altering "$altering"
