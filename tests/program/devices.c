@@ -132,11 +132,6 @@ void *malloc(size_t size)
 
 void *realloc(void *block_before, size_t size)
 {
-    /* With no size a block is freed, and NULL is no refusal. */
-    if (size == 0) {
-        free(block_before);
-        return NULL;
-    }
     REFUSABLE("realloc", (void *, size_t), block_before, size);
 }
 

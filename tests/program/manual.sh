@@ -43,21 +43,13 @@ ldvbi --v|--version
 ldvbi help |$commands
 ldvbi help s|show
 ldvbi help show |
-ldvbi help show s|
 ldvbi line --system=|NTSC PAL
-ldvbi line --system=P|PAL
 ldvbi draw --black 16384 --system N|NTSC
+ldvbi show --m|--max-fields --meta
 ldvbi extract --max-fields=|
+ldvbi line --black |
+$(for command in $commands; do echo "ldvbi $command --|$(cat $command.options)"; done)
 END
-for command in $commands; do
-    cat << END
-ldvbi $command --|$(cat $command.options)
-ldvbi $command --m|$(grep -o -e '--m[a-z-]*' $command.options | paste -s -d ' ')
-ldvbi $command --system |NTSC PAL
-ldvbi $command --black |
-ldvbi $command --white |
-END
-done >> offers
 printf '%s\n' 'ldvbi extract |files' 'ldvbi extract --meta |files' 'ldvbi extract --meta=s|files' > bash.offers
 printf '%s\n' 'ldvbi extract pag|page.one page.txt' 'ldvbi extract --meta page.t|page.txt' \
     'ldvbi extract --meta=page.t|page.txt' > zsh.offers
@@ -65,14 +57,12 @@ offered ldvbi
 cat > offers << END
 ldvbi-side --|$(cat side.options)
 ldvbi-side side.tbc --s|--seek --strict --summary --svg --system
-ldvbi-side --system |NTSC PAL
 ldvbi-side --system=P|PAL
 ldvbi-side --seek |
 ldvbi-side scan --|$(cat scan.options)
 ldvbi-side scan --j|--jobs --json
 ldvbi-side scan -j |
 ldvbi-side join --|$(cat join.options)
-ldvbi-side join a.tbc --ra|--ranges
 ldvbi-side join a.tbc --system |NTSC PAL
 END
 printf '%s\n' 'ldvbi-side |files' 'ldvbi-side --svg |files' 'ldvbi-side -o s|files' \

@@ -12,16 +12,8 @@ printf '{"videoParameters":{"system":"NTSC","black16bIre":8224,"white16bIre":164
 
 # Words that are refused: what else is, and how, is tested where the words are read (crates/vbi_cli_tests), and of other
 # words it is compared by rust_compare.sh
-cat > refusal << END
-error: 'ldvbi' requires a subcommand but one was not provided
-  [subcommands: line, extract, show, draw, help]
-
-Usage: ldvbi <COMMAND>
-
-For more information, try '--help'.
-END
 run
-check_refusal 'no command' ended 2 empty refusal
+check 'no command' is_refused
 run line $levels "$(printf '\377')"
 judge 'a word that is not text' 2 empty 'ldvbi: arguments are not UTF-8'
 
