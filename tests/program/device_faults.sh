@@ -68,7 +68,6 @@ words|draw $ntsc|0 21 end||0|drawn.tbc:478660||22 reads, 263 writes
 words|draw $ntsc|0|1000 error|1|drawn.tbc:1000|write failed after 1000 bytes|21 reads, 2 writes
 words|draw $ntsc|0|0 1 1820|0|drawn.tbc:957320||33 reads, 2345 writes
 empty|line $levels longer.raw|3 7 error||1|empty:0|read failed at byte 7|2 reads, 0 writes
-empty|extract $ntsc two.tbc|3 479660 interrupt||1|begun:1000|read failed in field 2 at byte 1000|281 reads, 2 writes
 empty|extract $ntsc two.tbc|3 479660 interrupt 16||0|whole:1000||544 reads, 4 writes
 longer.raw|line --meta line.json|3 10 end||1|empty:0|metadata is not JSON|2 reads, 0 writes
 longer.raw|line --meta line.json|3 0 1||0|word:7||77 reads, 1 writes

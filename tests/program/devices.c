@@ -14,8 +14,6 @@
 #include <dlfcn.h>
 #include <errno.h>
 #include <fcntl.h>
-#include <limits.h>
-#include <stdint.h>
 #include <stdio.h>
 #include <stdlib.h>
 #include <string.h>
@@ -30,13 +28,11 @@ struct device {
     unsigned long asked;
 };
 
-static struct device input = {-1, SIZE_MAX, "", ULONG_MAX}, output = {-1, SIZE_MAX, "", ULONG_MAX};
+static struct device input = {-1, -1, "", -1}, output = {-1, -1, "", -1};
 
 /* How many bytes a call for `size` may move; or -1, with the number of the error in errno. */
-static ssize_t allow(struct device *device, size_t size)
-{
+static ssize_t allow(struct device *device, size_t size) {
     size_t most = device->moved < device->at ? device->at - device->moved : size;
-
     if (device->moved >= device->at && device->left > 0) {
         device->left--;
         errno = strcmp(device->kind, "error") == 0 ? EIO : strcmp(device->kind, "interrupt") == 0 ? EINTR : 0;
@@ -48,11 +44,9 @@ static ssize_t allow(struct device *device, size_t size)
 }
 
 /* Calls the next function of this name. Of the device's descriptor it moves at most what its fault allows. */
-static ssize_t move(struct device *device, const char *name, int descriptor, void *bytes, size_t size)
-{
+static ssize_t move(struct device *device, const char *name, int descriptor, void *bytes, size_t size) {
     ssize_t (*real)(int, void *, size_t) = (ssize_t (*)(int, void *, size_t))dlsym(RTLD_NEXT, name);
     ssize_t count;
-
     if (descriptor != device->descriptor)
         return real(descriptor, bytes, size);
     device->asked++;
@@ -63,52 +57,43 @@ static ssize_t move(struct device *device, const char *name, int descriptor, voi
     return count;
 }
 
-ssize_t read(int descriptor, void *bytes, size_t size)
-{
+ssize_t read(int descriptor, void *bytes, size_t size) {
     return move(&input, "read", descriptor, bytes, size);
 }
 
-ssize_t write(int descriptor, const void *bytes, size_t size)
-{
+ssize_t write(int descriptor, const void *bytes, size_t size) {
     return move(&output, "write", descriptor, (void *)bytes, size);
 }
 
-static void begin(struct device *device, const char *plan)
-{
+static void begin(struct device *device, const char *plan) {
     if (plan != NULL)
         sscanf(plan, "%d %zu %15s %lu", &device->descriptor, &device->at, device->kind, &device->left);
 }
 
-__attribute__((constructor)) static void begin_both(void)
-{
+__attribute__((constructor)) static void begin_both(void) {
     begin(&input, getenv("DEVICE_READ"));
     begin(&output, getenv("DEVICE_WRITE"));
 }
 
-__attribute__((destructor)) static void record(void)
-{
+__attribute__((destructor)) static void record(void) {
     const char *path = getenv("DEVICE_RECORD");
     FILE *file = path == NULL ? NULL : fopen(path, "w");
-
     if (file == NULL)
         return;
     fprintf(file, "%lu reads, %lu writes\n", input.asked, output.asked);
     fclose(file);
 }
 
-static int is_refused(void)
-{
+static int is_refused(void) {
     static unsigned long count;
     const char *at = getenv("REFUSE_AT");
 
     return at != NULL && ++count == strtoul(at, NULL, 10);
 }
 
-static void mark(void)
-{
+static void mark(void) {
     const char *path = getenv("REFUSE_MARK");
     int file = path == NULL ? -1 : open(path, O_WRONLY | O_CREAT, 0600);
-
     if (file < 0)
         abort();
     close(file);
@@ -125,17 +110,14 @@ static void mark(void)
         mark();                                                             \
     return block
 
-void *malloc(size_t size)
-{
+void *malloc(size_t size) {
     REFUSABLE("malloc", (size_t), size);
 }
 
-void *realloc(void *block_before, size_t size)
-{
+void *realloc(void *block_before, size_t size) {
     REFUSABLE("realloc", (void *, size_t), block_before, size);
 }
 
-void *calloc(size_t number, size_t size)
-{
+void *calloc(size_t number, size_t size) {
     REFUSABLE("calloc", (size_t, size_t), number, size);
 }

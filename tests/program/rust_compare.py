@@ -26,9 +26,8 @@ VALUES = ["", "-", "0", "1", "5", "-1", "+5", "++5", "65535", "65536", "8224", "
           " 5", "99999999999999999999", "-99999999999999999999", "NTSC", "PAL", "NTS", "PALS", "ntsc", "line.raw",
           "beside.raw", "wrong.raw", "absent", ".", "meta.json", "bad.json", "\u00e4\u20ac\U0001f4bf"]
 # Words that are near a command or an option, and others
-STRAY = ["--", "-x", "-xh", "-hx", "-5", "--met=meta.json", "--meat", "--blac=5", "--maxfields", "--syste", "--helq",
-         "--vers", "--zzz", "---", "lines", "lien", "Line", "extra", "lineextract", "sho", "daw", "help", "helps",
-         "--=5", "-=", "--help=x", "--black=x=y", "\u00fc"]
+STRAY = ["--", "-x", "-xh", "-hx", "-5", "--met=meta.json", "--meat", "--blac=5", "--maxfields", "--helq", "---", "lines",
+         "lien", "Line", "lineextract", "sho", "help", "helps", "--=5", "-=", "--help=x", "--black=x=y", "\u00fc"]
 # Options that make a job
 FIT = {"--meta": ["meta.json"], "--system": ["NTSC", "NTSC", "PAL"], "--black": ["5", "+5", "08224", "16448"],
        "--white": ["16448", "51200", "65535"], "--max-fields": ["1", "5", "0", "1000000"]}
@@ -120,12 +119,10 @@ def metadata():
     names = random.sample(list(MEMBERS)[:-1], random.randrange(2, 7))
     names += ["other"] * (random.random() < 0.15) + [random.choice(names)] * (random.random() < 0.1)
     members = [f'"{name}":{random.choice(MEMBERS[name][:random.choice([2, 2, None])])}' for name in names]
-    ending = random.choice(["}}", "}}", "}}\n ", '},"fields":[]}'])
-    data = bytearray(f'{{"videoParameters":{{{",".join(members)}{ending}'.encode())
+    data = bytearray(f'{{"videoParameters":{{{",".join(members)}}},"fields":[]}}'.encode())
     if random.random() < 0.2:
         data[random.randrange(len(data))] = random.randrange(256)
-    depth = random.choice([125, 126, 127, 128])
-    data = rarely([b'{"videoParameters":{},"a":' + b"[" * depth + b"]" * depth + b"}"], data)
+    data = rarely([b'{"videoParameters":{},"a":%s%s}' % (b"[" * depth, b"]" * depth) for depth in range(125, 129)], data)
     options = random.choice(["--system NTSC", "--black 5", "--white 60000", "--max-fields 0", *[""] * 8])
     yield ["extract", "--meta", "given", "/dev/null", *options.split()], bytes(data)
 
@@ -183,28 +180,28 @@ def random_line(setup):
     kind, line, middle, swing = random.random(), [], (black + white) // 2, white - black
     if kind > 0.9:
         return packed(system, [random.randrange(65536) for _ in range(system.width)])
-    if kind > 0.75:
+    if kind > 0.8:
         while len(line) < system.width:
             line += [random.choice([black, white])] * random.choice([1, 2, 3, 11, 14, 18, 28, 29, 36, 60, 300])
         return packed(system, line)
-    start = random.choice([*range(system.first - 3, system.first + 4), system.first, 40, 0])
-    half = random.choice([system.half] * 4 + system.halves)
-    line = drawn_line(random.randrange(2 ** 23, 2 ** 24), setup, start, half, random.choice([0, 0, 0, 1, 1, 3, 5]))
-    for _ in range(random.choice([0, 1, 1, 2, 5, 20])):
+    start = random.choice([system.first + random.randrange(-3, 4)] * 8 + [40, 0])
+    half = random.choice([system.half] * 12 + system.halves)
+    line = drawn_line(random.randrange(2 ** 23, 2 ** 24), setup, start, half, random.choice([0, 0, 0, 0, 1, 1, 3, 5]))
+    for _ in range(random.choice([0, 0, 1, 1, 2, 5, 20])):
         at, length = random.randrange(system.width), random.choice([1, 1, 2, 3, 3, 4, 7, 20, 40, 60])
         level = random.choice([black, white, middle, middle + 1, 0, 65535])
         line[at:at + length] = [level] * len(line[at:at + length])
     if random.random() < 0.2:
         factor, above = random.choice([1, 2, 5, 8, 13, 15, 17]), random.choice([-3, 0, 2, 4]) * swing // 10
         line = [middle + (sample - middle) * factor // 10 + above for sample in line]
-    spread = random.choice([0, 0, 0, 0, 1, 500, abs(swing) // 4, 3 * abs(swing) // 4])
+    spread = random.choice([0, 0, 0, 0, 0, 1, 500, abs(swing) // 4, abs(swing)])
     return packed(system, [min(65535, max(0, sample + random.randint(-spread, spread))) for sample in line])
 
 
 def random_rows(setup, count):
-    """The bytes of so many lines: of one word or of several, blank ones, and lines of any kind."""
-    kinds = [random_line(setup) for _ in range(3)] + [packed(setup.system, [])]
-    return b"".join(random.choices(kinds, [6, 4, 2, 1], k=count))
+    """The bytes of so many lines, some of which are the same."""
+    kinds = [random_line(setup) for _ in range(random.choice([2, count, count]))]
+    return b"".join(kinds[:count] + random.choices(kinds, k=count - len(kinds)))
 
 
 def field_of(system, lines):
