@@ -19,7 +19,6 @@ document_head NTSC 910 263 16384 51200 > begun
 record 1 8572927,15803205,15803205 '"word","word","word"' 1,1,1 >> begun
 { cat begun; printf ',\n'; record 2 8912895,15785225,8572927 '"word","word","word"' 1,1,2; cut_field null; } > whole
 { cat begun; cut_field '{"seqNo":2,"bytes":1000}'; } > cut.json
-cp "$stored/stdout" word
 { cat "$stored/stdin"; echo rest; } > longer.raw
 printf '82CFFF F12345 F12345\n82CFFF - -\n' > words
 printf '82CFFF|F12345|F12345\n82CFFF|-|-\n' | signal NTSC 1 > drawn.tbc
@@ -57,11 +56,11 @@ two.tbc|extract $ntsc|0|30 end|1|whole:30|write failed after 30 bytes|0 reads, 2
 two.tbc|extract $ntsc|0|30 interrupt|1|whole:30|write failed after 30 bytes|0 reads, 18 writes
 two.tbc|extract $ntsc|0|30 interrupt 16|0|whole:1000||527 reads, 21 writes
 two.tbc|extract $ntsc|0|30 1 1|0|whole:1000||527 reads, 6 writes
-longer.raw|line $levels|0||0|word:7||1 reads, 1 writes
-longer.raw|line $levels|0 7 interrupt 16||0|word:7||18 reads, 1 writes
-longer.raw|line $levels|0 0 1||0|word:7||1820 reads, 1 writes
+longer.raw|line $levels|0||0|$stored/stdout:7||1 reads, 1 writes
+longer.raw|line $levels|0 7 interrupt 16||0|$stored/stdout:7||18 reads, 1 writes
+longer.raw|line $levels|0 0 1||0|$stored/stdout:7||1820 reads, 1 writes
 longer.raw|line $levels|0 1819 end 1||1|empty:0|short line: 1819 of 1820 bytes|2 reads, 0 writes
-longer.raw|line $levels|0|0 1|0|word:7||1 reads, 7 writes
+longer.raw|line $levels|0|0 1|0|$stored/stdout:7||1 reads, 7 writes
 words|draw $ntsc|0 21 error||1|drawn.tbc:478660|read failed in row 2|22 reads, 263 writes
 words|draw $ntsc|0 25 interrupt 16||0|drawn.tbc:957320||49 reads, 526 writes
 words|draw $ntsc|0 21 end||0|drawn.tbc:478660||22 reads, 263 writes
@@ -70,8 +69,8 @@ words|draw $ntsc|0|0 1 1820|0|drawn.tbc:957320||33 reads, 2345 writes
 empty|line $levels longer.raw|3 7 error||1|empty:0|read failed at byte 7|2 reads, 0 writes
 empty|extract $ntsc two.tbc|3 479660 interrupt 16||0|whole:1000||544 reads, 4 writes
 longer.raw|line --meta line.json|3 10 end||1|empty:0|metadata is not JSON|2 reads, 0 writes
-longer.raw|line --meta line.json|3 0 1||0|word:7||77 reads, 1 writes
-longer.raw|line --meta line.json|3 10 interrupt 1000||0|word:7||1003 reads, 1 writes
+longer.raw|line --meta line.json|3 0 1||0|$stored/stdout:7||77 reads, 1 writes
+longer.raw|line --meta line.json|3 10 interrupt 1000||0|$stored/stdout:7||1003 reads, 1 writes
 longer.raw|line --meta line.json|3 10 error||1|empty:0|cannot read metadata|2 reads, 0 writes
 END
 finish

@@ -11,7 +11,6 @@ from program import COMMANDS_OF_LDVBI, LITERAL, TOP, fields_of, unescaped
 SOURCE = pathlib.Path(TOP, COMMANDS_OF_LDVBI).read_text(encoding="utf-8")
 TEXTS = {name: unescaped(text) for name, text in re.findall(r"const (\w+): &str =\s+%s;" % LITERAL, SOURCE)}
 COMMANDS = {row["name"]: row for row in fields_of(SOURCE, "CommandTexts")}
-SYSTEMS = "[possible values: NTSC, PAL]"
 
 *command, asked = sys.argv[1:]
 about, text, before, other = ("about", "help", " ", "more with '--help'") if asked == "-h" else (
@@ -22,7 +21,7 @@ if command:
     print(row[about], f"Usage: ldvbi {command[0]} [OPTIONS] [INPUT]", "Arguments:", f"[INPUT]{before}{row['input']}",
           "Options:", sep="\n")
     for option in fields_of(SOURCE, "OptionTexts"):
-        values = before + SYSTEMS if option["taken"] == "Taken::System" else ""
+        values = f"{before}[possible values: NTSC, PAL]" if option["taken"] == "Taken::System" else ""
         print(f"--{option['name']} <{option['value']}>{before}{option[text]}{values}")
     if row["recovers"] == "true":
         print(f"--recover{before}{TEXTS['RECOVER_' + text.upper()]}")

@@ -9,10 +9,8 @@
 
 completions=$top/share/completions
 commands='draw extract line show'
-for page in ldvbi.1 ldvbi-side.1; do
-    does mandoc -T lint -W warning "$top/share/man/$page"
-    check "mandoc has no warning of $page" [ "$status$(cat out err)" = 0 ]
-done
+does mandoc -T lint -W warning "$top"/share/man/*.1
+check 'mandoc has no warning of the pages' [ "$status$(cat out err)" = 0 ]
 # options FILE WORD..: writes the long options in this help into the file, sorted, on one line
 options() {
     file=$1
@@ -41,7 +39,6 @@ ldvbi |draw extract help line show
 ldvbi ex|extract
 ldvbi --v|--version
 ldvbi help |$commands
-ldvbi help s|show
 ldvbi help show |
 ldvbi line --system=|NTSC PAL
 ldvbi draw --black 16384 --system N|NTSC

@@ -13,9 +13,8 @@
 echo '82CFFF|F12345|F12345' | signal NTSC 1 > drawn.tbc
 echo '8AE012|87FFFF|F0DD00' | signal PAL 1 > pal.tbc
 { cat pal.tbc; head -c 710509 pal.tbc; } > cut_pal.tbc
-document_head NTSC 910 263 16384 51200 > head.json
-{ cat head.json; cut_field null; } > none.json
-{ cat head.json; record 1 8572927,15803205,15803205 '"word","word","word"' 1,1,1; } > begun.json
+document_head NTSC 910 263 16384 51200 > begun.json
+record 1 8572927,15803205,15803205 '"word","word","word"' 1,1,1 >> begun.json
 { cat begun.json; cut_field null; } > drawn.json
 {
     document_head PAL 1135 313 16384 54016
@@ -35,13 +34,11 @@ fields 1 cut none
 END
 echo '8AE012 87FFFF F0DD00' > pal.words
 printf '82CFFF F12345 F12345\n82CFFF F12345' > malformed
-printf '82cfff f12345 F12345\n\n' > more.words
 cat drawn.tbc drawn.tbc > two.tbc
 echo 87FFFF > pal.line
 # Line 17 of PAL begins 36320 bytes in.
 tail -c +36321 pal.tbc > pal.rest
 judge_rows << END
-the document of no field|extract $ntsc|0|none.json|
 more fields than may be|extract $ntsc --max-fields 1 two.tbc|1|begun.json|too many fields
 a field of PAL drawn|draw $pal pal.words|0|pal.tbc|
 the document of a field of PAL and a cut one|extract $pal cut_pal.tbc|3|cut_pal.json|
@@ -52,7 +49,7 @@ a document as metadata|extract --meta drawn.json drawn.tbc|0|drawn.json|
 words drawn by a document as metadata|draw --meta pal.json pal.words|0|pal.tbc|
 no words|draw $ntsc|0|empty|
 a row of words that ends early|draw $ntsc malformed|1|drawn.tbc|row 2 is malformed
-more rows of words than may be|draw $ntsc --max-fields 1 more.words|1|drawn.tbc|too many fields
+more rows of words than may be|draw $ntsc --max-fields 1 malformed|1|drawn.tbc|too many fields
 END
 
 # How near lines are that are read as different words, as docs/FORMATS.md has it. The last two cells of 800000 are as
@@ -119,8 +116,8 @@ END
 
 # Metadata that is named, or beside the input: INPUT.json is read unless other metadata or all three settings are given.
 # The words, and what `line` prints of the stored line, 82CFFF by its metadata's levels, or what is said
-mkdir side folder.raw.json
-for name in beside side/beside absent; do
+mkdir folder.raw.json
+for name in beside absent; do
     cp line.raw $name.raw
     echo '{"videoParameters":{"system":"NTSC","black16bIre":8224,"white16bIre":16448}}' > $name.raw.json
 done
@@ -136,7 +133,7 @@ while IFS='|' read -r words answer; do
     run_with line.raw line $words
     judge_line "$words, metadata" "$answer"
 done << END
-./side/beside.raw|82CFFF
+./beside.raw|82CFFF
 --black 8224 --max-fields 5 beside.raw|82CFFF
 --system NTSC --white 65535 beside.raw|blank
 --meta far.json beside.raw|blank

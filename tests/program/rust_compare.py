@@ -214,7 +214,6 @@ def field_of(system, lines):
 CALLS = {name: (returned, re.findall(r"(const )?(\w+) (\*?)(\w+)", parameters)) for returned, name, parameters in
          re.findall(r"^(?:LDVBI_[^ ]+ )*(uint32_t|size_t) (ldvbi_\w+)\(([^()]*)\);",
                     (TOP / "include/ldvbi.h").read_text(encoding="utf-8"), re.M)}
-NUMBERS = {"uint32_t": ctypes.c_uint32, "size_t": ctypes.c_size_t}
 ITEMS = {"void": 1, "uint32_t": 4, "LdvbiNumber": 8, "LdvbiErased": 16, "LdvbiSightings": 20, "LdvbiFieldReadings": 24}
 # What there is behind each pointer to something that is written
 PATTERN = b"\xa5" * 2 ** 13
@@ -240,7 +239,7 @@ def arguments_of(name, given):
 def answer_of(library, name, arguments):
     """What a library answers, and what it writes over a pattern."""
     function = getattr(library, name)
-    function.restype = NUMBERS[CALLS[name][0]]
+    function.restype = {"uint32_t": ctypes.c_uint32, "size_t": ctypes.c_size_t}[CALLS[name][0]]
     places = [ctypes.create_string_buffer(PATTERN, len(PATTERN)) if one is ... else one for one in arguments]
     answer = function(*places)
     written = [bytearray(place.raw) for place, one in zip(places, arguments) if one is ...]

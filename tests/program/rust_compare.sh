@@ -43,7 +43,6 @@ done << 'END'
 words 50 "$@" > all || exit; sed 's/^Usage: /Use: /' all
 words 50 "$@" || exit 1
 streams 2 "$@" | sed 's/[0-9A-F] *$/~/'
-metadata 9 "$@" 2> said || exit 1
 END
 echo 'unsigned ldvbi_classify(unsigned word, void *code) { return word >> 23 == 1 ? 0 : 4; }' |
     "${CC:-cc}" -shared -fPIC -o other.so -x c - -x none -Wl,--no-as-needed,-rpath,"$top" "$top/libldvbi.so.1" || exit 1

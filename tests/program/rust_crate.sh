@@ -122,7 +122,6 @@ search: field 21 picture 7\nplay: field 33 picture 17\nchapter: field 10\n|
 1|twice.tbc $on play play play|play: field 5 picture 3\nplay: field 7 picture 4\nplay: not found\n|
 2|side.tbc $on search||usage: player FILE SYSTEM BLACK WHITE search PLACE, chapter N, play ..
 2|side.tbc SECAM 16384 51200 play||system is neither NTSC nor PAL
-2|side.tbc NTSC 51200 16384 play||black level is not below white level
 2|side.tbc $on search 1:2||neither a picture nor a time: 1:2
 2|side.tbc $on stop||no such command: stop
 2|cut.tbc $on play||a field has 478660 bytes, and these are 100

@@ -91,7 +91,6 @@ done << 'END'
 2|2|lines
 2|2|line "$(printf '\377')"
 1|2|line --meta absent.json line.raw
-1|2|line $levels absent.raw
 1|2|line $levels --meta width.json line.raw
 END
 finish
