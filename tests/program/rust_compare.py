@@ -26,7 +26,7 @@ VALUES = ["", "-", "0", "1", "5", "-1", "+5", "++5", "65535", "65536", "8224", "
           " 5", "99999999999999999999", "-99999999999999999999", "NTSC", "PAL", "NTS", "PALS", "ntsc", "line.raw",
           "beside.raw", "wrong.raw", "absent", ".", "meta.json", "bad.json", "\u00e4\u20ac\U0001f4bf"]
 # Words that are near a command or an option, and others
-STRAY = ["--", "-x", "-xh", "-hx", "-5", "--met=meta.json", "--meat", "--blac=5", "--maxfields", "--helq", "---", "lines",
+STRAY = ["--", "-x", "-xh", "-hx", "-5", "--met=meta.json", "--meat", "--blac=5", "--maxfields", "--helq", "lines",
          "lien", "Line", "lineextract", "sho", "help", "helps", "--=5", "-=", "--help=x", "--black=x=y", "\u00fc"]
 # Options that make a job
 FIT = {"--meta": ["meta.json"], "--system": ["NTSC", "NTSC", "PAL"], "--black": ["5", "+5", "08224", "16448"],
@@ -122,9 +122,9 @@ def metadata():
     data = bytearray(f'{{"videoParameters":{{{",".join(members)}}},"fields":[]}}'.encode())
     if random.random() < 0.2:
         data[random.randrange(len(data))] = random.randrange(256)
-    data = rarely([b'{"videoParameters":{},"a":%s%s}' % (b"[" * depth, b"]" * depth) for depth in range(125, 129)], data)
+    deep = [b'{"videoParameters":{},"a":%s%s}' % (b"[" * depth, b"]" * depth) for depth in range(125, 129)]
     options = random.choice(["--system NTSC", "--black 5", "--white 60000", "--max-fields 0", *[""] * 8])
-    yield ["extract", "--meta", "given", "/dev/null", *options.split()], bytes(data)
+    yield ["extract", "--meta", "given", "/dev/null", *options.split()], rarely(deep, bytes(data))
 
 
 def compare_programs(kind, commands, count):
