@@ -45,6 +45,7 @@ ldvbi draw --black 16384 --system N|NTSC
 ldvbi show --m|--max-fields --meta
 ldvbi extract --max-fields=|
 ldvbi line --black |
+ldvbi show --white |
 $(for command in $commands; do echo "ldvbi $command --|$(cat $command.options)"; done)
 END
 printf '%s\n' 'ldvbi extract |files' 'ldvbi extract --meta |files' 'ldvbi extract --meta=s|files' > bash.offers
