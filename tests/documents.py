@@ -1,8 +1,7 @@
 #!/usr/bin/env python3
 """Compares what the documents name with the source. Each check prints how much it looked at; what doesn't fit it names
-on standard error, and then the status is 1, as where it looked at less than CHECKS says, or didn't see a text of a
-document that another one there takes the place of. A check yields whether a thing fits, and what to say where it
-doesn't. texts/write.py has the rest.
+on standard error, and then the status is 1, as where it looked at less than CHECKS says: then it no longer understands
+the documents. A check yields whether a thing fits, and what to say where it doesn't. texts/write.py has the rest.
 
 usage: python3 tests/documents.py [CHECK..]     (at the top of the repository)
 """
@@ -10,6 +9,7 @@ import fnmatch
 import glob
 import json
 import os
+import pathlib
 import re
 import sys
 
@@ -18,19 +18,16 @@ NET = ["https://github.com/happycube/ld-decode"]
 # Where a path that a document names may begin
 FOLDERS = ("", "crates/", "crates/*/", "crates/*/src/", "crates/*/specs/", "rust/hand/src/", "tests/*/", "bench/*/")
 # What is built isn't there before; git is told to leave it out.
-BUILT = [line.strip("/") for line in open(".gitignore", encoding="utf-8").read().split()]
+BUILT = [line.strip("/") for line in pathlib.Path(".gitignore").read_text("utf-8").split()]
 # A path in prose: one with a folder, a folder alone, or the name of a source file
 PATH = re.compile(r"(?<![\w./])(?!PREFIX)[\w.*-]*\w(?:/[\w.*-]+)+\w|[\w-]+/(?=[`, |]|$)|"
                   r"\b\w[\w.]*\.(?:antt|rt|rs|py|sh|c|md)\b")
 # A name in code font: one word, or one with its type, file or crate
 NAME = re.compile(r"[A-Za-z]\w*(?:::\w+)*|(?:[A-Z]\w*|ldvbi\w*)(?:\.[a-z]\w+)+")
-altered = {}  # of a path a text, and the one that stands in its place
 
 
 def read(path):
-    with open(path, encoding="utf-8") as file:
-        text = file.read()
-    return text.replace(*altered[path], 1) if path in altered else text
+    return pathlib.Path(path).read_text("utf-8")
 
 
 def documents():
@@ -82,12 +79,6 @@ def paths():
                     folder = there[0] if os.path.isdir(there[0]) else os.path.dirname(there[0])
 
 
-# What begins an item of a source, and how deep it stands; its name is the last group
-ITEM = re.compile(r"^( *)(?:pub(?:\(\w+\))? |extern \"C\" )*(fn|struct|enum|trait|const|type|record|data|abbrev|"
-                  r"unfoldable|impl)\b(?:<[^>]*>)? (?:pub )?(?:.* for )?(\w+)", re.M)
-COMMENT = re.compile(r"(?://|--) .*")
-# Where it ends, if not with a brace as deep as it begins
-ENDS = {"fn": r"\{\}?$", "const": ";$", "type": ";$"}
 SOURCES = ("crates/*/src/*.rt", "crates/*/specs/*.antt", "include/*.h", "python/**/*.py", "rust/hand/src/*.rs",
            "share/schema/*.json", "tests/*.sh", "tests/python/*.py", "bench/sides/*.py", "rust/build.sh",
            "examples/*.c")
@@ -95,51 +86,32 @@ SOURCES = ("crates/*/src/*.rt", "crates/*/specs/*.antt", "include/*.h", "python/
 NOT_OURS = {"chdman", "console", "manylinux_2_17", "memcpy", "memset", "pipefail", "pv", "siglongjmp", "WILLNEED"}
 
 
-class Source:
-    """The words of the source, and of each item, file and crate the words that stand in it; of a function in its head
-    and its contract."""
-
-    def __init__(self):
-        self.items, self.words = {}, {*NOT_OURS, *glob.glob("*"), *map(os.path.basename, glob.glob("crates/*"))}
-        for path in (path for pattern in SOURCES for path in glob.glob(pattern, recursive=True)):
-            is_ours = path.endswith((".rt", ".antt"))
-            text = COMMENT.sub("", read(path)) if is_ours else read(path)
-            self.words |= self.take((path.split("/")[1:2] or [path])[0], text)
-            self.take(os.path.basename(path).split(".")[0], text)
-            for found in ITEM.finditer(text) if is_ours and "_tests/" not in path else ():
-                end = r"^ *\n" if path.endswith(".antt") else ENDS.get(found[2], rf"^{found[1]}\}}")
-                ends = re.compile(end, re.M).search(text, found.end())
-                self.take(found[3], text[found.start():ends.end() if ends else None])
-
-    def take(self, name, text):
-        words = set(re.findall(r"\w+", text))
-        self.items.setdefault(name, []).append(words)
-        return words
-
-    def has(self, code):
-        """Whether the source has a name, and what stands before it has it."""
-        *owners, name = re.split(r"::|\.", code)
-        within = self.items.get(owners[-1]) if owners else None
-        return any(name in words for words in within) if within else {*owners, name} <= self.words
+def words_of(path):
+    """The words of a source and of its path, of those in Rattle without those of comments."""
+    text = re.sub(r"(?://|--) .*", "", read(path)) if path.endswith((".rt", ".antt")) else read(path)
+    return set(re.findall(r"\w+", text)) | set(re.findall(r"\w+", path))
 
 
 def names():
-    """The functions, definitions and types that documents name are in the source. In a table of PROMISES.md a clause is
-    one of the functions in its row, or of those in the rows above; a field is one of the records in its row or in the
-    table's head, or of `Ran`. ANSWER.md has each member of the answer."""
-    source = Source()
+    """The functions, definitions and types that documents name are in the source, what stands before one (`Type::name`)
+    in the same file. In a table of PROMISES.md a clause or field is in a file with a function or record of its row, of
+    the rows above, or with `Ran`. ANSWER.md has each member of the answer."""
+    files = [words_of(path) for pattern in SOURCES for path in glob.glob(pattern, recursive=True)]
+    files.append({*NOT_OURS, *glob.glob("*"), *map(os.path.basename, glob.glob("crates/*"))})
     for path in documents():
         for code in codes(prose(path)):
             if NAME.fullmatch(code) and not PATH.fullmatch(code):
-                yield source.has(code), f"{path}: {code} isn't in the source"
+                parts = set(re.split(r"::|\.", code))
+                yield any(parts <= words for words in files), f"{path}: {code} isn't in the source"
+    items = set(re.findall(r"\b(?:fn|struct|enum|trait|type|record|data|abbrev|unfoldable) (?:pub )?(\w+)",
+                           "".join(read(path) for path in glob.glob("crates/*/s*/*.*t"))))
     above = set()
     for line in prose("docs/PROMISES.md").split("\n"):
         row = codes(line) if line.startswith("|") else []
-        named = [re.match(r"[\w:.]*", code)[0] for code in row if re.match(r"\w", code)]
-        parts = {one for code in named for one in re.split(r"::|\.", code) if one in source.items}
-        above = above | parts if line.startswith("|") else {"Ran"}
+        named = [re.match(r"[\w:.]*", code)[0] for code in row]
+        above = above | items.intersection(re.findall(r"\w+", " ".join(named))) if row else {"Ran"}
         for name in (name for name in named if re.fullmatch("[a-z_]+", name)):
-            is_near = name in source.items or any(name in words for item in above for words in source.items[item])
+            is_near = name in items or any(name in words and words & above for words in files)
             yield is_near, f"docs/PROMISES.md: {name} isn't in the source, in the row: {line[:80]}"
     named = codes(part("docs/ANSWER.md", "\n## The answer\n", "\n<!-- "))
     for name in json.loads(read("share/schema/ldvbi-side.schema.json"))["properties"]:
@@ -258,51 +230,21 @@ def figures(text):
     return [number.replace(",", "") for number in re.findall(r"(?<![\w.])\d+(?:,\d{3})*(?![\w.]*\d)", text)]
 
 
-# Each check with the least that it has to look at, else it no longer understands the documents; and what it has to see:
-# of a document a text, and another one in its place
-CHECKS = {
-    "links": (links, 70, [
-        ("README.md", "](docs/", "](dogs/"), ("docs/PROMISES.md", "](#not-promised)", "](#not-proved)"),
-        ("README.md", "https://github.com", "https://example.org")]),
-    "paths": (paths, 120, [("CONTRIBUTING.md", "Verdicts.antt", "Verdict.antt")]),
-    "names": (names, 1000, [
-        ("docs/DECISIONS.md", "`Progress::add_row`", "`Progress::added_row`"),
-        ("docs/PROMISES.md", "`fetched`, `written`", "`fetched`, `rewritten`"),
-        ("docs/ANSWER.md", ", `confirmed`", "")]),
-    "faults": (faults, 28, [
-        ("docs/FORMATS.md", "`field width differs`", "`field width differ`"),
-        ("docs/FORMATS.md", "`no system given`", "`unknown system`"),
-        ("docs/FORMATS.md", "else `hold` and that", "else `held` and that"),
-        ("docs/FORMATS.md", "#####...######", "#####....#####")]),
-    "numbers": (numbers, 62, [
-        ("include/ldvbi.h", "1 to 28 times", "1 to 27 times"),
-        ("python/ldvbi/judging.py", "and 10 or more", "and 11 or more"),
-        ("include/ldvbi.h", "  10                       12", "  10                       13"),
-        ("docs/FORMATS.md", "low byte", "high byte")]),
-    "measured": (measured, 20, [
-        ("docs/MEASURED.md", "judged 893 right", "judged 898 right"),
-        ("docs/MEASURED.md", "and 9,997 of", "and 9,979 of")]),
-}
+# Each check, with the least that it has to look at
+CHECKS = {"links": (links, 70), "paths": (paths, 120), "names": (names, 1000), "faults": (faults, 28),
+          "numbers": (numbers, 62), "measured": (measured, 20)}
 
 
 def main():
     status = 0
     for name in sys.argv[1:] or CHECKS:
-        check, least, alterations = CHECKS[name]
+        check, least = CHECKS[name]
         looked_at = list(check())
         print(f"{name}: {len(looked_at)} looked at")
-        faults_found = [text for fits, text in looked_at if not fits]
-        count = len(faults_found)
-        for path, *texts in alterations:
-            altered[path] = texts
-            if sum(not fits for fits, _ in check()) <= count:
-                faults_found.append(f"{name}: not seen in {path}: {' > '.join(texts)}")
-            altered.clear()
-        if len(looked_at) < least:
-            faults_found.append(f"{name}: there were {least}")
-        for fault in faults_found:
-            print(fault, file=sys.stderr)
-            status = 1
+        for fits, fault in [*looked_at, (len(looked_at) >= least, f"{name}: there were {least}")]:
+            if not fits:
+                print(fault, file=sys.stderr)
+                status = 1
     return status
 
 

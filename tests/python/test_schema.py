@@ -1,12 +1,12 @@
-"""The schemas of share/schema/ beside what the command prints of sides of every kind: that is valid, each list has an
-item in some document, and what may stand at each place by a table is valid there, and all else is refused. schema.txt
-has rows for both kinds, then those of each, with || between two on a line. What documents with recovered words and the
-table of `scan` may not be."""
+"""The schemas of share/schema/: what the program and the command print of sides of every kind is valid, and each list
+has an item there. At each place other values are tried: what schema.txt allows is valid, and all else is refused."""
 
+import itertools
 import json
 import os
 import re
 import subprocess
+import sys
 
 from compact import cells_of, made
 from discs import answer, joined, pictures, plain, side
@@ -18,9 +18,13 @@ from ldvbi_side.join.plain import as_json
 from measure import fields_of
 import pytest
 from simulate import KINDS, simulated
-from streams import line_with, NTSC, TOP, write_stream
-from validate_parts import read_table, tried
+from streams import TOP
 
+pytestmark = pytest.mark.unrecorded
+
+# Of each kind of value one that stands nowhere, unless a row says so; and a number that is none of the greatest
+WRONG = (-1, 0.5, True, "x", [], {}, None)
+MANY = 10 ** 9
 # Sides with each form of a member that simulated ones lack
 SIDES = """
     none | PAL || blank | Bx3 || bad | NTSC ?/!/~x3 || lead-in | L 88FFFF/-/- || stop | S/-/-
@@ -32,30 +36,107 @@ SIDES = """
 # Captures that have each form of a member together
 TOGETHER = (("1..50 151..170 71..100", "1..98"), ("1..3 6..8", "6..9", "1..3"), ("m58..59x3000", "m58..59x3000"),
             ("NTSC t0..4499!7%1000", "NTSC t0..4499!7%1000 -1:200 401=-/-/-"))
-# Changes, by jq, after which a document is refused; tests/program/schema.sh has others with recovered words
-NEAR = "{word: 8572927, distance: 0, rival: 0}"
-RECOVERED = (".fields[0].vbiNear[0] = " + NEAR, ".fields[1].vbiNear[0] = " + NEAR, ".fields[1].vbiPass[0] = 3")
-SCAN = r""".version = 1 || .more = 1 || .sides = {} || .sides[2].more = 1 || del(.sides[2].page)
-    .sides[2].side = null || .sides[2].whole = "maybe" || .sides[2].whole = null || .sides[2].lost = -1
-    .sides[2].unread = 0.5 || .sides[2].format = "CAV" || .sides[2].from = "1" || .sides[2].to = -1
-    .sides[2].last = -1 || .sides[2].leadIn = null || .sides[2].leadOut = 0.5 || del(.sides[2].leadOut)
-    .sides[0].leadIn = 0 || .sides[2].fields = null || .sides[2].try = 1 || .sides[0].try = "--white 51000"
-    .sides[2].reasons = "x" || .sides[2].fault = "x" || .sides[0].fields = 0 || .sides[0].whole = "no"
-    .sides[0].fault = null || .sides[0].page = "x" || .sides[0].reasons = ["x"] || del(.sides[0].lost)"""
+# Fields with each cause, with the least and the greatest columns, and with each pass, as described.py makes them; and
+# white, the width of a line, and the first column before which no level is held too long
+SIGNALS = {
+    "NTSC": ("""82CFFF|82CFFF @170-171L|-
+                L900 H10|82CFFF @170-174L|L164 H746
+                H1|L1 H1|L908 H1
+                L11 H11|L11 H37|L873 H37
+                82CFFF @170-174L|-|82CFFF @170-174L""", "51200", 910, 40),
+    "PAL": ("""8AE012|8AE012 @220-221L|-
+               L1130 H5|8AE012 @220-224L|H1
+               L1 H1|L1133 H1|L14 H14
+               L14 H45|L1090 H45|800000
+               8AE012 @220-224L|-|8AE012 @220-224L""", "54016", 1135, 50)}
+WRONG_CAUSES = ("%s", "%s ", "%s 0100", "%s 100.0", "%s  100", "%s 100 ", "%s100", "x%s 100")
 
 
 def schema_of(kind):
-    with open(os.path.join(TOP, "share", "schema", "ldvbi-%s.schema.json" % kind), encoding="ascii") as file:
+    with open(os.path.join(TOP, "share", "schema", "ldvbi%s.schema.json" % kind), encoding="ascii") as file:
         schema = json.load(file)
     assert schema["$schema"] == Draft202012Validator.META_SCHEMA["$id"]
     Draft202012Validator.check_schema(schema)
     return schema
 
 
-def is_valid(kind, document, change="."):
-    """Whether a document is valid, after a change by jq."""
-    found = subprocess.run(["jq", change], input=json.dumps(document).encode(), stdout=subprocess.PIPE, check=True)
-    return Draft202012Validator(schema_of(kind)).is_valid(json.loads(found.stdout))
+def read_table(*kinds):
+    """The words of each place in schema.txt, by the rows of all kinds and those of these ones."""
+    with open(os.path.join(TOP, "codes", "classes.txt"), encoding="ascii") as file:
+        names = re.findall(r"^text +(.*?)(?: \{.*)?$", file.read(), re.M)[:-1]  # without `other`
+    with open(os.path.join(TOP, "tests", "python", "schema.txt"), encoding="ascii") as file:
+        alike, *parts = re.split(r"^= (.*)\n", re.sub(r"^#.*\n", "", file.read(), flags=re.M), flags=re.M)
+    rows = alike + "".join(part for kind, part in zip(parts[::2], parts[1::2]) if kind in kinds)
+    table = {"KIND": ['"%s"' % name for name in names]}
+    for row in re.split(r"\n| \|\| ", rows.strip()):
+        words = re.findall('!?"[^"]*"|[^" ]+', row)
+        places = [word for word in words if word.startswith((".", "*."))] or words[:1]
+        for place in places:
+            table.setdefault(place, []).extend(
+                one for word in words if word not in places for one in table.get(word, [word]))
+    return {place: words for place, words in table.items() if place.startswith((".", "*."))}
+
+
+def values_of(words):
+    """Values, each with whether the words of a row allow it. As JSON has it, true isn't 1."""
+    found = {json.dumps(value): False for value in WRONG}
+    for word in words:
+        ends = re.fullmatch(r"(\d+)\.\.(\d*)", word)
+        if ends:
+            least, greatest = int(ends[1]), int(ends[2] or MANY)
+            found.update({str(least - 1): False, str(greatest + 1): not ends[2], str(least): True, str(greatest): True})
+        else:
+            text = word.lstrip("!")
+            is_json = re.fullmatch(r'null|true|false|\[.*\]|[0-9]+|".*"', text)
+            found[text if is_json else json.dumps(text)] = word[0] != "!"
+    return [(json.loads(text), is_allowed) for text, is_allowed in found.items()]
+
+
+def others(value, words):
+    """Yields what is put in place of a value whose row has these words, and whether it may stand there."""
+    is_fixed = words == ["fixed"]
+    if isinstance(value, dict):
+        yield from (({other: value[other] for other in value if other != name}, False) for name in value)
+        yield {**value, "more": 0}, False
+    elif is_fixed:
+        yield from [(value + [0], False), (value[:-1], False)]
+    elif isinstance(value, list):
+        words = [*words, "[]"]
+    yield from values_of([] if is_fixed else words)
+
+
+def changes(value, table, tried, place=""):
+    """Yields the value at a place with something else in it, or in its stead: where that is, and whether it may be."""
+    row = place if place in table else "*" + place[place.rfind("."):]
+    words = table.get(row, [])
+    is_object, is_list = isinstance(value, dict), isinstance(value, list)
+    assert words or is_object or is_list or place[-2:-1].isdecimal(), place + " has no row"
+    if (place, type(value)) not in tried and (words or is_object or is_list):
+        tried[place, type(value)] = row
+        yield from ((other, place, is_valid) for other, is_valid in others(value, words))
+    for key, item in value.items() if is_object else enumerate(value) if is_list else ():
+        inner = "%s.%s" % (place, key) if is_object else "%s[%s]" % (place, key if words == ["fixed"] else "")
+        for other, where, is_valid in changes(item, table, tried, inner):
+            changed = value.copy()
+            changed[key] = other
+            yield changed, where, is_valid
+
+
+def shortened(value):
+    """A document with at most five items in each list, as many as one of a fixed length has."""
+    if isinstance(value, dict):
+        return {name: shortened(one) for name, one in value.items()}
+    return [shortened(one) for one in value[:5]] if isinstance(value, list) else value
+
+
+def each_place(schema, table, documents):
+    """All documents are valid, and what is made of them is as the table has it, each row of which is of some place."""
+    is_valid, tried = Draft202012Validator(schema).is_valid, {}
+    assert all(map(is_valid, documents))
+    for document in sorted(map(shortened, documents), key=lambda one: len(json.dumps(one))):
+        for changed, place, may_be in changes(document, table, tried):
+            assert is_valid(changed) == may_be, (place, changed)
+    assert set(table) <= set(tried.values())
 
 
 def answers():
@@ -76,49 +157,76 @@ def together():
     return [as_json(joined(*(made(text, side) for text in texts))) for texts in TOGETHER]
 
 
-def table_of(room, kind):
-    """The path of the table with what may stand at each place; a KIND is any but the last of the table of classes."""
-    with open(os.path.join(TOP, "codes", "classes.txt"), encoding="ascii") as file:
-        names = re.findall(r"^text +(.*?)(?: \{.*)?$", file.read(), re.M)[:-1]
-    with open(os.path.join(TOP, "tests", "python", "schema.txt"), encoding="ascii") as file:
-        alike, *tables = re.split(r"^# (side|join)\n", file.read(), flags=re.M)
-    rows = (alike + tables[tables.index(kind) + 1]).replace(" || ", "\n")
-    return room.write("table", "KIND %s\n%s" % (" ".join('"%s"' % name for name in names), rows))
-
-
-@pytest.mark.unrecorded
-@pytest.mark.parametrize("kind, counts", (("side", (28, 227, 3821)), ("join", (4, 88, 1798))))
-def test_each_place(room, kind, counts):
-    schema, table = schema_of(kind), read_table(table_of(room, kind))
-    documents = list(answers()) if kind == "side" else together()
+@pytest.mark.parametrize("kind, make", (("side", answers), ("join", together)))
+def test_answers(kind, make):
+    schema, documents = schema_of("-" + kind), list(make())
     lists = {name for name, one in schema["properties"].items() if one.get("type") == "array"}
     assert lists <= {name for one in documents for name, value in one.items() if isinstance(value, list) and value}
-    assert all(Draft202012Validator(schema).is_valid(one) for one in documents)
-    named = enumerate(sorted(documents, key=lambda one: len(json.dumps(one))))
-    places, count = tried(schema, table, [(str(place), one) for place, one in named])
-    assert places.faults == []
-    assert (len(documents), len({place for place, _ in places.tried}), count) == counts
-
-
-def test_recovered_words(room):
-    """Line 17 of field 1 is read after smoothing, lines 17 and 18 of field 2 are recovered."""
-    worn = line_with(0x82CFFF, NTSC, [(170, 174, False)])
-    write_stream(room.path, NTSC, [[0x82CFFF, line_with(0x82CFFF, NTSC, [(170, 171, False)]), 0],
-                                   [line_with(0, NTSC, [(900, 909, True)]), worn, worn]], 5)
-    document = json.loads(room.run_command("side.tbc LEVELS --document --recovered")[1])
-    assert [field["vbiPass"] for field in document["fields"]] == [[1, 2, 0], [0, 3, 3]]
-    for change in (".", *RECOVERED):
-        assert is_valid("recovered", document, change) == (change == "."), change
+    each_place(schema, read_table("answer", kind), documents)
 
 
 def test_scans(room):
-    """Of a table of four sides, of which two weren't read, and of one."""
-    for name, fields in (("side", "1..2"), ("worn", "1..2"), ("absent", "1..2")):
-        room.add(name + ".tbc", fields)
+    """Of sides of which some weren't read."""
+    for name in ("side.tbc", "worn.tbc", "absent.tbc"):
+        room.add(name, "1..2")
     os.unlink(room.named("absent.tbc"))
-    status, text, _ = room.scan("--json --html pages side.tbc worn.tbc absent.tbc absent.vbi.json")
-    table = json.loads(text)
-    assert (status, [one["fault"] is not None for one in table["sides"]]) == (2, [True, True, False, False])
-    assert is_valid("scan", json.loads(room.scan("--json side.tbc")[1]))
-    for change in (".", *re.split(r"\s{2,}|\|\| ", SCAN)):
-        assert is_valid("scan", table, change) == (change == "."), change
+    for kind, words in (("read", "side.tbc"), ("read", "--html pages side.tbc worn.tbc"), ("failed", "absent.tbc no")):
+        each_place(schema_of("-scan"), read_table("scan", kind), [json.loads(room.scan("--json " + words)[1])])
+
+
+def may_stand(word, cause, of_pass, near):
+    """Whether a line of a document may have these members."""
+    if of_pass == 0:
+        return word == 0 and cause in ("blank", "unfinished") and near is None
+    is_allowed = cause == "word" and near is None if of_pass in (1, 2) else (
+        of_pass == 3 and near is not None and cause not in ("blank", "Word"))
+    return is_allowed and isinstance(word, int) and 0x800000 <= word <= 0xFFFFFF
+
+
+def each_line(schema, document):
+    """What may stand beside each other for a line: its word, cause and pass, and the word nearest to it."""
+    is_valid, record = Draft202012Validator(schema).is_valid, document["fields"][0]
+    lists = [record["vbi"]["vbiData"], record["vbiCause"], record["vbiPass"], record.get("vbiNear", [None] * 3)]
+    for line, members in itertools.product(range(3), itertools.product(
+            (0, 0x7FFFFF, 0x800000, 0xFFFFFF, 0x1000000, 8388608.5), ("word", "blank", "unfinished", "Word"), range(5),
+            (None, {"word": 0, "distance": 0, "rival": 0}) if "vbiNear" in record else (None,))):
+        before = [one[line] for one in lists]
+        for one, member in zip(lists, members):
+            one[line] = member
+        assert is_valid(document) == may_stand(*members), members
+        for one, member in zip(lists, before):
+            one[line] = member
+
+
+def each_cause(schema, system):
+    """Which columns may stand in a cause of a system, and how."""
+    cause, (_, _, width, hold) = schema["$defs"]["cause" + system.title()], SIGNALS[system]
+    is_valid = Draft202012Validator({**cause, "$defs": schema["$defs"]}).is_valid
+    for name, least in (("change", 0), ("hold", hold)):
+        columns = (*range(-1, 1200), 1910, 9099, 9100, 11350)
+        assert [column for column in columns if is_valid("%s %d" % (name, column))] == list(range(least, width))
+        assert not any(is_valid(form % name) for form in WRONG_CAUSES)
+
+
+@pytest.mark.parametrize("system", SIGNALS)
+@pytest.mark.parametrize("kind, version, options, passes", (
+    ("", "version 2", (), {0, 1, 2}), ("-recovered", "version 3", ("--recover",), {0, 1, 2, 3})))
+def test_documents(room, system, kind, version, options, passes):
+    """Those of no field, of all fields, and of one of which a byte is there, or lacks."""
+    signal, white, width, hold = SIGNALS[system]
+    ran = subprocess.run([sys.executable, os.path.join(TOP, "tests", "program", "described.py"), system, "1"],
+                         input=signal.encode(), stdout=subprocess.PIPE, check=True)
+    documents = []
+    for data in (b"", ran.stdout[:1], ran.stdout[:-1], ran.stdout):
+        room.write("side.tbc", data)
+        documents.append(json.loads(room.extracted(
+            "side.tbc", ["--system", system, "--black", "16384", "--white", white, *options])))
+    fields = documents[-1]["fields"]
+    assert {one for record in fields for one in record["vbiPass"]} == passes
+    assert {"word", "blank", "unfinished", "change 0", "change %d" % (width - 1), "hold %d" % hold,
+            "hold %d" % (width - 1)} <= {cause for record in fields for cause in record["vbiCause"]}
+    schema = schema_of(kind)
+    assert schema["properties"]["fields"]["maxItems"] == 1000000
+    each_place(schema, read_table("document", system, version), documents)
+    each_line(schema, {**documents[0], "fields": fields[:1]})
+    each_cause(schema, system)
