@@ -96,25 +96,33 @@ page() {
     document "$1.md" $2
 }
 
-# What is written into documents, pages and completions is what stands there, and what documents name is in the source
-for said in 'codes/write.py --check' 'texts/write.py --check' tests/documents.py; do
-    check "$said" in_folder "$top" python3 $said
-done
-
-# In a copy of the documents both see what somebody has written otherwise: a column, and the line of a code.
+# What is written into documents, pages and completions is what stands there, and what documents name is in the source.
+# In a copy of the documents it is seen what somebody has written otherwise, as often as a number says.
 mkdir copy
-ln -s "$top"/* "$top/.ci" copy
+ln -s "$top"/* "$top/.ci" "$top/.github" "$top/.gitignore" copy
 rm copy/codes copy/docs copy/texts
 cp -r "$top/codes" "$top/docs" "$top/texts" copy
-sed -i 's/^- `cause`: as/- `why`: as/' copy/docs/ANSWER.md
-sed -i 's/^| CLV mark | 17 |$/| CLV mark | 18 |/' copy/docs/FORMATS.md
-for pair in codes:FORMATS texts:ANSWER; do
-    in_folder copy python3 ${pair%:*}/write.py --check
-    check "${pair%:*}/write.py sees another text of ${pair#*:}" \
-        [ "$status $(grep -c "^write: docs/${pair#*:}.md isn't what " out)" = '1 1' ]
-done
+while read -r name alterations; do
+    sed -i "$alterations" "copy/docs/$name.md"
+done << 'END'
+ANSWER s/^- `cause`: as/- `why`: as/; s/, `confirmed`//
+DECISIONS s/`Progress::add_row`/`Progress::added_row`/
+FORMATS s/^| CLV mark | 17 |$/| CLV mark | 18 |/; s/`field width differs`/`field width differ`/
+FORMATS s/else `hold` and that/else `held` and that/; s/#####[.]*######/#####....#####/; s/low byte/high byte/
+MEASURED s/judged 893 right/judged 898 right/
+PROMISES s/(#not-promised)/(#not-proved)/; s/`fetched`, `written`/`fetched`, `rewritten`/; s/`Said.antt`/`Saids.antt`/
+END
+while read -r count said; do
+    check "$said" in_folder "$top" python3 $said
+    in_folder copy python3 $said
+    check "$said sees other texts" [ "$status $(grep -vc 'looked at$' out)" = "1 $count" ]
+done << 'END'
+1 codes/write.py --check
+1 texts/write.py --check
+13 tests/documents.py
+END
 
-# The real examples of causes in FORMATS.md, of which these are the lines in the order of its rows
+# The real examples of causes in FORMATS.md are these lines.
 signal NTSC 1 << 'END' > causes.tbc
 82CFFF|82CFFF @170-171L|-
 L900 H10|82CFFF @170-174L|L164 H746
@@ -149,28 +157,23 @@ tail -c +27301 trial/side.tbc > trial/line.raw
 cp "$top/examples/cav.words" trial/disc.words
 document "$top/docs/FORMATS.md" trial
 
-# SQL in the documents, for a program that isn't asked for, has names that the tests have in ld-decode's form.
-cat > sql.py << 'END'
-import re, sqlite3, sys
-form, *documents = (open(path, encoding="utf-8").read() for path in sys.argv[1:])
+# SQL in the documents, for a program that isn't asked for, of the names that ld-decode has
+sed -n "s/^sqlite3 .* '\(.*\)'$/\1/p" "$top"/*.md "$top"/docs/*.md > statement
+in_folder . python3 -c '
+import sqlite3
 database = sqlite3.connect(":memory:")
-database.executescript(re.search(r'^FORM = """(.*?)"""', form, re.M | re.S)[1])
-for words in re.findall(r"\bsqlite3 [\w.]+ ('[^']*'|[^\n`]*)", "".join(documents)):
-    print(*database.execute(words[1:-1]).fetchall() if words.startswith("'") else [words])
-END
-in_folder . python3 sql.py "$tests/python/test_into.py" "$top"/*.md "$top"/docs/*.md
-check 'what documents ask of a database' \
-    [ "$status $(sort -u out | paste -s -d ' ')" = "0 ('NTSC', 16384, 51200) .schema" ]
+database.execute("CREATE TABLE capture (system, black_16b_ire, white_16b_ire)")
+database.execute(open("statement").read())'
+check 'what documents ask of a database' [ "$status $(wc -l < statement)" = '0 1' ]
 
-# The lines of README and of the pages for callers stand in a program of examples/, or in a caller that is proved.
-# lines_of [FILE]: the lines of a source, or of its documents, without their indents, of an import one for each word
-lines_of() {
-    sed 's/^\(\/\/!\)\? *//; /^\(ghost \)\?use /s/[^a-zA-Z0-9_][^a-zA-Z0-9_]*/\n/g' "$@"
-}
+# The lines of README and of the pages for callers stand in a program of examples/, or in a caller that is proved, but
+# for indents; of an import each word does.
 while read -r page kind source; do
-    sed -n '/^```'$kind'$/,/^```$/{/^```/d;p;}' "$top/$page" | lines_of > found
-    lines_of "$top/$source" > there
-    { [ -s found ] || echo none; grep -vxF -f there found; } > err
+    for file in "$page" "$source"; do
+        sed 's/^\(\/\/!\)\? *//; /^\(ghost \)\?use /s/[^a-zA-Z0-9_][^a-zA-Z0-9_]*/\n/g' "$top/$file" > lines
+        [ "$file" = "$source" ] || sed -n '/^```'$kind'$/,/^```$/{/^```/d;p;}' lines > found
+    done
+    { [ -s found ] || echo none; grep -vxF -f lines found; } > err
     check "the example of $page is of $source" [ ! -s err ]
 done << 'END'
 README.md c examples/say.c
