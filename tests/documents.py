@@ -155,74 +155,53 @@ def faults():
     yield [*map(len, drawn)] == [most, most + 1], f"FORMATS.md draws gaps of {drawn}: a glitch has up to {most} columns"
 
 
-HEADER, JUDGING, NEAR = "include/ldvbi.h", "python/ldvbi/judging.py", "python/ldvbi/near.py"
-PROMISES, README, DECISIONS = "docs/PROMISES.md", "README.md", "docs/DECISIONS.md"
-BELIEFS, SAID = "crates/vbi_side/specs/Beliefs.antt", "crates/vbi_near/specs/Said.antt"
-SCHEMA = "share/schema/ldvbi-side.schema.json"
+SIDE, SAID = "crates/vbi_side/specs/", "crates/vbi_near/specs/Said.antt"
 TWO = r"_margins = record \{ code = (\d+); other = (\d+);"
 # Where numbers stand in the source, and sentences with the same ones, in which # stands for each in turn, or for one;
 # of the order of bytes it stands for a word
 NUMBERS = (
-    (BELIEFS, r"^enough = (\d+)$", {
-        HEADER: ("weigh # or more", "there weigh less than #, a believed"), JUDGING: ("and # or more after it",),
-        PROMISES: ("(?<!two lines )weighs? # or more", "(?:weigh|it) less than #"), README: ("weigh less than #",)}),
-    (BELIEFS, r"^field_most = (\d+)$", {
-        HEADER: ("of the weight, and # of it or more",), JUDGING: ("and # of it or more",),
-        PROMISES: ("half of their weight, and # or more",)}),
-    (BELIEFS, r"^reach = (\d+)$", {
-        JUDGING: ("by the # fields before it and the # after it",),
-        PROMISES: ("field and the # on either side", "within # fields(?! that go on|, and wrong)",
-                   "the # fields before, and in the # after", "lost from # fields after the first to # before",
-                   "from # fields before the gap to # after it", "believed of the last #, due"),
-        README: ("pace within # fields", "no field from # after its first believed number to # before")}),
-    ("crates/vbi_side/specs/Votes.antt", r"^vote_reach = (\d+)$", {
-        JUDGING: ("in the # fields before it and the # after it that",),
-        PROMISES: ("times within # fields that go on", "ran on within # fields, and wrong"),
-        README: ("ran on within # fields, and the misread",)}),
-    ("crates/vbi_side/specs/Parts.antt", r"^part_most = (\d+)$", {JUDGING: ("of at most # readings",)}),
-    ("crates/vbi_c/specs/Seeking.antt", r"^looked_most = (\d+)$", {
-        "python/ldvbi/seeking.py": ("at most # fields are read",), PROMISES: ("at most # fields as read",),
-        "docs/LIBRARY.md": ("at most # fields are read",), "docs/RUST.md": ("at most # fields, as",)}),
-    (NEAR, r"^MOST_LINES = (\d+) ", {HEADER: ("of 1 to # lines", "that 1 to # lines", "be 1 to # times"),
-                                      NEAR: ("of 1 to # lines", "that 1 to # lines")}),
-    (SAID, "^lone" + TWO, {HEADER: ("one line # #",)}),
-    (SAID, "^apart" + TWO, {HEADER: ("either, if they don't agree # #",)}),
-    (SAID, "^both" + TWO, {HEADER: ("lines 17 and 18 together # #",)}),
-    (SAID, r"^both_margins = record \{ code = (\d+);", {DECISIONS: ("Two lines need # columns",)}),
-    (SAID, r"^both_margins = .* code_share = (\d+); other_share = (\d+) \}", {
-        HEADER: ("at least #/144 for a code, and #/144 for",)}),
-    ("crates/vbi_side/specs/Lines.antt", r"nat_lt minutes (\d+) ", {
-        "docs/FORMATS.md": ("Minute #, PAL picture",), SCHEMA: ("shows it, as minute #",)}),
-    ("crates/vbi_words/specs/Levels.antt", r"^samples_of \((\w+) ∷ \w+ ∷ bytes\) = \(\1 [+] 256 ", {
-        HEADER: ("the # byte first",), "docs/FORMATS.md": ("samples, # byte first",),
-        "share/man/ldvbi.1": ("samples of 16 bits, # byte first",)}),
+    (SIDE + "Beliefs.antt", r"^enough = (\d+)$", "(?<!two lines )weighs? # or more", "and # or more after it",
+     "(?<!those words )(?:weigh|it) less than #"),
+    (SIDE + "Beliefs.antt", r"^field_most = (\d+)$", "and # of it or more", "half of their weight, and # or more"),
+    (SIDE + "Beliefs.antt", r"^reach = (\d+)$", "by the # fields before it and the # after it",
+     "field and the # on either side", "within # fields(?! that go on|, and wrong|, and the misread)",
+     "the # fields before, and in the # after", "lost from # fields after the first to # before",
+     "from # fields before the gap to # after it", "believed of the last #, due",
+     "no field from # after its first believed number to # before"),
+    (SIDE + "Votes.antt", r"^vote_reach = (\d+)$", "in the # fields before it and the # after it that",
+     "times within # fields that go on", "ran on within # fields, and (?:wrong|the misread)"),
+    (SIDE + "Parts.antt", r"^part_most = (\d+)$", "of at most # readings"),
+    ("crates/vbi_c/specs/Seeking.antt", r"^looked_most = (\d+)$", "at most # fields (?:are|as) read",
+     "at most # fields, as"),
+    ("python/ldvbi/near.py", r"^MOST_LINES = (\d+) ", "of 1 to # lines", "that 1 to # lines", "be 1 to # times"),
+    (SAID, "^lone" + TWO, "one line # #"),
+    (SAID, "^apart" + TWO, "either, if they don't agree # #"),
+    (SAID, "^both" + TWO, "lines 17 and 18 together # #"),
+    (SAID, r"^both_margins = record \{ code = (\d+);", "Two lines need # columns"),
+    (SAID, r"^both_margins = .* code_share = (\d+); other_share = (\d+) ", "at least #/144 for a code, and #/144 for"),
+    (SIDE + "Lines.antt", r"nat_lt minutes (\d+) ", "Minute #, PAL picture", "shows it, as minute #"),
+    ("crates/vbi_words/specs/Levels.antt", r"^samples_of \((\w+) ∷ \w+ ∷ bytes\) = \(\1 [+] 256 ",
+     "(?:the|samples,|samples of 16 bits,) # byte first"),
 )
 
 
 def numbers():
-    """Each number, or word, of each place where such a sentence stands, by its pattern, is that of the source."""
-    for source, pattern, sentences in NUMBERS:
+    """Each number, or word, wherever such a sentence stands, is that of the source."""
+    paths = [*documents(), *glob.glob("include/*.h"), *glob.glob("python/ldvbi/*.py"), *glob.glob("share/*/*.[1j]*")]
+    texts = {path: re.sub(r"\s+(?:\* )*\s*", " ", read(path)) for path in paths}
+    for source, pattern, *sentences in NUMBERS:
         wanted = re.search(pattern, read(source), re.M).groups()
-        for path, sentence in ((path, one) for path, several in sentences.items() for one in several):
-            text = re.sub(r"\s+(?:\* )*\s*", " ", read(path))
-            places = re.findall(sentence.replace("#", r"(\d[\d,]*|low|high)"), text)
-            found = [number.replace(",", "") for one in places for number in ([one] if isinstance(one, str) else one)]
-            for number, right in zip(found or [None], wanted * (len(found) or 1)):
-                yield number == right, f"{path} says {number} in '{sentence}', and {source} {right}"
+        for sentence in sentences:
+            places = [(path, one) for path, text in texts.items()
+                      for one in re.finditer(sentence.replace("#", r"(\d[\d,]*|low|high)"), text)]
+            yield places, f"'{sentence}' stands nowhere"
+            for path, one in places:
+                for number, right in zip(one.groups(), wanted * len(one.groups())):
+                    yield number.replace(",", "") == right, f"{path} says {number} in '{one[0]}', and {source} {right}"
 
 
 # What MEASURED.md says of how was measured, and the sums that it has of several rows or files
-HOW, SUMS = {"400", "2000", "2350", "12000", "180000"}, {"670", "710", "771", "3270", "25329"}
-
-
-def measured():
-    """Each number of three digits or more in a part of MEASURED.md that links files of what was measured is theirs."""
-    for block in re.split(r"\n\n|\n(?=[-|] )", re.sub(r"<!--.*?-->", "", read("docs/MEASURED.md"))):
-        files = ["docs/" + link for link in re.findall(r"\]\((measured/\w+\.txt)\)", block)]
-        known = {number for path in files for number in figures(read(path))} | HOW | SUMS
-        for number in figures(re.sub(r"\]\(.*?\)", "", block)) if files else ():
-            if len(number) > 2:
-                yield number in known, f"docs/MEASURED.md says {number}, which none of {files} has"
+KNOWN = {"400", "2000", "2350", "12000", "180000", "670", "710", "771", "3270", "25329"}
 
 
 def figures(text):
@@ -230,9 +209,19 @@ def figures(text):
     return [number.replace(",", "") for number in re.findall(r"(?<![\w.])\d+(?:,\d{3})*(?![\w.]*\d)", text)]
 
 
+def measured():
+    """Each number of three digits or more in a part of MEASURED.md that links files of what was measured is theirs."""
+    for block in re.split(r"\n\n|\n(?=[-|] )", re.sub(r"<!--.*?-->", "", read("docs/MEASURED.md"))):
+        files = ["docs/" + link for link in re.findall(r"\]\((measured/\w+\.txt)\)", block)]
+        known = KNOWN.union(*(figures(read(path)) for path in files))
+        for number in figures(re.sub(r"\]\(.*?\)", "", block)) if files else ():
+            if len(number) > 2:
+                yield number in known, f"docs/MEASURED.md says {number}, which none of {files} has"
+
+
 # Each check, with the least that it has to look at
 CHECKS = {"links": (links, 70), "paths": (paths, 120), "names": (names, 1000), "faults": (faults, 28),
-          "numbers": (numbers, 62), "measured": (measured, 20)}
+          "numbers": (numbers, 100), "measured": (measured, 20)}
 
 
 def main():
