@@ -26,8 +26,7 @@ def package_of(name):
 
 def test_files():
     """Each file of python/ belongs to one of the packages that are named, each of which has some."""
-    text = pathlib.Path(TOP, "pyproject.toml").read_text("utf-8")
-    named = re.search(r"^packages = \[(.*?)\]$", text, re.MULTILINE | re.DOTALL).group(1)
+    named = re.search(r"^packages = \[(.*?)\]$", pathlib.Path(TOP, "pyproject.toml").read_text("utf-8"), re.M | re.S)[1]
     assert set(map(package_of, MODULES)) == set(re.findall(r'"(.*?)"', named))
 
 
@@ -66,24 +65,17 @@ def test_no_module_imports_a_later_one():
 
 
 def test_each_public_function_has_types():
-    """And each method of a public class, also those that Python calls by names such as `__init__`."""
-    count, untyped = 0, []
+    """And each method of a public class, also those that Python calls. mypy lets none have some of its types alone."""
     for name, tree in MODULES.items():
         classes = [node.body for node in tree.body if isinstance(node, ast.ClassDef) and not node.name.startswith("_")]
         for one in itertools.chain(tree.body, *classes):
-            if isinstance(one, (ast.FunctionDef, ast.AsyncFunctionDef)) and not re.match("_(?!_)", one.name):
-                count += 1
-                untyped += [(name, one.name, arg.arg) for arg in ast.iter_child_nodes(one.args) if
-                            isinstance(arg, ast.arg) and not arg.annotation and arg.arg not in ("self", "cls")]
-                untyped += [(name, one.name, "return")] * (one.returns is None)
-    assert untyped == []
-    assert count > 200
+            if isinstance(one, ast.FunctionDef) and not re.match("_(?!_)", one.name):
+                assert one.returns, (name, one.name)
 
 
 def test_mypy_finds_nothing():
     # Of the tests' own environment it gets the PATH alone: the rest may have each line counted that Python runs.
     words = ["mypy", "--python-version", "3.9", "--cache-dir", os.devnull, "--disallow-incomplete-defs"]
-    ran = subprocess.run(words + ["-p", "ldvbi", "-p", "ldvbi_side"], cwd=PYTHON,
-                         env={"PATH": os.environ["PATH"]}, stdin=subprocess.DEVNULL, capture_output=True, text=True)
-    assert re.search(r"^Success: no issues found in %d source files\n$" % len(MODULES), ran.stdout)
-    assert (ran.stderr, ran.returncode) == ("", 0)
+    ran = subprocess.run([*words, "-p", "ldvbi", "-p", "ldvbi_side"], cwd=PYTHON, env={"PATH": os.environ["PATH"]},
+                         stdin=subprocess.DEVNULL, stdout=subprocess.PIPE, stderr=subprocess.STDOUT, text=True)
+    assert ran.stdout == "Success: no issues found in %d source files\n" % len(MODULES)
