@@ -13,7 +13,7 @@ from ldvbi_side.command.faults import naming
 from ldvbi_side.command.parsers import parser_of_side, parsers
 from ldvbi_side.command.statuses import MEANINGS, statuses_of
 import pytest
-from room import in_database, IN_PLACE, NO_METADATA, reason
+from room import in_database, IN_PLACE, NO_METADATA
 from streams import PROGRAM, TOP
 
 NOT_JSON = "not JSON: line 1 is wrong from column 1 on"
@@ -77,20 +77,12 @@ def test_refused(drawn):
         os.mkdir(drawn.named(name))
     for name in ("my sides/one.tbc", "side"):
         drawn.write(name, b"")
-    before, table = drawn.files(), REFUSED
+    before = drawn.files()
     os.symlink("nowhere", drawn.named("lost"))
-    for short, text in WORDS.items():
-        table = table.replace(short, text)
-    for words, said in cells_of(table):
+    for words, said in cells_of(re.sub("|".join(WORDS), lambda one: WORDS[one[0]], REFUSED)):
         drawn.refused(IN_PLACE % said[1:] if said[0] == "=" else said, words)
     os.unlink(drawn.named("lost"))
     assert drawn.files() == before
-
-
-def each_file(drawn, name, words, *rows):
-    for text, data in rows:
-        drawn.write(name, data)
-        drawn.refused(name + text, words)
 
 
 def test_usage(drawn):
@@ -125,11 +117,11 @@ COMPRESSED = """
 def test_compressed_files(drawn):
     """Of a side alone the message has the command that reads it."""
     drawn.write("b.tbc.db", b"")
-    for name, words, said in cells_of(COMPRESSED):
-        form, said = said.split(": ", 1)
-        for short, text in (("!", "|"), ("META", "ldvbi extract --meta"), ("UNPACK", "unpack it first")):
-            said = said.replace(short, text)
-        each_file(drawn, name, words, (": it is compressed (%s): %s" % (form, said), PACKED[form]))
+    table = COMPRESSED.replace("META", "ldvbi extract --meta").replace("UNPACK", "unpack it first")
+    for name, words, said in cells_of(table):
+        form, said = said.replace("!", "|").split(": ", 1)
+        drawn.write(name, PACKED[form])
+        drawn.refused("%s: it is compressed (%s): %s" % (name, form, said), words)
 
 
 def test_the_command_for_a_compressed_file_is_taken(drawn):
@@ -157,29 +149,29 @@ def test_standard_input(drawn):
 
 def test_documents_and_metadata(drawn):
     """Faults of a file that can't be read have its name, as those of what it says."""
-    each_file(drawn, "wrong.vbi.json", "wrong.vbi.json", (": " + NOT_JSON, b""),
-              (": not JSON: line 2 is wrong from column 13 on", b'{"version":2,\n"fields":[],}'),
-              (": not JSON: byte 13 is not UTF-8", b'{"version":"\xff"}'),
-              (": not JSON: NaN is no number", b'{"version":NaN}'),
-              (": not JSON: it is nested too deep", b"[" * 100000), (": not JSON: a number is too long", b"1" * 5000),
-              (": field 1: seqNo is not there", drawn.document.replace(b'"seqNo":1,', b'"number":1,')))
-    each_file(drawn, "meta.json", "side.tbc --meta meta.json", (" is no metadata with videoParameters", b"{}"),
-              (": no black level given", '{"videoParameters":{"system":"NTSC"}}'),
-              (": SQLite can't read it: file is not a database", b"SQLite format 3\0" + bytes(1000)))
+    for words, text, data in (
+            ("wrong.json", ": " + NOT_JSON, b""),
+            ("wrong.json", ": not JSON: line 2 is wrong from column 13 on", b'{"version":2,\n"fields":[],}'),
+            ("wrong.json", ": not JSON: byte 13 is not UTF-8", b'{"version":"\xff"}'),
+            ("wrong.json", ": not JSON: NaN is no number", b'{"version":NaN}'),
+            ("wrong.json", ": not JSON: it is nested too deep", b"[" * 100000),
+            ("wrong.json", ": not JSON: a number is too long", b"1" * 5000),
+            ("wrong.json", ": field 1: seqNo is not there", drawn.document.replace(b'"seqNo":1,', b'"number":1,')),
+            ("side.tbc --meta wrong.json", " is no metadata with videoParameters", b"{}"),
+            ("side.tbc --meta wrong.json", ": no black level given", b'{"videoParameters":{"system":"NTSC"}}'),
+            ("side.tbc --meta wrong.json", ": SQLite can't read it: file is not a database",
+             b"SQLite format 3\0" + bytes(1000))):
+        drawn.write("wrong.json", data)
+        drawn.refused("wrong.json" + text, words)
 
 
 def test_a_name_stands_once():
-    def named(error):
-        with naming("a.json"):
-            raise error
-
     for error, text in ((ValueError("wrong"), "a.json: wrong"), (ValueError("a.json: wrong"), "a.json: wrong"),
-                        (OSError("no library"), "no library"),
+                        (OSError("no library"), "no library"), (OSError(5, "Failed"), "[Errno 5] Failed: 'a.json'"),
                         (UnicodeDecodeError("utf-8", b"\xff", 0, 1, ""), "a.json: no text in UTF-8")):
-        assert reason(named, error, kind=(ValueError, OSError)) == text
-    with pytest.raises(OSError) as caught:
-        named(OSError(5, "Input/output error"))
-    assert caught.value.filename == "a.json"
+        with pytest.raises((ValueError, OSError)) as caught, naming("a.json"):
+            raise error
+        assert str(caught.value) == text
 
 
 SIDES = ("whole.tbc", "lost.tbc", "dark.tbc", "cut.tbc")
@@ -208,13 +200,12 @@ def statuses(drawn):
 def test_each_option_and_command(statuses):
     """Only what isn't done is said. Of many sides the weightiest status counts, and a capture that is cut, whichever it
     is."""
-    rows = [(form % side, status) for form, wanted in (
-        *(("%s " + words, wanted) for words, wanted in OPTIONS.items()),
-        *((words + " %s", wanted) for words, wanted in COMMANDS.items()))
+    forms = {**{"%s " + words: wanted for words, wanted in OPTIONS.items()},
+             **{words + " %s": wanted for words, wanted in COMMANDS.items()}}
+    rows = [(form % side, status) for form, wanted in forms.items()
             for side, status in zip((*SIDES, "absent.tbc"), (*wanted, 2))]
-    for words, wanted in (
-            *rows, ("scan whole.tbc dark.tbc", 4), ("scan dark.tbc lost.tbc", 1), ("scan lost.tbc dark.tbc", 1),
-            ("scan absent lost.tbc dark.tbc", 2), ("join cut.tbc whole.tbc lost.tbc", 3)):
+    for words, wanted in (*rows, ("scan whole.tbc dark.tbc", 4), ("scan dark.tbc lost.tbc", 1),
+                          ("scan absent lost.tbc dark.tbc", 2), ("join cut.tbc whole.tbc lost.tbc", 3)):
         status, _, said = statuses.run_words(*words.split())
         is_said = "scan" not in words and (status in (2, 3) or status == 1 and "--seek" in words)
         assert (status, said.count("\n")) == (wanted, int(is_said)), words
