@@ -36,19 +36,11 @@ SIDES = """
 # Captures that have each form of a member together
 TOGETHER = (("1..50 151..170 71..100", "1..98"), ("1..3 6..8", "6..9", "1..3"), ("m58..59x3000", "m58..59x3000"),
             ("NTSC t0..4499!7%1000", "NTSC t0..4499!7%1000 -1:200 401=-/-/-"))
-# Fields with each cause, with the least and the greatest columns, and with each pass, as described.py makes them; and
-# white, the width of a line, and the first column before which no level is held too long
-SIGNALS = {
-    "NTSC": ("""82CFFF|82CFFF @170-171L|-
-                L900 H10|82CFFF @170-174L|L164 H746
-                H1|L1 H1|L908 H1
-                L11 H11|L11 H37|L873 H37
-                82CFFF @170-174L|-|82CFFF @170-174L""", "51200", 910, 40),
-    "PAL": ("""8AE012|8AE012 @220-221L|-
-               L1130 H5|8AE012 @220-224L|H1
-               L1 H1|L1133 H1|L14 H14
-               L14 H45|L1090 H45|800000
-               8AE012 @220-224L|-|8AE012 @220-224L""", "54016", 1135, 50)}
+# White, the width of a line, and the first column before which no level is held too long; and fields with each cause,
+# with the least and the greatest columns, and with each pass, as described.py makes them
+SYSTEMS = {
+    "NTSC": ("51200", 910, 40, "82CFFF|82CFFF @170-171L|82CFFF @170-174L\nL900 H10|H1|L908 H1\n-|L11 H11|L873 H37"),
+    "PAL": ("54016", 1135, 50, "8AE012|8AE012 @220-221L|8AE012 @220-224L\nL1130 H5|H1|L1133 H1\n-|L14 H14|L1090 H45")}
 WRONG_CAUSES = ("%s", "%s ", "%s 0100", "%s 100.0", "%s  100", "%s 100 ", "%s100", "x%s 100")
 
 
@@ -178,42 +170,32 @@ def may_stand(word, cause, of_pass, near):
     """Whether a line of a document may have these members."""
     if of_pass == 0:
         return word == 0 and cause in ("blank", "unfinished") and near is None
-    is_allowed = cause == "word" and near is None if of_pass in (1, 2) else (
-        of_pass == 3 and near is not None and cause not in ("blank", "Word"))
-    return is_allowed and isinstance(word, int) and 0x800000 <= word <= 0xFFFFFF
+    allowed = {1: ["word"], 2: ["word"], 3: ["word", "unfinished"]}.get(of_pass, ())
+    return word in (0x800000, 0xFFFFFF) and cause in allowed and (near is not None) == (of_pass == 3)
 
 
-def each_line(schema, document):
+def each_line(is_valid, document):
     """What may stand beside each other for a line: its word, cause and pass, and the word nearest to it."""
-    is_valid, record = Draft202012Validator(schema).is_valid, document["fields"][0]
+    record = document["fields"][0]
     lists = [record["vbi"]["vbiData"], record["vbiCause"], record["vbiPass"], record.get("vbiNear", [None] * 3)]
-    for line, members in itertools.product(range(3), itertools.product(
-            (0, 0x7FFFFF, 0x800000, 0xFFFFFF, 0x1000000, 8388608.5), ("word", "blank", "unfinished", "Word"), range(5),
-            (None, {"word": 0, "distance": 0, "rival": 0}) if "vbiNear" in record else (None,))):
+    nearest = (None, {"word": 0, "distance": 0, "rival": 0}) if "vbiNear" in record else (None,)
+    for line in range(3):
         before = [one[line] for one in lists]
-        for one, member in zip(lists, members):
-            one[line] = member
-        assert is_valid(document) == may_stand(*members), members
+        for members in itertools.product((0, 0x7FFFFF, 0x800000, 0xFFFFFF, 0x1000000, 8388608.5),
+                                         ("word", "blank", "unfinished", "Word"), range(5), nearest):
+            for one, member in zip(lists, members):
+                one[line] = member
+            assert is_valid(document) == may_stand(*members), members
         for one, member in zip(lists, before):
             one[line] = member
 
 
-def each_cause(schema, system):
-    """Which columns may stand in a cause of a system, and how."""
-    cause, (_, _, width, hold) = schema["$defs"]["cause" + system.title()], SIGNALS[system]
-    is_valid = Draft202012Validator({**cause, "$defs": schema["$defs"]}).is_valid
-    for name, least in (("change", 0), ("hold", hold)):
-        columns = (*range(-1, 1200), 1910, 9099, 9100, 11350)
-        assert [column for column in columns if is_valid("%s %d" % (name, column))] == list(range(least, width))
-        assert not any(is_valid(form % name) for form in WRONG_CAUSES)
-
-
-@pytest.mark.parametrize("system", SIGNALS)
+@pytest.mark.parametrize("system", SYSTEMS)
 @pytest.mark.parametrize("kind, version, options, passes", (
     ("", "version 2", (), {0, 1, 2}), ("-recovered", "version 3", ("--recover",), {0, 1, 2, 3})))
 def test_documents(room, system, kind, version, options, passes):
-    """Those of no field, of all fields, and of one of which a byte is there, or lacks."""
-    signal, white, width, hold = SIGNALS[system]
+    """Those of no field, of all fields, and of one of which a byte is there or lacks; which columns a cause has."""
+    white, width, hold, signal = SYSTEMS[system]
     ran = subprocess.run([sys.executable, os.path.join(TOP, "tests", "program", "described.py"), system, "1"],
                          input=signal.encode(), stdout=subprocess.PIPE, check=True)
     documents = []
@@ -221,12 +203,16 @@ def test_documents(room, system, kind, version, options, passes):
         room.write("side.tbc", data)
         documents.append(json.loads(room.extracted(
             "side.tbc", ["--system", system, "--black", "16384", "--white", white, *options])))
-    fields = documents[-1]["fields"]
+    fields, schema = documents[-1]["fields"], schema_of(kind)
     assert {one for record in fields for one in record["vbiPass"]} == passes
     assert {"word", "blank", "unfinished", "change 0", "change %d" % (width - 1), "hold %d" % hold,
             "hold %d" % (width - 1)} <= {cause for record in fields for cause in record["vbiCause"]}
-    schema = schema_of(kind)
     assert schema["properties"]["fields"]["maxItems"] == 1000000
     each_place(schema, read_table("document", system, version), documents)
-    each_line(schema, {**documents[0], "fields": fields[:1]})
-    each_cause(schema, system)
+    each_line(Draft202012Validator(schema).is_valid, {**documents[0], "fields": fields[:1]})
+    cause = {**schema["$defs"]["cause" + system.title()], "$defs": schema["$defs"]}
+    is_cause = Draft202012Validator(cause).is_valid
+    for name, least in (("change", 0), ("hold", hold)):
+        columns = (*range(-1, 1200), 1910, 9099, 9100, 11350)
+        assert [column for column in columns if is_cause("%s %d" % (name, column))] == list(range(least, width))
+        assert not any(is_cause(form % name) for form in WRONG_CAUSES)
