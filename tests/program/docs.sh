@@ -21,32 +21,30 @@ PYTHONDONTWRITEBYTECODE=1 LDVBI_LIBRARY=
 export PATH PYTHONDONTWRITEBYTECODE LDVBI_LIBRARY
 library=$([ ! -e "$built/libldvbi.so.1" ] || echo libldvbi.so.1)
 
-# Cuts a document into files: commands into NAME.NUMBER.sh or .bash, which it prints with their marks, and what they
-# print into NAME.NUMBER.text. What it says on standard error is a fault of the document.
-cat > cut.awk << 'AWK'
-/^```/ && inside { inside = 0; close(file); close(printed); next }
-/^```/ {
-    inside = 1
-    kind = substr($1, 4)
-    if (substr($0, 4) !~ /^(text|c|rust|words|(sh|bash|console|python)( (skip|lib))?)$/)
-        print "a block with the mark " substr($0, 4) > "/dev/stderr"
-    file = printed = "/dev/null"
-    text = sprintf("%s.%02d.text", name, number += kind ~ /^(sh|bash|console|python)$/)
-    if (kind ~ /^(sh|bash|console|python)$/) {
-        file = sprintf("%s.%02d.%s", name, number, kind ~ /^(bash|python)$/ ? kind : "sh")
-        printed = kind == "console" ? text : printed
-        print file, $2
-    } else if (kind == "text" && behind)
-        file = text
-    behind = kind ~ /^(sh|bash|python)$/
-    printf "" > file
-    next
-}
-inside && kind == "console" && sub(/^[$>] /, "") { print > file; next }
-inside { print > (kind == "console" ? printed : file); next }
-/```/ { print "a mark of a block that doesn't begin its line" > "/dev/stderr" }
-END { if (inside) print "a block without its end" > "/dev/stderr" }
-AWK
+# Cuts a document into files: commands into NAME.NUMBER.sh, .bash or .python, which it prints with their marks, and what
+# they print into NAME.NUMBER.text. What it says on standard error is a fault of the document.
+cat > cut.py << 'END'
+import re, sys
+name, path = sys.argv[1:]
+BLOCK = re.compile(r"^```(.*)\n((?:.*\n)*?)```$", re.M)
+text, number, kind = open(path, encoding="utf-8").read(), 0, ""
+for mark, body in BLOCK.findall(text):
+    before, (kind, _, how) = kind, mark.partition(" ")
+    if not re.fullmatch("text|c|rust|words|(sh|bash|console|python)( skip| lib)?", mark):
+        print("a block with the mark", mark, file=sys.stderr)
+    if kind in ("sh", "bash", "console", "python"):
+        number += 1
+        begin = "%s.%02d." % (name, number)
+        file = begin + kind.replace("console", "sh")
+        print(file, how)
+        open(file, "w").write("".join(re.findall("^[$>] (.*\n)", body, re.M)) if kind == "console" else body)
+        if kind == "console":
+            open(begin + "text", "w").write(re.sub("^[$>] .*\n", "", body, flags=re.M))
+    elif kind == "text" and before in ("sh", "bash", "python"):
+        open(begin + "text", "w").write(body)
+if "```" in BLOCK.sub("", text):
+    print("a block without its end, or a mark that doesn't begin its line", file=sys.stderr)
+END
 
 # folder NAME: makes a folder in which commands of documents run, with what they name of the repository
 folder() {
@@ -66,7 +64,7 @@ in_folder() {
 # document PATH FOLDER: runs the blocks of this document in this folder
 document() {
     name=$(basename "$1" .md)
-    awk -v name="$name" -f cut.awk "$1" > blocks 2> err
+    python3 cut.py "$name" "$1" > blocks 2> err
     check "$name: each block has a mark that is known, and its end" [ ! -s err ]
     while read -r block mark; do
         case $mark$library in
@@ -86,14 +84,14 @@ document() {
     LDVBI_LIBRARY=
 }
 
-# page NAME FOLDER: runs the examples of a manual page as one script; where the library isn't built, not those that
-# read samples by it
+# page NAME: runs the examples of a manual page as one script; where the library isn't built, not those that read samples
+# by it
 page() {
     mandoc -T ascii -O width=200 "$top/share/man/$1.1" | sed 's/.'"$(printf '\010')"'//g' |
         sed -n '/^EXAMPLES/,/^[DS]/s/^           //p' > page.sh
     [ "$library" ] || sed -i '/ldvbi-side.*side.tbc/d' page.sh
     { echo "\`\`\`sh${library:+ lib}"; cat page.sh; echo '```'; } > "$1.md"
-    document "$1.md" $2
+    document "$1.md" trial
 }
 
 # What is written into documents, pages and completions is what stands there, and what documents name is in the source.
@@ -132,26 +130,24 @@ output_of extract $ntsc causes.tbc | jq -r '.fields[] | [.vbi.vbiData, .vbiCause
 sed -n '/^### A real example/,/^## /s/^|[^|]*\(| [0-9].*\)/\1/p' "$top/docs/FORMATS.md" > out
 check 'the examples of causes in FORMATS.md are those of the program' cmp out causes
 
-folder readme
-document "$top/README.md" readme
+for path in README docs/RECIPES docs/PYTHON; do
+    folder "${path#*/}"
+    document "$top/$path.md" "${path#*/}"
+done
 # What README's commands write at the top of a checkout isn't taken for a change of it.
 git init -q ignoring && cp "$top/.gitignore" ignoring
-find readme -type f | sed 's/^readme.//' > out
+find README -type f | sed 's/^README.//' > out
 git -C ignoring check-ignore --no-index --stdin < out > err
 check 'git ignores what the commands of README write' cmp out err
-folder recipes
-document "$top/docs/RECIPES.md" recipes
-folder modules
-document "$top/docs/PYTHON.md" modules
 # A small side and its metadata, one of PAL, a line, and words, as documents name them
 folder trial
-output_of draw $ntsc "$top/examples/cav.words" > trial/side.tbc
-cat > trial/side.tbc.json << 'END'
+for name in side disc; do
+    output_of draw $ntsc "$top/examples/cav.words" > trial/$name.tbc
+    cat > trial/$name.tbc.json << 'END'
 {"fields":[{"seqNo":3,"isFirstField":true,"syncConf":100}],"videoParameters":{"system":"NTSC","fieldWidth":910,
 "fieldHeight":263,"black16bIre":16384,"white16bIre":51200,"sampleRate":14318181.8}}
 END
-cp trial/side.tbc trial/disc.tbc
-cp trial/side.tbc.json trial/disc.tbc.json
+done
 output_of draw $pal "$top/examples/clv.words" > trial/pal.tbc
 tail -c +27301 trial/side.tbc > trial/line.raw
 cp "$top/examples/cav.words" trial/disc.words
@@ -184,16 +180,16 @@ crates/vbi_line/CALLING.md rust crates/vbi_line_tests/src/calling.rt
 crates/vbi_near/CALLING.md rust crates/vbi_line_tests/src/calling.rt
 END
 for crate in vbi_words vbi_line vbi_near; do
-    sed -n 's/^| \(`[^|]*\)|.*/\1/p' "$top/crates/$crate/CALLING.md" | grep -o '`[^`]*`' | tr -d '`' |
-        sed 's/.*:://' | sort -u > found
-    find "$top/crates/$crate/src" -name '*.rt' ! -name '*laws.rt' -exec grep -ho 'pub fn [a-z_]*' {} + |
-        sed 's/pub fn //' | sort -u > functions
+    sed -n 's/^| \(`[^|]*\)|.*/\1/p' "$top/crates/$crate/CALLING.md" | grep -o '[a-z_]*`' | tr -d '`' | sed '/^$/d' |
+        sort -u > found
+    find "$top/crates/$crate/src" -name '*.rt' ! -name '*laws.rt' -exec sed -n 's/.*pub fn \([a-z_]*\).*/\1/p' {} + |
+        sort -u > functions
     check "the page for callers of $crate has a row for each public function" cmp found functions
 done
 
 # The examples of the manual pages: the last line that the one of ldvbi prints is of the drawn field; ldvbi-side has a
 # side that is whole
-page ldvbi trial
+page ldvbi
 check 'the words of the drawn field of the manual page' [ "$(tail -n 1 out)" = '[8572927,15803205,15803205]' ]
 mkdir trial/captures
 { seq -f 'F%05g' 16 | sed 's/.*/- & &\n- - -/' && echo '- 80EEEE 80EEEE'; } > whole.words
@@ -201,9 +197,10 @@ output_of draw $ntsc whole.words > trial/side.tbc
 for name in side first second captures/side; do
     output_of extract $ntsc trial/side.tbc > trial/$name.vbi.json
 done
-page ldvbi-side trial
-ls trial/side.svg trial/both.html trial/pages/index.html > out 2> err
-check 'what its examples write' [ ! -s err ]
+page ldvbi-side
+for name in side.svg both.html pages/index.html; do
+    check "the examples write $name" [ -s trial/$name ]
+done
 
 # The examples of the help texts; one of them has a disc of PAL
 for command in '' line extract show draw; do
