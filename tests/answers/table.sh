@@ -12,16 +12,14 @@ print(*rows(sys.stdin.read(), int(sys.argv[1])), sep="\n")' $2 > side.words
 
 # draws_sides: draws the side NAME.tbc of each name in the table
 draws_sides() {
-    sed -n 's/^= \([a-z]* [A-Z]*\).*/\1/p' "$here/answers.txt" | uniq > sides
+    discs
+    bounded sh "$top/examples/side.sh" "$program"
+    sed -n 's/^= \([a-z]* [A-Z]*\) .*/\1/p' "$here/answers.txt" | uniq > sides
     while read -r side system; do
-        options=$ntsc
-        rate=30
-        [ "$system" = NTSC ] || { options=$pal; rate=25; }
-        case $side in
-            side) bounded sh "$top/examples/side.sh" "$program" ;;
-            cav | clv) output_of draw $options "$top/examples/$side.words" > "$side.tbc" ;;
-            *) draw_side $side $rate "$options" > "$side.tbc" ;;
-        esac
+        case $system in
+            NTSC) draw_side "$side" 30 "$ntsc" ;;
+            PAL) draw_side "$side" 25 "$pal" ;;
+        esac > "$side.tbc"
     done < sides
 }
 

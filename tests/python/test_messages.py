@@ -14,7 +14,6 @@ from ldvbi_side.command.parsers import parser_of_side, parsers
 from ldvbi_side.command.statuses import MEANINGS, statuses_of
 import pytest
 from room import in_database, IN_PLACE, NO_METADATA
-from streams import PROGRAM, TOP
 
 NOT_JSON = "not JSON: line 1 is wrong from column 1 on"
 # Command lines that are refused, by how they begin, and those in which a name is empty
@@ -103,14 +102,11 @@ COMPRESSED = """
     packed.tbc | packed.tbc LEVELS
         | bzip2: bzcat packed.tbc ! ldvbi extract --system NTSC --black 16384 --white 51200 ! ldvbi-side -
     packed.tbc | packed.tbc --white 5 | bzip2: bzcat packed.tbc ! META packed.tbc.json --white 5 ! ldvbi-side -
-    s.tbc.xz | s.tbc.xz --meta one.json | xz: xzcat s.tbc.xz ! META one.json ! ldvbi-side -
-    s.tbc.lzma | s.tbc.lzma | lzma: lzcat s.tbc.lzma ! META s.tbc.json ! ldvbi-side -
-    s.tbc.zip | s.tbc.zip | zip: unzip -p s.tbc.zip ! META s.tbc.json ! ldvbi-side -
-    s.tbc.zst | s.tbc.zst | zstd: zstdcat s.tbc.zst ! META s.tbc.json ! ldvbi-side -
-    s.vbi.json.gz | s.vbi.json.gz | gzip: zcat s.vbi.json.gz ! ldvbi-side -
-    s.tbc.flac | s.tbc.flac | FLAC: UNPACK || a.tbc.gz | a.tbc.gz --meta a.db | gzip: UNPACK
-    b.vbi.json | join side.vbi.json b.vbi.json | gzip: UNPACK || meta.json | side.tbc --meta meta.json | gzip: UNPACK
-    b.tbc.gz | b.tbc.gz | gzip: UNPACK
+    s.xz | s.xz --meta one.json | xz: xzcat s.xz ! META one.json ! ldvbi-side - || s.flac | s.flac | FLAC: UNPACK
+    s.lzma | s.lzma | lzma: lzcat s.lzma ! META s.json ! ldvbi-side - || b.tbc.gz | b.tbc.gz | gzip: UNPACK
+    s.zip | s.zip | zip: unzip -p s.zip ! META s.json ! ldvbi-side - || a.gz | a.gz --meta a.db | gzip: UNPACK
+    s.zst | s.zst | zstd: zstdcat s.zst ! META s.json ! ldvbi-side - || m.json | side.tbc --meta m.json | gzip: UNPACK
+    s.json.gz | s.json.gz | gzip: zcat s.json.gz ! ldvbi-side - || b.json | join side.vbi.json b.json | gzip: UNPACK
 """
 
 
@@ -122,17 +118,6 @@ def test_compressed_files(drawn):
         form, said = said.replace("!", "|").split(": ", 1)
         drawn.write(name, PACKED[form])
         drawn.refused("%s: it is compressed (%s): %s" % (name, form, said), words)
-
-
-def test_the_command_for_a_compressed_file_is_taken(drawn):
-    drawn.write("side.tbc.gz", gzip.compress(drawn.read("side.tbc")))
-    drawn.metadata("side.tbc.json")
-    command = drawn.run_words("side.tbc.gz")[2].partition("(gzip): ")[2].strip()
-    for name, path in (("ldvbi", PROGRAM), ("ldvbi-side", os.path.join(TOP, "python", "ldvbi-side"))):
-        command = re.sub("\\b%s " % name, path + " ", command)
-    status, text, said = drawn.run_command("-c", command, command=["sh"])
-    assert (status, said) == (1, "")
-    assert text == drawn.run_command("side.vbi.json")[1]
 
 
 def test_standard_input(drawn):
@@ -181,7 +166,7 @@ OPTIONS = {"": (0, 1, 4, 1), "--summary": (0, 1, 4, 1), "--seek 12": (0, 1, 1, 0
     "--csv", "--json", "--bad-lines", "--document", "--svg side.svg", "--html side.html", "--map side.map",
     "--chapters side.txt", "--into copy.json", "--plot-line 1 17"), (0, 0, 0, 3))}
 # The same of commands, in front of the name of a side; a side without numbers can't be joined.
-COMMANDS = {"scan": (0, 1, 4, 1), "join whole.tbc": (0, 0, 2, 3)}
+COMMANDS = {"scan %s": (0, 1, 4, 1), "join whole.tbc %s": (0, 0, 2, 3)}
 PRINTED = ("--help", "--version")
 # What goes with options, and has no status of its own
 WITH_OTHERS = {"--meta", "--system", "--black", "--white", "--no-recover", "--recovered", "--as-read", "--strict",
@@ -200,8 +185,7 @@ def statuses(drawn):
 def test_each_option_and_command(statuses):
     """Only what isn't done is said. Of many sides the weightiest status counts, and a capture that is cut, whichever it
     is."""
-    forms = {**{"%s " + words: wanted for words, wanted in OPTIONS.items()},
-             **{words + " %s": wanted for words, wanted in COMMANDS.items()}}
+    forms = {**{"%s " + words: wanted for words, wanted in OPTIONS.items()}, **COMMANDS}
     rows = [(form % side, status) for form, wanted in forms.items()
             for side, status in zip((*SIDES, "absent.tbc"), (*wanted, 2))]
     for words, wanted in (*rows, ("scan whole.tbc dark.tbc", 4), ("scan dark.tbc lost.tbc", 1),
@@ -227,25 +211,20 @@ def test_the_table():
     wanted = {(words.split() or ["no option"])[0]: set(statuses) - {2}
               for words, statuses in [*OPTIONS.items(), *COMMANDS.items()]}
     assert sorted(found) == sorted({**wanted, **dict.fromkeys(PRINTED, {0})}.items())
-    options = {name for action in parser_of_side("ldvbi-side")._actions for name in action.option_strings
-               if name.startswith("--")}
+    options = {action.option_strings[-1] for action in parser_of_side("ldvbi-side")._actions if action.option_strings}
     assert {name for name, _ in found if name.startswith("--")} == options - WITH_OTHERS
 
 
-# The statuses of each command, and of none: yes or done, no, a fault, a cut field, can't tell, and those of signals
-SIGNALS = [129, 130, 143]
-STATUSES = {"": [0, 1, 2, 3, 4, *SIGNALS], "join": [0, 2, 3, *SIGNALS], "scan": [0, 1, 2, 4, *SIGNALS]}
+# The statuses of each command, and of none, but for those of signals: yes or done, no, a fault, a cut field, can't tell
+STATUSES = {"": [0, 1, 2, 3, 4], "join": [0, 2, 3], "scan": [0, 1, 2, 4]}
 
 
 def test_texts_of_commands():
     """Each says its statuses, and texts of options are parts of sentences: so the manual page makes sentences of them,
     and zsh shows their first clause."""
-    found = parsers("ldvbi-side")
-    assert set(found) == set(STATUSES)
-    for command, parser in found.items():
-        assert list(statuses_of(command)) == STATUSES[command]
-        sentence = " ".join(parser.description.split()).partition(" Statuses: ")[2]
-        for status, texts in statuses_of(command).items():
-            assert "%d %s" % (status, ", or ".join(texts)) in sentence
-        assert sentence.count("; ") == len(STATUSES[command]) - 1
+    for command, parser in parsers("ldvbi-side").items():
+        said = statuses_of(command)
+        assert list(said) == STATUSES[command] + [129, 130, 143]
+        sentence = "Statuses: %s." % "; ".join("%d %s" % (one, ", or ".join(texts)) for one, texts in said.items())
+        assert " ".join(parser.description.split()).endswith(" " + sentence)
         assert all(re.search("^[a-z-].*[^.]$", action.help) for action in parser._actions if action.dest != "help")
