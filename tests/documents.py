@@ -145,8 +145,7 @@ def faults():
         yield len(found) == 1, f"'{text}' of FORMATS.md or the manual page is no fault text of the source"
     missing = [text for place, text in enumerate(patterns) if [place] not in places[:-len(shown)]]
     yield not missing, f"FORMATS.md doesn't have the fault texts {missing}"
-    first = places[:len(settings)]
-    yield first == sorted(first), "FORMATS.md has the faults of metadata and settings in another order than the source"
+    yield settings == sorted(settings, key=lambda text: places[said.index(text)]), "FORMATS.md has another order"
     causes = re.findall(r'push_str\("([a-z]+) ?"\)', read("crates/vbi_field/src/cause_texts.rt"))
     outcomes = codes(part("docs/FORMATS.md", "\n### The outcome of a line", "\n### "))[1:]
     yield outcomes == causes, f"FORMATS.md has the outcomes {outcomes}, and the source {causes}"

@@ -1,6 +1,6 @@
-"""Makes lines or fields of a TBC stream, whose samples are low or high: those of the system's usual levels, or BLACK
-and WHITE. Each input line describes a line, or where FIELDS is 1 a field: its lines 16, 17 and 18, with | between
-them. A line is described by parts with a space between, and filled up with lows:
+"""Makes lines of a TBC stream, or where FIELDS is 1 fields, whose samples are low or high: those of the system's usual
+levels, or BLACK and WHITE. An input line describes a line, or lines 16, 17 and 18 of a field, with | between them. A
+line is described by parts with a space between, and filled up with lows:
   L14 H20       fourteen low columns, then twenty high ones
   82CFFF        this word, drawn
   FFFFFF/11/47  the first 47 half cells of this word, each of 11 columns

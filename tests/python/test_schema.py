@@ -4,6 +4,7 @@ has an item there. At each place other values are tried: what schema.txt allows 
 import itertools
 import json
 import os
+import pathlib
 import re
 import subprocess
 import sys
@@ -45,8 +46,7 @@ WRONG_CAUSES = ("%s", "%s ", "%s 0100", "%s 100.0", "%s  100", "%s 100 ", "%s100
 
 
 def schema_of(kind):
-    with open(os.path.join(TOP, "share", "schema", "ldvbi%s.schema.json" % kind), encoding="ascii") as file:
-        schema = json.load(file)
+    schema = json.loads(pathlib.Path(TOP, "share", "schema", "ldvbi%s.schema.json" % kind).read_text("ascii"))
     assert schema["$schema"] == Draft202012Validator.META_SCHEMA["$id"]
     Draft202012Validator.check_schema(schema)
     return schema
@@ -54,12 +54,10 @@ def schema_of(kind):
 
 def read_table(*kinds):
     """The words of each place in schema.txt, by the rows of all kinds and those of these ones."""
-    with open(os.path.join(TOP, "codes", "classes.txt"), encoding="ascii") as file:
-        names = re.findall(r"^text +(.*?)(?: \{.*)?$", file.read(), re.M)[:-1]  # without `other`
-    with open(os.path.join(TOP, "tests", "python", "schema.txt"), encoding="ascii") as file:
-        alike, *parts = re.split(r"^= (.*)\n", re.sub(r"^#.*\n", "", file.read(), flags=re.M), flags=re.M)
+    text = re.sub(r"^#.*\n", "", pathlib.Path(TOP, "tests", "python", "schema.txt").read_text("ascii"), flags=re.M)
+    alike, *parts = re.split(r"^= (.*)\n", text, flags=re.M)
     rows = alike + "".join(part for kind, part in zip(parts[::2], parts[1::2]) if kind in kinds)
-    table = {"KIND": ['"%s"' % name for name in names]}
+    table = {}
     for row in re.split(r"\n| \|\| ", rows.strip()):
         words = re.findall('!?"[^"]*"|[^" ]+', row)
         places = [word for word in words if word.startswith((".", "*."))] or words[:1]
@@ -114,19 +112,17 @@ def changes(value, table, tried, place=""):
             yield changed, where, is_valid
 
 
-def shortened(value):
-    """A document with at most five items in each list, as many as one of a fixed length has."""
-    if isinstance(value, dict):
-        return {name: shortened(one) for name, one in value.items()}
-    return [shortened(one) for one in value[:5]] if isinstance(value, list) else value
+def shortened(members):
+    """An object with at most five items in each list, as many as one of a fixed length has."""
+    return {name: value[:5] if isinstance(value, list) else value for name, value in members.items()}
 
 
 def each_place(schema, table, documents):
     """All documents are valid, and what is made of them is as the table has it, each row of which is of some place."""
     is_valid, tried = Draft202012Validator(schema).is_valid, {}
     assert all(map(is_valid, documents))
-    for document in sorted(map(shortened, documents), key=lambda one: len(json.dumps(one))):
-        for changed, place, may_be in changes(document, table, tried):
+    for text in sorted(map(json.dumps, documents), key=len):
+        for changed, place, may_be in changes(json.loads(text, object_hook=shortened), table, tried):
             assert is_valid(changed) == may_be, (place, changed)
     assert set(table) <= set(tried.values())
 
