@@ -2,11 +2,10 @@
 # Compares the documents with the source, and runs their command blocks in their order, the examples of the manual pages
 # and those of the help texts: what they print is what stands there.
 #
-# A block marked ```sh or ```bash is run, and has to succeed, each of its commands in turn and each part of a pipe. So
-# is one marked ```python, by Python with the module. A block marked ```text that comes next is what it prints, on
-# standard output and standard error. One marked ```console has commands and what they print by turns: a command begins
-# with `$ `, each further line of it with `> `. A block marked `skip` as well (```sh skip) is left out, one marked `lib`
-# where the library isn't built; every other block runs where no library is found.
+# A block marked ```sh, ```bash or ```python is run, and has to succeed, each of its commands and each part of a pipe.
+# One marked ```text that comes next is what it prints, on standard output and standard error. One marked ```console has
+# commands and what they print by turns: a command begins with `$ `, each further line of it with `> `. A block marked
+# `skip` as well (```sh skip) is left out, one marked `lib` where the library isn't built; others find no library.
 # usage: sh tests/program/docs.sh PROGRAM
 # runs: everywhere
 # fails where: README.md|s/^picture 1$/picture 2/
@@ -84,8 +83,7 @@ document() {
     LDVBI_LIBRARY=
 }
 
-# page NAME: runs the examples of a manual page as one script; where the library isn't built, not those that read samples
-# by it
+# page NAME: runs the examples of a manual page as one script; where no library is built, not those that read samples
 page() {
     mandoc -T ascii -O width=200 "$top/share/man/$1.1" | sed 's/.'"$(printf '\010')"'//g' |
         sed -n '/^EXAMPLES/,/^[DS]/s/^           //p' > page.sh
@@ -117,18 +115,8 @@ while read -r count said; do
 done << 'END'
 1 codes/write.py --check
 1 texts/write.py --check
-13 tests/documents.py
+12 tests/documents.py
 END
-
-# The real examples of causes in FORMATS.md are these lines.
-signal NTSC 1 << 'END' > causes.tbc
-82CFFF|82CFFF @170-171L|-
-L900 H10|82CFFF @170-174L|L164 H746
-END
-output_of extract $ntsc causes.tbc | jq -r '.fields[] | [.vbi.vbiData, .vbiCause, .vbiPass] | transpose[] |
-    "| \(.[0]) | `\(.[1])` | \(.[2]) |"' > causes
-sed -n '/^### A real example/,/^## /s/^|[^|]*\(| [0-9].*\)/\1/p' "$top/docs/FORMATS.md" > out
-check 'the examples of causes in FORMATS.md are those of the program' cmp out causes
 
 for path in README docs/RECIPES docs/PYTHON; do
     folder "${path#*/}"

@@ -10,7 +10,7 @@ import re
 from compact import cells_of
 import ldvbi
 from ldvbi_side.command.faults import naming
-from ldvbi_side.command.parsers import parser_of_side, parsers
+from ldvbi_side.command.parsers import parsers
 from ldvbi_side.command.statuses import MEANINGS, statuses_of
 import pytest
 from room import in_database, IN_PLACE, NO_METADATA
@@ -18,44 +18,36 @@ from room import in_database, IN_PLACE, NO_METADATA
 NOT_JSON = "not JSON: line 1 is wrong from column 1 on"
 # Command lines that are refused, by how they begin, and those in which a name is empty
 USAGE = {
-    "side.tbc LEVELS": (
-        "--document --csv", "--document --json", "--document --summary", "--document --bad-lines", "--csv --seek 1",
-        "--seek x", "--seek -1", "--system SECAM", "--black 1.0", "--recovered", "--recovered --json",
-        "--recovered --document --no-recover", "--as-read"),
-    "join side.vbi.json": ("", "side.vbi.json --csv --ranges"),
-    "scan": ("", "-j 0 side.tbc", "-j x side.tbc", "--csv --json side.tbc", "--again side.tbc", "--as-read side.tbc")}
+    "side.tbc LEVELS": "--document --csv | --document --json | --document --summary | --document --bad-lines | --seek x | "
+                       "--csv --seek 1 | --seek -1 | --system SECAM | --black 1.0 | --recovered | --recovered --json | "
+                       "--recovered --document --no-recover | --as-read",
+    "join side.vbi.json": "| side.vbi.json --csv --ranges", "scan":
+    "| -j 0 side.tbc | -j x side.tbc | --csv --json side.tbc | --again side.tbc | --as-read side.tbc"}
 UNNAMED = ("side.vbi.json --html", "side.vbi.json --svg", "side.vbi.json -o", "side.vbi.json --map", "side.tbc --into",
            "side.vbi.json --chapters", "side.tbc --meta", "scan side.vbi.json --html", "scan side.vbi.json --into",
            "scan side.tbc --meta", "join side.vbi.json side.vbi.json --html", "join side.vbi.json side.vbi.json --meta")
 # Command lines, and what is said: after = the name of an output in the place of an input, or of another output
 REFUSED = """
-    absent.tbc | absent.tbc: No such file or directory || side.tbc | NONE || side.tbc --json HALF | NONE
-    'my sides/one.tbc' | my sides/one.tbc: no one.tbc.json or one.tbc.db beside it; SETTINGS
-    side | side: no metadata is looked for beside a name that doesn't end with .tbc; SETTINGS
-    'my sides' | my sides is a folder: ldvbi-side scan 'my sides'
-    join side.vbi.json 'my sides' | my sides is a folder: ldvbi-side scan 'my sides'
-    /dev/null LEVELS | /dev/null is no file that can be mapped
-    side.tbc --white 65536 HALF | side.tbc: white is not from 0 to 65535
-    scna | scna NO COMMAND || compare side.vbi.json side.vbi.json -j 1 | compare NO COMMAND
-    lost | lost: No such file or directory
+    absent.tbc | absent.tbc: No such file or directory || join side.vbi.json other.tbc --html other.tbc | =other.tbc
+    side.tbc | NONE || 'my sides/one.tbc' | my sides/one.tbc: no one.tbc.json or one.tbc.db beside it; SETTINGS
+    side.tbc --json HALF | NONE || lost | lost: No such file or directory || side.vbi.json --svg new -o new | =new
+    side | side: no metadata is looked for beside a name that doesn't end with .tbc; SETTINGS || scna | scna NO COMMAND
+    'my sides' | my sides is a folder: ldvbi-side scan 'my sides' || side.vbi.json --system PAL | side.vbi.json: OPTIONS
+    join side.vbi.json 'my sides' | my sides is a folder: ldvbi-side scan 'my sides' || other.tbc --into hard | =hard
+    /dev/null LEVELS | /dev/null is no file that can be mapped || side.vbi.json --black 16384 | side.vbi.json: OPTIONS
+    side.tbc --white 65536 HALF | side.tbc: white is not from 0 to 65535 || side.vbi.json --chapters absent/out | ABSENT
+    compare side.vbi.json side.vbi.json -j 1 | compare NO COMMAND || side.vbi.json --svg folder | folder: Is a directory
     side.vbi.json --document | side.vbi.json is a document, and --document is for a TBC file
-    side.vbi.json --black 16384 | side.vbi.json: OPTIONS || side.vbi.json --system PAL | side.vbi.json: OPTIONS
-    side.tbc --meta meta.json | meta.json: No such file or directory || side.vbi.json -o absent/out | ABSENT
-    side.vbi.json --svg folder | folder: Is a directory || side.vbi.json --html absent/out | ABSENT
-    side.vbi.json --map absent/out | ABSENT || side.vbi.json --chapters absent/out | ABSENT
-    join other.tbc side.vbi.json --html absent/out | ABSENT
-    join side.vbi.json other.tbc --html other.tbc | =other.tbc
-    join side.vbi.json other.tbc --html other.tbc.json | =other.tbc.json
-    join side.tbc other.tbc --meta other.tbc.json --html meta | =meta || join side.vbi.json side.tbc | NONE
-    join other.tbc side.tbc HALF | NONE
+    side.tbc --meta meta.json | meta.json: No such file or directory || side.vbi.json --map absent/out | ABSENT
+    side.vbi.json -o absent/out | ABSENT || join side.vbi.json side.tbc | NONE || join other.tbc side.tbc HALF | NONE
+    side.vbi.json --html absent/out | ABSENT || join side.vbi.json side.vbi.json --white 51200 | side.vbi.json: OPTIONS
+    join other.tbc side.vbi.json --html absent/out | ABSENT || side.vbi.json --svg side.vbi.json | =side.vbi.json
+    join side.vbi.json other.tbc --html other.tbc.json | =other.tbc.json || side.vbi.json --svg new --map new | =new
+    join side.tbc other.tbc --meta other.tbc.json --html meta | =meta || other.tbc --svg copy --into copy | =copy
     join side.tbc side.vbi.json --system NTSC --black=60000 --white=60001 | side.tbc has no numbers to join
-    join side.vbi.json side.vbi.json --white 51200 | side.vbi.json: OPTIONS
-    side.tbc LEVELS --document -o side.tbc | =side.tbc || other.tbc -o other.tbc.json | =other.tbc.json
-    side.vbi.json --svg side.vbi.json | =side.vbi.json || side.vbi.json --svg new -o new | =new
-    side.vbi.json --svg new --map new | =new || other.tbc --into other.tbc | =other.tbc
-    other.tbc --into hard | =hard || other.tbc --svg copy --into copy | =copy
-    other.tbc --meta rows.db --into rows.db | =rows.db || other.tbc --meta rows.db --into rows.db-wal | =rows.db-wal
-    other.tbc --meta rows.db --into rows.db-journal | =rows.db-journal
+    side.tbc LEVELS --document -o side.tbc | =side.tbc || other.tbc --meta rows.db --into rows.db-wal | =rows.db-wal
+    other.tbc -o other.tbc.json | =other.tbc.json || other.tbc --meta rows.db --into rows.db-journal | =rows.db-journal
+    other.tbc --into other.tbc | =other.tbc || other.tbc --meta rows.db --into rows.db | =rows.db
 """
 # What stands for parts of that
 WORDS = {
@@ -85,7 +77,7 @@ def test_refused(drawn):
 
 
 def test_usage(drawn):
-    rows = [("%s %s" % (begin, words), "error: ") for begin, several in USAGE.items() for words in several]
+    rows = [("%s %s" % (begin, words), "error: ") for begin, several in USAGE.items() for words in several.split("|")]
     for words, end in rows + [(words + " ''", "error: a (file|folder) has to have a name\n$") for words in UNNAMED]:
         status, text, said = drawn.run_command(words)
         assert (status, text, said[:17]) == (2, b"", "usage: ldvbi-side")
@@ -99,13 +91,12 @@ PACKED = {"gzip": gzip.compress(b"video"), "bzip2": bz2.compress(b"video"), "xz"
           "zstd": b"\x28\xb5\x2f\xfd" + bytes(60), "FLAC": b"fLaC\x00\x00\x00\x22" + bytes(60)}
 COMPRESSED = """
     my side.tbc.gz | 'my side.tbc.gz' | gzip: zcat 'my side.tbc.gz' ! META 'my side.tbc.json' ! ldvbi-side -
-    packed.tbc | packed.tbc LEVELS
-        | bzip2: bzcat packed.tbc ! ldvbi extract --system NTSC --black 16384 --white 51200 ! ldvbi-side -
-    packed.tbc | packed.tbc --white 5 | bzip2: bzcat packed.tbc ! META packed.tbc.json --white 5 ! ldvbi-side -
-    s.xz | s.xz --meta one.json | xz: xzcat s.xz ! META one.json ! ldvbi-side - || s.flac | s.flac | FLAC: UNPACK
-    s.lzma | s.lzma | lzma: lzcat s.lzma ! META s.json ! ldvbi-side - || b.tbc.gz | b.tbc.gz | gzip: UNPACK
+    s.tbc | s.tbc LEVELS | bzip2: bzcat s.tbc ! ldvbi extract --system NTSC --black 16384 --white 51200 ! ldvbi-side -
+    s.tbc | s.tbc --white 5 | bzip2: bzcat s.tbc ! META s.tbc.json --white 5 ! ldvbi-side - || f | f | FLAC: UNPACK
+    s.xz | s.xz --meta one.json | xz: xzcat s.xz ! META one.json ! ldvbi-side - || b.tbc.gz | b.tbc.gz | gzip: UNPACK
+    s.zst | s.zst | zstd: zstdcat s.zst ! META s.json ! ldvbi-side -
+    s.lzma | s.lzma | lzma: lzcat s.lzma ! META s.json ! ldvbi-side - || m.json | side.tbc --meta m.json | gzip: UNPACK
     s.zip | s.zip | zip: unzip -p s.zip ! META s.json ! ldvbi-side - || a.gz | a.gz --meta a.db | gzip: UNPACK
-    s.zst | s.zst | zstd: zstdcat s.zst ! META s.json ! ldvbi-side - || m.json | side.tbc --meta m.json | gzip: UNPACK
     s.json.gz | s.json.gz | gzip: zcat s.json.gz ! ldvbi-side - || b.json | join side.vbi.json b.json | gzip: UNPACK
 """
 
@@ -134,20 +125,18 @@ def test_standard_input(drawn):
 
 def test_documents_and_metadata(drawn):
     """Faults of a file that can't be read have its name, as those of what it says."""
-    for words, text, data in (
-            ("wrong.json", ": " + NOT_JSON, b""),
-            ("wrong.json", ": not JSON: line 2 is wrong from column 13 on", b'{"version":2,\n"fields":[],}'),
-            ("wrong.json", ": not JSON: byte 13 is not UTF-8", b'{"version":"\xff"}'),
-            ("wrong.json", ": not JSON: NaN is no number", b'{"version":NaN}'),
-            ("wrong.json", ": not JSON: it is nested too deep", b"[" * 100000),
-            ("wrong.json", ": not JSON: a number is too long", b"1" * 5000),
-            ("wrong.json", ": field 1: seqNo is not there", drawn.document.replace(b'"seqNo":1,', b'"number":1,')),
-            ("side.tbc --meta wrong.json", " is no metadata with videoParameters", b"{}"),
-            ("side.tbc --meta wrong.json", ": no black level given", b'{"videoParameters":{"system":"NTSC"}}'),
-            ("side.tbc --meta wrong.json", ": SQLite can't read it: file is not a database",
-             b"SQLite format 3\0" + bytes(1000))):
-        drawn.write("wrong.json", data)
-        drawn.refused("wrong.json" + text, words)
+    documents = {
+        ": " + NOT_JSON: b"", ": not JSON: line 2 is wrong from column 13 on": b'{"version":2,\n"fields":[],}',
+        ": not JSON: byte 13 is not UTF-8": b'{"version":"\xff"}', ": not JSON: NaN is no number": b'{"version":NaN}',
+        ": not JSON: it is nested too deep": b"[" * 100000, ": not JSON: a number is too long": b"1" * 5000,
+        ": field 1: seqNo is not there": drawn.document.replace(b'"seqNo":1,', b'"number":1,')}
+    metadata = {
+        " is no metadata with videoParameters": b"{}", ": no black level given": b'{"videoParameters":{"system":"NTSC"}}',
+        ": SQLite can't read it: file is not a database": b"SQLite format 3\0" + bytes(1000)}
+    for words, faults in (("wrong.json", documents), ("side.tbc --meta wrong.json", metadata)):
+        for text, data in faults.items():
+            drawn.write("wrong.json", data)
+            drawn.refused("wrong.json" + text, words)
 
 
 def test_a_name_stands_once():
@@ -168,9 +157,6 @@ OPTIONS = {"": (0, 1, 4, 1), "--summary": (0, 1, 4, 1), "--seek 12": (0, 1, 1, 0
 # The same of commands, in front of the name of a side; a side without numbers can't be joined.
 COMMANDS = {"scan %s": (0, 1, 4, 1), "join whole.tbc %s": (0, 0, 2, 3)}
 PRINTED = ("--help", "--version")
-# What goes with options, and has no status of its own
-WITH_OTHERS = {"--meta", "--system", "--black", "--white", "--no-recover", "--recovered", "--as-read", "--strict",
-               "--open-end", "--output"}
 
 
 @pytest.fixture
@@ -211,8 +197,6 @@ def test_the_table():
     wanted = {(words.split() or ["no option"])[0]: set(statuses) - {2}
               for words, statuses in [*OPTIONS.items(), *COMMANDS.items()]}
     assert sorted(found) == sorted({**wanted, **dict.fromkeys(PRINTED, {0})}.items())
-    options = {action.option_strings[-1] for action in parser_of_side("ldvbi-side")._actions if action.option_strings}
-    assert {name for name, _ in found if name.startswith("--")} == options - WITH_OTHERS
 
 
 # The statuses of each command, and of none, but for those of signals: yes or done, no, a fault, a cut field, can't tell

@@ -28,11 +28,10 @@ WRONG = (-1, 0.5, True, "x", [], {}, None)
 MANY = 10 ** 9
 # Sides with each form of a member that simulated ones lack
 SIDES = """
-    none | PAL || blank | Bx3 || bad | NTSC ?/!/~x3 || lead-in | L 88FFFF/-/- || stop | S/-/-
-    line 16 | 83D0A1/88FFFB/- 8DC0A1/-/- 8BAFFF/-/- || conflict | -/#4/#5 -/c0/c1 || tie | -/#3/#5
-    second | s7.0/-/- s7.1/-/- s7.2/-/- || clock | 8AE025/87FFFF/F0DD60x2 || left out | NTSC t0..2409!400%1001
-    undecided | NTSC t0..1 t3..4 || wrong | t0..29 s44.7/-/@9:59 || swapped | 1..8 ~7
-    speed | t0..57/3 || far | 1..30 60001..60030 60030x9
+    none | PAL || blank | Bx3 || stop | S/-/- || tie | -/#3/#5 || swapped | 1..8 ~7 || speed | t0..57/3
+    bad | NTSC ?/!/~x3 || lead-in | L 88FFFF/-/- || undecided | NTSC t0..1 t3..4 || wrong | t0..29 s44.7/-/@9:59
+    line 16 | 83D0A1/88FFFB/- 8DC0A1/-/- 8BAFFF/-/- || conflict | -/#4/#5 -/c0/c1 || second | s7.0/-/- s7.1/-/- s7.2/-/-
+    clock | 8AE025/87FFFF/F0DD60x2 || left out | NTSC t0..2409!400%1001 || far | 1..30 60001..60030 60030x9
 """
 # Captures that have each form of a member together
 TOGETHER = (("1..50 151..170 71..100", "1..98"), ("1..3 6..8", "6..9", "1..3"), ("m58..59x3000", "m58..59x3000"),
@@ -40,7 +39,8 @@ TOGETHER = (("1..50 151..170 71..100", "1..98"), ("1..3 6..8", "6..9", "1..3"), 
 # White, the width of a line, and the first column before which no level is held too long; and fields with each cause,
 # with the least and the greatest columns, and with each pass, as described.py makes them
 SYSTEMS = {
-    "NTSC": ("51200", 910, 40, "82CFFF|82CFFF @170-171L|82CFFF @170-174L\nL900 H10|H1|L908 H1\n-|L11 H11|L873 H37"),
+    "NTSC": ("51200", 910, 40, "82CFFF|82CFFF @170-171L|-\nL900 H10|82CFFF @170-174L|L164 H746\n"
+                               "H1|L908 H1|L11 H11\nL873 H37|-|-"),
     "PAL": ("54016", 1135, 50, "8AE012|8AE012 @220-221L|8AE012 @220-224L\nL1130 H5|H1|L1133 H1\n-|L14 H14|L1090 H45")}
 WRONG_CAUSES = ("%s", "%s ", "%s 0100", "%s 100.0", "%s  100", "%s 100 ", "%s100", "x%s 100")
 
@@ -158,30 +158,26 @@ def test_scans(room):
     for name in ("side.tbc", "worn.tbc", "absent.tbc"):
         room.add(name, "1..2")
     os.unlink(room.named("absent.tbc"))
-    for kind, words in (("read", "side.tbc"), ("read", "--html pages side.tbc worn.tbc"), ("failed", "absent.tbc no")):
-        each_place(schema_of("-scan"), read_table("scan", kind), [json.loads(room.scan("--json " + words)[1])])
-
-
-def may_stand(word, cause, of_pass, near):
-    """Whether a line of a document may have these members."""
-    if of_pass == 0:
-        return word == 0 and cause in ("blank", "unfinished") and near is None
-    allowed = {1: ["word"], 2: ["word"], 3: ["word", "unfinished"]}.get(of_pass, ())
-    return word in (0x800000, 0xFFFFFF) and cause in allowed and (near is not None) == (of_pass == 3)
+    for kind, words in (("read", "--html pages side.tbc worn.tbc"), ("failed", "absent.tbc no")):
+        each_place(schema_of("-scan"), read_table("version 2", kind), [json.loads(room.scan("--json " + words)[1])])
 
 
 def each_line(is_valid, document):
     """What may stand beside each other for a line: its word, cause and pass, and the word nearest to it."""
+    words, near = (0x800000, 0xFFFFFF), {"word": 0, "distance": 0, "rival": 0}
+    allowed = [*itertools.product([0], ("blank", "unfinished"), [0], [None]),
+               *itertools.product(words, ["word"], (1, 2), [None]),
+               *itertools.product(words, ("word", "unfinished"), [3], [near])]
     record = document["fields"][0]
     lists = [record["vbi"]["vbiData"], record["vbiCause"], record["vbiPass"], record.get("vbiNear", [None] * 3)]
-    nearest = (None, {"word": 0, "distance": 0, "rival": 0}) if "vbiNear" in record else (None,)
     for line in range(3):
         before = [one[line] for one in lists]
-        for members in itertools.product((0, 0x7FFFFF, 0x800000, 0xFFFFFF, 0x1000000, 8388608.5),
-                                         ("word", "blank", "unfinished", "Word"), range(5), nearest):
+        for members in itertools.product((0, 0x7FFFFF, *words, 0x1000000, 8388608.5),
+                                         ("word", "blank", "unfinished", "Word"), range(5),
+                                         (None, near) if "vbiNear" in record else [None]):
             for one, member in zip(lists, members):
                 one[line] = member
-            assert is_valid(document) == may_stand(*members), members
+            assert is_valid(document) == (members in allowed), members
         for one, member in zip(lists, before):
             one[line] = member
 
@@ -200,6 +196,10 @@ def test_documents(room, system, kind, version, options, passes):
         documents.append(json.loads(room.extracted(
             "side.tbc", ["--system", system, "--black", "16384", "--white", white, *options])))
     fields, schema = documents[-1]["fields"], schema_of(kind)
+    if (system, kind) == ("NTSC", ""):  # the real examples of causes are of the first lines
+        examples = re.findall(r"\| (\d+) \| `(.*)` \| (\d) \|", pathlib.Path(TOP, "docs", "FORMATS.md").read_text("utf-8"))
+        lines = [line for one in fields[:2] for line in zip(one["vbi"]["vbiData"], one["vbiCause"], one["vbiPass"])]
+        assert [(int(word), cause, int(of_pass)) for word, cause, of_pass in examples] == lines
     assert {one for record in fields for one in record["vbiPass"]} == passes
     assert {"word", "blank", "unfinished", "change 0", "change %d" % (width - 1), "hold %d" % hold,
             "hold %d" % (width - 1)} <= {cause for record in fields for cause in record["vbiCause"]}
