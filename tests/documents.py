@@ -80,8 +80,7 @@ def paths():
 
 
 SOURCES = ("crates/*/src/*.rt", "crates/*/specs/*.antt", "include/*.h", "python/**/*.py", "rust/hand/src/*.rs",
-           "share/schema/*.json", "tests/*.sh", "tests/python/*.py", "bench/sides/*.py", "rust/build.sh",
-           "examples/*.c")
+           "share/schema/*.json", "tests/*.sh", "tests/python/*.py", "bench/sides/*.py", "rust/build.sh", "examples/*.c")
 # Words of other programs, and of the machine
 NOT_OURS = {"chdman", "console", "manylinux_2_17", "memcpy", "memset", "pipefail", "pv", "siglongjmp", "WILLNEED"}
 
@@ -110,8 +109,7 @@ def names():
 # The variants of a fault, with their texts before them, or what writes the texts
 FAULT = re.compile(r"^(?:impl fmt::Display for|pub\S* enum) (?:App|Draw|Main|Meta|Run|Words)Fault \{(.*?)^\}",
                    re.M | re.S)
-# A text that is a fault below or clap's, and that of a feeder, which the program never prints
-NO_FAULT = ("{}", "{0}", "feeder failed before")
+NO_FAULT = ("{}", "{0}", "feeder failed before")  # of a fault below or clap's, and what the program never prints
 
 
 def listed_texts(heading):
@@ -208,7 +206,7 @@ def measured():
 
 
 # Each check, with the least that it has to look at
-CHECKS = {"links": (links, 70), "paths": (paths, 120), "names": (names, 1000), "faults": (faults, 28),
+CHECKS = {"links": (links, 70), "paths": (paths, 120), "names": (names, 800), "faults": (faults, 28),
           "numbers": (numbers, 100), "measured": (measured, 20)}
 
 

@@ -21,16 +21,14 @@ for name in seek stops whole player; do
 done
 draws_sides
 
-# finds COMMAND..: leaves as the answer the fields that stand in the lines of what it prints; what a search has found by
-# the lines alone has status 3
+# finds COMMAND..: leaves as the answer the fields in the lines that it prints; those found by lines alone have status 3
 finds() {
     does "$@"
     case $status in
         0 | 3) sed -n 's/^field \([0-9]*\).*/\1/p' out | paste -s -d ' ' | sed -n 's/^[0-9]/field &/p' > answer ;;
     esac
 }
-# says COMMAND..: leaves as the answer what examples/whole.c says, or a program that says the same: whether the side is
-# whole, or nothing where it can't tell; or its gaps
+# says COMMAND..: leaves as the answer what it says as examples/whole.c does: whether the side is whole, or its gaps
 says() {
     does "$@"
     gap='^\([a-z]*\) \([0-9]*\): field \([0-9]*\) has [0-9]*, field \([0-9]*\) has [0-9]*$'

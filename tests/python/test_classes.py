@@ -1,6 +1,7 @@
 """The classes of words in Python: what words say, where each kind of code stands (IEC 60857 and 60856), and words
 beside the library."""
 
+import collections
 import ctypes
 import itertools
 import os
@@ -42,11 +43,11 @@ LINES = {Kind.lead_in: (17, 18), Kind.picture: (17, 18), Kind.chapter: (17, 18),
 
 
 def ranges_of_header():
-    """The greatest first and second number of each kind, by its number, where include/ldvbi.h says `0 to` one."""
+    """The greatest first and second number of each kind, where include/ldvbi.h says `0 to` one."""
     header = pathlib.Path(TOP, "include", "ldvbi.h").read_text("ascii")
     kinds = re.findall(r"^    LDVBI_\w+ = (\d+), +/\* (first: .*) \*/$", header, re.M)
-    return [(int(kind), place, int(greatest)) for kind, text in kinds for place, said in enumerate(text.split("; "))
-            for greatest in re.findall(r", 0 to (\d+)$", said)]
+    return {(int(kind), place): int(said.rpartition(", 0 to ")[2])
+            for kind, text in kinds for place, said in enumerate(text.split("; "))}
 
 
 def test_what_words_say():
@@ -76,7 +77,7 @@ def test_words_beside_the_library():
     call = ctypes.CDLL(os.environ["LDVBI_LIBRARY"]).ldvbi_classify
     call.argtypes = ctypes.c_uint32, ctypes.c_void_p
     edges = [int("".join(digits), 16) for digits in itertools.product("0789ACDEF", repeat=5)]
-    greatest = {}
+    greatest = collections.Counter()
     for words in (range(0x800000, 0x900000), range(0xF00000, 0x1000000),
                   *([first << 20 | rest for rest in edges] for first in range(9, 15))):
         codes = (ctypes.c_uint32 * (3 * len(words)))()
@@ -88,7 +89,6 @@ def test_words_beside_the_library():
         assert usual_pictures(words) == {word: number for word, (kind, number, _) in zip(words, wanted) if kind ==
                                          Kind.picture and word < 0xF80000}
         for kind, *numbers in set(wanted):
-            greatest[kind] = list(map(max, greatest.get(kind, numbers), numbers))
-    ranges = ranges_of_header()
-    assert [(kind, place, greatest[kind][place]) for kind, place, _ in ranges] == ranges
-    assert len(ranges) == 10
+            for place, number in enumerate(numbers):
+                greatest[kind, place] = max(greatest[kind, place], number)
+    assert +greatest == ranges_of_header()

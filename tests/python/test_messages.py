@@ -18,11 +18,11 @@ from room import in_database, IN_PLACE, NO_METADATA
 NOT_JSON = "not JSON: line 1 is wrong from column 1 on"
 # Command lines that are refused, by how they begin, and those in which a name is empty
 USAGE = {
-    "side.tbc LEVELS": "--document --csv | --document --json | --document --summary | --document --bad-lines | --seek x | "
-                       "--csv --seek 1 | --seek -1 | --system SECAM | --black 1.0 | --recovered | --recovered --json | "
-                       "--recovered --document --no-recover | --as-read",
-    "join side.vbi.json": "| side.vbi.json --csv --ranges", "scan":
-    "| -j 0 side.tbc | -j x side.tbc | --csv --json side.tbc | --again side.tbc | --as-read side.tbc"}
+    "side.tbc LEVELS": "--document --csv | --document --json | --document --summary | --document --bad-lines | --seek x"
+                       "| --csv --seek 1 | --seek -1 | --system SECAM | --black 1.0 | --recovered | --recovered --json"
+                       "| --recovered --document --no-recover | --as-read",
+    "join side.vbi.json": "| side.vbi.json --csv --ranges",
+    "scan": "| -j 0 side.tbc | -j x side.tbc | --csv --json side.tbc | --again side.tbc | --as-read side.tbc"}
 UNNAMED = ("side.vbi.json --html", "side.vbi.json --svg", "side.vbi.json -o", "side.vbi.json --map", "side.tbc --into",
            "side.vbi.json --chapters", "side.tbc --meta", "scan side.vbi.json --html", "scan side.vbi.json --into",
            "scan side.tbc --meta", "join side.vbi.json side.vbi.json --html", "join side.vbi.json side.vbi.json --meta")
@@ -131,7 +131,8 @@ def test_documents_and_metadata(drawn):
         ": not JSON: it is nested too deep": b"[" * 100000, ": not JSON: a number is too long": b"1" * 5000,
         ": field 1: seqNo is not there": drawn.document.replace(b'"seqNo":1,', b'"number":1,')}
     metadata = {
-        " is no metadata with videoParameters": b"{}", ": no black level given": b'{"videoParameters":{"system":"NTSC"}}',
+        " is no metadata with videoParameters": b"{}",
+        ": no black level given": b'{"videoParameters":{"system":"NTSC"}}',
         ": SQLite can't read it: file is not a database": b"SQLite format 3\0" + bytes(1000)}
     for words, faults in (("wrong.json", documents), ("side.tbc --meta wrong.json", metadata)):
         for text, data in faults.items():

@@ -24,8 +24,7 @@ def package_of(name):
     return name.rpartition(".")[0]
 
 
-def test_files():
-    """Each file of python/ belongs to one of the packages that are named, each of which has some."""
+def test_each_file_is_of_a_named_package():
     named = re.search(r"^packages = \[(.*?)\]$", pathlib.Path(TOP, "pyproject.toml").read_text("utf-8"), re.M | re.S)[1]
     assert set(map(package_of, MODULES)) == set(re.findall(r'"(.*?)"', named))
 
@@ -59,9 +58,8 @@ def test_no_module_imports_a_later_one():
         room = ".".join(name.split(".")[:2])
         return ranks.get(name) or (ORDER.index(room if room in ORDER else name.split(".")[0]), 0)
 
-    # the command's entry hands over to the room above
-    assert [(name, imported) for name in MODULES for imported in imported_by(name) if rank(imported) > rank(name)] == [
-        ("ldvbi_side.__main__", "ldvbi_side.command.main")]
+    later = [(name, one) for name in MODULES for one in imported_by(name) if rank(one) > rank(name)]
+    assert later == [("ldvbi_side.__main__", "ldvbi_side.command.main")]  # the entry, which hands over
 
 
 def test_each_public_function_has_types():
