@@ -13,8 +13,6 @@ import pathlib
 import re
 import sys
 
-# The links to the net, of which nothing else is looked at
-NET = ["https://github.com/happycube/ld-decode"]
 # Where a path that a document names may begin
 FOLDERS = ("", "crates/", "crates/*/", "crates/*/src/", "crates/*/specs/", "rust/hand/src/", "tests/*/", "bench/*/")
 # What is built isn't there before; git is told to leave it out.
@@ -50,19 +48,15 @@ def codes(text):
 
 
 def links():
-    """What a document links to is there, a heading (`#..`) too; a link to the net is one of NET."""
+    """What a document links to is there, a heading (`#..`) too; of the net one place alone is linked."""
     for path in documents():
         for link in re.findall(r"\]\(([^)\s]*)\)", prose(path)):
             target, _, anchor = link.partition("#")
             file = os.path.normpath(os.path.join(os.path.dirname(path), target)) if target else path
-            is_there = link in NET or os.path.exists(file) and (not anchor or anchor in anchors(file))
-            yield is_there, f"{path}: {link} isn't there, or is none of the links to the net that are known"
-
-
-def anchors(path):
-    """Returns the anchors of a document's headings, as they are made of their words."""
-    heads = re.findall(r"^#+ (.*)$", prose(path), re.M)
-    return {re.sub(r"[^\w\- ]", "", head.lower()).replace(" ", "-") for head in heads}
+            heads = re.findall(r"^#+ (.*)$", prose(file), re.M) if anchor and os.path.exists(file) else []
+            anchors = ["", *(re.sub(r"[^\w\- ]", "", head.lower()).replace(" ", "-") for head in heads)]
+            is_there = link == "https://github.com/happycube/ld-decode" or os.path.exists(file) and anchor in anchors
+            yield is_there, f"{path}: {link} isn't there, or is no link to the net that is known"
 
 
 def paths():
@@ -80,7 +74,7 @@ def paths():
 
 
 SOURCES = ("crates/*/src/*.rt", "crates/*/specs/*.antt", "include/*.h", "python/**/*.py", "rust/hand/src/*.rs",
-           "share/schema/*.json", "tests/*.sh", "tests/python/*.py", "bench/sides/*.py", "rust/build.sh", "examples/*.c")
+           "share/schema/*.json", "[rt]*/*.sh", "tests/python/*.py", "bench/sides/*.py", "examples/*.c")
 # Words of other programs, and of the machine
 NOT_OURS = {"chdman", "console", "manylinux_2_17", "memcpy", "memset", "pipefail", "pv", "siglongjmp", "WILLNEED"}
 

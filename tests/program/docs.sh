@@ -164,11 +164,10 @@ crates/vbi_line/CALLING.md rust crates/vbi_line_tests/src/calling.rt
 crates/vbi_near/CALLING.md rust crates/vbi_line_tests/src/calling.rt
 END
 for crate in vbi_words vbi_line vbi_near; do
-    sed -n 's/^| \(`[^|]*\)|.*/\1/p' "$top/crates/$crate/CALLING.md" | grep -o '[a-z_]*`' | tr -d '`' | sed '/^$/d' |
-        sort -u > found
-    find "$top/crates/$crate/src" -name '*.rt' ! -name '*laws.rt' -exec sed -n 's/.*pub fn \([a-z_]*\).*/\1/p' {} + |
-        sort -u > functions
-    check "the page for callers of $crate has a row for each public function" cmp found functions
+    sed -n 's/^| \(`[^|]*\)|.*/\1/p' "$top/crates/$crate/CALLING.md" | grep -o '[a-z_][a-z_]*`' | sort -u > found
+    find "$top/crates/$crate/src" -name '*.rt' ! -name '*laws.rt' -exec sed -n 's/.*pub fn \([a-z_]*\).*/\1`/p' {} + |
+        sort -u | cmp found - > err
+    check "the page for callers of $crate has a row for each public function" [ ! -s err ]
 done
 
 # The examples of the manual pages: the last line that the one of ldvbi prints is of the drawn field; ldvbi-side has a

@@ -42,14 +42,6 @@ LINES = {Kind.lead_in: (17, 18), Kind.picture: (17, 18), Kind.chapter: (17, 18),
          Kind.picture_stop: (16, 17, 18), Kind.clv_mark: (17, 18), Kind.clv_picture: (16,), Kind.users: (16,)}
 
 
-def ranges_of_header():
-    """The greatest first and second number of each kind, where include/ldvbi.h says `0 to` one."""
-    header = pathlib.Path(TOP, "include", "ldvbi.h").read_text("ascii")
-    kinds = re.findall(r"^    LDVBI_\w+ = (\d+), +/\* (first: .*) \*/$", header, re.M)
-    return {(int(kind), place): int(said.rpartition(", 0 to ")[2])
-            for kind, text in kinds for place, said in enumerate(text.split("; "))}
-
-
 def test_what_words_say():
     assert repr(classify(0xF12345)) == "Code(kind=<Kind.picture: 1>, first=12345, second=0)"
     for word, meaning, value in MEANINGS:
@@ -73,7 +65,7 @@ def test_no_words():
 
 def test_words_beside_the_library():
     """All that begin with 8 or F, as those of each class do, and of the others those whose digits are at the edges of
-    classes."""
+    classes. The greatest numbers of each kind are those that include/ldvbi.h has behind `0 to`."""
     call = ctypes.CDLL(os.environ["LDVBI_LIBRARY"]).ldvbi_classify
     call.argtypes = ctypes.c_uint32, ctypes.c_void_p
     edges = [int("".join(digits), 16) for digits in itertools.product("0789ACDEF", repeat=5)]
@@ -91,4 +83,7 @@ def test_words_beside_the_library():
         for kind, *numbers in set(wanted):
             for place, number in enumerate(numbers):
                 greatest[kind, place] = max(greatest[kind, place], number)
-    assert +greatest == ranges_of_header()
+    header = pathlib.Path(TOP, "include", "ldvbi.h").read_text("ascii")
+    kinds = re.findall(r"^    LDVBI_\w+ = (\d+), +/\* (first: .*) \*/$", header, re.M)
+    assert +greatest == {(int(kind), place): int(said.rpartition(", 0 to ")[2])
+                         for kind, text in kinds for place, said in enumerate(text.split("; "))}

@@ -23,9 +23,8 @@ from streams import TOP
 
 pytestmark = pytest.mark.unrecorded
 
-# Of each kind of value one that stands nowhere, unless a row says so; and a number that is none of the greatest
+# Of each kind of value one that stands nowhere, unless a row says so
 WRONG = (-1, 0.5, True, "x", [], {}, None)
-MANY = 10 ** 9
 # Sides with each form of a member that simulated ones lack
 SIDES = """
     none | PAL || blank | Bx3 || stop | S/-/- || tie | -/#3/#5 || swapped | 1..8 ~7 || speed | t0..57/3
@@ -67,24 +66,10 @@ def read_table(*kinds):
     return {place: words for place, words in table.items() if place.startswith((".", "*."))}
 
 
-def values_of(words):
-    """Values, each with whether the words of a row allow it. As JSON has it, true isn't 1."""
-    found = {json.dumps(value): False for value in WRONG}
-    for word in words:
-        ends = re.fullmatch(r"(\d+)\.\.(\d*)", word)
-        if ends:
-            least, greatest = int(ends[1]), int(ends[2] or MANY)
-            found.update({str(least - 1): False, str(greatest + 1): not ends[2], str(least): True, str(greatest): True})
-        else:
-            text = word.lstrip("!")
-            is_json = re.fullmatch(r'null|true|false|\[.*\]|[0-9]+|".*"', text)
-            found[text if is_json else json.dumps(text)] = word[0] != "!"
-    return [(json.loads(text), is_allowed) for text, is_allowed in found.items()]
-
-
 def others(value, words):
-    """Yields what is put in place of a value whose row has these words, and whether it may stand there."""
-    is_fixed = words == ["fixed"]
+    """Yields what is put in place of a value whose row has these words, and whether it may stand there. As JSON has it,
+    true isn't 1."""
+    is_fixed, found = words == ["fixed"], {json.dumps(one): False for one in WRONG}
     if isinstance(value, dict):
         yield from (({other: value[other] for other in value if other != name}, False) for name in value)
         yield {**value, "more": 0}, False
@@ -92,7 +77,16 @@ def others(value, words):
         yield from [(value + [0], False), (value[:-1], False)]
     elif isinstance(value, list):
         words = [*words, "[]"]
-    yield from values_of([] if is_fixed else words)
+    for word in [] if is_fixed else words:
+        ends = re.fullmatch(r"(\d+)\.\.(\d*)", word)
+        if ends:
+            least, greatest = int(ends[1]), int(ends[2] or 10 ** 9)
+            found.update({str(least - 1): False, str(greatest + 1): not ends[2], str(least): True, str(greatest): True})
+        else:
+            text = word.lstrip("!")
+            is_json = re.fullmatch(r'null|true|false|\[.*\]|[0-9]+|".*"', text)
+            found[text if is_json else json.dumps(text)] = word[0] != "!"
+    yield from ((json.loads(text), is_allowed) for text, is_allowed in found.items())
 
 
 def changes(value, table, tried, place=""):
