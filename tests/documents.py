@@ -212,7 +212,7 @@ def main():
         print(f"{name}: {len(looked_at)} looked at")
         looked_at.append((len(looked_at) >= least, f"{name}: there were {least}"))
         faults_found += [fault for fits, fault in looked_at if not fits]
-    return "\n".join(faults_found)
+    return "\n".join(faults_found) or None
 
 
 if __name__ == "__main__":
