@@ -184,11 +184,12 @@ def test_documents(room, system, kind, version, options, passes):
     white, width, hold, signal = SYSTEMS[system]
     ran = subprocess.run([sys.executable, os.path.join(TOP, "tests", "program", "described.py"), system, "1"],
                          input=signal.encode(), stdout=subprocess.PIPE, check=True)
-    documents = []
+    settings, documents = ["--system", system, "--black", "16384", "--white", white], []
     for data in (b"", ran.stdout[:1], ran.stdout[:-1], ran.stdout):
         room.write("side.tbc", data)
-        documents.append(json.loads(room.extracted(
-            "side.tbc", ["--system", system, "--black", "16384", "--white", white, *options])))
+        documents.append(json.loads(room.extracted("side.tbc", [*settings, *options])))
+    by_command = room.printed("side.tbc", *settings, "--document", *["--recovered"] * len(options))
+    assert json.loads(by_command) == documents[-1]
     fields, schema = documents[-1]["fields"], schema_of(kind)
     if (system, kind) == ("NTSC", ""):  # the real examples of causes are of the first lines
         text = pathlib.Path(TOP, "docs", "FORMATS.md").read_text("utf-8")
