@@ -21,25 +21,31 @@ grep -vx ldvbi_plain_rust all > exported
 sed -n 's/^\(LDVBI_[A-Z0-9()]* \)*[a-z0-9_]* \(ldvbi_[a-z_]*\)(.*/\2/p' "$top/include/ldvbi.h" | sort > declared
 check 'the library gives what the header declares, and nothing else' cmp -s exported declared
 check 'the library does not say that it is plain Rust' cmp -s all exported
-check 'the name of the library has the number of its interface' \
-    sh -c "readelf -d '$built/libldvbi.so.1' | grep -q 'SONAME.*\[libldvbi.so.1\]'"
-check 'the library is bound when it is loaded' \
-    sh -c "readelf -d '$built/libldvbi.so.1' | grep -q '(FLAGS) *BIND_NOW'"
+readelf -dSW "$built/libldvbi.so.1" > sections
+abi=$(sed -n 's/^#define LDVBI_ABI //p' "$top/include/ldvbi.h")
+check 'the name of the library has the number of its interface' grep -q "SONAME.*\[libldvbi.so.$abi\]" sections
+check 'the interface of the header is that of make' grep -qx "ABI := $abi" "$top/Makefile"
+check 'the library is bound when it is loaded' grep -q '(FLAGS) *BIND_NOW' sections
 check 'the library has no call frames, as its header says' \
     sh -c "! readelf -SW '$built/libldvbi.a' | grep -q ' \.eh_frame '"
-check 'the library has no section that it writes to' \
-    sh -c "! readelf -SW '$built/libldvbi.so.1' | grep -q ' \.\(data\|bss\) '"
-
-# One version
-check 'the version of the header is that of make' \
-    [ "$(header_version)" = "$(sed -n 's/^VERSION := //p' "$top/Makefile")" ]
-check 'the interface of the header is that of make' \
-    [ "$(sed -n 's/^#define LDVBI_ABI //p' "$top/include/ldvbi.h")" = "$(sed -n 's/^ABI := //p' "$top/Makefile")" ]
+check 'the library has no section that it writes to' [ -z "$(grep ' \.\(data\|bss\) ' sections)" ]
 
 # Calls over the border, from C with the sanitizers, and from Python
-check 'the tests in C are built' does $cc -std=c99 $strict -fsanitize=address,undefined -I"$top/include" -o library \
+version=$(sed -n 's/^VERSION := //p' "$top/Makefile")
+tr ';' '\n' << END > texts
+$version;$version
+done;system is neither NTSC nor PAL;black is not below white, or one of them is above 65535
+length does not fit the system;number is no code word;neither pictures nor times are counted
+pace is neither that of video nor of film, nor to be found
+list of erased columns is not sorted, or has columns of no line;line is none of 16, 17 and 18
+whether dropouts are known is neither 0 nor 1
+word;blank;unfinished;change;hold
+other;picture;chapter;time;clv picture;cx on;cx off;users;lead-in;lead-out;picture stop;clv
+neither;cav;clv;both;nothing;believed;doubtful;due
+END
+check 'the program in C is built' does $cc -std=c99 $strict -fsanitize=address,undefined -I"$top/include" -o library \
     "$here/library.c" "$built/libldvbi.a" -lpthread -lm
-check 'the tests in C' prints 0 '0 wrong' ./library
+check 'its versions, and the texts' prints 0 "$(cat texts)" ./library
 PYTHONPATH=$PYTHONPATH:$tests/python
 for part in refusals judged lines worn; do
     check "the tests of $part" prints 0 '0 wrong' python3 "$here/$part.py"

@@ -22,14 +22,3 @@ prints() {
 with_python() {
     export LDVBI_LIBRARY="$built/libldvbi.so.1" PYTHONPATH="$top/python" PYTHONDONTWRITEBYTECODE=1
 }
-
-# header_version: the version of ldvbi.h
-header_version() {
-    sed -n 's/^#define LDVBI_VERSION_TEXT "\(.*\)"$/\1/p' "$top/include/ldvbi.h"
-}
-
-# discs: makes cav.tbc and clv.tbc of the words in examples/
-discs() {
-    output_of draw $ntsc "$top/examples/cav.words" > cav.tbc
-    output_of draw $pal "$top/examples/clv.words" > clv.tbc
-}
