@@ -27,34 +27,22 @@ done
 for name in player.c player.cpp player.py; do
     check "$name has at most 60 lines" [ "$(wc -l < "$top/examples/$name")" -le 60 ]
 done
-# called NAME [SIDE WORD..]: makes `command` of what runs this example, on this side, and `speaker` of the name by which
-# it speaks
-called() {
-    command=./$1
-    speaker=${1%_cpp}
-    case $1 in *.py) command="python3 $top/examples/$1" ;; esac
-    [ $# -gt 1 ] || return 0
-    on_file=$2.tbc
-    shift 2
-    case $speaker in
-        stops) command="sh -c 'exec $command $* < $on_file'" ;;
-        *) command="$command $on_file $*" ;;
-    esac
-}
-# answers_so STATUS OUT SAID: whether the command ends with this status, and writes these lines, which ; parts. It says
-# nothing, or this line behind its name, for which % stands in it, or one line of its own where that is *.
+# answers_so NAME STATUS OUT SAID COMMAND: whether a line for the shell ends with this status, and writes these lines,
+# which ; parts. It says nothing, or this line behind the example's name, for which % stands in it, or one line of its own
+# where that is *.
 answers_so() {
-    said_line "${3:+$speaker: $(echo "$3" | sed "s/%/$speaker/")}"
-    printf '%s' "${2:+$2;}" | tr ';' '\n' > wanted_out
+    said_line "${4:+$1: $(echo "$4" | sed "s/%/$1/")}"
+    printf '%s' "${3:+$3;}" | tr ';' '\n' > wanted_out
     status=0
-    eval "bounded $command" < empty > out 2> err || status=$?
-    [ "$3" != '*' ] || [ "$(grep -c "^$speaker: " err)" != 1 ] || cp err wanted
-    [ "$status" = "$1" ] && cmp -s out wanted_out && cmp -s err wanted && [ "$(wc -l < err)" -le 1 ]
+    eval "bounded $5" < empty > out 2> err || status=$?
+    [ "$4" != '*' ] || [ "$(grep -c "^$1: " err)" != 1 ] || cp err wanted
+    [ "$status" = "$2" ] && cmp -s out wanted_out && cmp -s err wanted && [ "$(wc -l < err)" -le 1 ]
 }
 
 # Discs by the standards' lines: stops and marks where the number is on line 18 alone, and lines 17 and 18 that differ,
 # on a side whose numbers can be judged, and on some that have too few for that
-discs
+output_of draw $ntsc "$top/examples/cav.words" > cav.tbc
+output_of draw $pal "$top/examples/clv.words" > clv.tbc
 : > empty.tbc
 while IFS='|' read -r name options rows; do
     echo "$rows" | tr ';' '\n' | bounded "$program" draw $options - > $name.tbc
@@ -173,10 +161,15 @@ while IFS='|' read -r examples ended text side words said; do
     case $side in clv | marks) on=$on_clv ;; esac
     for name in $examples; do
         case $name in seek*) asked=3 ;; player*) asked='search 3' ;; *) asked= ;; esac
-        called $name $side $(echo "$words" | sed "s/@/$on/; s/&/$asked/")
+        asked=$(echo "$words" | sed "s/@/$on/; s/&/$asked/")
+        case $name in
+            stops*) command="./$name $asked < $side.tbc" ;;
+            *.py) command="python3 $top/examples/$name $side.tbc $asked" ;;
+            *) command="./$name $side.tbc $asked" ;;
+        esac
         shown=$text
         [ $name != stops ] || shown=$(echo "$text" | sed 's/ picture [0-9]*//g')
-        check "$name $side $words" answers_so $ended "$shown" "$said"
+        check "$name $side $words" answers_so ${name%_cpp} $ended "$shown" "$said" "$command"
     done
 done < rows
 
@@ -220,37 +213,23 @@ for name in $stops; do
     check "$name reads few bytes of a file" reads_few ./$name $on_cav
     picture=
     [ $name = stops ] || picture=' picture 3'
-    called $name
-    command="sh -c 'cat stops_5_1.tbc | ./$name $on_cav'"
-    check "$name of a pipe" answers_so 0 "field 5$picture;1 stops" "$cut 6 has 1 of 478660 bytes"
-    command="sh -c '{ dd bs=478660 count=1 of=skipped 2> said; ./$name $on_cav; } < stops_5_1.tbc'"
-    check "$name of a file from its second field on" answers_so 0 "field 4$picture;1 stops" \
-        "$cut 5 has 1 of 478660 bytes"
+    check "$name of a pipe" answers_so ${name%_cpp} 0 "field 5$picture;1 stops" "$cut 6 has 1 of 478660 bytes" \
+        "cat stops_5_1.tbc | ./$name $on_cav"
+    check "$name of a file from its second field on" answers_so ${name%_cpp} 0 "field 4$picture;1 stops" \
+        "$cut 5 has 1 of 478660 bytes" "sh -c '{ head -c 478660 > skipped; ./$name $on_cav; } < stops_5_1.tbc'"
 done
 
 # A file that can't be mapped; and want of memory for what is judged of 220,000 fields, of which the file has no block
 truncate -s $((478660 * 220000)) great.tbc
-called seek
-command="sh -c 'ulimit -v 500000 && exec ./seek great.tbc $on_cav 3'"
-check 'seek: a file that cannot be mapped' answers_so 2 '' 'great.tbc: Cannot allocate memory'
-command="sh -c 'ulimit -d 4000 && exec ./seek great.tbc $on_cav 3'"
-check 'seek: no memory' answers_so 2 '' 'Cannot allocate memory'
+check 'seek: a file that cannot be mapped' answers_so seek 2 '' 'great.tbc: Cannot allocate memory' \
+    "sh -c 'ulimit -v 500000 && exec ./seek great.tbc $on_cav 3'"
+check 'seek: no memory' answers_so seek 2 '' 'Cannot allocate memory' \
+    "sh -c 'ulimit -d 4000 && exec ./seek great.tbc $on_cav 3'"
 
-# ends_unread: whether the command ends and says nothing where nobody reads what it prints, as one in C does by itself
-ends_unread() {
-    rm -f pipe
-    mkfifo pipe
-    : < pipe & # it opens the pipe together with the next command, and ends
-    exec 3> pipe
-    wait $!
-    status=0
-    eval "bounded $command" < empty >&3 2> err || status=$?
-    exec 3>&-
-    [ "$status" = 141 ] && [ ! -s err ] # by SIGPIPE
-}
-for words in 'seek.py 3' 'player.py search 3 play'; do
-    called ${words%% *} cav $on_cav ${words#* }
-    check "${words%% *}: its output isn't read" ends_unread
+# Nobody reads what these print: the pipe is closed before they write. One in C ends so by itself.
+for words in "seek.py cav.tbc $on_cav 3" "player.py cav.tbc $on_cav search 3 play"; do
+    { sleep 1; bounded python3 "$top"/examples/$words 2> err; echo $? > ended; } | :
+    check "${words%% *}: its output isn't read" [ "$(cat ended err)" = 141 ]
 done
 
 # Lines at 13.5 MHz, drawn by the standards alone, with a little noise: words as the disc has them, and nearly as short
@@ -276,15 +255,18 @@ for half_cell in 1 0.82; do
             prints 0 "$(cat pixels.txt)" sh -c "./pixels $system 16 235 < lines.y8"
     done
 done
-called pixels
-command='./pixels NTSC 16 235'
-check 'pixels: no line' answers_so 0 '' ''
 head -c 2159 lines.y8 > part.y8
-command='./pixels PAL 16 235 < part.y8'
-check 'pixels: a field that is cut' answers_so 2 '' 'the last field is cut'
-for on in 'NTSC 16 256' 'NTSC -1 235' 'NTSC 51200 16384' 'SECAM 16 235' 'NTSC 235 16' 'NTSC 16 16' 'NTSC 16 x' \
-    'NTSC 16'; do
-    command="./pixels $on"
-    check "pixels: $on" answers_so 2 '' '*'
-done
+while IFS='|' read -r words ended said; do
+    check "pixels: $words" answers_so pixels $ended '' "$said" "./pixels $words"
+done << END
+NTSC 16 235|0|
+PAL 16 235 < part.y8|2|the last field is cut
+NTSC 16 256|2|*
+NTSC -1 235|2|*
+SECAM 16 235|2|*
+NTSC 235 16|2|*
+NTSC 16 16|2|*
+NTSC 16 x|2|*
+NTSC 16|2|*
+END
 finish
