@@ -5,6 +5,7 @@ Lines end where no page follows; of fields the pages of lines 16 to 18 alone can
 usage: lines.py"""
 
 import ctypes
+import itertools
 import mmap
 import random
 from array import array
@@ -14,7 +15,7 @@ from border import Guarded, NUMBERS, call, expect, finish, layout
 
 READING, NEAR, ERASED = map(layout, ("Reading", "Near", "Erased"))
 BLANK, FIELDS, WORDS, MOST_LINES = NUMBERS.BLANK, 3, 500, 28
-SAMPLES, LIST, ANSWER = map(Guarded, (FIELDS * 313 * 2270, 4096, 4096))
+SAMPLES, LIST, ANSWER = map(Guarded, (30 * 313 * 2270, 4096, 4096))
 chance = random.Random(60856)
 
 
@@ -161,30 +162,10 @@ def test_near(tv, starts, cell, shorter, longer, fewest, most):
 
 
 # ---- Fields of which the pages of rows 15 to 17 alone can be read: a call that looks at any other ends Python by a
-# signal. The rows begin where a page does, and then end where one does: a page is the least that can be taken away.
+# signal. The rows begin where a page does, or end where one does: a page is the least that can be taken away.
 
 def word_of(field, row):
     return 0 if (field, row) == (0, 2) else 0x800000 + 1000 * field + row
-
-
-class Stream:
-    """Fields one after the other, of which the rows of the one `at` begin where a page does, or end where one does. No
-    page can be touched but those that hold rows of these fields."""
-
-    def __init__(self, tv, at, is_end, fields):
-        self.row, self.field = 2 * tv.samples, 2 * tv.samples * tv.lines
-        self.memory = Guarded(FIELDS * self.field + 2 * mmap.PAGESIZE)
-        edge = at * self.field + (18 if is_end else 15) * self.row
-        self.begin = self.memory.end - self.memory.pages + mmap.PAGESIZE - edge % mmap.PAGESIZE
-        for field in range(FIELDS):
-            rows = b"".join(drawn(tv, word_of(field, row)).tobytes() for row in range(3))
-            ctypes.memmove(self.rows(field), rows, len(rows))
-        self.memory.close()
-        for field in fields:
-            self.memory.open(self.rows(field), 3 * self.row)
-
-    def rows(self, field):
-        return self.begin + field * self.field + 15 * self.row
 
 
 def are_read(tv, name, address, length, places, *count):
@@ -195,17 +176,25 @@ def are_read(tv, name, address, length, places, *count):
 
 
 def test_pages(tv, at, is_end):
-    """The calls that take one field, or its rows, or one of these; and those that take all fields."""
-    alone, together = Stream(tv, at, is_end, [at]), Stream(tv, at, is_end, range(FIELDS))
-    rows, row, field = alone.rows(at), alone.row, alone.field
+    """Calls that take all fields, or the one `at`, or its rows, or one of these."""
+    row, field = 2 * tv.samples, 2 * tv.samples * tv.lines
+    memory = Guarded(FIELDS * field + 2 * mmap.PAGESIZE)
+    edge = at * field + (18 if is_end else 15) * row
+    begin = memory.end - memory.pages + mmap.PAGESIZE - edge % mmap.PAGESIZE
+    rows = [begin + place * field + 15 * row for place in range(FIELDS)]
+    for place, address in enumerate(rows):
+        lines = b"".join(drawn(tv, word_of(place, line)).tobytes() for line in range(3))
+        ctypes.memmove(address, lines, len(lines))
+    memory.close()
+    for address in rows:
+        memory.open(address, 3 * row)
     places = [(at, line) for line in range(3)]
-    are_read(tv, "read_field", alone.begin + at * field, field, places)
+    are_read(tv, "read_field", begin + at * field, field, places)
     for name in ("read_rows", "recover_rows"):
-        are_read(tv, name, rows, 3 * row, places)
-    are_read(tv, "read_line", rows + 2 * row if is_end else rows, row, places[2:] if is_end else places[:1])
+        are_read(tv, name, rows[at], 3 * row, places)
+    are_read(tv, "read_line", rows[at] + 2 * row * is_end, row, places[2:] if is_end else places[:1])
     for name in ("read_fields", "recover_fields"):
-        are_read(tv, name, alone.begin + at * field, field, places, 1)
-        are_read(tv, name, together.begin, FIELDS * field, [divmod(line, 3) for line in range(3 * FIELDS)], FIELDS)
+        are_read(tv, name, begin, FIELDS * field, [divmod(line, 3) for line in range(3 * FIELDS)], FIELDS)
 
 
 def main():
@@ -215,9 +204,8 @@ def main():
         test_near(*row)
     for tv in TELEVISIONS:
         test_words(tv)
-        for field in range(FIELDS):
-            test_pages(tv, field, False)
-            test_pages(tv, field, True)
+        for at, is_end in itertools.product(range(FIELDS), (False, True)):
+            test_pages(tv, at, is_end)
     finish()
 
 

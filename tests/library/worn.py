@@ -1,17 +1,14 @@
 """Hands worn lines to the library whose words and distances are counted on paper, and compares what is recovered: alone
-and in a stream, levelled, with erased columns, and of lines of one word. Lines and lists end where no page follows. And
-signals that are no words, the same in each run.
+and in a stream, levelled, with erased columns, and of lines of one word. Lines and lists end where no page follows.
 
 usage: worn.py"""
 
 import json
-import math
-import random
 import struct
 from array import array
 
 from border import expect, finish, layout
-from lines import BLANK, FIELDS, NEAR, NTSC, PAL, READING, TELEVISIONS, answered, drawn, edges_of
+from lines import BLANK, NEAR, NTSC, PAL, READING, TELEVISIONS, answered, drawn, edges_of
 
 RECORD = layout("Record")
 
@@ -112,25 +109,19 @@ def rows_are_recovered(tv, row, rows):
 
 
 def test_worn(tv):
-    """Each row alone, and each three as the fields of a stream, between other lines."""
+    """Each row alone, and all as the fields of a stream, between other lines, as are those of which nothing is erased."""
     before, behind = (array("H", b"\xAA" * 2 * tv.samples * lines) for lines in (15, tv.lines - 18))
     for row in (*EVEN, LAST_CELL[tv]):
         rows_are_recovered(tv, row, worn_rows(tv, *row[:2], 0))
-    for first in range(0, len(WORN), FIELDS):
-        fields, stream, entries = WORN[first:first + FIELDS], array("H"), []
-        for field, row in enumerate(fields):
-            words, turned, _, erased = row
-            rows = worn_rows(tv, words, turned)
-            stream += before + rows + behind
-            entries += erased_of(tv, field, turned, erased)
-            are_recovered(tv, [row], answered("recover_rows_without", tv[:3], rows, 24,
-                                              erased=erased_of(tv, 0, turned, erased)))
-            if not erased:
-                rows_are_recovered(tv, row, rows)
-        asked = tv[:3], stream, 24 * FIELDS, FIELDS
-        are_recovered(tv, fields, answered("recover_fields_without", *asked, erased=entries))
-        if not entries:
-            are_recovered(tv, fields, answered("recover_fields", *asked))
+    for row in WORN:
+        are_recovered(tv, [row], answered("recover_rows_without", tv[:3], worn_rows(tv, *row[:2]), 24,
+                                          erased=erased_of(tv, 0, *row[1::2])))
+    plain = [row for row in WORN if not row[3]]
+    for name, fields in (("recover_fields_without", WORN), ("recover_fields", plain)):
+        stream = sum((before + worn_rows(tv, *row[:2]) + behind for row in fields), array("H"))
+        entries = [entry for field, row in enumerate(fields) for entry in erased_of(tv, field, *row[1::2])]
+        asked = {"erased": entries} if entries else {}
+        are_recovered(tv, fields, answered(name, tv[:3], stream, 24 * len(fields), len(fields), **asked))
 
 
 # ---- Words that are cut short, and that go on
@@ -224,7 +215,7 @@ def test_records(tv):
 SAID = (
     (17, 0, 0, 0, "0:0"), (17, 1, 0, 0, "0:0 1:0"),
     # a code that may stand on the line, where dropouts are known or not, and another word
-    (17, 1, 0xF12345, 0xF12345, "1:11"), (17, 1, 0, 0xF12345, "1:12"), (17, 0, 0xF12345, 0xF12345, "1:9"),
+    (17, 1, 0xF12345, 0xF12345, "0:11"), (17, 1, 0, 0xF12345, "1:12"), (17, 0, 0xF12345, 0xF12345, "1:9"),
     (17, 0, 0, 0xF12345, "1:10"), (16, 1, 0xF12345, 0xF12345, "0:9"), (16, 1, 0, 0xF12345, "0:10"),
     # lines that say it only together: worn in two cells, or in one; and as many as are taken
     (18, 1, 0xF12345, 0xF12345, "0:13 1:13 2:13"), (17, 0, 0xF12345, 0xF12345, "1:11 1:11"),
@@ -245,83 +236,8 @@ def test_pile(tv):
         expect(packed == struct.pack("I", wanted), tv.system, number, known, turned, "says", packed)
 
 
-# ---- Signals that are no words, as stand on lines 16, 17 and 18 of other discs and tapes: in how many lines one is
-# recovered nevertheless. bench/channel measures more of them. 0 is black and 1 is white.
-
-chance = random.Random(1)
-NOISE = [chance.gauss(0, 1) for _ in range(50000)]
-BEGIN, END = 10, 62  # of a signal, in microseconds of its line
-SIGNALS = 75  # of each kind, of three lines each
-
-
-def held(levels, columns):
-    return [levels[int(place / columns)] for place in range(int(len(levels) * columns))]
-
-
-def some(count):
-    return [chance.randrange(2) for _ in range(count)]
-
-
-def bits(rates, count, high):
-    """Bits of so many megahertz, of which the first sixteen come by turns. Each column is the mean of three."""
-    def signal(us, system):
-        levels = [high * bit for bit in held([1, 0] * 8 + some(count - 16), us / rates[system])]
-        return [sum(three) / 3 for three in zip([0] + levels, levels, levels[1:] + [0])]
-    return signal
-
-
-def biphase(count):
-    """Each bit changes in its middle. Half cells last a microsecond."""
-    return lambda us, _: held([level for bit in some(count) for level in (1 - bit, bit)], us)
-
-
-def sine(us, _):
-    columns, phase = us / chance.uniform(0.1, 1.6), chance.uniform(0, 2 * math.pi)
-    return [0.5 + 0.5 * math.sin(2 * math.pi * place / columns + phase) for place in range(int(52 * us))]
-
-
-def steps(us, _):
-    return [level for _ in range(int(52 * us / 5)) for level in [chance.random()] * chance.randint(5, 40)]
-
-
-# Name, the signal by the samples of a microsecond and the system, noise, and of how many of 100,000 lines a word may be
-# recovered
-KINDS = (
-    ("blank, noise 50 %", lambda us, _: [], 0.5, 0), ("steps", steps, 0.05, 100),
-    ("teletext", bits({1: 5.7273, 2: 6.9375}, 360, 0.66), 0.05, 200),
-    ("time code", bits({1: 1.79, 2: 1.79}, 90, 1), 0.05, 800), ("20 biphase bits", biphase(20), 0.05, 0),
-    ("26 biphase bits", biphase(26), 0.05, 0), ("26 biphase bits, noise", biphase(26), 0.5, 3000),
-    ("a sine of 0.1 to 1.6 MHz", sine, 0.05, 2200))
-
-
-def shown(tv, signal, noise):
-    """The samples of a line, which has noise of its own."""
-    line = ([0] * int(BEGIN * tv.rate / tv.over) + signal + [0] * tv.samples)[:tv.samples]
-    unit, begin = tv.white - tv.black, chance.randrange(len(NOISE) - tv.samples)
-    return [min(max(int(tv.black + unit * (level + noise * more)), 0), 65535)
-            for level, more in zip(line, NOISE[begin:])]
-
-
-def test_kind(tv, name, signal_of, noise, wrong):
-    """In half of the fields line 18 has the signal of line 17. By chance one line more may have a word, and as many as
-    the count is usually off."""
-    recovered, us = 0, tv.rate / tv.over
-    chance.seed("%s %d 2" % (name, tv.system))
-    for _ in range(SIGNALS):
-        signals = [signal_of(us, tv.system)[:int((END - BEGIN) * us)] for _ in range(3)]
-        signals[2] = signals[chance.randint(1, 2)]
-        rows = array("H", [sample for signal in signals for sample in shown(tv, signal, noise)])
-        packed = answered("recover_rows", tv[:3], rows, 3 * READING.size)
-        recovered += sum(word != 0 for *_, word in READING.iter_unpack(packed))
-    usual = 3 * SIGNALS * wrong / 100000
-    most = wrong and 1 + int(usual + math.sqrt(usual))
-    expect(recovered <= most, tv.system, name, recovered, "of", 3 * SIGNALS, "and not", most)
-
-
 if __name__ == "__main__":
     for system in TELEVISIONS:
         for test in (test_worn, test_ends, test_levelled, test_levelled_first, test_records, test_pile):
             test(system)
-        for kind in KINDS:
-            test_kind(system, *kind)
     finish()
