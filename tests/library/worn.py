@@ -28,10 +28,9 @@ WORN = (
     ((0x8DC0A1, 0xF12345, 0), (0, 11, 0), (1, 3, 0), ""), ((0, 0xF12345, 0xF54321), (0, 0, 11), (0, 1, 3), ""),
     # a code, where no other has this bit turned: 89C0A1 is nearer by 7 or 8 columns, or by 11 or 12
     ((0x8DC0A1, 0, 0), (18, 0, 0), (3, 0, 0), ""), ((0x8DC0A1, 0, 0), (20, 0, 0), (0x89C0A1, 0, 0), ""),
-    # lines 17 and 18 of one word, where neither alone is enough
+    # lines 17 and 18 of one word, where neither alone is enough; and of two words
     ((0, 0xF12345, 0xF12345), (0, 13, 13), (0, 3, 3), ""),
     ((0x85D0A1, 0xF1234A, 0xF1234A), (12, 12, 12), (0, 3, 3), ""),
-    # of two words
     ((0, 0xF12345, 0xF54321), (0, 9, 10), (0, 3, 0), ""), ((0, 0xF54321, 0xF1234A), (0, 10, 8), (0, 0, 3), ""),
     ((0, 0xF1234A, 0xF54321), (0, 9, 9), (0, 0, 3), ""), ((0, 0xF12345, 0xF16345), (0, 8, 8), (0, 3, 3), ""),
     # glitches, by which a word is of pass 2: it stays where it is ahead, and falls where the cell is erased
@@ -39,14 +38,11 @@ WORN = (
     ((0x85D0A1, 0xF12345, 0), (1, 2, 0), (2, 0, 0), "17 1 rest"),
     # erased columns
     ((0x85D0A1, 0, 0), (14, 0, 0), (0, 0, 0), "17 0 turned, 18 0 turned"),
-    ((0x8DC0A1, 0xF12345, 0), (0, 14, 0), (1, 0, 0), "16 1 turned, 18 1 turned"),
     ((0x8DC0A1, 0xF12345, 0), (0, 14, 0), (1, 3, 0), "17 1 turned"),
     ((0x8DC0A1, 0xF12345, 0), (0, 14, 0), (1, 0, 0), "16 1 beyond, 17 1 beyond"),
     ((0, 0xF12345, 0xF54321), (0, 0, 14), (0, 1, 3), "18 2 turned"),
     ((0x85D0A1, 0xF12345, 0xF54321), (14, 0, 14), (3, 1, 3), "16 0 turned, 17 1 rest, 18 2 turned"),
-    ((0x85D0A1, 0xF12345, 0), (8, 8, 0), (3, 3, 0), ""),
-    ((0x85D0A1, 0xF12345, 0), (8, 8, 0), (0, 3, 0), "16 0 cell"),
-    ((0x85D0A1, 0xF12345, 0), (8, 8, 0), (3, 0, 0), "17 1 rest"))
+    ((0x85D0A1, 0xF12345, 0), (8, 8, 0), (0, 3, 0), "16 0 cell"))
 
 # Lines 17 and 18 that begin in one column. The word of line 18 is 12 or 13 columns farther from line 17 than its own,
 # so that both have it. Words that differ in the last cell alone are 28 columns apart, so that none of the two is said,
