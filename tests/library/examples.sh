@@ -28,8 +28,8 @@ for name in player.c player.cpp player.py; do
     check "$name has at most 60 lines" [ "$(wc -l < "$top/examples/$name")" -le 60 ]
 done
 # answers_so NAME STATUS OUT SAID COMMAND: whether a line for the shell ends with this status, and writes these lines,
-# which ; parts. It says nothing, or this line behind the example's name, for which % stands in it, or one line of its own
-# where that is *.
+# which ; parts. It says nothing, or this line behind the example's name, for which % stands in it, or one line of its
+# own where that is *.
 answers_so() {
     said_line "${4:+$1: $(echo "$4" | sed "s/%/$1/")}"
     printf '%s' "${3:+$3;}" | tr ';' '\n' > wanted_out

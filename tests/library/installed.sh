@@ -34,9 +34,9 @@ makes() {
 cp "$top/examples/say.c" .
 echo '- F12345 -' | bounded "$program" draw $ntsc > said.tbc
 tail -c +29121 said.tbc | head -c 1820 > line.raw
-discs
+output_of draw $ntsc "$top/examples/cav.words" > cav.tbc
 cp say.c line.raw cav.tbc user
-version=$(header_version)
+version=$(sed -n 's/^VERSION := //p' "$top/Makefile")
 processor=$(uname -m)
 says() {
     prints 0 'picture 12345' sh -c "$1 < line.raw"
@@ -102,30 +102,22 @@ check 'its name has version and tag' [ "$(ls wheels)" = "$wheel" ]
     (cd "$top/python" && find ldvbi ldvbi_side -name '*.py')
     echo ldvbi-$version.data/data/share/man/man1/ldvbi-side.1
     printf "ldvbi-$version.dist-info/%s\n" METADATA RECORD WHEEL entry_points.txt
-    echo ldvbi/libldvbi.so.1
-} | sort > files
-cat > listed.py << 'END'
-import base64, hashlib, sys, zipfile
-tag = sys.argv[1].split("-", 2)[2][:-len(".whl")]
+} | sed 's/^/100644 /' > files
+echo 100755 ldvbi/libldvbi.so.1 >> files
+sort files > wanted
+does python3 -c '
+import sys, zipfile
 with zipfile.ZipFile(sys.argv[1]) as wheel:
-    for info in wheel.infolist():
-        data, name = wheel.read(info), info.filename
-        digest = base64.urlsafe_b64encode(hashlib.sha256(data).digest()).decode().rstrip("=")
-        print(name + (",," if name.endswith("/RECORD") else ",sha256=%s,%d" % (digest, len(data))))
-        assert info.external_attr >> 16 == (0o100755 if name == "ldvbi/libldvbi.so.1" else 0o100644), name
-        assert not name.endswith("/WHEEL") or "\nTag: %s\n" % tag in data.decode()
-    wheel.extractall("wheel")
-END
-check 'it has modes and its tag' does python3 listed.py wheels/$wheel
-sort out > wanted
-check 'it has these files' [ "$(cut -d , -f 1 wanted)" = "$(cat files)" ]
-sort wheel/ldvbi-*.dist-info/RECORD > found
-check 'its record has each file, with its hash' cmp found wanted
+    print(*sorted("%o %s" % (info.external_attr >> 16, info.filename) for info in wheel.infolist()), sep="\n")
+    wheel.extractall("wheel")' wheels/$wheel
+check 'it has these files, with these modes' cmp out wanted
+check 'its tag' grep -qx "Tag: $(echo ${wheel%.whl} | cut -d - -f 3-)" wheel/ldvbi-$version.dist-info/WHEEL
 check 'and the library' cmp wheel/ldvbi/libldvbi.so.1 "$built/libldvbi.so.1"
 if [ $from = rust ]; then
-    leave_out 42
+    leave_out 34
     finish
 fi
+check 'its record has the hash of each file' does /usr/bin/python3 -m wheel unpack -d unpacked wheels/$wheel
 
 # The lines of LIBRARY.md, of somebody at home: the library alone, then the commands and Python
 # by_lines PATTERN WANTED COMMAND: whether the two lines of LIBRARY.md from this pattern on, and then this, print that
@@ -158,29 +150,18 @@ builds_on 'below its architecture' "$work/debian/lib/x86_64-linux-gnu"
 makes install-lib PREFIX="$work/apart" LIBDIR="$work/elsewhere"
 builds_on 'outside the prefix' "$work/elsewhere" "$work/elsewhere/cmake/ldvbi"
 
-# An example that is installed, and the commands, by a link as well
-check 'seek is built' does sh -c "export PKG_CONFIG_PATH=$work/usr/lib/pkgconfig; $cc -std=c99 -o seek \
-    usr/share/doc/ldvbi/examples/seek.c \$(pkg-config --cflags --libs ldvbi) -Wl,-rpath,$work/usr/lib"
-check 'seek finds a picture' prints 0 'field 7' ./seek cav.tbc $on_cav 3
+# The command by a link
 ln -s "$work/usr/bin/ldvbi-side" linked
-for command in usr/bin/ldvbi-side ./linked; do
-    seeks "$command reads a TBC file" $command
-done
+seeks 'ldvbi-side by a link' ./linked
 
 # The wheel, installed and used
 check 'a folder for Python' does /usr/bin/python3 -m venv venv
 check 'pip installs the wheel' does venv/bin/pip install -q wheels/$wheel
 seeks 'its command reads a TBC file' venv/bin/ldvbi-side
-check 'the library is that of the wheel' prints 0 "$work/venv/lib" venv/bin/python -c '
-from ldvbi.library import _library_file
-print(_library_file().split("/python3")[0])'
 # By these levels each sample is high.
 does env PATH="$work/venv/bin:/usr/bin:/bin" venv/bin/ldvbi-side cav.tbc --system NTSC --black 0 --white 200 \
     --html page.html
 check 'without the program its page draws bad lines' grep -q '<h2>Bad lines, drawn' page.html
-check 'the manual page comes with it' cmp venv/share/man/man1/ldvbi-side.1 "$top/share/man/ldvbi-side.1"
-check 'pip takes it away' does venv/bin/pip uninstall -q -y ldvbi
-check 'nothing of it is left' [ -z "$(find venv -name '*ldvbi*')" ]
 
 # The tags of libraries that need more, each built here: what they are, the tag before the processor, and their options
 mkdir libraries tools

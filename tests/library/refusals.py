@@ -13,7 +13,7 @@ LINE_BYTES, LINES = {NUMBERS.NTSC: 1820, NUMBERS.PAL: 2270}, {NUMBERS.NTSC: 263,
 MOST, MOST_BYTES = 2 ** 32 - 1, 2 ** 64 - 1
 CUT_OFF = (256, 257, 258, 259, 65536, 65537, 65538, 65539, 0x80000001, MOST)
 PAIRS = ((0, 1), (0, 65535), (65534, 65535), (0, 256), (256, 257))
-BAD_PAIRS = (2, 2), (65535, 0), (65536, 65537), (65536, 51200), (0, 65536), (16384, 65536 + 51200), (1 << 31, MOST), (0, MOST)
+BAD_PAIRS = (2, 2), (65535, 0), (65536, 65537), (65536, 51200), (0, 65536), (16384, 65536 + 51200), (1 << 31, MOST)
 BAD_WORDS = 1, 256, 257, 65535, 65536, 0x7FFFFF, 0x1000000, 0x1800000, 0x80000000, 0x80800000, MOST
 OPEN, CLOSED = defaultdict(lambda: Guarded(2 * 2270 * 313)), Guarded(4096)
 
@@ -105,12 +105,10 @@ def test_video(system):
         for black, white in PAIRS:
             test_call(name, {"system": system, "black": black, "white": white, **right}, **more)
 
-    test("read_line", {"length": line})
+    for name, lines in (("read_line", 1), ("read_rows", 3), ("recover_rows", 3), ("read_field", LINES[system])):
+        test(name, {"length": lines * line})
     test("draw_line", {"length": line, "word": 0xF12345})
     test("nearest", {"length": line}, piles)
-    for name in ("read_rows", "recover_rows"):
-        test(name, {"length": 3 * line})
-    test("read_field", {"length": field})
     for name in ("read_fields", "recover_fields"):
         test(name, {"length": field, "count": 1}, fields)
         expect(call(name)(system, 0, 1, None, 0, None, 0) == NUMBERS.DONE, name, "of no field")
@@ -159,14 +157,10 @@ def test_words():
         expect(OPEN["format"].get(4) == struct.pack("I", wanted), "format", words, OPEN["format"].get(4))
 
 
-def main():
+if __name__ == "__main__":
     CLOSED.close()
-    for system in LINE_BYTES:
-        test_video(system)
+    for number in LINE_BYTES:
+        test_video(number)
     test_judges()
     test_words()
     finish()
-
-
-if __name__ == "__main__":
-    main()

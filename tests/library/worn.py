@@ -105,7 +105,7 @@ def rows_are_recovered(tv, row, rows):
 
 
 def test_worn(tv):
-    """Each row alone, and all as the fields of a stream, between other lines, as are those of which nothing is erased."""
+    """Each row alone; all as the fields of a stream, between other lines; and so those of which nothing is erased."""
     before, behind = (array("H", b"\xAA" * 2 * tv.samples * lines) for lines in (15, tv.lines - 18))
     for row in (*EVEN, LAST_CELL[tv]):
         rows_are_recovered(tv, row, worn_rows(tv, *row[:2], 0))
