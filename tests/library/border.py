@@ -5,20 +5,21 @@ import ctypes
 import functools
 import mmap
 import os
+import pathlib
 import re
 import struct
 import sys
 import types
 
-_SYSTEM = ctypes.CDLL(None, use_errno=True)
-with open(os.path.join(os.path.dirname(__file__), "../../include/ldvbi.h"), encoding="ascii") as _file:
-    _HEADER = re.sub(r"/\*.*?\*/", "", _file.read(), flags=re.S)
+_SYSTEM = ctypes.CDLL(None)
+HEADER = pathlib.Path(__file__).parents[2].joinpath("include/ldvbi.h").read_text("ascii")
+HEADER = re.sub(r"/\*.*?\*/", "", HEADER, flags=re.S)  # without its comments
 _TYPES = {"uint32_t": ctypes.c_uint32, "size_t": ctypes.c_size_t}
 _wrong = []
 
 # The header's numbers, by their names without LDVBI_
 NUMBERS = types.SimpleNamespace(**{
-    name: int(number) for name, number in re.findall(r"\bLDVBI_(\w+) = (\d+)", _HEADER)})
+    name: int(number) for name, number in re.findall(r"\bLDVBI_(\w+) = (\d+)", HEADER)})
 
 
 def named(*names):
@@ -37,7 +38,7 @@ _MEMBERS = {
 _LETTERS = {"uint8_t": "B", "uint16_t": "H", "uint32_t": "I", "uint64_t": "Q", "size_t": "Q"}
 
 
-@functools.lru_cache(maxsize=None)
+@functools.cache
 def layout(name):
     """The struct Ldvbi.. of this name, in which the members of structs stand in their place."""
     return struct.Struct(_types(name) + "0Q" * ("Q" in _types(name)))
@@ -45,7 +46,7 @@ def layout(name):
 
 def _types(name):
     types_of, members = "", []
-    for kind, names in re.findall(r"(\w+) ([^;]+);", re.search(r"struct Ldvbi%s {(.*?)}" % name, _HEADER, re.S)[1]):
+    for kind, names in re.findall(r"(\w+) ([^;]+);", re.search(r"struct Ldvbi%s {(.*?)}" % name, HEADER, re.S)[1]):
         for member, count in re.findall(r"(\w+)(?:\[(\d+)\])?", names):
             one = _LETTERS.get(kind) or _types(kind[5:])
             types_of += count + "s" if count and one == "B" else one * int(count or 1)
@@ -54,20 +55,20 @@ def _types(name):
     return types_of
 
 
-@functools.lru_cache(maxsize=None)
+@functools.cache
 def parameters(name):
     """The name, the type, and whether it is a pointer, of each parameter of a call."""
-    taken = re.search(r"ldvbi_%s\(([^)]+)\);" % name, _HEADER)[1]
+    taken = re.search(r"ldvbi_%s\(([^)]+)\);" % name, HEADER)[1]
     return [(one.split()[-1].strip("*"), re.sub("const |Ldvbi", "", one).split()[0], "*" in one)
             for one in taken.split(",")]
 
 
-@functools.lru_cache(maxsize=None)
+@functools.cache
 def call(name):
     """A call of the library, as the header declares it."""
     function = getattr(ctypes.CDLL(os.environ["LDVBI_LIBRARY"]), "ldvbi_" + name)
     function.argtypes = [ctypes.c_void_p if is_pointer else _TYPES[kind] for _, kind, is_pointer in parameters(name)]
-    function.restype = _TYPES[re.search(r"(\w+) ldvbi_%s\(" % name, _HEADER)[1]]
+    function.restype = _TYPES[re.search(r"(\w+) ldvbi_%s\(" % name, HEADER)[1]]
     return function
 
 
@@ -84,14 +85,21 @@ def finish():
     sys.exit(bool(_wrong))
 
 
+def protect(address, size, protection=0):
+    """The pages of these bytes can't be touched any more, or as is said."""
+    before = address % mmap.PAGESIZE
+    if _SYSTEM.mprotect(ctypes.c_void_p(address - before), ctypes.c_size_t(size + before), protection):
+        raise OSError("mprotect")
+
+
 class Guarded:
-    """Room for so many bytes."""
+    """Room for so many bytes, behind which no page follows."""
 
     def __init__(self, size):
         self.pages = -(-size // mmap.PAGESIZE) * mmap.PAGESIZE
         self._map = mmap.mmap(-1, self.pages + mmap.PAGESIZE)
         self.end = ctypes.addressof(ctypes.c_char.from_buffer(self._map)) + self.pages
-        _protect(self.end, mmap.PAGESIZE, 0)
+        protect(self.end, mmap.PAGESIZE)
 
     def put(self, data):
         """Puts these bytes at the end. Returns their address."""
@@ -101,17 +109,3 @@ class Guarded:
     def get(self, size):
         """The last bytes."""
         return ctypes.string_at(self.end - size, size)
-
-    def close(self):
-        """No byte can be touched any more."""
-        _protect(self.end - self.pages, self.pages, 0)
-
-    def open(self, address, size):
-        """The pages of these bytes can be read again."""
-        begin = address - address % mmap.PAGESIZE
-        _protect(begin, -(-(address + size - begin) // mmap.PAGESIZE) * mmap.PAGESIZE, mmap.PROT_READ)
-
-
-def _protect(address, size, protection):
-    if _SYSTEM.mprotect(ctypes.c_void_p(address), ctypes.c_size_t(size), protection):
-        raise OSError(ctypes.get_errno(), "mprotect")

@@ -51,37 +51,9 @@ check 'the quick start finds a picture and a stop' prints 0 "$found" ./quick
 check 'the first declaration stands before line 60' \
     [ "$(grep -n '^enum\|^[a-z].*);$' "$top/include/ldvbi.h" | head -n 1 | cut -d : -f 1)" -lt 60 ]
 
-# Makes of each call that returns a status one on a line of its own. A pointer with a number of bytes or of items behind
-# it is an array, which may be null if it has none; any other is what is written, and mustn't be null.
-cat > calls.py << 'END'
-import re, sys
-with open(sys.argv[1]) as header:
-    heads = re.findall(r"\buint32_t (ldvbi_\w+)\(([^)]+)\);", header.read())
-print("#include <ldvbi.h>\nextern void *given; uint32_t called(void); uint32_t called(void) {")
-for name, text in [head for head in heads if "*" in head[1] and head[0] != "ldvbi_find_both"]:
-    taken, words = re.sub(r"\s+", " ", text).split(", "), []
-    for one, behind in zip(taken, taken[1:] + [""]):
-        is_null = sys.argv[2] == ("array" if behind.startswith("size_t") else "written")
-        words.append("0" if "*" not in one else "NULL" if is_null else "(%s*)given" % one.rpartition("*")[0])
-    print(sys.argv[3] % "{}({})".format(name, ", ".join(words)))
-print("return 0; }")
-END
-# called NULL FORM: makes that file, with null for each array or for what is written, and each call in this form
-called() {
-    bounded python3 calls.py "$top/include/ldvbi.h" "$@" > called.c
-}
-# warned WARNING: of how many calls the compiler for C warns so
-warned() {
-    $cc -std=c99 -Wall -I"$top/include" -c -o compiled.o called.c 2>&1 | grep -c "^called.c:.*$1"
-}
-for null in none array; do
-    called $null 'if (%s) return 1;'
-    check "23 calls, in C, where null is: $null" compiles c c99 called.c
-    check 'the same in C++' compiles c++ c++98 called.c
-done
-check 'there are 23' [ "$(grep -c '^if' called.c)" = 23 ]
-called none '%s;'
-check 'a status that nobody looks at is warned of' [ "$(warned warn_unused_result)" = 23 ]
-called written 'if (%s) return 1;'
-check 'what is written is never null' [ "$(warned 'Wnonnull]')" = "$(grep -c NULL called.c)" ]
+# Which calls have these attributes, refusals.py looks at.
+printf '%s\n' '#include <ldvbi.h>' 'void call(void); void call(void) { ldvbi_read_line(1, 1, 2, NULL, 0, NULL); }' > call.c
+$cc -std=c99 -Wall -I"$top/include" -c -o compiled.o call.c 2> err
+check 'a status that nobody looks at is warned of' grep -q warn_unused_result err
+check 'what is written is never null' [ "$(grep -c 'Wnonnull]' err)" = 1 ]
 finish

@@ -11,7 +11,7 @@ import random
 from array import array
 from collections import namedtuple
 
-from border import Guarded, NUMBERS, call, expect, finish, layout
+from border import Guarded, NUMBERS, call, expect, finish, layout, protect
 
 READING, NEAR, ERASED = map(layout, ("Reading", "Near", "Erased"))
 BLANK, FIELDS, WORDS, MOST_LINES = NUMBERS.BLANK, 3, 500, 28
@@ -185,9 +185,9 @@ def test_pages(tv, at, is_end):
     for place, address in enumerate(rows):
         lines = b"".join(drawn(tv, word_of(place, line)).tobytes() for line in range(3))
         ctypes.memmove(address, lines, len(lines))
-    memory.close()
+    protect(memory.end - memory.pages, memory.pages)
     for address in rows:
-        memory.open(address, 3 * row)
+        protect(address, 3 * row, mmap.PROT_READ)
     places = [(at, line) for line in range(3)]
     are_read(tv, "read_field", begin + at * field, field, places)
     for name in ("read_rows", "recover_rows"):

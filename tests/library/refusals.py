@@ -1,13 +1,14 @@
 """What each call of the library refuses, and in which order. Some numbers have bits that a parameter of 8 or of 16 bits
 would cut off. A call that refuses touches no array: here none can be touched. A list of erased columns is looked at
-last of all, and before that it may be of any length. And what some calls answer.
+last of all, and before that it may be of any length. And what some calls answer, and which attributes they have.
 
 usage: refusals.py"""
 
+import re
 import struct
 from collections import defaultdict
 
-from border import Guarded, NUMBERS, call, expect, finish, layout, parameters
+from border import Guarded, HEADER, NUMBERS, call, expect, finish, layout, parameters, protect
 
 LINE_BYTES, LINES = {NUMBERS.NTSC: 1820, NUMBERS.PAL: 2270}, {NUMBERS.NTSC: 263, NUMBERS.PAL: 313}
 MOST, MOST_BYTES = 2 ** 32 - 1, 2 ** 64 - 1
@@ -157,10 +158,22 @@ def test_words():
         expect(OPEN["format"].get(4) == struct.pack("I", wanted), "format", words, OPEN["format"].get(4))
 
 
+def test_attributes():
+    """Calls with a status have it looked at. A pointer with no count behind it is what is written, and never null; any
+    other is an array, which may be null if it has nothing."""
+    for attributes, name in re.findall(r"^(.*)\buint32_t ldvbi_(\w+)\([^)]*\*", HEADER, re.M):
+        taken = parameters(name)
+        written = [place for place, (_, _, is_pointer) in enumerate(taken, 1)
+                   if is_pointer and (taken + [("", "", False)])[place][1] != "size_t"]
+        wanted = "LDVBI_RESULT " + "".join("LDVBI_POINTER(%d) " % place for place in written)
+        expect(attributes == wanted or name == "find_both", name, "has", attributes, "and not", wanted)
+
+
 if __name__ == "__main__":
-    CLOSED.close()
+    protect(CLOSED.end - 4096, 4096)
     for number in LINE_BYTES:
         test_video(number)
     test_judges()
     test_words()
+    test_attributes()
     finish()
