@@ -84,8 +84,7 @@ check 'the installed program' prints 0 "$(output_of --version)" usr/bin/ldvbi --
 export PKG_CONFIG_PATH="$work/usr/lib/pkgconfig"
 check 'the version for pkg-config' [ "$(pkg-config --modversion ldvbi)" = "$version" ]
 archive='-Wl,-Bstatic $(pkg-config --static --libs ldvbi) -Wl,-Bdynamic'
-check 'the archive, by pkg-config' does sh -c "$cc -o say_static say.c \$(pkg-config --cflags ldvbi) $archive"
-check 'it reads the line' says ./say_static
+check 'the archive, by pkg-config' says "$cc -o say_static say.c \$(pkg-config --cflags ldvbi) $archive && ./say_static"
 for one in built/say_ldvbi:1 built/say_static:0 say_static:0; do
     check "whether $one needs the shared library" \
         [ "$(readelf -d ${one%:*} | grep -c 'libldvbi[.]so[.]1')" = ${one#*:} ]
@@ -114,7 +113,7 @@ check 'it has these files, with these modes' cmp out wanted
 check 'its tag' grep -qx "Tag: $(echo ${wheel%.whl} | cut -d - -f 3-)" wheel/ldvbi-$version.dist-info/WHEEL
 check 'and the library' cmp wheel/ldvbi/libldvbi.so.1 "$built/libldvbi.so.1"
 if [ $from = rust ]; then
-    leave_out 35
+    leave_out 34
     finish
 fi
 check 'its record has the hash of each file' does /usr/bin/python3 -m wheel unpack -d unpacked wheels/$wheel
@@ -133,17 +132,13 @@ check 'after the others an example in Python runs' by_lines "$lines" 'field 7' \
     'python3 $HOME/.local/share/doc/ldvbi/examples/seek.py cav.tbc NTSC 16384 51200 3'
 check 'and so does the command' by_lines "$lines" 'field 7, frame 4' \
     'ldvbi-side cav.tbc --system NTSC --black 16384 --white 51200 --seek 3'
-cp -r usr moved
-mv usr gone
+mv usr moved
 builds_on moved "$work/moved/lib"
-mv gone usr
-for wanted_version in 0.0.9 "$version;EXACT"; do
-    check "CMake finds version $wanted_version" configures "$work/usr" "$wanted_version"
-done
-# a later one, the next minor one, the next major one, and an earlier one exactly
-for wanted_version in $version.1 0.$((1 + $(echo "$version" | cut -d . -f 2))) 1.0 '0.0.9;EXACT'; do
-    ! configures "$work/usr" "$wanted_version"
-    check "CMake finds no version $wanted_version" sh -c 'head -n 1 err | grep -q "^CMake Error"'
+# an earlier version, and this one; a later one, the next minor and major ones, and an earlier one exactly
+for wanted in 0.0.9:0 "$version;EXACT:0" $version.1:1 0.$((1 + $(echo "$version" | cut -d . -f 2))):1 1.0:1 '0.0.9;EXACT:1'
+do
+    configures "$work/moved" "${wanted%:*}" || :
+    check "CMake, asked for version ${wanted%:*}" [ "$status" = ${wanted#*:} ]
 done
 makes install-lib PREFIX="$work/debian" LIBDIR="$work/debian/lib/x86_64-linux-gnu"
 builds_on 'below its architecture' "$work/debian/lib/x86_64-linux-gnu"
@@ -151,7 +146,7 @@ makes install-lib PREFIX="$work/apart" LIBDIR="$work/elsewhere"
 builds_on 'outside the prefix' "$work/elsewhere" "$work/elsewhere/cmake/ldvbi"
 
 # The command by a link
-ln -s "$work/usr/bin/ldvbi-side" linked
+ln -s "$work/moved/bin/ldvbi-side" linked
 seeks 'ldvbi-side by a link' ./linked
 
 # The wheel, installed and used
@@ -166,7 +161,6 @@ check 'without the program its page draws bad lines' grep -q '<h2>Bad lines, dra
 # The tags of libraries that need more, each built here: what they are, the tag before the processor, and their options
 mkdir libraries tools
 echo 'int nothing;' > nothing.c
-echo 'int puts(const char *); int put(void) { return puts("."); }' > put.c
 echo 'int pthread_create(void *, void *, void *, void *); int make(void) { return pthread_create(0, 0, 0, 0); }' > new.c
 bounded $cc -shared -fPIC -o libraries/libother.so nothing.c
 while IFS='|' read -r what tag options; do
@@ -175,7 +169,6 @@ while IFS='|' read -r what tag options; do
     check "the tag of a library $what" prints 0 "tagged/ldvbi-$version-py3-none-${tag}_$processor.whl" \
         python3 "$top/packaging/make_wheel.py" libraries/libldvbi.so.1 tagged
 done << 'END'
-that needs an old C library|manylinux_2_17|put.c
 that needs a newer one|manylinux_2_34|new.c
 that needs another one|linux|-Wl,--no-as-needed nothing.c -Llibraries -lother
 for later processors alone|linux|-Wl,-z,x86-64-v3 nothing.c

@@ -11,7 +11,7 @@ import random
 from array import array
 from collections import namedtuple
 
-from border import Guarded, NUMBERS, call, expect, finish, layout, protect
+from border import Guarded, NUMBERS, call, expect, finish, layout, named, protect
 
 READING, NEAR, ERASED = map(layout, ("Reading", "Near", "Erased"))
 BLANK, FIELDS, WORDS, MOST_LINES = NUMBERS.BLANK, 3, 500, 28
@@ -80,19 +80,18 @@ def test_sizes():
         tv = {tv.system: tv for tv in TELEVISIONS}.get(number)
         wanted = [tv.samples, 2 * tv.samples, tv.lines, 2 * tv.samples * tv.lines] if tv else [0] * 4
         expect([size(number) for size in calls] == wanted, "the sizes of system", number)
+    expect(named("reach", "part", "looked", "vote_reach") == [24, 97, 1000, 240], "a reach has changed")
 
 
 # ---- Lines of other sample rates, as the header says they are handed over
 
 # Rates in kilohertz of which whole lines show their words; and those of lines whose changes come a sample early or late
 WHOLE, JITTERED = (11500, 12000, 13500, 14318, 14750, 17000, 17700), (13000, 13500, 14318, 14750, 16000)
-# Rates; microseconds before active video, which is read from its beginning (None: whole lines), and those of it that
-# are left out; by how many samples a change may come early or late; and how many of the words are read
-RATES = (
-    (WHOLE, None, 0, 0, WORDS, WORDS), ((10400, 18600), None, 0, 0, 0, 0),
-    (JITTERED, None, 0, 1, WORDS, WORDS), ((12000, 17000), None, 0, 1, 0, WORDS // 10),
-    *(((17700, ), begin, 0, 0, WORDS, WORDS) for begin in (9, 9.5, 10.4)),
-    *(((17700, ), begin, 10, 0, 0, 0) for begin in (9, 9.5, 10.4)))
+# Rates; from which microsecond on lines are read (0: whole lines, and those of NTSC or PAL that are longer than a line of
+# NTSC here from 10 on); by how many samples a change may come early or late; and how many of the words are read
+RATES = ((WHOLE, 0, 0, WORDS, WORDS), ((10400, 18600), 0, 0, 0, 0), (JITTERED, 0, 1, WORDS, WORDS),
+         ((12000, 17000), 0, 1, 0, WORDS // 10), *(((17700, ), begin, 0, WORDS, WORDS) for begin in (9, 9.5, 10.4)),
+         *(((17700, ), begin, 0, 0, 0) for begin in (19, 19.5, 20.4)))
 
 
 def at_rate(kilohertz):
@@ -100,17 +99,13 @@ def at_rate(kilohertz):
     return Television(1, 257 * 60, 257 * 200, 4000, 263, 10 ** 6, 10500 * kilohertz, 1000 * kilohertz)
 
 
-def test_rate(kilohertz, begin, left_out, off, least, most):
-    """Whole lines of NTSC or of PAL that are longer than a line of NTSC here are read from 10 microseconds on."""
+def test_rate(kilohertz, begin, off, least, most):
     found, tv = 0, at_rate(kilohertz)
     for place, word in enumerate(some_words()):
-        samples, first = int((64 if place % 2 else 572 / 9) * kilohertz / 1000), int((begin or 0) * kilohertz / 1000)
-        if begin is None and samples > NTSC.samples:
-            left_out = 10
-        expect(begin is None or samples - first > NTSC.samples, kilohertz, begin, "has too few samples")
-        first += int(left_out * kilohertz / 1000)
+        is_longer = int((64 if place % 2 else 572 / 9) * kilohertz / 1000) > NTSC.samples
+        first = int((begin or 10 * is_longer) * kilohertz / 1000)
         found += read(tv, drawn(tv, word, off)[first:first + NTSC.samples]) == (0, 1, 0, word)
-    expect(least <= found <= most, kilohertz, "kHz from", begin, left_out, off, "off:", found)
+    expect(least <= found <= most, kilohertz, "kHz from", begin, off, "off:", found)
 
 
 def test_rates():
@@ -131,15 +126,14 @@ def test_rates():
 NEARS = ((NTSC, 224, 28, 14, 14, 24 * 14, 15 * 15 + 9 * 14), (PAL, 285, 35, 17, 18, 12 * 17 + 12 * 18, 24 * 18))
 
 
-def near(tv, samples):
-    return NEAR.unpack(answered("nearest", tv[:3], samples, NEAR.size))
-
-
 def test_near(tv, starts, cell, shorter, longer, fewest, most):
+    def near(samples, tv=tv):
+        return NEAR.unpack(answered("nearest", tv[:3], samples, NEAR.size))
+
     column = tv.white - tv.black
     # Another word differs by one cell, a longer one by one half cell. The level of the second changes at each edge.
     for start, word in [(start, word) for start in range(starts) for word in (0xF12345, 0xFFFFFF)]:
-        found = near(tv, drawn(tv._replace(start=start * tv.over), word))
+        found = near(drawn(tv._replace(start=start * tv.over), word))
         expect(found == (word, start, 0, cell * column, shorter * column), tv.system, start, found)
     # Lines of one word, of which the first is off by 700 in all, in its high byte and its low one; and black lines, of
     # which the row of no word is nearest.
@@ -149,14 +143,14 @@ def test_near(tv, starts, cell, shorter, longer, fewest, most):
     first[-1] -= 88
     for count in range(1, MOST_LINES + 1):
         wanted = 0x82CFFF, start, 700, count * cell * column + 700, count * shorter * column + 700
-        expect(near(tv, first + one * (count - 1)) == wanted, tv.system, count, "lines")
-        expect(near(tv, blank * count) == (0, 0, 0, count * fewest * column, 0), tv.system, count, "black lines")
+        expect(near(first + one * (count - 1)) == wanted, tv.system, count, "lines")
+        expect(near(blank * count) == (0, 0, 0, count * fewest * column, 0), tv.system, count, "black lines")
     # A sample that is farther from black than white is counts as much as one of white.
     farther[3], farther[-2] = 65535, tv.white + 1
     wanted = 0x82CFFF, start, 2 * column, (cell + 2) * column, (shorter + 2) * column
-    expect(near(tv, farther) == wanted, tv.system, "farther than white", near(tv, farther))
+    expect(near(farther) == wanted, tv.system, "farther than white", near(farther))
     # White lines, whose sums are greatest: several words have the most high columns.
-    found = near(tv._replace(black=0, white=65535), array("H", [65535]) * tv.samples * MOST_LINES)
+    found = near(array("H", [65535]) * tv.samples * MOST_LINES, tv._replace(black=0, white=65535))
     off = MOST_LINES * (tv.samples - most) * 65535
     expect(found[0] >= 0x800000 and found[2:] == (off, off, off - MOST_LINES * longer * 65535), tv.system, found)
 
@@ -197,17 +191,13 @@ def test_pages(tv, at, is_end):
         are_read(tv, name, begin, FIELDS * field, [divmod(line, 3) for line in range(3 * FIELDS)], FIELDS)
 
 
-def main():
+if __name__ == "__main__":
     test_sizes()
     test_rates()
-    for row in NEARS:
-        test_near(*row)
-    for tv in TELEVISIONS:
-        test_words(tv)
-        for at, is_end in itertools.product(range(FIELDS), (False, True)):
-            test_pages(tv, at, is_end)
+    for near_row in NEARS:
+        test_near(*near_row)
+    for system in TELEVISIONS:
+        test_words(system)
+        for field_at, are_ends in itertools.product(range(FIELDS), (False, True)):
+            test_pages(system, field_at, are_ends)
     finish()
-
-
-if __name__ == "__main__":
-    main()

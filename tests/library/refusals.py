@@ -4,6 +4,7 @@ last of all, and before that it may be of any length. And what some calls answer
 
 usage: refusals.py"""
 
+import itertools
 import re
 import struct
 from collections import defaultdict
@@ -131,8 +132,7 @@ def test_judges():
     no_found = {"BAD_PACE": one("pace", (NUMBERS.FIND_PACE, ))}
     for name in ("judge", "find_pace", "judge_side", "complete_times", "judge_chapters", "judge_stops", "judge_ends"):
         counts = [key for key, kind, _ in parameters(name) if kind == "size_t" and key != "gap_room"]
-        lengths = [dict(zip(counts, (first, second, third))) for first in sizes for second in sizes for third in sizes
-                   if not first == second == (third if counts[2:] else second)]
+        lengths = [dict(zip(counts, some)) for some in itertools.product(sizes, repeat=len(counts)) if len({*some}) > 1]
         more = no_found if name == "judge_side" else {}
         for count in (0, 2):
             for system, counted, pace in ((1, 1, 1), (2, 2, 2), (2, 1, 1 if more else 3)):
