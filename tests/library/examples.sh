@@ -91,10 +91,8 @@ gaps=$(awk 'BEGIN { for (part = 0; part < 10; part++)
     printf "lost 190: field %d has %d, field %d has %d;", 10 * part + 9, 100 * part + 5, 10 * part + 11, \
         100 * part + 101 }')
 few='of this side is supported by those around it, so this is what the lines say'
-is_a_picture='neither a picture from 0 to 79999, a time as 0:59:29.07, nor a chapter from 0 to 79'
-awk -F '|' -v OFS='|' '{ split($4, sides, ";"); count = split($5, words, ";"); said = $0
-    for (i = 0; i < 5; i++) sub("[^|]*[|]", "", said)
-    for (i in sides) for (j = 1; j <= count; j++) print $1, $2, $3, sides[i], words[j], said }' > rows << END
+awk -F '|' -v OFS='|' '{ count = split($4, sides, ";"); many = split($5, words, ";")
+    for (i = 1; i <= count; i++) for (j = 1; j <= many; j++) print $1, $2, $3, sides[i], words[j], $6 }' > rows << END
 $seek|0|field 5|stops|@ 3|
 $seek|1|not found|few;empty|@ 2;@ 7|
 $seek|3|field 1|few|@ 1|no number $few
@@ -105,12 +103,12 @@ $seek|3|field 8|clv|@ chapter 1|no chapter $few
 $seek|0|field 23|worn|@ 12|
 $seek|1|not found|stops_4_478659|@ 3|$cut 5 has 478659 of 478660 bytes
 $seek|0|field 5|stops_8_32760|@ 3|$cut 9 has 32760 of 478660 bytes
-$seek|2||cav|@;@ chapter 3 4;@ 3 4;@ 3 chapter|usage: % FILE NTSC|PAL BLACK WHITE NUMBER|H:MM:SS.PP|chapter N
-$seek|2||cav|@ xyz;@ 3x;@ -3;@ 80000;@ 4294967299|$is_a_picture
-$seek|2||cav|@ 0:00:60.00;@ 0:100:00.00;@ 0:00:00.100;@ 10:00:00.00;@ 0:00:00;@ 0:00:00.00.00|$is_a_picture
-$seek|2||cav|@ chapter 80;@ chapter -1;@ chapter 3x;@ chapter 256;@ chapter 0:00:00.00|$is_a_picture
+$seek|2||cav|@;@ chapter 3 4;@ 3 4;@ 3 chapter;@ xyz;@ 3x;@ -3;@ 80000;@ 4294967299;@ chapter 80;@ chapter -1|*
+$seek|2||cav|@ chapter 3x;@ chapter 256;@ chapter 0:00:00.00;@ 0:00:60.00;@ 0:100:00.00;@ 0:00:00.100|*
+$seek|2||cav|@ 10:00:00.00;@ 0:00:00;@ 0:00:00.00.00|*
 $seek|2||empty|NTSC 51200 16384 3|*
-$seek|2||nowhere;folder;null|@ 3|*
+$seek $player $whole|2||nowhere;folder;null|@ &|*
+$player $whole|2||empty|@ &|*
 $stops|0|0 stops|clv;empty|@|
 $stops|0|field 5 picture 3;field 8;field 9 picture 5;3 stops|stops|@|
 stops_cpp|0|field 1;field 2 picture 3;2 stops|differ|@|
@@ -129,7 +127,6 @@ $player|0|search: field 23 picture 12;play: field 39 picture 20|worn|@ search 12
 $player|1|search: not found|clv|@ search 3|
 $player|1|play: not found|stops_4_478659|@ play|
 $player|2||cav|@;@ search 3x;@ search;@ stop|*
-$player|2||nowhere;empty;folder|@ play|*
 $seek $stops $player $whole|2||cav|NTSC 51200 16384 &;SECAM 16384 51200 &;pal 1 2 &;1 16384 51200 &;NTSC 16384 81920 &|*
 $seek $stops $player $whole|2||cav|NTSC -1 51200 &;NTSC 16384x 51200 &;NTSC 16384 4294967297 &|*
 $seek $stops $player $whole|2||cav|NTSC 16384 16384 &;NTSC 16384 xyz &;NTSC 16384 99999999999999999999 &|*
@@ -143,7 +140,6 @@ $whole|1|whole: no: fields are lost, $off;lost 8: field 25 has 9, field 27 has 1
 $whole|1|whole: no: it begins late, fields may be lost;open 4: field 23 has 107999, field 25 has 108002|clock|@ cut|
 $whole|1|whole: no: fields are lost, $off, no lead-out;${gaps}gaps left out: 1|gaps|@|
 $whole|2||cav|NTSC 16384;@ cut cut;@ whole|*
-$whole|2||nowhere;empty;folder|@|*
 END
 while IFS='|' read -r examples ended text side words said; do
     on=$on_cav

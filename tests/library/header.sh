@@ -1,6 +1,6 @@
 #!/bin/sh
-# Compiles what includes ldvbi.h: by each standard, twice, in two parts of a program; and calls whose status nobody
-# looks at or whose pointer is null, of which the compiler has to warn.
+# Compiles what includes ldvbi.h: by each standard, twice, in two parts of a program, which prints its texts; the quick
+# start at its head; and a call whose status nobody looks at, with null, of which the compiler has to warn.
 # Needs libldvbi.a beside the program, or at the top of the repository (`make lib`).
 # usage: sh tests/library/header.sh PROGRAM
 # runs: library rust
@@ -10,29 +10,34 @@
 . "$here/library_helpers.sh"
 
 warned='-Wall -Wextra -Wpedantic -Wconversion -Werror'
-# compiles LANGUAGE STANDARD OPTION.. FILE: whether the compiler has no warning of this file
-compiles() {
-    compiler=$cc
-    [ "$1" = c ] || compiler=$cxx
-    dialect="-x $1 -std=$2"
-    shift 2
-    does $compiler $dialect $warned -I"$top/include" -c -o compiled.o "$@"
-}
-echo '#include <ldvbi.h>' > once.c
 printf '%s\n' '#include <ldvbi.h>' '#include <ldvbi.h>' 'uint32_t NAME(void);' \
     'uint32_t NAME(void) { return ldvbi_abi(); }' > twice.c
-for standard in 'c c99' 'c c17' 'c++ c++98' 'c++ c++20'; do
-    check "the header in ${standard#* }" compiles $standard once.c
-    check "the header in ${standard#* }, without attributes" compiles $standard -DLDVBI_NO_ATTRIBUTES once.c
-    check "the header twice in ${standard#* }" compiles $standard twice.c
+for standard in 'c -std=c99' 'c -std=c17' 'c++ -std=c++98' 'c++ -std=c++20'; do
+    for option in -DNAME=name -DLDVBI_NO_ATTRIBUTES; do
+        check "the header twice, $standard $option" \
+            does $cc -x $standard $option $warned -I"$top/include" -c -o compiled.o twice.c
+    done
 done
 for name in one two; do
     bounded $cc -std=c99 -I"$top/include" -DNAME=$name -c -o $name.o twice.c
 done
-echo 'int main(void) { return 0; }' > main.c
-check 'the header in two parts of a program' does $cc -o program main.c one.o two.o "$built/libldvbi.a"
+check 'the header in two parts of a program' does $cc -std=c99 $strict -fsanitize=address,undefined -I"$top/include" \
+    -o library "$here/library.c" one.o two.o "$built/libldvbi.a" -lpthread -lm
+version=$(sed -n 's/^VERSION := //p' "$top/Makefile")
+tr ';' '\n' << END > texts
+$version;$version
+done;system is neither NTSC nor PAL;black is not below white, or one of them is above 65535
+length does not fit the system;number is no code word;neither pictures nor times are counted
+pace is neither that of video nor of film, nor to be found
+list of erased columns is not sorted, or has columns of no line;line is none of 16, 17 and 18
+whether dropouts are known is neither 0 nor 1
+word;blank;unfinished;change;hold
+other;picture;chapter;time;clv picture;cx on;cx off;users;lead-in;lead-out;picture stop;clv
+neither;cav;clv;both;nothing;believed;doubtful;due
+END
+check 'its versions, and its texts' prints 0 "$(cat texts)" ./library
 
-# The quick start at the head of the header is a program, which finds a picture, and the stop after it
+# The quick start is a program, which finds a picture, and the stop after it.
 {
     printf '#include <%s>\n' fcntl.h ldvbi.h stdio.h stdlib.h sys/mman.h unistd.h
     echo 'int main(void) {'
@@ -52,7 +57,7 @@ check 'the first declaration stands before line 60' \
     [ "$(grep -n '^enum\|^[a-z].*);$' "$top/include/ldvbi.h" | head -n 1 | cut -d : -f 1)" -lt 60 ]
 
 # Which calls have these attributes, refusals.py looks at.
-printf '%s\n' '#include <ldvbi.h>' 'void call(void); void call(void) { ldvbi_read_line(1, 1, 2, NULL, 0, NULL); }' > call.c
+printf '%s\n' '#include <ldvbi.h>' 'int main(void) { ldvbi_read_line(1, 1, 2, NULL, 0, NULL); }' > call.c
 $cc -std=c99 -Wall -I"$top/include" -c -o compiled.o call.c 2> err
 check 'a status that nobody looks at is warned of' grep -q warn_unused_result err
 check 'what is written is never null' [ "$(grep -c 'Wnonnull]' err)" = 1 ]

@@ -16,10 +16,10 @@ unset LD_LIBRARY_PATH LDVBI_LIBRARY PYTHONPATH PKG_CONFIG_PATH
 export PYTHONDONTWRITEBYTECODE=1 PIP_NO_INDEX=1 PIP_DISABLE_PIP_VERSION_CHECK=1
 
 # A folder that has what the repository has, with what is built where it is
-mkdir user user/rust
-for part in "$top"/*; do
-    case $(basename "$part") in rust | dist | ldvbi | libldvbi.*) ;; *) ln -s "$part" user ;; esac
-done
+mkdir user
+ln -s "$top"/* user
+rm -f user/rust user/dist user/ldvbi user/libldvbi.*
+mkdir user/rust
 place=user
 from=proved
 [ "$built" = "$top" ] || place=user/rust from=rust
@@ -84,7 +84,7 @@ check 'the installed program' prints 0 "$(output_of --version)" usr/bin/ldvbi --
 export PKG_CONFIG_PATH="$work/usr/lib/pkgconfig"
 check 'the version for pkg-config' [ "$(pkg-config --modversion ldvbi)" = "$version" ]
 archive='-Wl,-Bstatic $(pkg-config --static --libs ldvbi) -Wl,-Bdynamic'
-check 'the archive, by pkg-config' says "$cc -o say_static say.c \$(pkg-config --cflags ldvbi) $archive && ./say_static"
+check 'the archive, by pkg-config' says "$cc -o say_static say.c \$(pkg-config --cflags ldvbi) $archive; ./say_static"
 for one in built/say_ldvbi:1 built/say_static:0 say_static:0; do
     check "whether $one needs the shared library" \
         [ "$(readelf -d ${one%:*} | grep -c 'libldvbi[.]so[.]1')" = ${one#*:} ]
@@ -135,8 +135,8 @@ check 'and so does the command' by_lines "$lines" 'field 7, frame 4' \
 mv usr moved
 builds_on moved "$work/moved/lib"
 # an earlier version, and this one; a later one, the next minor and major ones, and an earlier one exactly
-for wanted in 0.0.9:0 "$version;EXACT:0" $version.1:1 0.$((1 + $(echo "$version" | cut -d . -f 2))):1 1.0:1 '0.0.9;EXACT:1'
-do
+minor=$(echo "$version" | cut -d . -f 2)
+for wanted in 0.0.9:0 "$version;EXACT:0" $version.1:1 0.$((minor + 1)):1 1.0:1 '0.0.9;EXACT:1'; do
     configures "$work/moved" "${wanted%:*}" || :
     check "CMake, asked for version ${wanted%:*}" [ "$status" = ${wanted#*:} ]
 done

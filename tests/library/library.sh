@@ -1,10 +1,10 @@
 #!/bin/sh
-# Calls the library from C and Python: tests over its border, in memory behind which no page follows. Before that, what
-# the library needs and gives.
+# Calls the library from Python: tests over its border, in memory behind which no page follows. Before that, what the
+# library needs and gives.
 # Needs libldvbi.a and libldvbi.so.1 beside the program, or at the top of the repository (`make lib`).
 # usage: sh tests/library/library.sh PROGRAM
 # runs: library rust
-# fails where: include/ldvbi.h|s/LDVBI_HOLD = 4/LDVBI_HOLD = 5/
+# fails where: include/ldvbi.h|s/LDVBI_PAL = 2/LDVBI_PAL = 3/
 
 . "$(dirname "$0")/../helpers.sh"
 . "$here/library_helpers.sh"
@@ -30,22 +30,6 @@ check 'the library has no call frames, as its header says' \
     sh -c "! readelf -SW '$built/libldvbi.a' | grep -q ' \.eh_frame '"
 check 'the library has no section that it writes to' [ -z "$(grep ' \.\(data\|bss\) ' sections)" ]
 
-# Calls over the border, from C with the sanitizers, and from Python
-version=$(sed -n 's/^VERSION := //p' "$top/Makefile")
-tr ';' '\n' << END > texts
-$version;$version
-done;system is neither NTSC nor PAL;black is not below white, or one of them is above 65535
-length does not fit the system;number is no code word;neither pictures nor times are counted
-pace is neither that of video nor of film, nor to be found
-list of erased columns is not sorted, or has columns of no line;line is none of 16, 17 and 18
-whether dropouts are known is neither 0 nor 1
-word;blank;unfinished;change;hold
-other;picture;chapter;time;clv picture;cx on;cx off;users;lead-in;lead-out;picture stop;clv
-neither;cav;clv;both;nothing;believed;doubtful;due
-END
-check 'the program in C is built' does $cc -std=c99 $strict -fsanitize=address,undefined -I"$top/include" -o library \
-    "$here/library.c" "$built/libldvbi.a" -lpthread -lm
-check 'its versions, and the texts' prints 0 "$(cat texts)" ./library
 PYTHONPATH=$PYTHONPATH:$tests/python
 for part in refusals judged lines worn; do
     check "the tests of $part" prints 0 '0 wrong' python3 "$here/$part.py"

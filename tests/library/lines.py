@@ -87,8 +87,8 @@ def test_sizes():
 
 # Rates in kilohertz of which whole lines show their words; and those of lines whose changes come a sample early or late
 WHOLE, JITTERED = (11500, 12000, 13500, 14318, 14750, 17000, 17700), (13000, 13500, 14318, 14750, 16000)
-# Rates; from which microsecond on lines are read (0: whole lines, and those of NTSC or PAL that are longer than a line of
-# NTSC here from 10 on); by how many samples a change may come early or late; and how many of the words are read
+# Rates; from which microsecond on lines are read (0: whole lines, and those that are longer than a line of NTSC here from
+# 10 on); by how many samples a change may come early or late; and how many of the words are read
 RATES = ((WHOLE, 0, 0, WORDS, WORDS), ((10400, 18600), 0, 0, 0, 0), (JITTERED, 0, 1, WORDS, WORDS),
          ((12000, 17000), 0, 1, 0, WORDS // 10), *(((17700, ), begin, 0, WORDS, WORDS) for begin in (9, 9.5, 10.4)),
          *(((17700, ), begin, 0, 0, 0) for begin in (19, 19.5, 20.4)))
@@ -138,17 +138,13 @@ def test_near(tv, starts, cell, shorter, longer, fewest, most):
     # Lines of one word, of which the first is off by 700 in all, in its high byte and its low one; and black lines, of
     # which the row of no word is nearest.
     one, blank = drawn(tv, 0x82CFFF), drawn(tv, 0)
-    first, farther, start = one[:], one[:], tv.start // tv.over
+    first, start = one[:], tv.start // tv.over
     first[0] += 612
     first[-1] -= 88
     for count in range(1, MOST_LINES + 1):
         wanted = 0x82CFFF, start, 700, count * cell * column + 700, count * shorter * column + 700
         expect(near(first + one * (count - 1)) == wanted, tv.system, count, "lines")
         expect(near(blank * count) == (0, 0, 0, count * fewest * column, 0), tv.system, count, "black lines")
-    # A sample that is farther from black than white is counts as much as one of white.
-    farther[3], farther[-2] = 65535, tv.white + 1
-    wanted = 0x82CFFF, start, 2 * column, (cell + 2) * column, (shorter + 2) * column
-    expect(near(farther) == wanted, tv.system, "farther than white", near(farther))
     # White lines, whose sums are greatest: several words have the most high columns.
     found = near(array("H", [65535]) * tv.samples * MOST_LINES, tv._replace(black=0, white=65535))
     off = MOST_LINES * (tv.samples - most) * 65535
