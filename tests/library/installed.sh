@@ -71,14 +71,10 @@ cmake_builds() {
 # builds_on NAME LIBDIR [CMAKE]: both, where libraries are in this folder; CMake looks in the prefix, or in CMAKE
 builds_on() {
     check "$1: the line in LIBRARY.md" prints 0 'picture 12345' env PKG_CONFIG_PATH="$2/pkgconfig" sh -c "$line"
-    check "$1: the description is of what is beside it" \
-        [ "$(PKG_CONFIG_PATH=$2/pkgconfig pkg-config --variable=libdir ldvbi)" -ef "$2" ]
     check "$1: CMake" cmake_builds "${3:-${2%/lib*}}"
 }
 check 'make install' makes install PREFIX="$work/usr"
-for file in libldvbi.a libldvbi.so.1; do
-    check "the $file that is installed" cmp usr/lib/$file "$built/$file"
-done
+check 'the library that is installed' cmp usr/lib/libldvbi.so.1 "$built/libldvbi.so.1"
 builds_on installed "$work/usr/lib"
 check 'the installed program' prints 0 "$(output_of --version)" usr/bin/ldvbi --version
 export PKG_CONFIG_PATH="$work/usr/lib/pkgconfig"

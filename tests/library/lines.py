@@ -55,9 +55,9 @@ def read(tv, line):
     return READING.unpack(answered("read_line", tv[:3], line, READING.size))
 
 
-def some_words(count=WORDS):
+def some_words():
     """Words, the least and the greatest first."""
-    return [0x800000, 0xFFFFFF] + [chance.randrange(0x800000, 0x1000000) for _ in range(count - 2)]
+    return [0x800000, 0xFFFFFF] + [chance.randrange(0x800000, 0x1000000) for _ in range(WORDS - 2)]
 
 
 # ---- Words, and the sizes of lines. Causes at their limits are tested in crates/vbi_line_tests.
@@ -87,8 +87,8 @@ def test_sizes():
 
 # Rates in kilohertz of which whole lines show their words; and those of lines whose changes come a sample early or late
 WHOLE, JITTERED = (11500, 12000, 13500, 14318, 14750, 17000, 17700), (13000, 13500, 14318, 14750, 16000)
-# Rates; from which microsecond on lines are read (0: whole lines, and those that are longer than a line of NTSC here from
-# 10 on); by how many samples a change may come early or late; and how many of the words are read
+# Rates; from which microsecond on lines are read (0: whole lines, or from 10 on, if they are longer than one of NTSC is
+# here); by how many samples a change may come early or late; and how many of the words are read
 RATES = ((WHOLE, 0, 0, WORDS, WORDS), ((10400, 18600), 0, 0, 0, 0), (JITTERED, 0, 1, WORDS, WORDS),
          ((12000, 17000), 0, 1, 0, WORDS // 10), *(((17700, ), begin, 0, WORDS, WORDS) for begin in (9, 9.5, 10.4)),
          *(((17700, ), begin, 0, 0, 0) for begin in (19, 19.5, 20.4)))

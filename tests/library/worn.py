@@ -168,10 +168,9 @@ def test_levelled(tv):
 
 
 def test_levelled_first(tv):
-    """A word drawn between 90 and 230 hundredths, and black about it. To the samples as they are a column at 230 is as
-    far from black as from white, and one at 90 is nearer to white by eight tenths. So the nearest word has the other
-    value in each cell but the first, and any other word is farther by eight tenths of a half cell of 14 columns, or
-    more: that would be enough. But the levelled line says the word that was drawn."""
+    """A word drawn between 90 and 230 hundredths, and black about it. As they are, samples at 230 are as far from black
+    as from white, and those at 90 nearer to white, so the nearest word has the other value in each cell but the first,
+    far ahead of any other. But the levelled line says the word that was drawn."""
     tv, edges = tv._replace(black=8000, white=28000), edges_of(tv)
     line, black = drawn(tv._replace(black=26000, white=54000), 0xF12345), array("H", [8000])
     line[:edges[0]], line[edges[-1]:] = black * edges[0], black * (tv.samples - edges[-1])
@@ -183,24 +182,23 @@ def test_levelled_first(tv):
 # ---- The record of a field
 
 # Of a field whose line 17 alone is worn, as above: how many columns are turned over, and what is erased; the field's
-# number; and how far the word is off, and any other, in hundredths of a column, if it is recovered. The cell has 29
-# columns, or 35. Of those that are turned over none counts where they are erased.
-RECORDS = (
-    (11, "", 1, {NTSC: (1100, 1800), PAL: (1400, 2100)}), (14, "16 1 turned", 0, {NTSC: (), PAL: ()}),
-    (14, "17 1 turned", 4294967295, {NTSC: (0, 1500), PAL: (0, 1800)}))
+# number; and how far the word is off, and any other, in hundredths of a column. The cell has 29 columns, or 35. Of those
+# that are turned over none counts where they are erased.
+RECORDS = ((11, "", 0, {NTSC: (1100, 1800), PAL: (1400, 2100)}),
+           (14, "17 1 turned", 4294967295, {NTSC: (0, 1500), PAL: (0, 1800)}))
 FIRST_TURNED = {NTSC: 411, PAL: 513}  # the first column that is turned over, at which a level has lasted 4 columns
 
 
 def test_records(tv):
     for turned, erased, number, found in RECORDS:
-        near = dict(zip(("word", "distance", "rival"), (0xF12345, *found[tv]))) if found[tv] else None
-        word, of_pass = (0xF12345, 3) if near else (0, 0)
-        record = {"seqNo": number, "vbi": {"vbiData": [0x8DC0A1, word, 0]},
-                  "vbiCause": ["word", "change %d" % FIRST_TURNED[tv], "blank"], "vbiPass": [1, of_pass, 0],
+        near = dict(zip(("word", "distance", "rival"), (0xF12345, *found[tv])))
+        record = {"seqNo": number, "vbi": {"vbiData": [0x8DC0A1, 0xF12345, 0]},
+                  "vbiCause": ["word", "change %d" % FIRST_TURNED[tv], "blank"], "vbiPass": [1, 3, 0],
                   "vbiNear": [None, near, None]}
         text = json.dumps(record, separators=(",", ":")).encode("ascii")
-        written = answered("recovered_record", (*tv[:3], number), worn_rows(
-            tv, (0x8DC0A1, 0xF12345, 0), (0, turned, 0)), RECORD.size, erased=erased_of(tv, 0, (0, turned, 0), erased))
+        rows = worn_rows(tv, (0x8DC0A1, 0xF12345, 0), (0, turned, 0))
+        written = answered("recovered_record", (*tv[:3], number), rows, RECORD.size,
+                           erased=erased_of(tv, 0, (0, turned, 0), erased))
         expect(written == RECORD.pack(len(text), text), tv.system, number, written)
 
 
