@@ -76,7 +76,7 @@ def test_words(tv):
 
 def test_sizes():
     calls = [call(name) for name in ("line_samples", "line_bytes", "lines", "field_bytes")]
-    for number in (*range(258), 65535, 65536, 1 << 31, (1 << 32) - 1):
+    for number in (*range(258), 65535, 65537, 1 << 31, (1 << 32) - 1):
         tv = {tv.system: tv for tv in TELEVISIONS}.get(number)
         wanted = [tv.samples, 2 * tv.samples, tv.lines, 2 * tv.samples * tv.lines] if tv else [0] * 4
         expect([size(number) for size in calls] == wanted, "the sizes of system", number)

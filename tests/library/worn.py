@@ -182,8 +182,8 @@ def test_levelled_first(tv):
 # ---- The record of a field
 
 # Of a field whose line 17 alone is worn, as above: how many columns are turned over, and what is erased; the field's
-# number; and how far the word is off, and any other, in hundredths of a column. The cell has 29 columns, or 35. Of those
-# that are turned over none counts where they are erased.
+# number; and how far the word is off, and any other, in hundredths of a column. The cell has 29 columns, or 35. What is
+# turned over doesn't count where it is erased.
 RECORDS = ((11, "", 0, {NTSC: (1100, 1800), PAL: (1400, 2100)}),
            (14, "17 1 turned", 4294967295, {NTSC: (0, 1500), PAL: (0, 1800)}))
 FIRST_TURNED = {NTSC: 411, PAL: 513}  # the first column that is turned over, at which a level has lasted 4 columns
