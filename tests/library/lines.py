@@ -1,8 +1,6 @@
 """Hands lines that are drawn here to the library, and compares what is drawn, read and nearest with them: words of
 either system, and lines of other sample rates, 8-bit samples among them, with changes of level a sample early or late.
-Lines end where no page follows; of fields the pages of lines 16 to 18 alone can be read.
-
-usage: lines.py"""
+Lines end where no page follows; of fields the pages of lines 16 to 18 alone can be read."""
 
 import ctypes
 import itertools

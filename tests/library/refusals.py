@@ -1,8 +1,6 @@
 """What each call of the library refuses, and in which order. Some numbers have bits that a parameter of 8 or of 16 bits
 would cut off. A call that refuses touches no array: here none can be touched. A list of erased columns is looked at
-last of all, and before that it may be of any length. And what some calls answer, and which attributes they have.
-
-usage: refusals.py"""
+last of all, and before that it may be of any length. And what some calls answer, and which attributes they have."""
 
 import itertools
 import re

@@ -1,7 +1,5 @@
 """Hands worn lines to the library whose words and distances are counted on paper, and compares what is recovered: alone
-and in a stream, levelled, with erased columns, and of lines of one word. Lines and lists end where no page follows.
-
-usage: worn.py"""
+and in a stream, levelled, with erased columns, and of lines of one word. Lines and lists end where no page follows."""
 
 import json
 import struct
@@ -116,8 +114,8 @@ def test_worn(tv):
     for name, fields in (("recover_fields_without", WORN), ("recover_fields", plain)):
         stream = sum((before + worn_rows(tv, *row[:2]) + behind for row in fields), array("H"))
         entries = [entry for field, row in enumerate(fields) for entry in erased_of(tv, field, *row[1::2])]
-        asked = {"erased": entries} if entries else {}
-        are_recovered(tv, fields, answered(name, tv[:3], stream, 24 * len(fields), len(fields), **asked))
+        packed = answered(name, tv[:3], stream, 24 * len(fields), len(fields), erased=entries or None)
+        are_recovered(tv, fields, packed)
 
 
 # ---- Words that are cut short, and that go on
