@@ -12,7 +12,7 @@ import os
 import re
 import subprocess
 import sys
-import tempfile
+import _testbuffer
 from unittest import mock
 
 from compact import made
@@ -21,7 +21,7 @@ import ldvbi
 from ldvbi import (complete_times, draw_line, find_pace, judge, judge_chapters, judge_ends, judge_field, judge_side,
                    judge_stops, judging, library, near, nearest, read_field, read_line, read_rows, recover_pile, seek,
                    seeking, sides, stream, Stream)
-from ldvbi.samples import _Buffer, Samples
+from ldvbi.samples import Samples
 import pytest
 from room import reason
 from streams import line_with, NTSC
@@ -30,48 +30,32 @@ from streams import line_with, NTSC
 SHOWN = line_with(0xF12345, NTSC)
 
 
-def by_columns(memory):
-    """A memoryview of two rows of samples in Fortran's order, as numpy makes them."""
-    shape, strides = ((ctypes.c_ssize_t * 2)(*sizes) for sizes in ((2, 455), (2, 4)))
-    buffer = _Buffer(address=ctypes.addressof(memory), length=ctypes.sizeof(memory), item=2, dimensions=2, format=b"H",
-                     shape=ctypes.addressof(shape), strides=ctypes.addressof(strides))
-    make = ctypes.pythonapi.PyMemoryView_FromBuffer
-    make.argtypes, make.restype = [ctypes.POINTER(_Buffer)], ctypes.py_object
-    return make(ctypes.byref(buffer))
-
-
 def test_taken():
-    view, samples = memoryview(SHOWN), array.array("H", SHOWN)
-    with tempfile.TemporaryFile() as file:
-        file.write(SHOWN)
-        file.flush()
-        mapped = mmap.mmap(file.fileno(), 0, access=mmap.ACCESS_READ)
-    held = io.BytesIO(SHOWN)  # as long as its buffer
-    for source in (SHOWN, bytearray(SHOWN), mapped, view, memoryview(b"x" + SHOWN + b"y")[1:-1], held.getbuffer(),
-                   samples, memoryview(samples), memoryview(samples).cast("B"), view.cast("H"), view.cast("c"),
-                   view.cast("H", (2, 455)), (ctypes.c_uint16 * 910).from_buffer_copy(SHOWN),
-                   (ctypes.c_uint16 * 455 * 2).from_buffer_copy(SHOWN), ctypes.create_string_buffer(SHOWN, 1820),
-                   memoryview(array.array("B", SHOWN)).cast("B").cast("H")):
+    view, samples, mapped = memoryview(SHOWN), array.array("H", SHOWN), mmap.mmap(-1, len(SHOWN))
+    mapped.write(SHOWN)
+    for source in (SHOWN, bytearray(SHOWN), mapped, memoryview(b"x" + SHOWN + b"y")[1:-1],
+                   io.BytesIO(SHOWN).getbuffer(), samples, memoryview(samples).cast("B"), view.cast("H"),
+                   view.cast("c"), view.cast("H", (2, 455)), (ctypes.c_uint16 * 910).from_buffer_copy(SHOWN),
+                   ctypes.create_string_buffer(SHOWN, 1820), memoryview(array.array("B", SHOWN)).cast("H")):
         assert ldvbi.read_line(source, *NTSC) == (ldvbi.Cause.word, 1, 0, 0xF12345)
     assert ldvbi.read_line(line_with(0, NTSC, [(14, 33, True)]), *NTSC) == (ldvbi.Cause.change, 0, 34, 0)
 
 
 def test_refused():
     """In Fortran's order, column by column, samples lie otherwise than they are counted, though there are no gaps."""
-    view, calls = memoryview(SHOWN), (ldvbi.read_line, ldvbi.read_rows, ldvbi.read_field, ldvbi.fields, ldvbi.Stream)
-    kinds = {**{kind: array.array(kind, SHOWN) for kind in "Bfih"}, **{kind: view.cast(kind) for kind in "Ib"},
-             "<B": (ctypes.c_uint8 * 1820).from_buffer_copy(SHOWN),
-             ">H": (ctypes.c_uint16.__ctype_be__ * 910).from_buffer_copy(SHOWN),
-             "d": memoryview(array.array("d", bytes(1820 + 4))).cast("B")[:1820]}
-    columns = by_columns((ctypes.c_uint16 * 910).from_buffer_copy(SHOWN))
-    assert columns.f_contiguous
+    view, numbers = memoryview(SHOWN), list(array.array("H", SHOWN))
+    columns = _testbuffer.ndarray(numbers, shape=[2, 455], format="H", flags=_testbuffer.ND_FORTRAN)
     form = "of the format %s, not H (16 bits without sign, the low byte first)"
-    rows = [(form % kind, [one, memoryview(one)], calls[:1]) for kind, one in kinds.items()]
-    rows += [(form % "f", [array.array("f", bytes(478660))], calls), ("not bytes in one piece", [columns], calls[::4]),
-             ("not bytes in one piece", [memoryview(SHOWN + SHOWN)[::2]], calls[3:])]
-    rows += [("not bytes, but of the type " + type(one).__name__, [one], calls[3:]) for one in (None, 5, [1, 2])]
-    for text, sources, asked in rows:
-        assert {reason(call, one, *NTSC) for one in sources for call in asked} == {"samples are " + text}
+    for text, source in (
+            *((form % kind, array.array(kind, SHOWN)) for kind in "Bfih"),
+            *((form % kind, view.cast(kind)) for kind in "Ib"),
+            (form % "<B", (ctypes.c_uint8 * 1820).from_buffer_copy(SHOWN)),
+            (form % ">H", (ctypes.c_uint16.__ctype_be__ * 910).from_buffer_copy(SHOWN)),
+            (form % "d", memoryview(array.array("d", bytes(1820 + 4))).cast("B")[:1820]),
+            ("not bytes in one piece", columns), ("not bytes in one piece", memoryview(SHOWN + SHOWN)[::2]),
+            ("not bytes, but of the type NoneType", None), ("not bytes, but of the type list", [1, 2])):
+        for call in (read_line, read_rows, read_field, Stream):
+            assert reason(call, source, *NTSC) == "samples are " + text
 
 
 @pytest.mark.parametrize("is_refused", (False, True))
@@ -180,7 +164,7 @@ def test_places(room):
 
 # ---- What is refused
 
-WIDE = (65536, 65536 + 100, 2 ** 31, 2 ** 32 - 1, 2 ** 32, 2 ** 32 + 1, 2 ** 64 + 1, -1)
+WIDE = (65536, 2 ** 32 - 1, 2 ** 32, 2 ** 32 + 1, 2 ** 64 + 1, -1)
 LINE, FIELD = draw_line(0xF12345, *NTSC), bytes(ldvbi.field_bytes("NTSC"))
 NO_SYSTEM, NOT_BELOW = "system is neither NTSC nor PAL", "black is not below white"
 COUNTED = "neither pictures nor times are counted"
@@ -197,9 +181,8 @@ LINES = "1 to 28 lines have %d bytes each, and these are %d"
 ROWS = (
     (None, (read_line, LINE, 1, 1, 2)),
     (NO_SYSTEM, (read_line, LINE, "ntsc", 2, 2), (ldvbi.line_bytes, 3), (ldvbi.field_bytes, "SECAM"),
-     (ldvbi.field_bytes, 257), (recover_pile, b"", 3, 2, 2, 17), (read_rows, b"", 3, 2, 2, True)),
-    (NOT_BELOW, (read_line, b"", "NTSC", 2, 2), (draw_line, 5, "NTSC", 2, 2), (nearest, b"", "NTSC", 2, 2),
-     (recover_pile, LINE, "NTSC", 2, 2, 17), (Stream, b"", "NTSC", 2, 2, True)),
+     (recover_pile, b"", 3, 2, 2, 17)),
+    (NOT_BELOW, (nearest, b"", "NTSC", 2, 2), (recover_pile, LINE, "NTSC", 2, 2, 17), (Stream, b"", "NTSC", 2, 2, 1)),
     ("black is not a whole number", (read_line, LINE, "NTSC", 1.0, 2)),
     ("white is not a whole number", (read_line, LINE, "NTSC", 1, "2")),
     ("word is not a whole number", (draw_line, "F12345", *NTSC)),
@@ -209,9 +192,8 @@ ROWS = (
     ("three lines have 5460 bytes, not 0", (read_rows, b"", "NTSC", 1, 2, True)),
     ("a field has 710510 bytes, not 0", (read_field, b"", "PAL", 1, 2), (read_field, b"", "PAL", 1, 2, True)),
     (LINES % (1820, 0), (nearest, b"", *NTSC), (recover_pile, b"", *NTSC, 17)),
-    (LINES % (2270, 1820), (nearest, LINE, "PAL", 1, 2)),
     (LINES % (1820, 52780), (nearest, 29 * LINE, *NTSC), (recover_pile, 29 * LINE, *NTSC, 17, [(28, 1, 2)])),
-    ("line is none of 16, 17 and 18", (recover_pile, LINE, *NTSC, 15), (recover_pile, LINE, *NTSC, 2 ** 32 + 17)),
+    ("line is none of 16, 17 and 18", (recover_pile, LINE, *NTSC, 2 ** 32 + 17)),
     ("line is not a whole number", (recover_pile, LINE, *NTSC, "17")),
     (COUNTED, (seek, Stream(b"", *NTSC), 7, "chapters"), (judge_field, FEW, 0, "PAL", "chapters")),
     (PACE, (seek, Stream(b"", *NTSC), 7, "pictures", "slow"), (judge_field, FEW, 0, "PAL", "pictures", "find")),
@@ -220,7 +202,7 @@ ROWS = (
     ("dropouts are for recovered words alone: give recover, too",
      *((call, FIELD, *NTSC, False, []) for call in (Stream, ldvbi.fields, read_field, read_rows))),
     ("a dropout is in line 1 of 1, counted from 0", (*PILE, [(1, 1, 2)])),
-    ("a dropout's columns are 3 to 2", (*PILE, [(0, 3, 2)]), (*THREE, [(17, 3, 2)]), (*ONE, [(17, 3, 2)])),
+    ("a dropout's columns are 3 to 2", (*PILE, [(0, 3, 2)]), (*THREE, [(17, 3, 2)])),
     ("a dropout's columns are -1 to 4", (*THREE, [(17, -1, 4)])),
     ("a dropout is not 3 numbers: index, first, last", (*PILE, [(0, 17, 1, 2)])),
     ("a dropout is in field 2 of 2, counted from 0", (*TWO, [(2, 17, 1, 4)])),
@@ -240,25 +222,23 @@ def test_rows():
 
 
 def test_wide_numbers():
-    """Numbers at the edges of 8, 16 and 32 bits, and beyond them: each is refused by what it is, and never by what is
-    left of it in fewer bits."""
+    """Numbers at the edges of 16 and 32 bits, and beyond them: each is refused by what it is, and never by what is left
+    of it in fewer bits."""
     black, white = ("%s is not from 0 to 65535" % name for name in ("black", "white"))
     rows = [row for wide in WIDE for row in (
         (NO_SYSTEM, wide, 16384, 65535), (black, "NTSC", wide, 65535), (white, "NTSC", 100, wide))]
-    rows += [(NO_SYSTEM, system, 16384, 65535) for system in (0, 3, 256, 257, 258, 65535, 65537)]
-    rows += [(black, "NTSC", 65536, 65537), (NOT_BELOW, "NTSC", 65535, 65535), (NOT_BELOW, "NTSC", 257, 256)]
-    rows += [(None, "NTSC", *levels) for levels in ((256, 257), (257, 65535), (0, 65535), (16384, 65535))]
+    rows += [(black, "NTSC", 65536, 65537), (NOT_BELOW, "NTSC", 65535, 65535), (None, "NTSC", 0, 65535)]
     calls = (read_line, LINE), (read_rows, LINE * 3), (read_field, FIELD), (Stream, b""), (draw_line, 0xF12345)
     for text, *setup in rows:
         assert {reason(call, first, *setup) for call, first in calls} == {text}
-    for word in (256, 257, 65535, 0x7FFFFF, 0x1000000, *WIDE):
+    for word in (257, *WIDE):
         assert reason(draw_line, word, *NTSC) == "number is no code word"
 
 
 def test_what_is_judged():
     """What is asked for is looked at before the readings are."""
-    wrong = ((NO_SYSTEM, ("SECAM", None, 3)), (COUNTED, ("chapters", None, 0, 3, 1.0, 257, 258, *WIDE)),
-             (PACE, ("slow", None, 0, 4, 257, 258, 259, *WIDE)), (BOTH, ("both", None, 2, 4, *WIDE)))
+    wrong = ((NO_SYSTEM, ("SECAM", None, 3)), (COUNTED, ("chapters", None, 0, 3, 1.0, *WIDE)),
+             (PACE, ("slow", None, 0, 4, *WIDE)), (BOTH, ("both", None, 2, 4, *WIDE)))
     for call, count in ((judge_side, 4), (judge, 3), (find_pace, 2), (complete_times, 1)):
         for place, (text, values) in enumerate(wrong[:count]):
             for value, readings in ((value, readings) for value in values for readings in ([], [5])):

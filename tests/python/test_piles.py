@@ -1,13 +1,11 @@
 """Numbers that none of several captures reads, and that their lines say as one pile, with distances counted on paper.
 And which levels, and which system, are named for a side of which hardly any line is read."""
 
-import itertools
 import random
 import struct
 
 from discs import times
 import ldvbi
-from ldvbi import draw_line as steep
 from ldvbi.readings import Levels
 from ldvbi_side.command.join import NOTHING_SHOWS
 from ldvbi_side.join.captures import capture_of
@@ -65,10 +63,8 @@ def each_elsewhere(room, setup, count, due=5, said=5):
 @pytest.mark.parametrize("setup", (NTSC, PAL))
 def test_each_is_worn_elsewhere(room, setup):
     """In two captures another word is nearer by two columns in one, and farther by a cell in the other."""
-    captures = each_elsewhere(room, setup, 4)
-    for one in captures:
-        assert [place.how for place in one.places if place.number == 5] == ["neighbours"]
-    for some in (*itertools.combinations(captures, 2), captures):
+    captures = each_elsewhere(room, setup, 3)
+    for some in (captures[:2], captures[1:], captures):
         assert how(*some) == {5: "together"}
 
 
@@ -91,8 +87,8 @@ def test_whose_lines_are_asked(room):
     twice[8], twice[48] = ([0, half_worn(5, NTSC, cell), 0] for cell in (5, 6))
     near = capture(room, "near", lines={5: [worn(picture(5), NTSC, (9, 12)), 0]})
     for captures, wanted in (
-            ((a, b, blank, lost), "together"), ((a, blank), "neighbours"), ((a, blank, blank), "neighbours"),
-            ((a, lost), "neighbours"), ((blank, blank), "neighbours"), ((a, b, clean), None), ((a, near, b), "near"),
+            ((a, b, blank, lost), "together"), ((a, blank), "neighbours"), ((a, lost), "neighbours"),
+            ((blank, blank), "neighbours"), ((a, b, clean), None), ((a, near, b), "near"),
             ((capture_of_fields(room, "twice", NTSC, twice), capture(room, "other", numbers=(1, 2, 3))), "neighbours")):
         assert how(*captures).get(5) == wanted
     assert how(*each_elsewhere(room, NTSC, 2, 12, 13)) == {12: "neighbours"}
@@ -101,11 +97,8 @@ def test_whose_lines_are_asked(room):
 def test_words_of_pass_1(room):
     """One that says another number is enough, whatever the other lines say."""
     half = [half_worn(5, NTSC, cell) for cell in (5, 6, 7)]
-    for first, second, wanted in ((0, 0, "together"), (0, picture(79999), "neighbours"),
-                                  (picture(79999), picture(79998), "neighbours"),
-                                  (picture(79999), picture(79999), "neighbours")):
-        ones = [capture(room, str(place), lines={5: [line, half[place]]})
-                for place, line in enumerate((first, second, 0))]
+    for word, wanted in ((0, "together"), (picture(79999), "neighbours")):
+        ones = [capture(room, str(place), lines={5: [line, half[place]]}) for place, line in enumerate((0, word, 0))]
         assert how(*ones) == {5: wanted}
 
 
@@ -155,8 +148,7 @@ def test_levels_that_differ(room):
     one, wide = Levels(20000, 40000), Levels(10000, 60000)
     assert struct.unpack("<6H", _levelled(samples, one, wide)) == (10000, 60000, 35000, 10003, 0, 65535)
     assert struct.unpack("<6H", _levelled(samples, wide, one)) == (24000, 32000, 28000, 24000, 16000, 42214)
-    assert _levelled(samples, wide, wide) is samples
-    for some in itertools.permutations((("NTSC", 1000, 9000), ("NTSC", 30000, 60000), NTSC)):
+    for some in ((NTSC, ("NTSC", 1000, 9000)), (("NTSC", 1000, 9000), ("NTSC", 30000, 60000))):
         ones = [capture(room, str(cell), setup, {5: [half_worn(5, setup, cell), 0]})
                 for cell, setup in enumerate(some, 5)]
         assert how(*ones) == {5: "together"}
@@ -173,24 +165,10 @@ def test_what_is_printed(drawn):
         "5,5.tbc,9,5,together", "12,5.tbc,23,12,together"]
 
 
-HIGHEST = ("NTSC", 16384, 65535)
+DIM = {"NTSC": ("NTSC", 16384, 30310), "PAL": ("PAL", 16384, 31436)}  # their white is 40 % of what lies above black
 
 
-def at_share(setup, share):
-    """The setup with a white that is so much of what lies between black and white."""
-    system, black, white = setup
-    return system, black, black + (white - black) * share // 100
-
-
-def soft(word, *setup, width=7):
-    """A line each of whose samples is the mean of so many: its changes of level take that long, as on a worn disc."""
-    line = steep(word, *setup)
-    samples = struct.unpack("<%dH" % (len(line) // 2), line)
-    padded = samples[:1] * (width // 2) + samples + samples[-1:] * (width // 2)
-    return struct.pack("<%dH" % len(samples), *(sum(padded[at:at + width]) // width for at in range(len(samples))))
-
-
-def best(room, setup, drawn, fields, line_of=steep):
+def best(room, setup, drawn, fields, line_of=ldvbi.draw_line):
     """What is said of a side that is drawn with one setup, and read by the other: how many of its lines are read, of
     how many, and by which options how many. None where enough is read."""
     write_stream(room.path, drawn, [[line_of(word, *drawn) for word in field] for field in fields])
@@ -204,33 +182,25 @@ def best(room, setup, drawn, fields, line_of=steep):
 
 
 def test_levels_and_systems(room):
-    """A sample is high above the middle of the levels: with codes at 40 % of white none is; at 60 % steep codes are
-    read, and soft ones aren't, whose halves are above the middle too short a time. Nothing is tried where enough is
-    read, and none is named for a side without any code, for one of noise, and for one whose lines are grey."""
+    """A sample is high above the middle of the levels: of dim codes none is. Nothing is tried where enough is read, and
+    none is named for a side without any code, for one of noise, and for one whose lines are grey."""
     rng, none = random.Random(1), [0, 120, None, None]
-    for drawn, setup, line_of, wanted in (
-            (at_share(NTSC, 40), NTSC, steep, [0, 120, "--white 30000", 120]),
-            (at_share(PAL, 40), PAL, steep, [0, 120, "--white 31000", 120]),
-            (at_share(NTSC, 60), NTSC, soft, [0, 120, "--white 37000", 120]),
-            (at_share(PAL, 60), PAL, soft, [0, 120, "--white 39000", 120]),
-            (at_share(NTSC, 60), NTSC, steep, None), (at_share(NTSC, 80), NTSC, steep, None),
-            (NTSC, ("NTSC", 23347, 51200), steep, None),
-            (NTSC, ("NTSC", 51000, 55000), steep, [0, 120, "--black 16000", 120]),
-            (("NTSC", 2000, 9000), ("NTSC", 40000, 50000), steep, [0, 120, "--black 2000 --white 9000", 120]),
-            (NTSC, NTSC, lambda word, *setup: steep(0, *setup), none),
-            (NTSC, NTSC, lambda *_: rng.getrandbits(8 * 1820).to_bytes(1820, "little"), none),
-            (NTSC, NTSC, lambda *_: b"\x00\x80" * 910, none),
+    for drawn, setup, wanted in (
+            (DIM["NTSC"], NTSC, [0, 120, "--white 30000", 120]), (DIM["PAL"], PAL, [0, 120, "--white 31000", 120]),
+            (NTSC, NTSC, None), (NTSC, ("NTSC", 51000, 55000), [0, 120, "--black 16000", 120]),
+            (("NTSC", 2000, 9000), ("NTSC", 40000, 50000), [0, 120, "--black 2000 --white 9000", 120]),
             # the highest white that there is
-            (HIGHEST, HIGHEST, steep, None),
-            (HIGHEST, ("NTSC", 1000, 5000), steep, [0, 120, "--white 65535", 120])):
-        assert best(room, setup, drawn, pictures(60), line_of) == wanted
+            (("NTSC", 16384, 65535), ("NTSC", 1000, 5000), [0, 120, "--white 65535", 120])):
+        assert best(room, setup, drawn, pictures(60)) == wanted
+    for line_of in (lambda *_: ldvbi.draw_line(0, *NTSC), lambda *_: rng.randbytes(1820), lambda *_: b"\x00\x80" * 910):
+        assert best(room, NTSC, NTSC, pictures(60), line_of) == none
 
 
 def test_the_other_system(room):
     """Its fields are of another size, so of its lines hardly any are where they are looked for."""
     for setup, drawn, options in ((PAL, NTSC, "--system NTSC --black 16384 --white 54016"),
                                   (NTSC, PAL, "--system PAL --black 16384 --white 51200"),
-                                  (PAL, at_share(NTSC, 40), "--system NTSC --black 16384 --white 30000")):
+                                  (PAL, DIM["NTSC"], "--system NTSC --black 16384 --white 30000")):
         read, lines, *found = best(room, setup, drawn, pictures(60))
         assert found == [options, 120]
         assert 20 * read < lines
@@ -240,9 +210,9 @@ def test_of_which_fields_lines_are_tried(room):
     """Fields are looked at in pairs, all over the side: half of 200 lines are read where one of two fields has a
     number. One line of 20 that other levels read is named, one of 21 isn't, nor that of a field without a code."""
     for drawn, fields, wanted in (
-            (at_share(NTSC, 40), [field if place % 2 else [0, 0, 0] for place, field in enumerate(pictures(1001))],
+            (DIM["NTSC"], [field if place % 2 else [0, 0, 0] for place, field in enumerate(pictures(1001))],
              [0, 200, "--white 30000", 100]),
-            (at_share(NTSC, 40), [[0, 0, 0]] * 19 + pictures(1), [0, 40, "--white 30000", 2]),
-            (at_share(NTSC, 40), [[0, 0, 0]] * 20 + pictures(1), [0, 42, None, None]),
+            (DIM["NTSC"], [[0, 0, 0]] * 19 + pictures(1), [0, 40, "--white 30000", 2]),
+            (DIM["NTSC"], [[0, 0, 0]] * 20 + pictures(1), [0, 42, None, None]),
             (NTSC, [[0, 0, 0]], [0, 2, None, None])):
         assert best(room, NTSC, drawn, fields) == wanted
