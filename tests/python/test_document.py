@@ -3,7 +3,6 @@ taken apart by a pattern: what comes of one is what its JSON says, and so is the
 of a mapped file, beside what the program's `extract` writes of it."""
 
 import io
-import itertools
 import json
 import random
 from unittest import mock
@@ -30,29 +29,22 @@ NEAR = ',"vbiNear":[{"word":15728641,"distance":120,"rival":0},null,null]}'
 # which a line's parts don't fit, FIELD is how the text begins.
 BROKEN = """
     not a document of version 2 or 3 | version | 1, 4, true, 2.0, GONE || fields is no list | fields | {}
-    videoParameters has no system | videoParameters | GONE || videoParameters has no system | SYSTEM | GONE
-    system is neither NTSC nor PAL | SYSTEM | "SECAM", ["NTSC"] || fieldWidth is not 1135 | SYSTEM | "PAL"
-    fieldWidth is not 910 | videoParameters.fieldWidth | 910.0
-    fieldHeight is not 263 | videoParameters.fieldHeight | 313
-    LEVELS | videoParameters.black16bIre | 51200, -1, false, 16384.0
-    LEVELS | videoParameters.white16bIre | 51200.0, 65536
+    videoParameters has no system | videoParameters | GONE || system is neither NTSC nor PAL | SYSTEM | ["NTSC"]
+    fieldWidth is not 1135 | SYSTEM | "PAL" || fieldHeight is not 263 | videoParameters.fieldHeight | 313, 263.0
+    LEVELS | videoParameters.black16bIre | 51200, -1, false || LEVELS | videoParameters.white16bIre | 51200.0, 65536
     videoParameters has no white16bIre | videoParameters.white16bIre | GONE
     field 2: seqNo is not 2 | fields.1 | GONE || field 2: seqNo is not there | fields.1 | 5
-    field 2: seqNo is not 2 | fields.1.seqNo | true || field 1: seqNo is not 1 | fields.0.seqNo | true, 1.0, 0
-    field 4: seqNo is not 4 | fields.3.seqNo | "4" || field 3: vbi is not there | fields.2.vbi | GONE
-    field 3: vbi has no vbiData | fields.2.vbi | 5
+    field 1: seqNo is not 1 | fields.0.seqNo | true, 1.0, 0 || field 3: vbi is not there | fields.2.vbi | GONE
+    field 3: vbi has no vbiData | fields.2.vbi | 5 || field 3: vbiCause is no list of three | fields.2.vbiCause | "word"
     field 3: vbiData is no list of three | fields.2.vbi.vbiData | [0, 0]
-    field 3: vbiCause is no list of three | fields.2.vbiCause | "word"
     field 3: vbiPass is no list of three | fields.2.vbiPass | [0, 1, 2, 0]
-    field 3: VALUE is no word | fields.2.vbi.vbiData.1 | 8388607, 16777216, "F00001", 15728641.5, 15728641.0
-    field 3: VALUE is no word | fields.2.vbi.vbiData.0 | false
-    field 3: VALUE is no pass | fields.2.vbiPass.1 | 3, true
+    field 3: VALUE is no word | fields.2.vbi.vbiData.1 | 8388607, 16777216, "F00001", 15728641.0
+    field 3: VALUE is no word | fields.2.vbi.vbiData.0 | false || field 3: VALUE is no pass | fields.2.vbiPass.1 | 3, true
     field 3: VALUE is no cause | fields.2.vbiCause.0 | "noise", "hold 910", "change 07", null, []
     FIELD 15728641, blank, 1 | fields.2.vbiCause.1 | "blank" || FIELD 15728641, word, 0 | fields.2.vbiPass.1 | 0
     FIELD 0, word, 0 | fields.2.vbiCause.0 | "word" || FIELD 0, blank, 2 | fields.2.vbiPass.0 | 2
     cutField is not there | cutField | GONE || cutField: seqNo is not 5 | cutField.seqNo | 4, 5.0
-    cutField has no bytes | cutField.bytes | GONE
-    cutField: bytes is not from 1 to 478659 | cutField.bytes | 478660, 0, true, 85360.0
+    cutField has no bytes | cutField.bytes | GONE || cutField: bytes is not from 1 to 478659 | cutField.bytes | 0, true
 """
 SHORT = {"SYSTEM": "videoParameters.system", "FIELD": "field 3: word, cause and pass of a line don't fit:",
          "LEVELS": "black16bIre and white16bIre are not two samples, black below white"}
@@ -159,25 +151,16 @@ def test_recovered_words():
     assert [rates["near"] for rates in side.answer["lines"].values()] == [2, 1, 1]
     assert reason(read_document, whole(version=2)) == "field 3: 3 is no pass"
     assert reason(read_document, whole(of_pass=4)) == "field 3: 4 is no pass"
-    for word, cause, of_pass in ((0, "change 170", 3), (PICTURE, "blank", 3), (PICTURE, "change 170", 2),
-                                 (PICTURE, "change 170", 0), (0, "word", 3)):
+    for word, cause, of_pass in ((0, "change 170", 3), (PICTURE, "blank", 3), (PICTURE, "change 170", 2)):
         assert reason(read_document, whole(word, [cause] * 3, of_pass)).startswith(SHORT["FIELD"])
-
-
-def test_as_its_json():
-    sizes = (3, None), (2500, Cut(2501, 17))
-    for system, version, (count, cut) in itertools.product(ldvbi.System, (2, 3), sizes):
-        data = written(version, count, cut, system)
-        found = by_pattern(data)
-        assert found == _as_json(data)
-        assert [len(found.readings), found.cut, found.system] == [count, cut, system]
 
 
 def test_one_character_changed():
     """A character is put in the place of one, or before it. Most have a fault, some are sound in another form."""
     rng, faults = random.Random(1), 0
     for version in (2, 3):
-        data = written(version, 3, Cut(4, 17))
+        data, long = written(version, 3, Cut(4, 17)), written(version, 2500, None)
+        assert (by_pattern(data), by_pattern(long)) == (_as_json(data), _as_json(long))
         for _ in range(400):
             other, place = bytearray(data), rng.randrange(len(data))
             other[place:place + rng.randrange(2)] = rng.choice((b"0", b"7", b" ", b",", b"}", b'"', b"\n", b"\xff"))
@@ -188,13 +171,12 @@ def test_one_character_changed():
 
 
 def test_other_forms():
-    """Records that a pattern finds in a place that isn't theirs, or with another number; and none."""
+    """Records that a pattern finds in a place that isn't theirs, or that are no more as they are written; and none."""
     data = written(2, 3, None)
     inner = b'{"version":2,"videoParameters":{},"fields":[],"x":' + data[:-1] + b"}"
-    for other in (inner, data.replace(b"\n", b"\r\n"), b" " + data, data + b" ", data.replace(b":", b": "),
-                  written(2, 0, None), data.replace(b'"seqNo":2', b'"seqNo":02'), data.replace(b":2,", b":4,", 1),
+    for other in (inner, data.replace(b"\n", b"\r\n"), data.replace(b":", b": "), written(2, 0, None),
                   data.replace(b'"seqNo":2', b'"seqNo":4'), data.replace(b"[0,0,0]", b"[0,0,8388608]", 1),
-                  data.replace(b"16777215", b"16777216"), data.replace(b'"blank"', b'"BLANK"', 1)):
+                  data.replace(b"16777215", b"16777216")):
         assert other != data
         assert outcome(read_document, other) == outcome(_as_json, other)
 
@@ -235,9 +217,8 @@ def test_causes_and_passes(room, setup):
 
 @pytest.mark.parametrize("setup", (NTSC, PAL))
 def test_counts_of_fields(room, setup):
-    """Whole streams and cut ones."""
-    for count, rest in ((0, 0), (1, 0), (64, 0), (65, 0), (129, 0), (0, 1), (64, 1000),
-                        (3, ldvbi.field_bytes(setup[0]) - 1)):
+    """Whole streams and cut ones, which are read in blocks of 64 fields."""
+    for count, rest in ((0, 0), (64, 0), (129, 0), (0, 1), (64, ldvbi.field_bytes(setup[0]) - 1)):
         for is_recovered in (False, True):
             compare(room, setup, pictures(count), rest, is_recovered=is_recovered)
 
@@ -250,13 +231,11 @@ def stub(count, cut_bytes=0, blocks=()):
     return stream
 
 
-@pytest.mark.parametrize("count, rest, said", ((1000000, 0, None), (1000000, 1, "too many fields"),
-                                               (1000001, 0, "too many fields")))
-def test_too_many_fields(count, rest, said):
+def test_too_many_fields():
     """As the program, which takes at most 1,000,000."""
-    text = io.StringIO()
-    assert reason(write_document, stub(count, rest), text, over) == said
-    assert bool(text.getvalue()) == (said is None)
+    assert reason(write_document, stub(1000000), io.StringIO(), over) is None
+    for count, rest in ((1000000, 1), (1000001, 0)):
+        assert reason(write_document, stub(count, rest), io.StringIO(), over) == "too many fields"
 
 
 def test_a_cause_of_a_later_library():

@@ -1,7 +1,6 @@
 """A line as a drawing: what is marked, and where the cells of its word stand, by what the line is made of; and the
 pictures of docs/FORMATS.md."""
 
-import functools
 import os
 import pathlib
 import re
@@ -19,7 +18,6 @@ PICTURES = pathlib.Path(TOP, "docs", "pictures")
 FORMATS = pathlib.Path(TOP, "docs", "FORMATS.md").read_text("utf-8")
 
 
-@functools.lru_cache(maxsize=None)
 def described(text, setup=NTSC):
     """The line of this description (tests/program/described.py)."""
     words = [sys.executable, os.path.join(TOP, "tests", "program", "described.py"), setup[0], "0", *map(str, setup[1:])]
@@ -67,18 +65,14 @@ PLAIN, SMOOTHED, CHANGED = "82CFFF", "82CFFF @170-171L", "82CFFF @170-174L"
 
 @pytest.mark.parametrize("setup, text, said, digits, marked", [
     (NTSC, PLAIN, "82CFFF" + PASS_1, "82CFFF", []), (NTSC, SMOOTHED, "82CFFF" + PASS_2, "82CFFF", [170, 171]),
-    (NTSC, "82CFFF @0-0H", "82CFFF" + PASS_2, "82CFFF", [0]),
     # the shortest half cells, up to the end of the line and from its beginning
     (NTSC, "L382 FFFFFE/11/47", "FFFFFE" + PASS_1, "FFFFFE", []),
-    (NTSC, "L382 FFFFFF/11/48", "FFFFFF" + PASS_1, "FFFFFF", []),
-    (NTSC, "FFFFFF/11/47 H18", "FFFFFF" + PASS_1, "FFFFFF", []),
     (NTSC, "FFFFFF/11/48 @0-0H", "FFFFFF" + PASS_2, "FFFFFF", [0]),
     (NTSC, CHANGED, "no word: change 170" + HOPELESS, "", [170]),
     (NTSC, "L873 H37", "no word: hold 909" + HOPELESS, "", [909]),
     (NTSC, "-", "no word: blank (no sample is high)", "", []),
     (NTSC, "L900 H10", "no word: unfinished (a longer line could still show one)", "", []),
     (PAL, "8AE012 @50-52H", "8AE012" + PASS_2, "8AE012", [50, 51, 52]),
-    (PAL, "AAAAAA/22/48", "AAAAAA" + PASS_1, "AAAAAA", []),
     (PAL, "L207 H928", "no word: hold 251" + HOPELESS, "", [251])])
 def test_what_a_line_shows(setup, text, said, digits, marked):
     drawn = Drawn(described(text, setup), setup)
@@ -96,8 +90,8 @@ def test_the_row_of_a_word(text, row, said, count):
 
 
 @pytest.mark.parametrize("text, columns, marked", [
-    (PLAIN, (0, 10), 0), (PLAIN, (909, 909), 0), (SMOOTHED, (170, 171), 2), (SMOOTHED, (171, 300), 1),
-    (SMOOTHED, (0, 169), 0), (CHANGED, (170, 170), 1), ("L164 H746", (0, 200), 1), ("L164 H746", (201, 909), 0)])
+    (PLAIN, (909, 909), 0), (SMOOTHED, (170, 171), 2), (SMOOTHED, (171, 300), 1), (SMOOTHED, (0, 169), 0),
+    ("L164 H746", (0, 200), 1), ("L164 H746", (201, 909), 0)])
 def test_a_part_of_a_line(text, columns, marked):
     drawn = Drawn(described(text), columns=columns)
     assert (len(drawn.marked), drawn.outside) == (marked, [])
@@ -115,21 +109,16 @@ def test_cells_stand_where_the_documents_have_them():
         assert Drawn(described(PLAIN), columns=(0, last)).cells == drawn.cells[:count]
 
 
-def test_columns_are_numbered_by_tens_or_fifties():
+def test_axes():
+    """Columns are numbered by tens or fifties. Samples at the middle of black and white are low, those above it high;
+    those beyond both have room. A long title is shortened in its middle."""
     for last, count in ((300, 31), (301, 7)):
-        text = Drawn(described("-"), columns=(0, last)).text
-        assert len(re.findall(r'text-anchor="middle">\d+<', text)) == count
-
-
-def test_levels():
-    """Samples at the middle of black and white are low, those above it high; those beyond both have room."""
+        drawn = Drawn(described("-"), columns=(0, last), title="%0120d" % 5)
+        assert len(re.findall(r'text-anchor="middle">\d+<', drawn.text)) == count
+        assert re.fullmatch("0.{,90}\u20260*5", drawn.title)
     for levels in ((0, 32768), (50000, 52399)):
         assert Drawn(described(PLAIN), ("NTSC", *levels)).digits == "82CFFF"
     assert Drawn(described("L100 H100", ("NTSC", 0, 65535)), ("NTSC", 20000, 40000)).outside == []
-
-
-def test_a_long_title():
-    assert re.fullmatch("0.{,90}\u20260*5", Drawn(described("-"), title="%0120d" % 5).title)
 
 
 def test_pictures_of_the_documents():
