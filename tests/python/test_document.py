@@ -9,8 +9,8 @@ from unittest import mock
 
 from compact import cells_of
 import ldvbi
-from ldvbi import Cause
-from ldvbi.document import (_as_json, head_of, is_document, read_document, RECORD, tail_of, write_document,
+from ldvbi import Cause, document
+from ldvbi.document import (_as_json, head_of, is_document, MAX_FIELDS, read_document, RECORD, tail_of, write_document,
                             write_recovered)
 from ldvbi.readings import cause_text, Cut, Levels, PackedFields
 from ldvbi_side.judge.readings import Fields
@@ -39,7 +39,7 @@ BROKEN = """
     field 3: vbiData is no list of three | fields.2.vbi.vbiData | [0, 0]
     field 3: vbiPass is no list of three | fields.2.vbiPass | [0, 1, 2, 0]
     field 3: VALUE is no word | fields.2.vbi.vbiData.1 | 8388607, 16777216, "F00001", 15728641.0
-    field 3: VALUE is no word | fields.2.vbi.vbiData.0 | false || field 3: VALUE is no pass | fields.2.vbiPass.1 | 3, true
+    field 3: VALUE is no word | fields.2.vbi.vbiData.0 | false || field 3: VALUE is no pass | fields.2.vbiPass.1 | true
     field 3: VALUE is no cause | fields.2.vbiCause.0 | "noise", "hold 910", "change 07", null, []
     FIELD 15728641, blank, 1 | fields.2.vbiCause.1 | "blank" || FIELD 15728641, word, 0 | fields.2.vbiPass.1 | 0
     FIELD 0, word, 0 | fields.2.vbiCause.0 | "word" || FIELD 0, blank, 2 | fields.2.vbiPass.0 | 2
@@ -98,19 +98,19 @@ def test_each_system(system, width, height):
     """Columns are those of 1 to 4 digits that a line has, and no other; a cut is less than a field."""
     most = 2 * width * height - 1
 
-    def document(first="blank", more=0):
+    def written_with(first="blank", more=0):
         records = [RECORD % (number + 1, 0, 0, 0, "change %d" % number, "hold %d" % number, first, 0, 0, 0)
                    for number in range(width)]
         return (head_of(2, ldvbi.System[system], 0, 65535) + ",\n".join(records) +
                 tail_of(Cut(width + 1, most + more))).encode()
 
     for read in (_as_json, by_pattern):
-        found = read(document())
+        found = read(written_with())
         for line in ("first", "second"):
             assert [getattr(field, line).column for field in found.readings] == list(range(width))
         assert (found.system.name, found.cut.bytes, found.levels) == (system, most, Levels(0, 65535))
-    assert reason(read_document, document(more=1)) == "cutField: bytes is not from 1 to %d" % most
-    assert reason(read_document, document("hold %d" % width)) == 'field 1: "hold %d" is no cause' % width
+    assert reason(read_document, written_with(more=1)) == "cutField: bytes is not from 1 to %d" % most
+    assert reason(read_document, written_with("hold %d" % width)) == 'field 1: "hold %d" is no cause' % width
 
 
 def test_what_is_taken_for_a_document():
@@ -223,23 +223,17 @@ def test_counts_of_fields(room, setup):
             compare(room, setup, pictures(count), rest, is_recovered=is_recovered)
 
 
-def stub(count, cut_bytes=0, blocks=()):
-    """A stream of so many fields, which has these blocks."""
-    stream = mock.MagicMock(system=ldvbi.System.NTSC, black=16384, white=51200, cut_bytes=cut_bytes)
-    stream.__len__.return_value = count
-    stream.packed = lambda begin, end: {(0, count): iter(blocks)}[begin, end]
-    return stream
-
-
 def test_too_many_fields():
-    """As the program, which takes at most 1,000,000."""
-    assert reason(write_document, stub(1000000), io.StringIO(), over) is None
-    for count, rest in ((1000000, 1), (1000001, 0)):
-        assert reason(write_document, stub(count, rest), io.StringIO(), over) == "too many fields"
+    """As the program, which takes at most 1,000,000, and counts a cut one."""
+    assert MAX_FIELDS == 1000000
+    size = ldvbi.field_bytes("NTSC")
+    with mock.patch.object(document, "MAX_FIELDS", 2):
+        for rest, wanted in ((0, None), (1, "too many fields")):
+            stream = ldvbi.Stream(bytearray(2 * size + rest), *NTSC)
+            assert reason(write_document, stream, io.StringIO(), over) == wanted
 
 
 def test_a_cause_of_a_later_library():
-    text = "the library's cause 5 is not known here"
-    field = ldvbi.PACKED_FIELD.pack(1, 0, 0, 0, 1, 0, 0, 0, len(ldvbi.Cause), 0, 0, 0)
-    assert reason(write_document, stub(1, 0, [field]), io.StringIO(), over) == text
-    assert reason(cause_text, ldvbi.Reading(5, 0, 0, 0)) == text
+    field = ldvbi.PACKED_FIELD.pack(1, 0, 0, 0, 1, 0, 0, 0, len(Cause), 0, 0, 0)
+    for call in (lambda: list(document._records(field, 0)), lambda: cause_text(ldvbi.Reading(5, 0, 0, 0))):
+        assert reason(call) == "the library's cause 5 is not known here"

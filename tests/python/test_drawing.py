@@ -10,12 +10,14 @@ from discs import side, typed
 from ldvbi import Kind
 from ldvbi.readings import Cut
 from ldvbi_side.answer.entries import Doubt, Extent, Lost, Missing, Neighbour, Repeated, Speed, Swapped
-from ldvbi_side.draw import bands, bars, curve, drawing
+from ldvbi_side.draw import bands, bars, curve, drawing, folds
 from ldvbi_side.draw.axis import Axis
 from ldvbi_side.draw.curve import Scale, ticks
 from ldvbi_side.draw.drawing import drawing_of
 from ldvbi_side.draw.marks import Mark, marks_of
 from ldvbi_side.draw.svg import shortened, Svg
+from ldvbi_side.join.captures import capture_of
+from ldvbi_side.join.joined import join
 from ldvbi_side.judge.places import Break, Still
 from ldvbi_side.judge.readings import Stray
 import pytest
@@ -33,13 +35,11 @@ DOUBT, PASS_2 = "doubtful 7: doubtful: picture 79999 in field 7, line 18", ", re
 # Each reason that an answer can have: the list, what is other there, and the lane, its fields, and what it says
 MARKS = (
     ("missing", {"why": "unread"}, "unread 10-12: unread: 5" + PLACE + "fields are there for it, and none shows it"),
-    ("missing", {}, "lost 13: lost: 5" + PLACE + "no field is there for it"),
     ("missing", {"why": "undecided"},
      "undecided 13: undecided: 5" + PLACE + "lost or unread, or skipped by the disc itself"),
     ("missing", {"after": 0}, "lost 13: lost: 5, before field 13: no field is there for it"),
     ("missing", {"last": 7, "count_": 3}, "lost 13: lost: 5 to 7" + PLACE + "no field is there for it"),
     ("lost", {"after": 0}, "lost fields 10: lost: 1 field before field 10, by the numbers"),
-    ("lost", {}, "lost fields 10: lost: 1 field" + LOST + "by the numbers"),
     ("lost", {"by": "both", "fields": 3},
      "lost fields 10: lost: 3 fields" + LOST + "by the numbers and by isFirstField"),
     ("lost", {"by": "parity", "fields": None}, "lost fields 10: lost: one or more fields" + LOST + "by isFirstField"),
@@ -89,7 +89,7 @@ def test_texts_and_ticks_that_fit():
     svg.text(1, 2.5, "a < b", "\"&\"", font_size=None, class_="x")
     assert '<text x="1" y="2.5" class="x"><title>"&amp;"</title>a &lt; b</text>' in svg.render()
     for least, greatest, steps, wanted in (
-            (1, 52, [1, 2, 5, 10, 20], [1, 20, 40]), (1, 3, [1, 2], [1, 2, 3]), (1, 0, [1], []),
+            (1, 52, [1, 2, 5, 10, 20], [1, 20, 40]), (1, 0, [1], []),
             (7, 100, [1, 2], [7, *range(8, 101, 2)])):  # where no step is large enough
         assert ticks(least, greatest, 5, steps) == wanted
     minutes = Extent(30, "0:00", "0:29")  # whose least step is a minute
@@ -127,14 +127,9 @@ def place_of(part):
 
 # Sides, and what the drawing has of some classes, in this order and no more of it: the words, or with @ the places;
 # with + one that has these words, with - none, behind # how many, and behind = a limit. In the first side pictures 7
-# and 8 are skipped, 11 comes three times, 14 has no codes, 17 reads 79999, 20 reads 0, 23 reads 5, and behind 26 come
-# 24 to 27. The pictures begin with field 3; chapter 1 with 13, the 13th of them. In the second one, 40 fields of 24
-# pixels each, from 0:59:59.15 on, the minutes of two fields are wrong, those of a third no clock shows, the picture of
-# a fourth no clock shows. Whether the three times before the last four are lost isn't known, since the library doesn't
-# believe as few as these. In the third one 20 fields share a pixel: one damaged line is seen nevertheless; where there
-# are too many boxes twice as many share one, and again: at last 10,240. Minutes stand on all their fields, of which 48
-# have 20 pixels each, and the last one stays to the end. Of doubtful numbers three pixels from each other one is drawn,
-# and of many those within twelve pixels.
+# and 8 are skipped, 11 comes three times, 14 has no codes, three are read wrong, and 24 to 27 come behind 26. In the
+# second one times begin at 0:59:59.15; the minutes of two fields are wrong, no clock shows those of a third, nor the
+# picture of a fourth. Of the third one 20 fields share a pixel, and where there are too many boxes twice as many do.
 DRAWN = """
     NTSC Lx2 1..6 9..10 11x3 12..13 B C 15..16 79999 18..19 0 21..22 5 24..26 24..27 Ox2 28:62/2=-/c1/c1 7=S/S/#3
       10=-/S/c0 12=-/M/c0
@@ -174,20 +169,16 @@ DRAWN = """
     MANY 9601=-/?/#4801 | =MOST_BOXES 6 | +line-17 fields 1 to 10240: change in less than 1 % of these fields
       | @line-17 1-10240 150-662 change 4; 1-10240 150-662 word 12; 1-10240 150-662 blank 12;
       10241-19200 662-1110 word 14; 10241-19200 662-1110 blank 14
-    MANY 9641=-/#100/- 9643=-/#101/- 9781=-/#100/- | =MOST_RINGS 3 | @doubt 9641 ring 632 486; 9781 ring 639 486
-      | +doubt and 1 more near it
     MANY 9641=-/#100/- 9643=-/#101/- 9781=-/#100/- | =MOST_RINGS 2 | @doubt 9641 ring 632 486
       | +doubt and 2 more near it
-    1..2001 33.17=? | +line-17 line 17, fields 31 to 36: change in 17 % of these fields
     NTSC t1740..1829!1800,1801,1802,1803,1804 | system NTSC, CLV, 170 fields, 85 times, 0:00:58.00 to 0:01:00.29
       | number-label 0:00:58; 0:00:59; 0:01:00
       | run 0:00:58.00 to 0:00:59.29 in fields 1 to 119; 0:01:00.05 to 0:01:00.29 in fields 121 to 169
     | empty no picture number and no time
     Bx40 | empty no picture number and no time; lines 17 and 18 have 0 words, 0 are bad, 80 blank: are black and ..
-    -/#9/#9 | run 9 in field 1 || -/#3/#5 | +count doubtful: 2 NONE || NTSC 8AE001/@0:01/@0:02 | +count doubtful: 3 NONE
-    -/@0:01/@0:02 | +count doubtful: 2 NONE || NTSC f1..39 | system NTSC, CAV, film (2 and 3 fields a picture), 98 ..
-    10..19 79999 21..29 | number-label 10; 15; 20; 25 | doubt doubtful: picture 79999 in .. | +count doubtful: 2
-    10..19 1 21..29 | doubt doubtful: picture 1 in .. | +count doubtful: 2
+    -/#9/#9 | run 9 in field 1 || NTSC f1..39 | system NTSC, CAV, film (2 and 3 fields a picture), 98 ..
+    NTSC 8AE001/@0:01/@0:02 | +count doubtful: 3 | empty no picture number and no time is believed | #run 0 | #doubt 0
+    10..19 1 21..29 | number-label 10; 15; 20; 25 | doubt doubtful: picture 1 in .. | +count doubtful: 2
     m59x20 m60x28 9=-/M/@2:10 | doubt doubtful: time 2:10 in .. || t0..57 9=s7.12/M/- | doubt
     1..1500 1001:1003/2.16=S 2001.16=S | +count stops: 3
       | stop picture stop of 501 in field 1001, line 16; picture stop of 1001 in field 2001, line 16
@@ -195,14 +186,12 @@ DRAWN = """
       | stop picture stop of 1 in field 9, lines 16 and 17 | lead-in lead-in: fields 1 to 8
       | +line-17 line 17, field 61: hold 200
     t0..57/3 | +count other speeds: 1 | -count swapped || 1 | +count lost: 0 | -count undecided
-    1..9 ?x4 14..30 | +count undecided: 4 || PAL/8 1..3 6..9 | +count lost fields: 5
-    1..30 21=? | +count unread: 1 | #upright 0
+    1..9 ?x4 14..30 | +count undecided: 4 || PAL/8 1..3 6..9 | +count lost fields: 5 || 1..30 21=? | +count unread: 1
     1..600!0%8 | +count lost: 74 | #lost 74 | #lost-fields 74 | #upright 0 || 1..399!0%8 | #upright 98
     <1..60 -/#N/#N -/cN/cN> | #chapter 60 | #chapter-line 60 || <1..70 -/#N/#N -/cN/cN> | #chapter 70 | #chapter-line 0
     <1..30 -/#N/#N -/cN/cN> | disc-label 1; 2; 3; 4; 5; 6; 7; 8; 9
 """
 MANY = "NTSC 1..9600 1:19200/2.18=- 2:19200/2=B"
-NONE = "| empty no picture number and no time is believed | #run 0 | #doubt 0 | #number-label 0"
 
 
 def parts_of(text, **more):
@@ -212,7 +201,7 @@ def parts_of(text, **more):
 
 
 @pytest.mark.parametrize("text, asked", (
-    (text, asked) for text, *asked in cells_of(DRAWN.replace("MANY", MANY).replace("NONE", NONE))))
+    (text, asked) for text, *asked in cells_of(DRAWN.replace("MANY", MANY))))
 def test_drawn(text, asked):
     """Marks that fall together are one. Doubtful numbers beyond the scale stand on both lines, which is one mark on the
     curve. A strip of 16 pixels has room for one digit, but not for `chapter 5` nor for two."""
@@ -233,14 +222,18 @@ def test_drawn(text, asked):
             assert (said[:len(wanted) - 2] + ".." if wanted.endswith("..") else said) == wanted, one
 
 
+def test_other_axes():
+    """Of captures together, of four pictures with 240 pixels each, whose numbers stand below four lanes; and of groups of
+    rows, whose places are counted where they have none."""
+    drawn = bars.bars_of(join([capture_of(made("1..4", side), name) for name in "ab"]))
+    assert [place_of(part) for part in xml.fromstring(drawn).iter() if part.get("class") == "number-label"] == [
+        ["270", "212", "1"], ["510", "212", "2"], ["750", "212", "3"], ["990", "212", "4"]]
+    assert folds._alike([{"by": "none"}], ["by"]) == (["by", "count", "first row", "last row"], [["none", 1, None, None]])
+
+
 def test_a_cut_field():
     assert "PAL, CAV, 1 field, field 2 is cut: 5 bytes of it, 1 picture, 9 to 9" in [
         part.text for _, part in parts_of("-/#9/#9", cut=Cut(2, 5))]
-
-
-def test_unread_numbers_are_pale():
-    found = [part.get("fill") for name, part in parts_of("1..30 21=?") if name == "unread" or part.text == "unread: 1"]
-    assert found == ["#64748b", "#fca5a5"]
 
 
 def test_texts_are_apart():
@@ -264,9 +257,8 @@ def test_texts_are_apart():
 # Marks by their first and last field, of 960 that have a pixel each, of which a mark has two at least: what is drawn of
 # them, by the first and the last field, how many more there are in it, and up to which field these go
 @pytest.mark.parametrize("marks, wanted", (
-    ("1-1 2-2 3-3", "1-3 2 3"), ("1-1 2-2 3-3 4-4 6-6", "1-4 3 4, 6-6"), ("1-1 3-3 5-5", "1-1, 3-3, 5-5"),
-    ("1-9 10-19 20-29", "1-9, 10-19, 20-29"), ("1-100 5-6 20-30", "1-100 2 30"), ("1-100 5-90 20-30", "1-100 2 90"),
-    ("1-100 5-6 100-200", "1-200 2 200"), ("1-100 5-6 101-101", "1-100 1 6, 101-101"), ("7-7 7-7", "7-7 1 7"),
+    ("1-1 2-2 3-3 4-4 6-6", "1-4 3 4, 6-6"), ("1-1 3-3 5-5", "1-1, 3-3, 5-5"), ("1-9 10-19", "1-9, 10-19"),
+    ("1-100 5-90 20-30", "1-100 2 90"), ("1-100 5-6 101-101", "1-100 1 6, 101-101"),
     ("1-10 9-20 19-30 40-50 41-42", "1-30 2 30, 40-50 1 42"), ("959-959 960-960", "959-960 1 960")))
 def test_marks_that_fall_together(marks, wanted):
     ones = [tuple(map(int, mark.split("-"))) for mark in marks.split()]

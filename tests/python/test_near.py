@@ -1,14 +1,12 @@
-"""The nearest word of lines (tests/library has more rows: lines.py, worn.py); due numbers that are the
-nearest words of their lines, and count as read. Dropouts: columns of lines that count for no nearest word, in the
-module's calls, in ld-decode's metadata, and where the command recovers words. Distances are counted on paper."""
+"""Due numbers that are the nearest words of their lines, and count as read. Dropouts: columns of lines that count for
+no nearest word, in the module's calls, in metadata, and where the command recovers words. Distances are counted on
+paper."""
 
 import json
 
 from compact import check_row, made, of_member
 from discs import plain
-from hypothesis import given, settings, strategies as some
 import ldvbi
-from ldvbi.dropouts import told_dropouts
 from ldvbi.metadata import read_metadata
 from ldvbi_side.answer.analysis import analyse, analysed
 from ldvbi_side.command.map import map_rows
@@ -28,16 +26,6 @@ TURNED = {"NTSC": (13, (411, 417), (426, 431)), "PAL": (16, (513, 520), (530, 53
 
 def worn(setup, word=WORD):
     return worn_line(word, setup, 9, TURNED[setup[0]][0])
-
-
-def test_the_nearest_word():
-    """A row of another word differs in 28 columns of each line, one with a cell more in 14 of each. Of blank lines the
-    row of none is nearest, and then one of a word, of which 336 columns are high at least."""
-    column = NTSC[2] - NTSC[1]
-    near = ldvbi.nearest(2 * line_with(0xF12345, NTSC, [(0, 0, True)]), *NTSC)
-    assert isinstance(near, ldvbi.Near)
-    assert near == (0xF12345, 150, 2 * column, 58 * column, 30 * column)
-    assert ldvbi.nearest(2 * line_with(0, NTSC), *NTSC) == (None, 0, 0, 672 * column, 0)
 
 
 DUE = "1..20 9=?"  # picture 5, in field 9
@@ -123,12 +111,16 @@ def test_each_call(room, setup):
 
 
 def test_erased_columns_cost_nothing(room):
-    """Of 13 and 16 columns, in hundredths. Of cell 5 half of the 28 columns are turned, 297 among them: another word is
-    as near. A signal goes on for one more cell behind the word: this row is nearer by 14 columns."""
+    """Of 13 and 16 columns, in hundredths. A row of another word differs in 28 columns of each line, one with a cell more
+    in 14. Of cell 5 half of the 28 columns are turned, 297 among them: another word is as near. A signal goes on for
+    one more cell behind the word: this row is nearer by 14 columns."""
     write_stream(room.path, NTSC, [[0, worn(NTSC), worn(NTSC)], [0, worn(NTSC), 0]])
     with ldvbi.Stream(room.path, *NTSC, True, [(0, 17, 411, 414), (0, 17, 413, 417), (0, 18, 838, 2000)]) as side:
         assert [measured(side, *place) for place in ((1, 17), (1, 18), (2, 17))] == [
             (WORD, 600, 1600), (WORD, 1300, 1600), (WORD, 1300, 1600)]
+    column = NTSC[2] - NTSC[1]
+    assert ldvbi.nearest(2 * line_with(WORD, NTSC, [(0, 0, True)]), *NTSC) == (
+        WORD, 150, 2 * column, 58 * column, 30 * column)
     half = ((500, 520), None), ((297, 298), WORD), ((296, 297), None), ((295, 297), WORD ^ 0x40000)
     goes_on = ((500, 540), None), ((837, 846), WORD), ((837, 845), None)
     odd = ("NTSC", 16384, 51201)
@@ -140,33 +132,21 @@ def test_erased_columns_cost_nothing(room):
                 assert nearest_word_in(side, 1, 17, 17) == nearest
 
 
-# Members `dropOuts` of a field, and its dropouts
+# Members `dropOuts` of a field, and its dropouts: lists of one length, of which those of lines 16, 17 and 18 have whole
+# numbers, the first of them not above the last
 TOLD = (({"fieldLine": [1, 16, 17, 18, 19], "startx": [1, 2, 3, 0, 5], "endx": [9, 2, 1000000, 9, 9]},
          [(16, 2, 2), (17, 3, 1000000), (18, 0, 9)]),
         ({"fieldLine": [17], "startx": [1], "endx": [9], "more": 1}, [(17, 1, 9)]),
-        *((one, []) for one in ([], 5, {"fieldLine": "17", "startx": "1", "endx": "2"})))
-MEMBERS = ("fieldLine", "startx", "endx")
-CELLS = some.sampled_from([0, 5, 9, 1000000, -1, 1.0, True, None, "1"])
-ROWS = some.lists(some.tuples(some.sampled_from([15, 16, 17, 18, 17.0]), CELLS, CELLS), min_size=1, max_size=2)
-TABLES = ROWS.map(lambda rows: dict(zip(MEMBERS, map(list, zip(*rows)))))
+        ({"fieldLine": [15, 17], "startx": [-1, 1], "endx": [None, 2]}, [(17, 1, 2)]),
+        *(({"fieldLine": lines, "startx": firsts, "endx": lasts}, []) for lines, firsts, lasts in (
+            ([17, 18], [1, -1], [9, 9]), ([17], [3], [2]), ([17], [1], [9, 9]), ([17, 18], [1], [9]),
+            ([17.0], [1], [9]), ([17], [True], [9]), ([17], [1], [9.0]), ([17], [1], [None]), ("17", "1", "2"))),
+        *((one, []) for one in ({}, [], None, 5, "x", {"fieldLine": [17], "startx": [1]})))
 FORM = """CREATE TABLE capture (system, black_16b_ire, white_16b_ire);
 INSERT INTO capture VALUES ('NTSC', 16384, 51200);
 CREATE TABLE fields (field_id, is_first_field); INSERT INTO fields VALUES (7, 0), (5, 0), (6, 1)"""
 DROP_OUTS = "CREATE TABLE drop_outs (capture_id, field_id, field_line, startx, endx)"
 INSERT = "INSERT INTO drop_outs VALUES (1, %s)"
-
-
-@settings(max_examples=400)
-@given(TABLES | some.fixed_dictionaries({}, optional=dict.fromkeys(MEMBERS, some.lists(CELLS, max_size=2) | CELLS)) |
-       some.tuples(TABLES, TABLES).map(lambda two: {**two[0], "endx": two[1]["endx"]}))
-def test_what_is_told(told):
-    """Lists of one length, of which the lines 16, 17 and 18 have whole numbers, the first of them not above the last:
-    those of these lines, and else none."""
-    lists = [told.get(name) for name in MEMBERS]
-    rows = [row for row in zip(*lists) if row[0] in (16, 17, 18)] if all(isinstance(one, list) for one in lists) else []
-    is_sound = len({len(one) for one in lists if isinstance(one, list)}) == 1 and all(
-        set(map(type, row)) == {int} and 0 <= row[1] <= row[2] for row in rows)
-    assert list(told_dropouts(7, told)) == [(7, *row) for row in rows if is_sound]
 
 
 def test_json(room):
