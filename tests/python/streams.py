@@ -24,17 +24,19 @@ def line_with(word, setup, changes=()):
 _DRAWN = {"NTSC": (150, 315, 22), "PAL": (190, 709379, 40000)}
 
 
-def worn_line(word, setup, cell, columns):
-    """A drawn line, of a cell of which so many columns are turned over, half of them in the middle of either half cell.
-    From 9 columns on (PAL: 12) the line shows no word. The word is nearer than the one with this bit turned by the
-    columns of the cell, which are 28 or 29 (PAL: 35 or 36), less two of each that is turned."""
+def worn_line(word, setup, *cells):
+    """A drawn line, with cells of which so many columns are turned over, half of them in the middle of either half
+    cell: a cell and its count, and perhaps another cell. From 9 columns on (PAL: 12) the line shows no word. The word
+    is nearer than the one with this bit turned by the columns of the cell, which are 28 or 29 (PAL: 35 or 36), less two
+    of each that is turned."""
     line = bytearray(ldvbi.draw_line(word, *setup))
     system, black, white = setup
     start, numerator, denominator = _DRAWN[system]
-    for count in range(columns):
-        half = 2 * cell + count % 2
-        at = 2 * (start + half * numerator // denominator + 4 + count // 2)
-        line[at:at + 2] = (black + white - int.from_bytes(line[at:at + 2], "little")).to_bytes(2, "little")
+    for cell, columns in zip(cells[::2], cells[1::2]):
+        for count in range(columns):
+            half = 2 * cell + count % 2
+            at = 2 * (start + half * numerator // denominator + 4 + count // 2)
+            line[at:at + 2] = (black + white - int.from_bytes(line[at:at + 2], "little")).to_bytes(2, "little")
     return bytes(line)
 
 
