@@ -4,8 +4,7 @@ A side is a text of parts, from left to right. These add fields:
 
     7  1..30  0..60/3  9..5   the two fields of each of these pictures (discs.pictures)
     0..99!4,7  0..99!4%10     the same without some, or without those that have this rest
-    f1..30  e1..30            pictures of film, those with an odd or with an even number having 3 fields
-    b1..30                    the two fields of each picture, both with its number
+    f1..30  e1..30  b1..30    pictures of film, the odd or the even ones having 3 fields; each field with a number
     t0..60  u0..60            times, counted from the disc's start, and with line 16 alone
     m9  n9                    a field with this minute on line 18 beside a mark, or on lines 17 and 18
     L O B ? C                 lead-in, lead-out, a blank field, `- ? ?`, chapter 0
@@ -17,8 +16,7 @@ and x9 behind one of these has each nine times. The others change the fields tha
 
     13=-/#17/#7   61:73/2=?   another row in field 13, or in each second one from 61 to 73
     15.18=@0:09   1:60.16=?   another item on this line
-    -41  -41:43               these fields are gone
-    +41=Bx10                  others before field 41
+    -41  -41:43  +41=Bx10     these fields are gone; others before field 41
     ~11                       fields 11 and 12 in each other's place
 
 Its system may stand before it, and behind a / whether its parity is known: by turns with NTSC/0; with PAL/40 field 40

@@ -31,7 +31,7 @@ LONGEST = ("test_simulated", "test_stopped", "test_hostile", "test_join", "test_
 
 def pytest_collection_modifyitems(items):
     assert len({item.nodeid for item in items}) == len(items)  # of two with one name one would be lost
-    items.sort(key=lambda item: LONGEST.index(item.path.stem) if item.path.stem in LONGEST else len(LONGEST))
+    items.sort(key=lambda item: [item.path.stem != name for name in LONGEST])
 
 
 @pytest.hookimpl(hookwrapper=True)

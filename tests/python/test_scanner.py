@@ -93,13 +93,6 @@ def test_what_is_no_json(wanted, place, texts):
             place, wanted)
 
 
-def test_a_fault_far_from_the_end_is_seen_at_once():
-    """What comes behind it isn't read: it could be any length."""
-    file = io.StringIO("[[1 2" + "," * 100)
-    assert reason(scanned, file, 50, kind=NotJson) is not None
-    assert file.tell() == 50
-
-
 def test_nested_and_long():
     """As deep as the program has it: 127 lists and objects in each other, also those that are gone through one by one;
     numbers, values and texts without an end; and bytes that aren't UTF-8."""
@@ -115,6 +108,8 @@ def test_nested_and_long():
     one = Scanner(io.StringIO(many))
     assert (len(scanned(many, 50)), [one.value() for _ in one.items() for _ in one.items()]) == (200, [[]] * 200)
     assert [value for _, value, *_ in scanned("[1e308,-1e-999]", 50)] == [1e308, 0]
+    file = io.StringIO("[[1 2" + "," * 100)  # what comes behind a fault isn't read
+    assert (reason(scanned, file, 50, kind=NotJson) is not None, file.tell()) == (True, 50)
     with mock.patch.object(scanner, "LONGEST", 20):
         assert len(scanned('["%s"]' % ("a" * 18), 1)) == 1
         assert reason(scanned, '["%s"]' % ("a" * 100), 5, kind=NotJson) == "too long: what begins at character 1"
