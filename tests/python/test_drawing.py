@@ -94,29 +94,23 @@ def text_in(part):
     return part[0].tail if len(part) else part.text
 
 
-def whole(known, *names):
-    return [str(round(float(known[name]))) for name in names]
+# The attributes of a part that say its place
+PLACES = {"text": ("x", "y"), "line": ("x1", "y1", "y2"), "circle": ("cx", "cy")}
 
 
 def place_of(part):
     """The fields of a part of a drawing, and its place."""
-    known = part.attrib
-    found = [known[name] for name in ("data-fields", "data-field") if name in known]
-    if part.tag == SPACE + "text":
-        return [*whole(known, "x", "y"), text_in(part)]
-    if part.tag == SPACE + "rect":
-        ends = whole({**known, "right": float(known["x"]) + float(known["width"])}, "x", "right")
-        shown = [known["data-shown"], *whole(known, "height")] if "data-shown" in known else []
-        return [*found, "-".join(ends), *shown]
-    if part.tag == SPACE + "line":
-        return whole(known, "x1", "y1", "y2")
-    if part.tag == SPACE + "circle":
-        return [*found, "ring", *whole(known, "cx", "cy")]
-    points = re.findall("[0-9.]+ [0-9.]+", known["d"])
-    if known["class"] != "run":
-        return [*found, points[0]]
-    ends = " ".join((points[0], points[-1])).split(" ")
-    return [*found, str(len(points)), *(str(round(float(end))) for end in ends)]
+    known, kind = part.attrib, part.tag[len(SPACE):]
+    fields = [known[name] for name in ("data-fields", "data-field") if name in known]
+    if kind == "rect":
+        shown = [known["data-shown"], "%.0f" % float(known["height"])] if "data-shown" in known else []
+        return [*fields, "%.0f-%.0f" % (float(known["x"]), float(known["x"]) + float(known["width"])), *shown]
+    if kind == "path":
+        points = re.findall("[0-9.]+ [0-9.]+", known["d"])
+        ends = ["%.0f" % float(end) for point in (points[0], points[-1]) for end in point.split(" ")]
+        return [*fields, str(len(points)), *ends] if known["class"] == "run" else [*fields, points[0]]
+    place = ["%.0f" % float(known[name]) for name in PLACES[kind]]
+    return {"text": [*place, text_in(part)], "line": place, "circle": [*fields, "ring", *place]}[kind]
 
 
 # Sides, and what the drawing has of some classes, in this order and no more of it: the words, or with @ the places;

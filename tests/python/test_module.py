@@ -4,7 +4,6 @@ the library gets each number as it is, and what it answers is said. All that it 
 
 import _testbuffer
 import array
-import contextlib
 import ctypes
 import functools
 import io
@@ -232,7 +231,7 @@ def test_what_is_judged():
                 assert reason(call, readings, *("PAL", 1, 3)[:place], value, *later) == text
 
 
-def test_each_call():
+def test_each_call(monkeypatch):
     """A fault of a call of the library, which none has, is raised: the call fails where it is to write something."""
     one = made("1..3 -/#79999/- B", side)
     packed = b"".join(ldvbi.PACKED_FIELD.pack(*sum(map(tuple, field), ())) for field in one.readings)
@@ -254,7 +253,6 @@ def test_each_call():
             ("nearest", nearest, LINE, *NTSC), ("seek", lambda: seek(fields(), 1)),
             ("recover_fields", lambda: list(fields())), ("recovered_record", lambda: list(fields().records())),
             ("recover_fields_without", lambda: list(fields(dropouts=[(0, 17, 3, 4)])))):
-        with contextlib.ExitStack() as stack:
-            for module in (judging, near, seeking, sides, stream):
-                stack.enter_context(mock.patch.object(module, "later_call", functools.partial(later_call, name)))
-            assert reason(call, *words) == REFUSED
+        for module in (judging, near, seeking, sides, stream):
+            monkeypatch.setattr(module, "later_call", functools.partial(later_call, name))
+        assert reason(call, *words) == REFUSED
