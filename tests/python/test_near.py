@@ -111,7 +111,7 @@ def test_each_call(room, setup):
 
 
 def test_erased_columns_cost_nothing(room):
-    """Of 13 and 16 columns, in hundredths. A row of another word differs in 28 columns of each line, one with a cell more
+    """Of 13 and 16 columns, in hundredths. A row of another word differs in 28 columns of a line, one with a cell more
     in 14. Of cell 5 half of the 28 columns are turned, 297 among them: another word is as near. A signal goes on for
     one more cell behind the word: this row is nearer by 14 columns."""
     write_stream(room.path, NTSC, [[0, worn(NTSC), worn(NTSC)], [0, worn(NTSC), 0]])
@@ -177,39 +177,33 @@ def test_database(room):
         assert read_metadata(path).dropouts == wanted
 
 
-# side.tbc has pictures 0 to 10, and in field 12 a line 17 alone, which is worn.
-@pytest.fixture
-def command(drawn):
-    write_stream(drawn.path, NTSC, [*pictures(11), [0, worn(NTSC), 0]])
-    drawn.told = {"dropOuts": {"fieldLine": [17], "startx": [411], "endx": [417]}}
-    drawn.metadata("side.tbc.json", count=12, field=drawn.told)
-    drawn.metadata("without.json", count=12)
-    return drawn
-
-
-def near(command, *words, said=""):
+def near(room, *words, said=""):
     """How many lines 17 have a recovered word."""
-    return json.loads(command.printed("side.tbc", "--json", *words, said=said))["lines"]["17"]["near"]
+    return json.loads(room.printed("side.tbc", "--json", *words, said=said))["lines"]["17"]["near"]
 
 
-def test_they_are_used(command):
-    """Of the metadata beside the file, or of --meta; not with --no-recover."""
-    assert [near(command), near(command, "--meta", "without.json"), near(command, "--no-recover")] == [1, 0, 0]
-    assert command.printed("side.tbc", "--document") == command.extracted("side.tbc")
-    found = command.printed("side.tbc", "--document", "--recovered").split(b"\n")[12]
+def test_they_are_used(drawn):
+    """Of the metadata beside the file, or of --meta; not with --no-recover. Field 12 has a worn line 17 alone."""
+    write_stream(drawn.path, NTSC, [*pictures(11), [0, worn(NTSC), 0]])
+    told = {"dropOuts": {"fieldLine": [17], "startx": [411], "endx": [417]}}
+    drawn.metadata("side.tbc.json", count=12, field=told)
+    drawn.metadata("without.json", count=12)
+    assert [near(drawn), near(drawn, "--meta", "without.json"), near(drawn, "--no-recover")] == [1, 0, 0]
+    assert drawn.printed("side.tbc", "--document") == drawn.extracted("side.tbc")
+    found = drawn.printed("side.tbc", "--document", "--recovered").split(b"\n")[12]
     assert b'"vbiData":[0,%d,0]' % WORD in found
     assert b'"vbiNear":[null,{"word":%d,"distance":600,"rival":1600},null]' % WORD in found
-    row = command.printed("side.tbc", "--bad-lines").decode().split("\n")[1].split(",")
+    row = drawn.printed("side.tbc", "--bad-lines").decode().split("\n")[1].split(",")
     assert [*row[:2], *row[4:]] == ["12", "17", "F12345", "600", "1600"]
-    command.printed("side.tbc", "--into", "copy.json", "--recovered", "--as-read")
-    assert json.loads(command.read("copy.json"))["fields"][11] == {
-        "isFirstField": True, **command.told, "vbi": {"vbiData": [0, WORD, 0]}}
+    drawn.printed("side.tbc", "--into", "copy.json", "--recovered", "--as-read")
+    assert json.loads(drawn.read("copy.json"))["fields"][11] == {
+        "isFirstField": True, **told, "vbi": {"vbiData": [0, WORD, 0]}}
     # those of another count of fields
-    command.metadata("side.tbc.json", count=14, field=command.told)
+    drawn.metadata("side.tbc.json", count=14, field=told)
     said = "ldvbi-side: side.tbc: 12 fields, side.tbc.json says 14, so its %s used: another system, or another " \
            "file's metadata?\n"
-    assert near(command, "--no-recover", said=said % "isFirstField isn't") == 0
+    assert near(drawn, "--no-recover", said=said % "isFirstField isn't") == 0
     said %= "isFirstField and dropOuts aren't"
-    assert near(command, said=said) == 0
+    assert near(drawn, said=said) == 0
     for words in (["--document"], ["--document", "--svg", "side.svg"]):
-        assert command.printed("side.tbc", "--recovered", *words, said=said).count(b"[null,null,null]") == 12
+        assert drawn.printed("side.tbc", "--recovered", *words, said=said).count(b"[null,null,null]") == 12

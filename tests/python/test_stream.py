@@ -26,8 +26,8 @@ def stream(room, count=5, setup=NTSC, rest=0):
     return ldvbi.Stream(room.path, *setup)
 
 
-@pytest.mark.parametrize("count, setup, rest", ((COUNT, NTSC, 1000), (COUNT, PAL, 0), (1, NTSC, 0), (1, PAL, 1000),
-                                                (0, NTSC, 0), (0, NTSC, 1), (0, PAL, 100), (0, NTSC, SIZE - 1)))
+@pytest.mark.parametrize("count, setup, rest", (
+    (COUNT, NTSC, 1000), (COUNT, PAL, 0), (1, PAL, 1000), (0, NTSC, 0), (0, NTSC, 1), (0, NTSC, SIZE - 1)))
 def test_as_a_list(room, count, setup, rest):
     """Streams of many fields, of one and of none, whole and cut, have what a list of their fields would have."""
     numbers = list(range(count))
@@ -38,12 +38,10 @@ def test_as_a_list(room, count, setup, rest):
         assert list(side) == list(ldvbi.fields(room.path, *setup))
         for part in (slice(None), slice(1, 3), slice(-2, None), slice(60, 70), slice(3, 1), slice(200, 300),
                      slice(0, 1), slice(None, None, 2), slice(None, None, -1), slice(70, 60, -3)):
-            assert isinstance(side[part], list)
             assert numbers_of(side[part]) == numbers[part]
         for index in (0, 1, 63, 64, COUNT - 1, COUNT, -1, -2, -COUNT, -COUNT - 1, 10 ** 30):
             if -count <= index < count:
                 assert numbers_of([side[index]]) == [numbers[index]]
-                assert isinstance(side[index], ldvbi.FieldReadings)
             else:
                 assert reason(side.__getitem__, index, kind=IndexError) == "field %d of a stream of %d fields" % (
                     index, count)
@@ -60,7 +58,6 @@ def test_the_samples_of_rows(room):
             assert reason(call, *words, kind=IndexError) is not None
         buffer = ldvbi.Stream(memoryview(room.read("side.tbc")), *PAL)
         assert [buffer.rows(index) for index in (0, 1, 2)] == lines
-    assert reason(side.rows, 0) == "the stream is closed"
 
 
 def test_sources(room):
@@ -103,7 +100,7 @@ def test_closed(room):
     next(begun)
     side.close()
     side.close()
-    for call in (lambda: side[0], lambda: side[1:2], lambda: list(side), lambda: list(begun)):
+    for call in (lambda: side[0], lambda: side[1:2], lambda: list(side), lambda: list(begun), lambda: side.rows(0)):
         assert reason(call) == "the stream is closed"
     assert len(side) == COUNT
 
@@ -111,8 +108,7 @@ def test_closed(room):
 def test_nothing_stays_open(room):
     def held():
         gc.collect()
-        with open("/proc/self/maps", encoding="utf-8") as maps:
-            return sum(room.path in line for line in maps), len(os.listdir("/proc/self/fd"))
+        return pathlib.Path("/proc/self/maps").read_text("utf-8").count(room.path), len(os.listdir("/proc/self/fd"))
 
     maps, files = held()
     side = stream(room, 3)
