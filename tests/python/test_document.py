@@ -193,7 +193,8 @@ def compare(room, setup, fields, rest=0, *, is_recovered=False):
 
 @pytest.mark.parametrize("setup", (NTSC, PAL, ("NTSC", 0, 65535), ("PAL", 65534, 65535)))
 def test_causes_and_passes(room, setup):
-    """Fields with each cause and pass, by changes to drawn lines and to blank ones; with recovered words, too."""
+    """Fields with each cause and pass, by changes to drawn lines and to blank ones; with recovered words, too. Whole
+    streams and cut ones, which are read in blocks of 64 fields."""
     start = {"NTSC": 150, "PAL": 190}[setup[0]]  # of a drawn word
     last = ldvbi.line_bytes(setup[0]) // 2 - 1
     fields = [[line_with(word, setup, changes) for word, *changes in lines] for lines in (
@@ -206,11 +207,6 @@ def test_causes_and_passes(room, setup):
     assert '"vbiPass":[1,2,0]' in text
     text = compare(room, setup, [*fields, [0, 0xF12345, worn_line(0xF12345, setup, 9, 11)]], 7, is_recovered=True)
     assert '"vbiPass":[0,1,3],"vbiNear":[null,null,{"word":15803205,' in text
-
-
-@pytest.mark.parametrize("setup", (NTSC, PAL))
-def test_counts_of_fields(room, setup):
-    """Whole streams and cut ones, which are read in blocks of 64 fields."""
     for count, rest in ((0, 0), (64, 0), (129, 0), (0, 1), (64, ldvbi.field_bytes(setup[0]) - 1)):
         for is_recovered in (False, True):
             compare(room, setup, pictures(count), rest, is_recovered=is_recovered)

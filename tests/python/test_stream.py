@@ -72,16 +72,6 @@ def test_sources(room):
         assert ldvbi.Stream(source, *NTSC).cut_bytes == rest
 
 
-def test_more_than_4_gib(room):
-    """Fields without a drawn line, the last of which shows a picture."""
-    write_stream(room.path, NTSC, [[]] * 8981 + [[0xF12345] * 3], 1000)
-    with ldvbi.Stream(room.path, *NTSC) as side:
-        assert os.path.getsize(room.path) > 2 ** 32
-        assert (len(side), side.cut_bytes) == (8982, 1000)
-        assert numbers_of([side[8981], *side[8981:]]) == [12345] * 2
-        assert [number for number, field in enumerate(side, 1) if field.second.word] == [8982]
-
-
 def test_refused(room):
     """A buffer that is too short is taken for a path as bytes. The setup is looked at before the file is."""
     absent = room.named("absent.tbc")
