@@ -158,8 +158,8 @@ def best(room, setup, drawn, fields, line_of=ldvbi.draw_line):
     assert side.levels == setup[1:]
     if not side.analysis.answer.levels:
         return None
-    tried = side.analysis.answer.levels.tried
-    return [tried.read, tried.lines, tried.best and options_of(tried), tried.best and tried.best.read]
+    tried, told = side.analysis.answer.levels.tried, side.answer["levels"]["tried"]
+    return [told["read"], told["lines"], told["best"] and options_of(tried), told["best"] and told["best"]["read"]]
 
 
 def test_levels_and_systems(room):
