@@ -14,20 +14,19 @@ from ldvbi_side.answer.analysis import analyse
 from measure import fields_of, measured
 import pytest
 from simulate import KINDS, PLAYED, played_through, simulated
-from simulated_faults import FAULTS, faulty, lead_in_of, lead_out_of, rearranged, with_lead_out
+from simulated_faults import faulty, lead_out_of, rearranged, with_lead_out
 from sound import faults_of
 from truth import Truth
-from verdicts import column_of, kind_of, readable_in, true_of
+from verdicts import said_of, true_of
 
 pytestmark = pytest.mark.unrecorded
-# Of sides that were played in other ways, worn ones, and those of a player at hand: the pictures of a side, and how
-# many of three at least have exact missing numbers, exact first fields, and just the reasons why they aren't whole
-WORN = {"skips": (None, 2, 2, 0), "worn": (300, 3, 3, 3), "swapped": (200, 3, 3, 2), "speeds": (1100, 3, 3, 2),
-        "joined": (150, 3, 3, 3), "losses": (600, 1, 1, 3), "restarts": (150, 3, 3, 3)}
-BY_HAND = {"loops": (300, 0, 3, 2), "turned": (300, 0, 3, 2), "searched": (500, 0, 2, 0), "sides": (200, 0, 3, 3),
-           "minutes": (None, 0, 3, 3)}
+# Of sides that were played in other ways the pictures of a side, and how many of three at least have exact missing
+# numbers, exact first fields, and just the reasons why they aren't whole
+SIDES = {"skips": (None, 2, 2, 0), "worn": (300, 3, 3, 3), "swapped": (200, 3, 3, 2), "speeds": (1100, 3, 3, 2),
+         "joined": (150, 3, 3, 3), "losses": (600, 1, 1, 3), "restarts": (150, 3, 3, 3), "loops": (300, 0, 3, 2),
+         "turned": (300, 0, 3, 2), "searched": (500, 0, 2, 0), "sides": (200, 0, 3, 3), "minutes": (None, 0, 3, 3)}
 # The truth of two discs whose numbers are far apart takes long.
-PLAYED_SEEDS = {"joined": (0, 2, 3), "sides": (0, 3, 5)}
+SEEDS = {"joined": (0, 2, 3), "sides": (0, 3, 5)}
 
 
 def within(counts, table):
@@ -48,17 +47,6 @@ def measure(kinds, sides):
     return totals, sum(totals.values(), Counter()), told
 
 
-def played(kinds):
-    """What is found of each of these kinds, and of all. No answer contradicts the words of its side."""
-    sides = [(seed, {"kind": kind, "count": count, "sound": kind != "minutes" or seed == 0})
-             for kind, (count, *_) in kinds.items() for seed in PLAYED_SEEDS.get(kind, range(3))]
-    totals, of_all, told = measure(PLAYED, sides)
-    within(of_all, "sides: %d; faults: 0" % (3 * len(kinds)))
-    for kind, (_, *least) in kinds.items():
-        within(totals[kind], "missing: %d..; first fields: %d..; reasons: %d.." % tuple(least))
-    return totals, of_all
-
-
 def test_bounds():
     """No answer contradicts the words of its side. All wrong numbers are set aside, and hardly a right one; no field
     has another number than on the disc. It is seldom left open whether a side is whole, but of few minutes alone.
@@ -77,28 +65,23 @@ def test_bounds():
         within(counts, "sides: 6; wrong: 1..; right: 1..; numbers: 1..")
 
 
-def test_worn_sides():
-    """Where few times have their minute, the library believes few of them."""
-    totals, of_all = played(WORN)
-    within(of_all, """
-        wrong: 71 0; right: 23001..; right found: ..10; numbers: 13701.. ..1; due: 801.. ..1;
-        unread numbers: 781.. ..1; lost places: 96; backs: 27 ..2; swaps: 4 ..1; speeds: 3 0""")
-    within(of_all - totals["skips"], "lost places: 81.. 0")
-    for counts in (totals[kind] for kind in ("losses", "worn", "restarts")):
-        assert counts["lost found"] + counts["lost and hidden"] >= counts["lost"] - 1
-
-
-def test_sides_of_a_player_at_hand():
-    """Of film that is turned by hand numbers may be called unread that were never shown; of no other kind."""
-    totals, of_all = played(BY_HAND)
-    within(of_all, """
-        whole: 15; wrong: 41.. 0; right found: ..20; numbers: 1.. 0; unread numbers: 1.. ..6;
-        lost numbers: 1.. ..1""")
-    within(of_all - totals["turned"], "unread numbers: 0.. 0")
-    for name in ("loops", "turned"):
-        within(totals[name], "backs: 11.. ..%d" % (totals[name]["backs"] * 11 // 100))
-    for name, table in (("sides", "lost: 0.. 0"), ("minutes", "lost: 0.. 0; lost places: 1.. 0")):
-        within(totals[name], table)
+def test_sides_that_were_played_in_other_ways():
+    """No answer contradicts the words of its side. Where few times have their minute, the library believes few of them.
+    Of film that is turned by hand numbers may be called unread that were never shown; of no other kind."""
+    totals, of_all, told = measure(PLAYED, [
+        (seed, {"kind": kind, "count": count, "sound": kind != "minutes" or seed == 0})
+        for kind, (count, *_) in SIDES.items() for seed in SEEDS.get(kind, range(3))])
+    within(of_all, "sides: 36; faults: 0; whole: 36; wrong: 112.. 0; right: 70001..; right found: ..15")
+    within(of_all - totals["turned"], """
+        numbers: 17001.. ..1; due: 861.. ..1; unread numbers: 801.. ..1; lost numbers: 13001.. ..10; swaps: 4 ..1;
+        speeds: 3 0""")
+    within(of_all - totals["turned"] - totals["skips"] - totals["sides"], "lost places: 81.. 0")
+    for kind, (_, *least) in SIDES.items():
+        within(totals[kind], "missing: %d..; first fields: %d..; reasons: %d.." % tuple(least))
+    for kind, table in (("turned", "backs: 201.. ..29; unread numbers: 1.. ..6"), ("loops", "backs: 11.. ..4"),
+                        ("restarts", "backs: 4 ..2; lost: 2 0"), ("worn", "backs: 11.. 0; lost: 4 0"),
+                        ("losses", "lost: 51.. ..2"), ("sides", "lost: 5 0"), ("minutes", "lost: 3 0")):
+        within(totals[kind], table)
 
 
 # ---- The comparison, and what holds of every answer
@@ -206,29 +189,24 @@ def test_each():
 
 
 PICTURES = 120
-# What is true of sides with a fault, and whether they have a lead-out
-TRUE = {"sound": ("yes", True), "both": ("yes", True), "film cut": ("yes", True), "no lead-out": ("yes", False),
-        "cut off": ("no", False), "begun late": ("no", True), "twice": ("no", True), "one lost": ("no", True)}
+# What is true of sides with a fault, whether they have a lead-out, and what may be said of them
+TRUE = {"sound": ("yes", True, "yes"), "both": ("yes", True, "yes"), "film cut": ("yes", True, "yes"),
+        "no lead-out": ("yes", False, "can't tell"), "cut off": ("no", False, "can't tell"),
+        "begun late": ("no", True, "no"), "twice": ("no", True, "no, can't tell"), "one lost": ("no", True, "no")}
 
 
-@pytest.mark.parametrize("fault, wanted", TRUE.items())
-def test_faults(fault, wanted):
+@pytest.mark.parametrize("fault, wanted, has_end, said", [(fault, *row) for fault, row in TRUE.items()])
+def test_faults(fault, wanted, has_end, said):
     """Minutes alone don't show one field more or less, nor the ends of their disc, nor how long a minute is that
     doesn't stand between two others. A capture that was cut off is whole only if it may end."""
     sides = [faulty(random.Random(seed), fault, seed, PICTURES) for seed in range(14)]  # two of each layout
     others = [side for side in sides if side.layout != "clv-minutes"]
-    assert {(true_of(side), lead_out_of(side) is not None) for side in others} == {wanted}
+    assert {(true_of(side), lead_out_of(side) is not None) for side in others} == {(wanted, has_end)}
+    assert [side.settings for side in others if said_of(side)[0] not in said] == []
     if fault == "cut off":
         assert {true_of(side, may_end=True) for side in others} == {"yes"}
     of_minutes = [true_of(side) for side in sides if side.layout == "clv-minutes"]
     assert of_minutes == ["either"] * (0 if fault in ("both", "film cut") else 2)
-
-
-def test_a_whole_minute():
-    seed = KINDS.index("clv-minutes")
-    for one in range(seed, seed + 3 * len(KINDS), len(KINDS)):
-        side = faulty(random.Random(one), "sound", one, 5000)
-        assert true_of(side) == ("either" if lead_in_of(side) is None else "yes")
 
 
 @pytest.mark.parametrize("layout, changes, gone, wanted", (
@@ -242,23 +220,3 @@ def test_fields_that_stand_otherwise(layout, changes, gone, wanted):
     at = next(field for field in range(100, 110) if side.numbers[field] is not None and side.first[field])
     fields = [*range(at), *(at + change for change in changes), *range(at + gone, len(side.order))]
     assert true_of(with_lead_out(rearranged(side, fields))) == wanted
-
-
-def test_no_number_can_be_read():
-    side = with_lead_out(played_through(1, "cav-pal", PICTURES))
-    for record in side.document["fields"]:
-        record["vbi"]["vbiData"], record["vbiPass"] = [0, 0, 0], [0, 0, 0]
-    assert readable_in(Truth(side)) == []
-    assert true_of(side, may_end=True) == "either"
-
-
-def test_each_answer_beside_each_truth():
-    assert [[column_of(said, true) for true in ("yes", "no", "either")] for said in ("yes", "no", "can't tell")] == [
-        ["right", "false yes", "either"], ["false no", "right", "either"],
-        ["can't tell of a yes", "can't tell of a no", "either"]]
-
-
-def test_a_seed_has_one_kind():
-    assert {kind_of(seed) for seed in range(3000)} & set(FAULTS) == set(FAULTS)
-    one, again = ([kind_of(seed, ("twice", "one lost")) for seed in range(9)] for _ in (1, 2))
-    assert one == again
