@@ -1,8 +1,7 @@
 #!/bin/sh
-# Runs the tests of the Python package, tests/python/test_*.py, by Debian's pytest, side by side. Each test that passes
-# is a check, so that none gets lost; one that is skipped is a failure. Each line of the package has to run, in the
-# tests or in a process that they start.
-# Needs libldvbi.so.1 beside the program, or at the top of the repository (`make lib`).
+# Runs the tests of the Python package by Debian's pytest, side by side. Each test that passes is a check, so that none
+# gets lost; one that is skipped is a failure. Each line of the package has to run, in the tests or in a process that
+# they start. Needs libldvbi.so.1 beside the program, or at the top of the repository (`make lib`).
 # usage: sh tests/python/python.sh PROGRAM
 # runs: library
 # fails where: python/ldvbi_side/answer/analysis.py|s/^def analyse(/def analyze(/
@@ -30,10 +29,9 @@ parallel = true
 data_file = $work/lines/data
 disable_warnings = no-data-collected, module-not-imported, module-not-measured
 END
-# It has the runs of many tests, and may run beside other scripts on a machine with few processors.
-seconds=$((5 * seconds))
-status=0
+seconds=$((5 * seconds)) # for the runs of many tests, beside other scripts
 # What is said is kept, since prove waits for a line of TAP when a script says something.
+status=0
 bounded python3 -m pytest -n "$(nproc)" --dist loadgroup ${STOP_AT_FIRST:+-x} --quiet --basetemp "$work/tests" -rpsxX \
     --durations 10 "$here" < empty > out 2>&1 || status=$?
 sed -n 's,^PASSED [^ ]*tests/python/,,p' out > names
@@ -42,12 +40,12 @@ check 'pytest passed' [ "$status" = 0 ]
 unset COVERAGE_PROCESS_START
 grep '^SKIPPED\|^XFAIL\|^XPASS' out > err
 check 'no test is skipped' [ ! -s err ]
-for step in 'combine -q' 'report --skip-covered --show-missing --fail-under 100'; do
-    status=0
-    # shellcheck disable=SC2086
-    bounded python3 -m coverage ${step%% *} --rcfile coveragerc ${step#* } < empty > err 2>&1 || status=$?
-    check "each line of the package runs: ${step%% *}" [ "$status" = 0 ]
-done
+# lines WORD..: a command of coverage
+lines() {
+    bounded python3 -m coverage "$@" --rcfile coveragerc < empty > err 2>&1
+}
+check 'each line of the package runs: combine' lines combine -q
+check 'each line of the package runs: report' lines report --skip-covered --show-missing --fail-under 100
 while read -r one; do
     check "$one" true
 done < names
