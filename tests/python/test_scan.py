@@ -12,14 +12,14 @@ import sys
 from pathlib import Path
 from unittest import mock
 
-from compact import cells_of, words_of
+from compact import cells_of
 from ldvbi.packed import packed_as
 from ldvbi_side.command.folders import files_of, Found, name_below, page_names, sides_in
 from ldvbi_side.command.into import copies_in
 from ldvbi_side.command.main import answer_of
 from ldvbi_side.command.scan import scan
 from room import in_database, IN_PLACE
-from streams import NTSC, PAL, TOP, worn_line
+from streams import NTSC, TOP
 
 HEAD = "side whole lost unread format from to last lead-in lead-out fields try why".split()
 # A side of every kind, in the order of the table: its name, its fields, and its row behind the name, of which the last
@@ -31,7 +31,6 @@ SIDES = """
     a/levels.tbc | 1..30 | can't tell | 0 | 0 | neither | - | - | - | 0 | 0 | 60 | --white 30000
         | no picture number and no time
     a/lost.tbc | 1..11 14..30 O | no | 2 | 0 | cav | 1 | 30 | 30 | 0 | 1 | 57 | - | 4 fields lost; 2 pictures lost
-    b/no codes.tbc | Bx60 | can't tell | 0 | 0 | neither | - | - | - | 0 | 0 | 60 | - | no picture number and no time
     b/packed.tbc | - | fault | - | - | - | - | - | - | - | - | - | - | it is compressed (gzip): unpack it first
     b/times.tbc | t0..20 O | yes | 0 | 0 | clv | 0:00:00.00 | 0:00:00.20 | 0:00:00.20 | 0 | 1 | 43 | - | -
     b/unread.tbc | 1..30 23=B O | yes | 0 | 1 | cav | 1 | 30 | 30 | 0 | 1 | 61 | - | -
@@ -39,12 +38,6 @@ SIDES = """
 # White is less than the middle of the metadata's levels.
 DARK = ("NTSC", 16384, 30000)
 YES, NO = "side.tbc,yes,0,0,cav,1,30,30,0,1,61,,", "side.tbc,no,2,0,cav,1,8,8,0,1,13,,4 fields lost; 2 pictures lost"
-# A side, how its row begins, and options with the begin that they make of it
-OPTIONS = """
-    open.tbc | can't tell,0,0 | --open-end | yes,0,0 || pal.tbc | no,0,0 | --system PAL | yes,0,0
-    dark.tbc | can't tell,0,0 | --white 30000 | yes,0,0 || dark.tbc | can't tell,0,0 | --meta other.json | yes,0,0
-    worn.tbc | yes,0,0 | --no-recover | yes,0,1 || worn.tbc | yes,0,0 | --strict | no,0,0
-"""
 
 
 def test_each_kind(room):
@@ -99,6 +92,8 @@ def test_sides_of_two_scans(room):
         ("odd.vbi.json", "fault"), ("cav/1.tbc@cav-1.html", "yes"), ("clv/1.tbc@clv-1.html", "yes")]
     os.unlink(room.named("nas/clv/1.tbc"))
     os.unlink(room.named("more/odd.vbi.json"))
+    index = room.text("pages/index.html")
+    room.write("pages/index.html", index.replace('ldvbi-faults" content="[', 'ldvbi-faults" content="[1, [1, 2, 3], '))
     room.scan("--html pages more")
     assert [one[:2] for one in listed(room)] == [
         ("lost.tbc@lost.html", "no"), ("odd.vbi.json", "fault"), ("../more/cav/1.tbc@cav-1-2.html", "yes"),
@@ -107,9 +102,10 @@ def test_sides_of_two_scans(room):
     assert "<h1>5 sides, whole: 2 yes, 1 no, 0 can&#x27;t tell, 1 fault, 1 gone</h1>" in room.text("pages/index.html")
     assert "<h1>cav/1.tbc</h1>" in room.text("pages/cav-1-2.html")
     os.unlink(room.named("nas/odd.vbi.json"))  # which has no page
-    # a page of another version isn't listed, nor is an index
-    text = room.text("pages/cav-1.html").replace("{&quot;version&quot;: 3", "{&quot;version&quot;: 2")
-    room.write("pages/other.html", text.replace("nas/cav", "nas/x"))
+    # a page of another version isn't listed, nor is an index, or what says the same elsewhere
+    text = room.text("pages/cav-1.html").replace("nas/cav", "nas/x")
+    room.write("pages/other.html", text.replace("{&quot;version&quot;: 3", "{&quot;version&quot;: 2"))
+    room.write("pages/elsewhere.html", text.replace("<meta name", "<link name"))
     room.scan("--html pages more")
     assert [whole for _, whole, _ in listed(room)] == ["no", "yes", "yes", "gone"]
 
@@ -148,15 +144,12 @@ def test_options(drawn):
     and levels; a TBC file beside it may have none of its own."""
     drawn.add("open.tbc", "1..30")
     drawn.add("dark.tbc", setup=DARK)
-    drawn.add("pal.tbc", setup=PAL)
-    worn = [0, *[worn_line(0xF00012, NTSC, 7, 10)] * 2]
-    drawn.add("worn.tbc", [*words_of("1..11"), worn, *words_of("B 13..30 O")])
     drawn.metadata("other.json", white16bIre=30000)
-    for side, begin, words, other in cells_of(OPTIONS):
-        for given, wanted in (("", begin), (words, other), ("", begin)):
-            assert drawn.row("--html pages %s %s" % (given, side)).startswith("%s,%s," % (side, wanted))
-    assert [row.split(",")[1] for row in drawn.scan("--csv LEVELS side.tbc side.vbi.json")[1].split("\n")[1:-1]] == [
-        "no", "no"]
+    for side, words in (("open", "--open-end"), ("dark", "--white 30000"), ("dark", "--meta other.json")):
+        for given, whole in (("", "can't tell"), (words, "yes"), ("", "can't tell")):
+            assert drawn.row("--html pages %s %s.tbc" % (given, side)).startswith("%s.tbc,%s,0,0," % (side, whole))
+    rows = drawn.scan("--csv LEVELS side.tbc side.vbi.json")[1].split("\n")
+    assert [row.split(",")[1] for row in rows[1:-1]] == ["no", "no"]
 
 
 def grows(task):
@@ -197,24 +190,21 @@ def test_what_is_loaded():
     it."""
     text = "import sys; from ldvbi_side.command import main, scan; print(*sys.modules)"
     loaded = subprocess.check_output([sys.executable, "-c", text], text=True).split()
-    assert "ldvbi_side.command.scan" in loaded
     assert not {"ldvbi_side.draw.page", "ldvbi_side.draw.drawing", "ldvbi_side.draw.index", "html.parser",
                 "ldvbi_side.join.joined"} & set(loaded)
 
 
-# Files, what is asked for, and the sides that are found
+# Files, what is asked for, and the sides that are found, each once. What is named is taken for a side, whatever its name
+# is; a link to a folder is followed if it is named.
 FOLDERS = (
     ("d/b.tbc d/a/z.tbc d/a.tbc d/c/a.tbc c.tbc", "d c.tbc", "c.tbc d/a/z.tbc d/a.tbc d/b.tbc d/c/a.tbc"),
     ("d/a.tbc d/a.tbc.json d/a.tbc.db d/a.json d/a.efm d/a.html d/b.vbi.json d/tbc d/folder.tbc/x", "d",
      "d/a.tbc d/b.vbi.json"),
-    # what is named is taken for a side, whatever its name is
     ("d/a.json d/tbc", "d/a.json d/tbc absent", "absent d/a.json d/tbc"),
-    # a side has one row
     ("d/a.tbc d/a.vbi.json d/a.tbc.gz d/b.tbc.gz d/c.tbc.zst d/d.tbc.xz d/e.vbi.json d/e/e.tbc d/f.gz d/g.zip", "d",
      "d/a.tbc d/b.tbc.gz d/c.tbc.zst d/d.tbc.xz d/e/e.tbc d/e.vbi.json"),
     ("d/a.vbi.json d/a.tbc", "d/a.vbi.json d/a.tbc", "d/a.tbc d/a.vbi.json"),
     ("d/a.tbc d/b.tbc", "d/a.tbc d ./d/a.tbc", "./d/a.tbc d/b.tbc"),
-    # which links to folders lead to, unless they are named, is none
     ("d/a.tbc d/e/b.tbc d/e/again>../d d/c.tbc>a.tbc", "d", "d/a.tbc d/e/b.tbc"),
     ("d/a.tbc d/e/b.tbc d/e/again>../d l>d", "l", "l/a.tbc l/e/b.tbc"))
 # Sides 1, 2, .. by their names, pages that are there with their sides, and the names of the sides' pages
@@ -225,12 +215,6 @@ PAGES = (
     ("a-b.tbc a/b.tbc A/b.tbc a-b-2.tbc", "", "a-b.html a-b-2.html A-b-3.html a-b-2-2.html"),
     ("a.tbc b.tbc .tbc index.tbc", "a.html:/2 b.html:/3 c.html:", "a-2.html a.html b.html index-2.html"),
     (LONG + " " + LONG, "side.html:", "ü" * 100 + ".html " + "ü" * 100 + "-2.html"))
-# What a scan is asked for, sides that it finds, and where their copies stand; each side has metadata but a/3.tbc
-COPIES = (
-    ("a", "a/1.tbc a/b/1.tbc a/b/2.vbi.json a/3.tbc", "x/1.tbc.json x/b/1.tbc.db - -"),
-    ("a/b a", "a/b/1.tbc a/1.tbc", "x/b/1.tbc.db x/1.tbc.json"),
-    ("a/b ./c.tbc", "a/b/1.tbc ./c.tbc", "x/a/b/1.tbc.db x/c.tbc.json"),
-    ("c.tbc", "c.tbc", "x/c.tbc.json"))
 
 
 def make(names):
@@ -244,7 +228,7 @@ def make(names):
 
 
 def test_sides_in_folders(monkeypatch, tmp_path):
-    """Which there are, of which files, and where their copies stand."""
+    """Which there are, of which files, and where their copies stand, if they have metadata."""
     monkeypatch.chdir(tmp_path)
     for files, paths, wanted in FOLDERS:
         shutil.rmtree("d", ignore_errors=True)
@@ -254,9 +238,10 @@ def test_sides_in_folders(monkeypatch, tmp_path):
                                            wanted.split()]
     with mock.patch("os.scandir", side_effect=PermissionError(13, "Permission denied", "d")):
         assert sides_in(["d"]) == [Found("d", "Permission denied")]
-    make("a.tbc a.tbc.db a/1.tbc.json a/b/1.tbc.db a/b/2.vbi.json.json c.tbc.json")
+    make("a.tbc a.tbc.db a/1.tbc.json a/b/1.tbc.db a/b/2.vbi.json.json")
     assert (files_of("a.tbc"), files_of("b.tbc")) == (["a.tbc", "a.tbc.db"], ["b.tbc"])
-    for paths, sides, wanted in COPIES:
+    for paths, sides, wanted in (("a", "a/1.tbc a/b/2.vbi.json a/3.tbc", "x/1.tbc.json - -"),
+                                 ("a/b a", "a/b/1.tbc a/1.tbc", "x/b/1.tbc.db x/1.tbc.json")):
         assert [one or "-" for one in copies_in("x", paths.split(), sides.split())] == wanted.split()
 
 
@@ -270,7 +255,6 @@ def test_names_of_pages():
 
 
 def test_packed_forms():
-    """Of one that begins in another way, too, and of none; test_messages has more."""
     for begin, name in ((b"\x1f\x8b\x08\x08", "gzip"), (b"fLaC\x80\x00\x00\x22\x10", "FLAC"), (b"", None),
                         (b"\x1f\x8b\x09", None), (b"\x1f\x8b\x08\x40", None), (b"fLaC", None),
                         (b"\x00\x1f\x8b\x08", None)):
