@@ -141,17 +141,11 @@ ROWS = """
         | [one.update(read=None) for one in unread] | a number was read in field 19
     NTSC f1..29 23:30=B 26=-/#70000/#70000* | [one.update(number=11) for one in doubtful] | field 26 fits
     t1000..1029 19.16=s0.17 | [one.update(number="40.09") for one in doubtful] | field 19 fits and is doubtful
-    numbers that a player passed over while nothing was seen: 1..29 Bx40 34..59 | missing[0]["why"] = "unread"
-        | number 31 is unread, and nothing was seen there
-    times on each other picture: t1000..1059 3:120/4.16=- | unread.append(dict(number="0:00:40.01", field=3, read=None))
-        | number 1001 is unread, and the disc hasn't got it
+    passed over while nothing was seen: 1..29 Bx40 34..59 | missing[0]["why"] = "unread" | and nothing was seen there
     1..59 -/#60/#60x2 61..99 | pace = "both" | the pace is both, and 1 numbers stand on two fields
-    a picture between two stills: 1..29 -/#30/#30x42 -/#31/#31 -/#32/#32x41 B 33..59
-        | showings = [one for one in showings if one[0] != 31]; doubtful += [dict(field=101, line=line, kind="picture",
-        number=31, why="alone", word="F00031", before=dict(field=100, number=30), after=dict(field=102, number=32),
-        **{"pass": 1}) for line in (17, 18)] | field 101 has a picture between two stills, and it is doubtful
     n0..4x3000 -7001:8000 | lost.clear() | minute 2 has 2000 fields, and none is lost
-    two sides may be joined there, which is another law's: n0..4x3000 -7001:8000 5101=O
+    two sides may be joined, times stand on each other picture, and one picture between two stills: n0..4x3000
+        -7001:8000 5101=O; t1000..1059 3:120/4.16=-; 1..29 -/#30/#30x42 -/#31/#31 -/#32/#32x41 B 33..59
 """
 
 
