@@ -1,8 +1,6 @@
-"""Sides by hand, for the tests: rows of words, as `ldvbi draw` reads them, made to the plain data of a side.
-
-A row has the items of lines 16, 17 and 18: six hexadecimal digits (with * behind them for a word of pass 2, with ^ for
-one that was recovered from a line that is `change 170`), or a line without a word: - (blank), ~ (unfinished),
-? (change 170), ! (hold 200)."""
+"""Sides by hand, for the tests. A row has the items of lines 16, 17 and 18, as `ldvbi draw` reads them: six hexadecimal
+digits (with * behind them for a word of pass 2, with ^ for one that was recovered from a line that is `change 170`), or
+a line without a word: - (blank), ~ (unfinished), ? (change 170), ! (hold 200)."""
 
 import functools
 
@@ -39,10 +37,8 @@ def second(seconds, number):
 def pictures(numbers, odd=None):
     """The two fields of each of these pictures: its number, and chapter 0. Those of film with an odd number have 3
     fields where `odd` is 1, those with an even one where it is 0."""
-    rows = []
-    for number in numbers:
-        rows += ["- %s %s" % (picture(number), picture(number))] + ["- 800DDD 800DDD"] * (1 + (number % 2 == odd))
-    return rows
+    return [row for number in numbers for row in (
+        "- {0} {0}".format(picture(number)), *["- 800DDD 800DDD"] * (1 + (number % 2 == odd)))]
 
 
 def times(numbers, rate=25):
@@ -56,7 +52,7 @@ def times(numbers, rate=25):
     return rows
 
 
-@functools.lru_cache(maxsize=None)  # many lines of a long side show the same
+@functools.lru_cache(maxsize=None)
 def item(text):
     """The reading of a line."""
     of_pass = 0 if text in CAUSES else {"*": 2, "^": 3}.get(text[6:], 1)

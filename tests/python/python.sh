@@ -9,14 +9,11 @@
 # shellcheck source=tests/helpers.sh
 . "$(dirname "$0")/../helpers.sh"
 
-LDVBI_LIBRARY=$built/libldvbi.so.1
-LDVBI_PROGRAM=$program
+export LDVBI_LIBRARY="$built/libldvbi.so.1" LDVBI_PROGRAM="$program" COVERAGE_PROCESS_START="$work/coveragerc"
 # Python reads sitecustomize in as it starts: in pytest's processes, and in those that tests start.
-PYTHONPATH=$top/python:$top/bench/sides:$work/site
-COVERAGE_PROCESS_START=$work/coveragerc
+export PYTHONPATH="$top/python:$top/bench/sides:$work/site"
 # What is compiled once serves all processes, and nothing is written beside the package.
-PYTHONPYCACHEPREFIX=$work/compiled
-export LDVBI_LIBRARY LDVBI_PROGRAM PYTHONPATH COVERAGE_PROCESS_START PYTHONPYCACHEPREFIX
+export PYTHONPYCACHEPREFIX="$work/compiled"
 unset PYTHONDONTWRITEBYTECODE
 mkdir bin lines site
 ln -s /usr/bin/python3 bin/python3

@@ -262,9 +262,8 @@ def test_sides_are_read_as_the_options_say(drawn):
         write_stream(drawn.named(name), NTSC, fields)
     drawn.metadata("meta.json", count=16)
     for words, whole, frame, how in (
-            ("LEVELS", "can't tell", 3, "read"), ("--meta meta.json", "can't tell", 2, "read"),
-            ("LEVELS --no-recover", "can't tell", 3, "neighbours"), ("LEVELS --open-end", "yes", 3, "read"),
-            ("LEVELS --strict", "no", 3, "read")):
+            ("LEVELS", "can't tell", 3, "read"), ("--meta meta.json --open-end", "yes", 2, "read"),
+            ("LEVELS --no-recover", "can't tell", 3, "neighbours"), ("LEVELS --strict", "no", 3, "read")):
         found = json.loads(drawn.printed("join --json one.tbc two.tbc " + words))
         assert ([one["whole"] for one in found["captures"]], found["taken"][2]) == (
             [whole, whole], [3, "one.tbc", 5, frame, how])

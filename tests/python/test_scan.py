@@ -41,8 +41,7 @@ YES, NO = "side.tbc,yes,0,0,cav,1,30,30,0,1,61,,", "side.tbc,no,2,0,cav,1,8,8,0,
 
 
 def test_each_kind(room):
-    """Sides are read one after the other, and side by side; those that have a page aren't read again. In columns those
-    behind the first two are written to the right."""
+    """Sides are read one after the other, and side by side; those that have a page aren't read again."""
     more = {"a/cut.tbc": {"rest": 12345}, "a/levels.tbc": {"setup": DARK}}
     for name, fields, *_ in cells_of(SIDES):
         room.add(name, fields.replace("-", "B"), **more.get(name, {}))
@@ -117,10 +116,19 @@ def page_of(room):
     return json.loads(text)["sides"][0]["page"]
 
 
+def grows(task):
+    """Reads a side, of which something is written meanwhile."""
+    answer = answer_of(task)
+    os.utime(task.path + ".json")
+    return answer
+
+
 def test_a_page_that_is_newer(room):
     """The side isn't read again, but keeps its row: what is in its file now isn't looked at. One that is older than its
-    side, or than the metadata, or lacks what a row has, is written anew."""
+    side, or than the metadata, or lacks what a row has, is written anew. It is as old as the begin of reading."""
     room.add("side.tbc")
+    assert scan(["--csv", "--html", room.named("pages"), room.path], grows) == 0
+    assert os.path.getmtime(room.named("pages/side.html")) < os.path.getmtime(room.path + ".json")
     page = page_of(room)
     whole = room.text(page)
     for name in ("side.tbc", "side.tbc.json"):
@@ -152,20 +160,6 @@ def test_options(drawn):
     assert [row.split(",")[1] for row in rows[1:-1]] == ["no", "no"]
 
 
-def grows(task):
-    """Reads a side, of which something is written meanwhile."""
-    answer = answer_of(task)
-    os.utime(task.path + ".json")
-    return answer
-
-
-def test_a_file_that_grows_while_it_is_read(room):
-    """Its page has the time at which it began to be read, so that it is read again."""
-    room.add("side.tbc")
-    assert scan(["--csv", "--html", room.named("pages"), room.path], grows) == 0
-    assert os.path.getmtime(room.named("pages/side.html")) < os.path.getmtime(room.path + ".json")
-
-
 def test_copies(drawn):
     """Each side has one, whatever its page says, but none that has a fault, and no document."""
     for name, count in (("a/1.tbc", 61), ("a/2.tbc", 60), ("c.tbc", 61)):
@@ -194,8 +188,8 @@ def test_what_is_loaded():
                 "ldvbi_side.join.joined"} & set(loaded)
 
 
-# Files, what is asked for, and the sides that are found, each once. What is named is taken for a side, whatever its name
-# is; a link to a folder is followed if it is named.
+# Files, what is asked for, and the sides that are found, each once. What is named is taken for a side, whatever its
+# name is; a link to a folder is followed if it is named.
 FOLDERS = (
     ("d/b.tbc d/a/z.tbc d/a.tbc d/c/a.tbc c.tbc", "d c.tbc", "c.tbc d/a/z.tbc d/a.tbc d/b.tbc d/c/a.tbc"),
     ("d/a.tbc d/a.tbc.json d/a.tbc.db d/a.json d/a.efm d/a.html d/b.vbi.json d/tbc d/folder.tbc/x", "d",
@@ -255,16 +249,15 @@ def test_names_of_pages():
 
 
 def test_packed_forms():
-    for begin, name in ((b"\x1f\x8b\x08\x08", "gzip"), (b"fLaC\x80\x00\x00\x22\x10", "FLAC"), (b"", None),
-                        (b"\x1f\x8b\x09", None), (b"\x1f\x8b\x08\x40", None), (b"fLaC", None),
-                        (b"\x00\x1f\x8b\x08", None)):
+    for begin, name in ((b"\x1f\x8b\x08\x08", "gzip"), (b"fLaC\x80\x00\x00\x22\x10", "FLAC"), (b"\x1f\x8b\x09", None),
+                        (b"\x1f\x8b\x08\x40", None), (b"fLaC", None), (b"\x00\x1f\x8b\x08", None)):
         assert packed_as(begin + bytes(8)) == name
 
 
 def test_refused(drawn):
     """Also where a copy or a page would be in the place of an input. Of pipes, which nobody named, nobody waits for the
     other end; what has the name of a page and is none stays there."""
-    for name in ("empty", "pages", "copies", "sides"):
+    for name in ("empty", "copies"):
         os.mkdir(drawn.named(name))
     for name in ("side.tbc", "pages/index.html", "sides/3.tbc"):
         drawn.add(name)
@@ -272,12 +265,12 @@ def test_refused(drawn):
     for name in ("pages/side.html", "copies/side.tbc.json", "sides/1.tbc", "sides/2.vbi.json", "sides/3.tbc.json"):
         os.mkfifo(drawn.named(name))
     for text, words in (("no .tbc and no .vbi.json in empty", "empty"),
+                        (IN_PLACE % "./side.tbc.json", "side.tbc --into ."),
                         (IN_PLACE % "pages/index.html", "--html pages pages/index.html"),
                         ("side.tbc/pages/deep: Not a directory", "side.tbc --html side.tbc/pages/deep"),
                         ("absent: No such file or directory", "side.tbc --meta absent"),
                         ("side.vbi.json: a document has its system and levels; they are options for a TBC file",
-                         "side.vbi.json LEVELS"), (IN_PLACE % "./side.tbc.json", "side.tbc --into ."),
-                        ("side.tbc/a: Not a directory", "side.tbc --into side.tbc/a")):
+                         "side.vbi.json LEVELS")):
         drawn.refused(text, "scan " + words)
     assert drawn.row("--into copies side.tbc").split(",")[-1] == "copies/side.tbc.json is no file"
     status, text, said = drawn.scan("--csv sides")
@@ -285,8 +278,7 @@ def test_refused(drawn):
         2, "", ["is no file", "is no file", "sides/3.tbc.json is no file"])
     drawn.refused("sides/3.tbc.json is no file", "sides/3.tbc")
     assert page_of(drawn) == "pages/side-2.html"
-    os.unlink(drawn.named("pages/index.html"))
-    os.mkfifo(drawn.named("pages/index.html"))
+    os.rename(drawn.named("copies/side.tbc.json"), drawn.named("pages/index.html"))
     drawn.refused("pages/index.html is no file", "scan --html pages side.tbc")
 
 

@@ -13,8 +13,8 @@ from discs import plain
 from ldvbi_side.answer.analysis import analyse
 from measure import fields_of, measured
 import pytest
-from simulate import KINDS, PLAYED, played_through, simulated
-from simulated_faults import faulty, lead_out_of, rearranged, with_lead_out
+from simulate import KINDS, PLAYED, simulated
+from simulated_faults import faulty, lead_out_of
 from sound import faults_of
 from truth import Truth
 from verdicts import said_of, true_of
@@ -85,6 +85,28 @@ def test_sides_that_were_played_in_other_ways():
 
 # ---- The comparison, and what holds of every answer
 
+# Changes of an answer after which less is as it should be, of what the comparison counts by this name
+LESS = {"wrong found": "doubtful.clear()", "first fields": "showings.pop()", "chapter table": "chapters.pop(0)",
+        "stops": "stops.append({'field': 1})",
+        "missing": "missing.append(dict(first=99999, last=99999, why='lost'))"}
+# Others, and a part of the fault that is found then
+FAULTY = {"doubtful.clear()": "believed and set aside, or neither", "doubtful.append(doubtful[0])": "set aside twice",
+          "unread.append(dict(number=1, read=None, field=chapters[0]['field']))": "which has another code",
+          "unread.append(dict(number=1, read=None, field=showings[0][1]))": "a number was read in field",
+          "lost.append(dict(after=1, before=2, fields=9, by='parity'))": "lost beside the numbers, behind field 1",
+          "stills.append(dict(number=1, first=1, last=99))": "another number in the still from field 1 on",
+          "swapped.append({})": "something is lacking, and whole is: yes", "whole = 'no'": "whole is no, and the",
+          "missing.append(dict(why='undecided', first=1, last=1))": "a number is undecided, and the side is whole",
+          "pace = 'both'": "the pace is both, and 0 numbers stand on two fields"}
+# Sides whose answers have had faults
+BY_HAND = """
+    1..29 19=-/#10/#77 || t1000..1029 19.17=@0:09 || Lx3 1..29 Ox4 100..129 14=70000 || 101..130 || NTSC 1..29 -21:24
+    NTSC t0..20 t22..40 || NTSC B || 1..29 19=-/#70000/#70000* || NTSC f1..29 23:30=B 26=-/#70000/#70000*
+    1..29 Bx40 34..59 || t1000..1059 3:120/4.16=- || 1..59 -/#60/#60x2 61..99 || n0..4x3000 -7001:8000
+    1..29 -/#30/#30x42 -/#31/#31 -/#32/#32x41 B 33..59 || n0..4x3000 -7001:8000 5101=O
+"""
+
+
 def changed(known, change):
     """An answer after these statements, in which its members have their names."""
     found = copy.deepcopy(known)
@@ -92,14 +114,10 @@ def changed(known, change):
     return found
 
 
-# Changes after which less is as it should be, of what the comparison counts by this name
-LESS = {"wrong found": "doubtful.clear()", "first fields": "showings.pop()", "chapter table": "chapters.pop(0)",
-        "stops": "stops.append({'field': 1})", "missing": "missing.append(dict(first=99999, last=99999, why='lost'))"}
-
-
 def test_each_change():
     side = simulated(2000, "cav-pal", 0.02, 300)
-    truth, known = Truth(side), analyse(fields_of(side))
+    fields, truth = fields_of(side), Truth(side)
+    known = analyse(fields)
 
     def counts(change):
         told = []
@@ -115,52 +133,14 @@ def test_each_change():
     assert told == ["due in the wrong field", "lost"]
     for name in ("lost", "due"):
         assert found[name] - found[name + " found"] == before[name] - before[name + " found"] + 1
+    for change, fault in FAULTY.items():
+        assert [one for one in faults_of(fields, changed(known, change)) if fault in one]
 
 
-# Sides, which are simulated where a kind is named; behind them changes of their answers, each with a part of the fault
-# that is found then. On film a number is sure to fit where the pictures beside it aren't read.
-ROWS = """
-    cav-both; cav-film; clv-ntsc; clv-minutes | doubtful.clear() | or neither | doubtful.append(doubtful[0]) | twice
-    cav-pal | chapters[0]["chapter"] = 78 | or neither || joined | stray.clear() | or neither
-    clv-pal | doubtful = [one for one in doubtful if one["kind"] != "time"] | believed and set aside, or neither
-    1..29 19=-/#10/#77; t1000..1029 19.17=@0:09 | conflicts.pop() | field 19: lines that differ
-    cav-ntsc | unread.append(dict(number=1, read=None, field=chapters[0]["field"])) | which has another code
-    cav-pal | [one.update(after=None) for one in doubtful if one["kind"] == "picture"] | has other numbers around
-    losses | lost.clear() | too few fields
-    Lx3 1..29 Ox4 100..129 14=70000 | lost.append(dict(after=1, before=2, fields=None, by="parity")) | behind field 1
-        | lost.append(dict(after=60, before=66, fields=9, by="number")) | lost between two sides, behind field 60
-        | stills.append(dict(number=2, first=6, last=8)) | another number in the still from field 6 on
-        | unread.append(dict(number=6, field=14, read=7)) | due in field 14, which says another number
-    101..130 | lost[0]["fields"] = 203 | 203 fields are lost before || NTSC B | whole = "yes" | whole is yes, and the
-    NTSC 1..29 -21:24 | whole, reasons = "yes", [] | something is lacking, and whole is: yes
-    1..29 -21:24 | lost = breaks = missing = reasons = []; whole = "yes" | the library says that the side
-    NTSC t0..20 t22..40 | whole, reasons = "yes", [] | a number is undecided, and the side is whole
-    a minute from afar: t1000..1099 | showings[0][0] = "7:00:40.00" | field 1 has a minute that no field near it says
-    where by this number the next one has begun: t1450..1549 | showings[0][0] = "0:01:59.20" | near it outweighs that
-    1..29 19=-/#70000/#70000* | [one.update(number=10) for one in doubtful] | field 19 fits and is doubtful
-        | [one.update(read=None) for one in unread] | a number was read in field 19
-    NTSC f1..29 23:30=B 26=-/#70000/#70000* | [one.update(number=11) for one in doubtful] | field 26 fits
-    t1000..1029 19.16=s0.17 | [one.update(number="40.09") for one in doubtful] | field 19 fits and is doubtful
-    passed over while nothing was seen: 1..29 Bx40 34..59 | missing[0]["why"] = "unread" | and nothing was seen there
-    1..59 -/#60/#60x2 61..99 | pace = "both" | the pace is both, and 1 numbers stand on two fields
-    n0..4x3000 -7001:8000 | lost.clear() | minute 2 has 2000 fields, and none is lost
-    two sides may be joined, times stand on each other picture, and one picture between two stills: n0..4x3000
-        -7001:8000 5101=O; t1000..1059 3:120/4.16=-; 1..29 -/#30/#30x42 -/#31/#31 -/#32/#32x41 B 33..59
-"""
-
-
-def test_each():
-    """The answer of a side has no fault, and after the change one with this text."""
-    for sides, *changes in cells_of(ROWS):
-        for text in sides.rpartition(": ")[2].split("; "):
-            of_kind = (0, 600) if text == "losses" else (0.02, 200)
-            is_kind = text in (*KINDS, *PLAYED)
-            fields = fields_of(simulated(2000, text, *of_kind)) if is_kind else made(text, plain)
-            known = analyse(fields)
-            assert faults_of(fields, known) == []
-            for change, fault in zip(changes[::2], changes[1::2]):
-                faults = faults_of(fields, changed(known, change))
-                assert [one for one in faults if fault in one]
+def test_sides_by_hand():
+    for text, in cells_of(BY_HAND):
+        fields = made(text, plain)
+        assert faults_of(fields, analyse(fields)) == []
 
 
 PICTURES = 120
@@ -182,16 +162,3 @@ def test_faults(fault, wanted, has_end, said):
         assert {true_of(side, may_end=True) for side in others} == {"yes"}
     of_minutes = [true_of(side) for side in sides if side.layout == "clv-minutes"]
     assert of_minutes == ["either"] * (0 if fault in ("both", "film cut") else 2)
-
-
-@pytest.mark.parametrize("layout, changes, gone, wanted", (
-    ("cav-pal", (0, 1, 0, 1), 0, "yes"), ("clv-pal", (0, 1, 0, 1), 0, "no"), ("cav-pal", (1, 0), 2, "no"),
-    ("cav-both", (1, 0), 2, "either"), *((layout, range(-8, 0), 0, "no") for layout in KINDS[:-1])))
-def test_fields_that_stand_otherwise(layout, changes, gone, wanted):
-    """A still is whole of a disc with pictures, a jump back isn't; fields that are swapped within a picture show only
-    if one of them has no number. Rows have the fields that are put before a first field with a number, counted from
-    there, and how many of those from it on are gone."""
-    side = played_through(1, layout, PICTURES)
-    at = next(field for field in range(100, 110) if side.numbers[field] is not None and side.first[field])
-    fields = [*range(at), *(at + change for change in changes), *range(at + gone, len(side.order))]
-    assert true_of(with_lead_out(rearranged(side, fields))) == wanted
