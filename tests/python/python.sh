@@ -37,7 +37,6 @@ check 'pytest passed' [ "$status" = 0 ]
 unset COVERAGE_PROCESS_START
 grep '^SKIPPED\|^XFAIL\|^XPASS' out > err
 check 'no test is skipped' [ ! -s err ]
-# lines WORD..: a command of coverage
 lines() {
     bounded python3 -m coverage "$@" --rcfile coveragerc < empty > err 2>&1
 }

@@ -1,5 +1,4 @@
-"""`scan`: the table of a folder of sides, and the pages with their index; which files of folders are sides, in which
-order, and what is compressed."""
+"""`scan`: the table of a folder of sides, the pages with their index, and which files of folders are sides."""
 
 import csv
 import gzip
@@ -19,7 +18,7 @@ from ldvbi_side.command.into import copies_in
 from ldvbi_side.command.main import answer_of
 from ldvbi_side.command.scan import scan
 from room import in_database, IN_PLACE
-from streams import NTSC, TOP
+from streams import TOP
 
 HEAD = "side whole lost unread format from to last lead-in lead-out fields try why".split()
 # A side of every kind, in the order of the table: its name, its fields, and its row behind the name, of which the last
@@ -180,8 +179,7 @@ def test_copies(drawn):
 
 
 def test_what_is_loaded():
-    """What makes pages is loaded for those alone, and what joins captures not at all: each process of a scan would load
-    it."""
+    """What makes pages is loaded for those alone, and what joins captures not at all: each process would load it."""
     text = "import sys; from ldvbi_side.command import main, scan; print(*sys.modules)"
     loaded = subprocess.check_output([sys.executable, "-c", text], text=True).split()
     assert not {"ldvbi_side.draw.page", "ldvbi_side.draw.drawing", "ldvbi_side.draw.index", "html.parser",
@@ -255,8 +253,7 @@ def test_packed_forms():
 
 
 def test_refused(drawn):
-    """Also where a copy or a page would be in the place of an input. Of pipes, which nobody named, nobody waits for the
-    other end; what has the name of a page and is none stays there."""
+    """Nobody waits for the other end of pipes, which nobody named; what has the name of a page and is none stays."""
     for name in ("empty", "copies"):
         os.mkdir(drawn.named(name))
     for name in ("side.tbc", "pages/index.html", "sides/3.tbc"):

@@ -16,9 +16,8 @@ from ldvbi_side.seek import seek, text_of, wanted_of, why_not
 import pytest
 from room import reason
 
-# Of sides what is found of what is asked for: field and frame, or why it isn't. A time is sought where it was read, not
-# where it is only due; of a second or a minute the first field that has any of it counts. A doubtful field answers for
-# no other number. The side with 1:09 begins at 1:08:58.
+# What is found of what is asked for: field and frame, or why it isn't. A time is sought where it was read, not where it
+# is only due; of a second or a minute the first field with any of it counts. The side with 1:09 begins at 1:08:58.
 SOUGHT = """
     Lx2 1..20 | 020: 41 21 | 21: the numbers end at 20, in field 41 | 0: the numbers begin at 1, in field 3
         | 0:00:00.00: the side counts pictures, not times | 0:00: the side counts pictures, not minutes
@@ -92,14 +91,11 @@ def test_maps():
         assert mapped.get(number) == row
 
 
-# A side, and its chapters, each with its fields, counted from 0; two sides, and a chapter that is doubtful
-CHAPTERS = (
-    ("Lx2 1..40 24:82/2=-/c1/c1 Ox2", "0 3-23, 1 23-82"), ("Lx2 1..20 4:42/2=-/c1/c1 Ox2 Lx2 1..20", "1 3-42, 0 47-86"),
-    ("1..40 22:80/2=-/c3/c3 4=-/c7/c7", "0 1-21, 3 21-80"))
-
-
 def test_where_chapters_end():
-    for text, wanted in CHAPTERS:
+    """Of a side, of two sides, and where one is doubtful; fields are counted from 0."""
+    for text, wanted in (("Lx2 1..40 24:82/2=-/c1/c1 Ox2", "0 3-23, 1 23-82"),
+                         ("Lx2 1..20 4:42/2=-/c1/c1 Ox2 Lx2 1..20", "1 3-42, 0 47-86"),
+                         ("1..40 22:80/2=-/c3/c3 4=-/c7/c7", "0 1-21, 3 21-80")):
         assert ", ".join("%d %d-%d" % one for one in chapter_spans(made(text, typed))) == wanted
 
 
@@ -131,10 +127,6 @@ def test_tables_rows():
         assert list(bad_line_rows(made(text, side))) == wanted
 
 
-def lines_of(one):
-    return list(summary(one.analysis.answer))
-
-
 DAMAGED = """
 whole: no: 2 fields lost; 1 picture lost
 system: PAL, CAV
@@ -159,29 +151,20 @@ unknown words: none
 programme status: none, users' codes: none
 codes out of place: none
 """
-# Sides, and lines of their summaries
+# Sides, and lines of their summaries. Of more than four entries the first are named.
 SUMMARIES = """
-    1..30 5=-/#3^/#3^ 7=-/#4^/? | whole: yes
-        | line 17: 60 words, 0 of them read only after smoothing, 2 recovered; 0 bad (0.00 %), 0 blank
+    1..30 5=-/#3^/#3^ 7=-/#4^/?
         | line 18: 59 words, 0 of them read only after smoothing, 1 recovered; 1 bad (1.67 %), 0 blank
-    1..10 10x3 11..30 21..30 3=? 7=? 11=? 15=? 41=?
-        | unread: 5 (picture 2 after field 1, picture 4 after field 5, picture 6 after field 9,
-        picture 8 after field 13 and 1 more) | jumps: 1 (picture 30 to 21 in field 67)
-        | stills: 1 (picture 10 in fields 19 to 25)
-        | shown again: 2 (picture 10 in field 21, pictures 21 to 30 in field 67)
-    1..3 3x2 4..53!10,31,32,33 54x6 55..100!61,62 91..95 71..100
-        | lost: 6 (picture 10 after field 21, pictures 31 to 33 after field 61, pictures 61 to 62 after field 125)
-        | jumps: 2 (picture 100 to 91 in field 203, picture 95 to 71 in field 213)
-    n0..3x3000 -3501:4500 | whole: no: at least 1000 fields lost
-        | lost fields: 1000 (at least 1000, between fields 3001 and 5000)
-    m9..11x3000 | lost: 9 (minutes 0:00 to 0:08 before field 1)
-        | lost fields: 27000 (at least 27000 before field 1)
+    1..10 10x3 11..30 21..30 3=? 7=? 11=? 15=? 41=? | unread: 5 (picture 2 after field 1, picture 4 after field 5,
+        picture 6 after field 9, picture 8 after field 13 and 1 more) | jumps: 1 (picture 30 to 21 in field 67)
+        | stills: 1 (picture 10 in fields 19 to 25) | shown again: 2 (picture 10 in field 21, pictures 21 to 30 in field
+        67)
+    n0..3x3000 -3501:4500 | lost fields: 1000 (at least 1000, between fields 3001 and 5000)
+    m9..11x3000 | lost: 9 (minutes 0:00 to 0:08 before field 1) | lost fields: 27000 (at least 27000 before field 1)
     PAL/1500 n0..2x3000 | lost fields: 1 (1 or more after field 1499)
     1..30 2:60/2.16=8DC0A1 4=8BA0A1/88FFFB/800DDD 6=83D00F/800DDD/F00E81*
         | unknown words: 2 (88FFFB in field 4 line 17, F00E81 in field 6 line 18)
         | programme status: 29 (CX on 0A1 in 28 fields, CX off 0A1 in 1 field), users' codes: 1 (3 00F in 1 field)
-    1..30 2.16=8BA0A1 4:60/2.16=8DC0A1
-        | programme status: 30 (CX off 0A1 in 1 field, CX on 0A1 in 29 fields), users' codes: none
     NTSC f1..30 | whole: yes | system: NTSC, CAV, film (2 and 3 fields a picture)
     NTSC t0..1 t3..4 | system: NTSC, CLV | unread: none, undecided: 1 (time 0:00:00.02 after field 3)
     NTSC t0..5999!400%1001 | skipped by the disc itself: 6
@@ -192,49 +175,38 @@ SUMMARIES = """
 
 def test_a_damaged_side():
     """Of lead-in alone there is nothing that goes with numbers."""
-    lines = lines_of(made("Lx2 1..30 Ox2 21=79999 23=?/!/~ 25=S/S/#12 27=-/#13/#3 -45:46", side))
+    lines = list(summary(made("Lx2 1..30 Ox2 21=79999 23=?/!/~ 25=S/S/#12 27=-/#13/#3 -45:46", typed)))
     assert lines == DAMAGED.replace("\n ", " ").strip().split("\n")
-    assert lines_of(made("L", side))[6:9] == [
+    assert list(summary(made("L", typed)))[6:9] == [
         "pictures: none", "doubtful, set aside: none", "lines 17 and 18 differ: none"]
 
 
 @pytest.mark.parametrize("text, wanted", [(text, wanted) for text, *wanted in cells_of(SUMMARIES)])
 def test_lines(text, wanted):
-    """Lists stand in the order of the side, and of more than four entries the first are named."""
-    assert set(wanted) - set(lines_of(made(text, side))) == set()
-
-
-def test_status_users_codes_and_unknown_words():
-    found = made("1..30 2:60/2.16=8DC0A1 4=8BA0A1/88FFFB/800DDD 6=83D00F/800DDD/F00E81*")
-    names = ("unknown", "programmeStatus", "users", "stray")
-    assert [[tuple(one.values()) for one in found[name]] for name in names] == [
-        [(4, 17, "88FFFB", 1), (6, 18, "F00E81", 2)], [(True, "0A1", 28, 2, 60), (False, "0A1", 1, 4, 4)],
-        [(3, "00F", 1, 6, 6)], []]
+    assert set(wanted) - set(summary(made(text, typed))) == set()
 
 
 def test_levels():
     """What lines 17 and 18 have, and what to try, by what else is known; each in a line of 100 columns at most."""
-    lower = "try: lower black and white, if the side has codes at all"
-    other = "try: another black and white; the signal may be noise, see --bad-lines"
-    system = "try: --system PAL --black 16384 --white 51200, without --meta (200 lines read, now 10 of 200)"
-    for text, best, wanted in (("Bx4", None, ["0 words, 0 are bad, 8 blank", lower]),
-                               ("-/#3^/#3^x30", None, ["0 words of their own, 60 are bad, 0 blank", other]),
-                               ("Bx4", (None, None, 30000, 98),
-                                ["0 words, 0 are bad, 8 blank", "try: --white 30000 (98 lines read, now 10 of 200)"]),
-                               ("Bx4", ("PAL", None, None, 200), ["0 words, 0 are bad, 8 blank", system])):
+    blank, noise = "0 words, 0 are bad, 8 blank", "another black and white; the signal may be noise, see --bad-lines"
+    system = "--system PAL --black 16384 --white 51200, without --meta (200 lines read, now 10 of 200)"
+    for text, best, shown, advice in (
+            ("Bx4", None, blank, "lower black and white, if the side has codes at all"),
+            ("-/#3^/#3^x30", None, "0 words of their own, 60 are bad, 0 blank", noise),
+            ("Bx4", (None, None, 30000, 98), blank, "--white 30000 (98 lines read, now 10 of 200)"),
+            ("Bx4", ("PAL", None, None, 200), blank, system)):
         answer = made(text, typed)
         tried = Tried(200, 10, 16384, 51200, Best(*best)) if best else None
         found = list(summary(answer._replace(levels=answer.levels._replace(tried=tried))))[6:8]
-        assert found == ["levels: lines 17 and 18 have " + wanted[0], wanted[1]]
+        assert found == ["levels: lines 17 and 18 have " + shown, "try: " + advice]
         assert max(map(len, found)) <= 100
 
 
 def test_levels_are_blamed_of_the_right_file_alone():
-    for expected, cut, is_other in ((4, None, False), (None, None, False), (5, None, True), (3, None, True),
-                                    (4, Cut(5, 7), True), (None, Cut(5, 7), True)):
+    for expected, cut, is_other in ((4, None, False), (None, None, False), (3, None, True), (None, Cut(5, 7), True)):
         one = made("Bx4", side, cut=cut)
         one.expected = expected
-        assert (lines_of(one)[7] == "try: another system, or this file's own metadata") == is_other
+        assert (list(summary(one.analysis.answer))[7] == "try: another system, or this file's own metadata") == is_other
 
 
 def test_at_most_26_lines():
@@ -246,7 +218,7 @@ def test_at_most_26_lines():
 
 
 def test_sides():
-    """What their methods answer. Codes are judged by nothing."""
+    """What their methods answer. Codes are judged by nothing. The collector runs behind an analysis as before it."""
     cav, clv = made("5..24 11..40 5=S/-/#7", side), made("t0..19", side)
     assert [cav.pictures()[5], cav.pictures()[11], cav.pictures()[40]] == [1, 13, 99]
     assert [cav.times(), cav.chapters(), cav.stops(), cav.format()] == [{}, {0: 2}, [5], "cav"]
@@ -260,10 +232,10 @@ def test_sides():
     assert made("1", side, cut=Cut(3, 99)).answer["cutField"] == {"seqNo": 3, "bytes": 99}
     assert cav.answer is cav.answer
     assert SIZES == {"NTSC": (910 * 2, 263), "PAL": (1135 * 2, 313)}
-
-
-def test_analysis():
-    """The collector runs behind it where it ran before."""
+    found = made("1..30 2:60/2.16=8DC0A1 4=8BA0A1/88FFFB/800DDD 6=83D00F/800DDD/F00E81*")
+    assert [[tuple(one.values()) for one in found[name]] for name in ("unknown", "programmeStatus", "users")] == [
+        [(4, 17, "88FFFB", 1), (6, 18, "F00E81", 2)], [(True, "0A1", 28, 2, 60), (False, "0A1", 1, 4, 4)],
+        [(3, "00F", 1, 6, 6)]]
     for is_enabled, set_so in ((False, gc.disable), (True, gc.enable)):
         set_so()
         made("1 2")
