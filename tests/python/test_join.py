@@ -60,9 +60,8 @@ EITHER = """
     it leaves out 0:00:00.07 | SOME -1:38 ; SOME | lacks a 0:00:00.00-0:00:00.19 19 b
     a detour | DETOUR ; 1..100 | says disagreements: 1 (pictures 151 to 170 in fields 101 to 140 of a, where b has
         pictures 51 to 70 in fields 101 to 140)
-    what the clock leaves out of one | SOME ; NTSC t0..1499 | says disagreements: 2 (time 0:00:00.07 skipped by the disc
-        itself in fields 13 to 15 of a, and shown in fields 15 to 16 of b, time 0:00:33.17 skipped by the disc itself in
-        fields 2011 to 2013 of a, and shown in fields 2015 to 2016 of b)
+    what the clock leaves out of one | SOME ; NTSC t0..999 | says disagreements: 1 (time 0:00:00.07 skipped by the disc
+        itself in fields 13 to 15 of a, and shown in fields 15 to 16 of b)
     a skip | 1..50 31..100 ; 1..100 | disagreements || a way back | 1..50 71..100 ; 1..100 | disagreements
     a still | 1..20 21x6 22..100 ; 1..100 | disagreements || a loss | 1..100 -41 ; 1..100 | disagreements
     swapped | 1..100 ~41 ; 1..100 | disagreements || another speed | 1..30 32..69/2 69..100 ; 1..100 | disagreements
@@ -181,19 +180,15 @@ def test_texts():
         "lacking in all: none", "disagreements: none"]
 
 
-@pytest.fixture
-def found():
-    return together("1..96 -41:46", "1..96 -43:44 -21:22")  # pictures 21 to 23; 22 and 11
-
-
 def boxes(found, name):
     """The places, the first pixel, the width and the title of the boxes of a class."""
     return ["%s %s %s %s" % (box.get("data-places"), box.get("x"), box.get("width"), box.find(SPACE + "title").text)
             for box in xml.fromstring(bars_of(found)).iter(SPACE + "rect") if box.get("class") == name]
 
 
-def test_bars(found):
+def test_bars_and_page():
     """96 numbers on 960 pixels from 150 on: 10 pixels each. Those that touch are one."""
+    found = together("1..96 -41:46", "1..96 -43:44 -21:22")  # pictures 21 to 23; 22 and 11
     assert boxes(found, "taken-from-here") == [
         "1-19 150 190 1 to 19: taken from fields 1 to 38 of a",
         "24-96 380 730 24 to 96: taken from fields 41 to 186 of a",
@@ -207,9 +202,6 @@ def test_bars(found):
     assert [one.split(" ", 3)[3] for one in boxes(together("DETOUR", "1..100"), "disagreement")] == [
         "51 to 70: in fields 101 to 140 of b, and a otherwise",
         "151 to 170: in fields 101 to 140 of a, and b otherwise"]
-
-
-def test_page(found):
     page = page_of_joined(found, joined_text(found))
     # each has lost what comes behind the picture, and perhaps a field of that
     for text in (*("<p>%s</p>" % text for text in joined_text(found)), bars_of(found),

@@ -60,11 +60,9 @@ def test_each_kind(room):
     known = json.loads(found[1][1])["sides"]
     assert [(one["side"], one["fields"] or "", "; ".join(one["reasons"]) or one["fault"] or "") for one in known] == [
         (row[0], row[10] and int(row[10]), row[12]) for row in rows]
-    head, *lines = found[2][1].splitlines()
-    assert head == ("side            whole         lost  unread   format        from          to        last  "
-                    "lead-in  lead-out   fields            try  why")
     form = "%-14s  %-10s  %6s  %6s  %7s  %10s  %10s  %10s  %7s  %8s  %7s  %13s  "
-    assert lines == [(form % tuple(cell or "-" for cell in cells) + why).rstrip() for *cells, why in rows]
+    assert found[2][1].splitlines() == [
+        (form % tuple(cell or "-" for cell in cells) + why).rstrip() for *cells, why in [HEAD, *rows]]
     names = [os.path.basename(one["page"]) for one in known if one["page"]] + ["index.html"]
     assert len(names) == len(rows)  # one has a fault; and the index
     assert room.names("one") == room.names("four") == sorted(names)
@@ -280,8 +278,7 @@ def test_refused(drawn):
 
 
 def test_names_and_notes(room):
-    """The processes of a scan read in the file by which the command was started; what is noted has its side. Letters
-    that are none are shown as a mark."""
+    """The processes of a scan read in the file by which the command was started. Letters that are none are marks."""
     room.add("side.tbc")
     room.metadata("side.tbc.json", black16bIre=16383.5)
     os.link(room.named("side.tbc"), room.named(os.fsdecode(b"\xff\n.tbc")))

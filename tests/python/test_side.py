@@ -187,7 +187,8 @@ def test_lines(text, wanted):
 
 
 def test_levels():
-    """What lines 17 and 18 have, and what to try, by what else is known; each in a line of 100 columns at most."""
+    """What lines 17 and 18 have, and what to try, each in a line of 100 columns at most. Levels are blamed of the right
+    file alone."""
     blank, noise = "0 words, 0 are bad, 8 blank", "another black and white; the signal may be noise, see --bad-lines"
     system = "--system PAL --black 16384 --white 51200, without --meta (200 lines read, now 10 of 200)"
     for text, best, shown, advice in (
@@ -200,9 +201,6 @@ def test_levels():
         found = list(summary(answer._replace(levels=answer.levels._replace(tried=tried))))[6:8]
         assert found == ["levels: lines 17 and 18 have " + shown, "try: " + advice]
         assert max(map(len, found)) <= 100
-
-
-def test_levels_are_blamed_of_the_right_file_alone():
     for expected, cut, is_other in ((4, None, False), (None, None, False), (3, None, True), (None, Cut(5, 7), True)):
         one = made("Bx4", side, cut=cut)
         one.expected = expected

@@ -1,6 +1,5 @@
-"""Simulated sides beside their truth: bounds for six sides of each kind, and for sides that were played in other ways.
-The comparison with the truth, and what holds of every answer, find what is wrong with a changed answer. And whether
-simulated sides with one fault are whole (bench/sides/verdicts.py)."""
+"""Simulated sides beside their truth: bounds for sides of each kind, and whether those with one fault are whole. The
+comparison with the truth, and what holds of every answer, find what is wrong with a changed answer."""
 
 import copy
 import random
@@ -143,7 +142,6 @@ def test_sides_by_hand():
         assert faults_of(fields, analyse(fields)) == []
 
 
-PICTURES = 120
 # What is true of sides with a fault, whether they have a lead-out, and what may be said of them
 TRUE = {"sound": ("yes", True, "yes"), "both": ("yes", True, "yes"), "film cut": ("yes", True, "yes"),
         "no lead-out": ("yes", False, "can't tell"), "cut off": ("no", False, "can't tell"),
@@ -154,7 +152,7 @@ TRUE = {"sound": ("yes", True, "yes"), "both": ("yes", True, "yes"), "film cut":
 def test_faults(fault, wanted, has_end, said):
     """Minutes alone don't show one field more or less, nor the ends of their disc, nor how long a minute is that
     doesn't stand between two others. A capture that was cut off is whole only if it may end."""
-    sides = [faulty(random.Random(seed), fault, seed, PICTURES) for seed in range(14)]  # two of each layout
+    sides = [faulty(random.Random(seed), fault, seed, 120) for seed in range(14)]  # two of each layout
     others = [side for side in sides if side.layout != "clv-minutes"]
     assert {(true_of(side), lead_out_of(side) is not None) for side in others} == {(wanted, has_end)}
     assert [side.settings for side in others if said_of(side)[0] not in said] == []
