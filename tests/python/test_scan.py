@@ -34,8 +34,7 @@ SIDES = """
     b/times.tbc | t0..20 O | yes | 0 | 0 | clv | 0:00:00.00 | 0:00:00.20 | 0:00:00.20 | 0 | 1 | 43 | - | -
     b/unread.tbc | 1..30 23=B O | yes | 0 | 1 | cav | 1 | 30 | 30 | 0 | 1 | 61 | - | -
 """
-# White is less than the middle of the metadata's levels.
-DARK = ("NTSC", 16384, 30000)
+DARK = ("NTSC", 16384, 30000)  # white is less than the middle of the metadata's levels
 YES, NO = "side.tbc,yes,0,0,cav,1,30,30,0,1,61,,", "side.tbc,no,2,0,cav,1,8,8,0,1,13,,4 fields lost; 2 pictures lost"
 
 
@@ -184,8 +183,7 @@ def test_what_is_loaded():
                 "ldvbi_side.join.joined"} & set(loaded)
 
 
-# Files, what is asked for, and the sides that are found, each once. What is named is taken for a side, whatever its
-# name is; a link to a folder is followed if it is named.
+# Files, what is asked for, and the sides that are found; what is named is taken for one, whatever its name is
 FOLDERS = (
     ("d/b.tbc d/a/z.tbc d/a.tbc d/c/a.tbc c.tbc", "d c.tbc", "c.tbc d/a/z.tbc d/a.tbc d/b.tbc d/c/a.tbc"),
     ("d/a.tbc d/a.tbc.json d/a.tbc.db d/a.json d/a.efm d/a.html d/b.vbi.json d/tbc d/folder.tbc/x", "d",

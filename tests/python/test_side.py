@@ -63,7 +63,7 @@ def test_what_is_found(text, asked):
         assert re.sub(r"^field (\d+), frame ", r"\1 ", said) == wanted
 
 
-# A side, and its map: of each kind the number, the field, the frame and how it is known there
+# A side, and its map: of each kind the number, the field, the frame (0 before the first one), and how it is known there
 MAPS = (
     ("L 1..6 4=? 6=S/S/#3 8=-/#70000/#70000* 11=-/c1/c1 13=-/c1/c1",
      "picture 1 2 1 read, picture 2 4 2 neighbours, picture 3 6 3 read, picture 4 8 4 neighbours, picture 5 10 5 read, "
@@ -71,8 +71,7 @@ MAPS = (
     ("t1499..1500", "time 0:00:59.24 1 1 read, time 0:01:00.00 3 2 read, chapter 0 2 1 read"),
     ("m9..10x3000", "minute 0:09 1 1 read, minute 0:10 3001 1501 read"), ("PAL/1 S/-/- B", "stop - 1 0 read"),
     ("0 1=S/#0/#0", "picture 0 1 1 read, chapter 0 2 1 read, stop 0 1 1 read"))
-# Of a side and its levels the head of the map. A side that begins with a second field has that before its first frame.
-HEADS = (
+HEADS = (  # a side, its levels, and the head of its map
     ("PAL/1 5..6", Levels(0, 65535), "system PAL 1 0 side, black 0 1 0 side, white 65535 1 0 side, fields 4 1 0 side"),
     ("NTSC 1", None, "system NTSC 1 1 side, black - 1 1 side, white - 1 1 side, fields 2 1 1 side"))
 

@@ -24,8 +24,7 @@ pytestmark = pytest.mark.unrecorded
 SIDES = {"skips": (None, 2, 2, 0), "worn": (300, 3, 3, 3), "swapped": (200, 3, 3, 2), "speeds": (1100, 3, 3, 2),
          "joined": (150, 3, 3, 3), "losses": (600, 1, 1, 3), "restarts": (150, 3, 3, 3), "loops": (300, 0, 3, 2),
          "turned": (300, 0, 3, 2), "searched": (500, 0, 2, 0), "sides": (200, 0, 3, 3), "minutes": (None, 0, 3, 3)}
-# The truth of two discs whose numbers are far apart takes long.
-SEEDS = {"joined": (0, 2, 3), "sides": (0, 3, 5)}
+SEEDS = {"joined": (0, 2, 3), "sides": (0, 3, 5)}  # the truth of two discs with numbers far apart takes long
 
 
 def within(counts, table):
