@@ -250,7 +250,7 @@ def test_sides_are_read_as_the_options_say(drawn):
 def check_random_set(seed):
     """Each number is taken from a field that has it on the disc. None that can be read in a capture is missing. What is
     lost is in no capture, and what one lacks another has. No two disagree. The fields of a stretch follow each other on
-    the disc up to that of its last number, behind which there may be another one's."""
+    the disc up to that of its last number, behind which there may be another one's. Returns the count of numbers."""
     ones = captures(seed, 2 + seed % 3)
     joined = as_json(join([capture_of(side_of_document(json.dumps(one.document).encode()), str(place))
                            for place, one in enumerate(ones)]))
@@ -279,10 +279,10 @@ def check_random_set(seed):
     for stretch in joined["ranges"] if ones[0].kind != "clv-minutes" else ():
         order = ones[int(stretch["source"])].order[stretch["field"] - 1:field_of[stretch["last"]]]
         assert order == list(range(order[0], order[-1] + 1))
+    return len(taken)
 
 
 @pytest.mark.unrecorded
 def test_random_sets():
     """Two to four captures of one drawn disc with losses, jumps and damage of their own, beside the truth."""
-    for seed in range(100):
-        check_random_set(seed)
+    assert sum(map(check_random_set, range(100))) > 25000
