@@ -199,6 +199,8 @@ def test_bars_and_page():
     assert boxes(found, "in-none") == ["22-22 360 10 22: in no capture, lost"] * 3
     texts = [list(text.itertext())[-1] for text in xml.fromstring(bars_of(found)).iter(SPACE + "text")]
     assert texts[:1] + texts[6:10] == ["2 captures together", "a", "b", "in none: 1", "disagreements: 0"]
+    one, = boxes(together("1..3000 -2005:2006 -2001:2002", "1..3000"), "in-another-capture-alone")
+    assert one.startswith("1001-1003 ") and one.endswith(" 1001: not in a, but in b; and 1 more")
     assert [one.split(" ", 3)[3] for one in boxes(together("DETOUR", "1..100"), "disagreement")] == [
         "51 to 70: in fields 101 to 140 of b, and a otherwise",
         "151 to 170: in fields 101 to 140 of a, and b otherwise"]

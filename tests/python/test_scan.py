@@ -48,8 +48,7 @@ def test_each_kind(room):
                 "CREATE TABLE capture (system TEXT, black_16b_ire INTEGER, white_16b_ire INTEGER)",
                 "INSERT INTO capture VALUES ('NTSC', 16384, 51200)")
     os.unlink(room.named("a/database.tbc.json"))
-    found = [room.scan(words) for words in ("--csv -j 1 --html one a b", "--json -j 4 --html four b a",
-                                            "--html four a b")]
+    found = list(map(room.scan, ("--csv -j 1 --html one a b", "--json -j 4 --html four b a", "--html four a b")))
     assert [(status, said) for status, _, said in found] == [(2, "")] * 3
     head, *rows = csv.reader(found[0][1].splitlines())
     assert (head, len(rows)) == (HEAD, len(cells_of(SIDES)))
