@@ -6,6 +6,7 @@ import functools
 import io
 import json
 import os
+import pathlib
 import pty
 import shlex
 import sqlite3
@@ -50,17 +51,14 @@ def in_database(path, *statements):
 
 def children(process):
     """The processes that this one started, but for the one that watches over them."""
-    with open("/proc/%d/task/%d/children" % (process, process), encoding="ascii") as file:
-        found = [int(one) for one in file.read().split()]
-    return [one for one in found if b"spawn_main" in command_of(one)]
+    found = pathlib.Path("/proc/%d/task/%d/children" % (process, process)).read_bytes().split()
+    return [one for one in map(int, found) if b"spawn_main" in command_of(one)]
 
 
 def command_of(process):
-    try:
-        with open("/proc/%d/cmdline" % process, "rb") as file:
-            return file.read()
-    except OSError:
-        return b""
+    with contextlib.suppress(OSError):
+        return pathlib.Path("/proc/%d/cmdline" % process).read_bytes()
+    return b""
 
 
 class Room(contextlib.ExitStack):
@@ -78,13 +76,11 @@ class Room(contextlib.ExitStack):
 
     def write(self, name, data):
         """Makes a file of these bytes, or of this text; the answer is its path."""
-        with open(self.named(name), "wb") as file:
-            file.write(data.encode() if isinstance(data, str) else data)
+        pathlib.Path(self.named(name)).write_bytes(data.encode() if isinstance(data, str) else data)
         return self.named(name)
 
     def read(self, name):
-        with open(self.named(name), "rb") as file:
-            return file.read()
+        return pathlib.Path(self.named(name)).read_bytes()
 
     def text(self, name):
         return self.read(name).decode()
@@ -107,8 +103,6 @@ class Room(contextlib.ExitStack):
             known["fields"] = [{"isFirstField": place % 2 == 1, **dict(field)} for place in range(count)]
         self.write(name, json.dumps(known))
 
-    # ---- the command
-
     @staticmethod
     def words(*given):
         """The words of a run: those that are given, or those of a text, in which LEVELS stands for options."""
@@ -124,15 +118,11 @@ class Room(contextlib.ExitStack):
                                  timeout=DEADLINE, check=False, **pipes)
             return run.returncode, run.stdout, (run.stderr or b"").decode()
         out, err = io.TextIOWrapper(io.BytesIO(), "utf-8", "surrogateescape"), io.StringIO()
-        before = os.getcwd()
-        os.chdir(self.folder)
-        try:
-            with contextlib.redirect_stdout(out), contextlib.redirect_stderr(err):
+        with contextlib.chdir(self.folder), contextlib.redirect_stdout(out), contextlib.redirect_stderr(err):
+            try:
                 status = main(self.words(*words))
-        except SystemExit as stop:
-            status = stop.code
-        finally:
-            os.chdir(before)
+            except SystemExit as stop:
+                status = stop.code
         out.flush()
         return status, out.buffer.getvalue(), err.getvalue()
 
@@ -156,8 +146,6 @@ class Room(contextlib.ExitStack):
         assert status in (0, 3)
         return document
 
-    # ---- processes
-
     def started(self, *words, command=tuple(COMMAND), **more):
         """A run that goes on."""
         process = subprocess.Popen([*command, *self.words(*words)], cwd=self.folder, stdin=subprocess.DEVNULL,
@@ -169,14 +157,12 @@ class Room(contextlib.ExitStack):
     def opened_by(self, process, name):
         """A pipe to write to, as soon as a run has opened it. A run that ends without that is a failure."""
         while True:
-            try:
+            with contextlib.suppress(OSError):
                 pipe = os.open(self.named(name), os.O_WRONLY | os.O_NONBLOCK)
-            except OSError:
-                assert process.poll() is None
-                time.sleep(0.01)
-            else:
                 os.set_blocking(pipe, True)
                 return open(pipe, "wb")
+            assert process.poll() is None
+            time.sleep(0.01)
 
     def ended(self, process, status, text=b""):
         """Checks how a run ends, what it printed by then, and that it says nothing."""
@@ -187,11 +173,9 @@ class Room(contextlib.ExitStack):
         wait for its input is heeded only behind that."""
         for _ in range(DEADLINE):
             process.send_signal(number)
-            try:
+            with contextlib.suppress(subprocess.TimeoutExpired):
                 process.wait(1)
                 break
-            except subprocess.TimeoutExpired:
-                pass
         self.ended(process, status)
 
     def on_terminal(self, status, *words, is_output_on_it=False):
@@ -207,8 +191,6 @@ class Room(contextlib.ExitStack):
         os.close(ours)
         assert process.wait(DEADLINE) == status
         return shown.decode(), text
-
-    # ---- folders of sides
 
     def add(self, name, fields="1..30 O", rest=0, setup=NTSC):
         """A TBC file of these fields, or lines, with its metadata beside it, in a folder that is made."""

@@ -13,9 +13,10 @@ import signal
 import xml.etree.ElementTree as xml
 from collections import Counter
 from unittest import mock
+from urllib.parse import unquote_to_bytes
 
 from ldvbi import database
-from ldvbi_side.draw.index import index_of
+from ldvbi_side.draw.index import Fault, index_of
 from ldvbi_side.outside import legible, shown
 import pytest
 from room import buffered, in_database
@@ -48,13 +49,12 @@ def run_words(hostile, *words):
 
 
 def ends(hostile, files, *words, statuses=(2,)):
-    """The status of a run. A fault is said in one line that names one of these files; whatever it is, files are as
-    before, but for what is written where nothing is wrong."""
+    """The status of a run. A fault is said in one line that names one of these files, and files are as before."""
     before = hostile.files()
     status, printed, said = run_words(hostile, *words)
     assert status in statuses
     if status == 2:
-        assert re.search(r"\Aldvbi-side: [^\n]*\n\Z", said)
+        assert re.search(r"\Aldvbi-side: [^\n]*\n\Z", said) and said.strip().isprintable() and len(said) < 650
         assert any(legible(one)[:100] in said for one in files)
         assert (printed, hostile.files()) == ("", before)
     else:
@@ -74,8 +74,7 @@ def title_of(text, scripts=0):
 
 
 def test_names(hostile):
-    """Of sides that are there or absent, and of all that is written. In pages and drawings they are text, in tables
-    they stand as they are."""
+    """Of sides that are there or absent, and of all that is written."""
     hostile.metadata("meta.json", count=12)
     os.mkdir(hostile.named("some"))
     for name in (os.fsdecode(b"some/" + name) for name in NAMES):
@@ -90,6 +89,7 @@ def test_names(hostile):
 
 
 def check_outputs(hostile, name):
+    """In pages, drawings and indexes a name is text, in tables it stands as it is."""
     paths = [name.replace("some", "made", 1) + end for end in ("", "2", "3", "4", "5")]
     options = sum(zip(("--html", "--svg", "-o", "--map", "--into"), paths), ())
     assert run_words(hostile, "--meta", "meta.json", "--json", *options, "--", name) == (0, "", "")
@@ -98,7 +98,12 @@ def check_outputs(hostile, name):
     title = next(xml.fromstring(hostile.read(paths[1])).iter("{http://www.w3.org/2000/svg}title"))
     assert (title_of(hostile.text(paths[0])), title.text) == (wanted, wanted)
     assert json.loads(hostile.read(paths[2]))["fields"] == 12
-    title_of(index_of(hostile.named("index.html"), [hostile.named(paths[0])]), 1)  # which is its own
+    index = index_of(hostile.named("some/index.html"), [hostile.named(paths[0])], [Fault("/x", name, "of " + name)])
+    title_of(index, 1)  # it has a script of its own
+    link, = re.findall('<a href="(.*?)">', index)
+    assert unquote_to_bytes(html.unescape(link)) == os.fsencode("../" + paths[0])
+    assert {wanted, shown(name), shown("of " + name)} <= {
+        html.unescape(one) for one in re.findall("<t?[ad][^>]*>([^<]*)</", index)}
     if name.endswith(".json"):
         assert run_words(hostile, "join", "--html", "made/both", "--", "side.vbi.json", name)[::2] == (0, "")
         assert title_of(hostile.text("made/both")) == "side.vbi.json, " + shown(name)
@@ -114,8 +119,7 @@ VALUES = [
 
 
 def broken(text, chance, count):
-    """Yields texts that are broken somewhere: cut, with other bytes, or with another value in the place of one; and
-    those that are broken at their begin or end."""
+    """Texts that are broken somewhere: cut, with other bytes, or with another value; and at their begin or end."""
     wide = [text.decode().encode(name) for name in ("utf-16", "utf-32")]
     yield from (b"", b"\0", b"\xef\xbb\xbf" + text, text[:-1].rstrip() + b",}", text + text, text + b"\0", *wide,
                 b"\x1f\x8b" + text, b" " * 100000 + text[:-3])
@@ -163,6 +167,7 @@ def without(table, *statements):
 REFUSED = (
     without("drop_outs", "CREATE VIEW drop_outs AS SELECT * FROM other",
             "CREATE VIEW other AS SELECT * FROM drop_outs"),
+    tuple('CREATE TABLE "\x1b[31m\n%03d" (system TEXT)' % number for number in range(100)),
     *((*SOUND, "UPDATE capture SET " + one) for one in (
         "black_16b_ire = zeroblob(100)", "white_16b_ire = '51200' || char(0)", "system = x'4e545343'")))
 # and those that may be read
@@ -226,8 +231,8 @@ def test_outputs_that_take_nothing(drawn):
     for words in PRINTED:
         for path, said in (("/dev/full", full), (None, "Bad file descriptor")):
             with open(path or os.devnull, "wb") as file:
-                more = {} if path else {"preexec_fn": lambda: os.close(1)}
-                assert drawn.run_command(words, stdout=file, env=buffered(), **more) == (
+                close = None if path else lambda: os.close(1)
+                assert drawn.run_command(words, stdout=file, env=buffered(), preexec_fn=close) == (
                     2, None, "ldvbi-side: standard output: %s\n" % said)
     for words in WRITTEN:
         drawn.refused("/dev/full: " + full, words + " /dev/full")

@@ -20,8 +20,8 @@ import discs
 from ldvbi_side import outside
 from ldvbi_side.answer.said import said_of
 from ldvbi_side.command import outputs
-from ldvbi_side.command.outputs import drop_part, refuse_inputs, whole_file, whole_path
-from ldvbi_side.draw.index import Fault, head_of, index_of, PART
+from ldvbi_side.command.outputs import whole_file, whole_path
+from ldvbi_side.draw.index import head_of, index_of, PART
 from ldvbi_side.draw.page import MARK
 from ldvbi_side.outside import bytes_of_document, legible, printable, shown
 import pytest
@@ -51,8 +51,7 @@ def read_document(data):
 def test_how_much_is_read():
     for data in (b"", b" \n", b'\n{"version":2', b"[]" + b" " * 100000):
         assert read_document(data) == data
-    # of what begins as none
-    assert len(read_document(bytes(100000000))) < 1000000
+    assert len(read_document(bytes(100000000))) < 1000000  # it begins as none
     with mock.patch.object(outside, "MOST_BYTES", 1000):
         assert len(read_document(b"{" + bytes(999))) == 1000
         assert reason(read_document, b"{" + bytes(1000)) == "it is longer than any document"
@@ -61,20 +60,13 @@ def test_how_much_is_read():
 NUMBERS = signal.SIGINT, signal.SIGTERM, signal.SIGHUP, signal.SIGALRM
 
 
-def heed():
-    sys.unraisablehook = sys.__unraisablehook__  # not that of pytest
-    outside.end_in_order()
-
-
 @pytest.fixture
 def signals():
-    """What begins to heed signals, as the command does."""
-    # a shell has what runs behind its back ignore SIGINT
+    """What begins to heed signals, as the command does. A shell has what runs behind its back ignore SIGINT."""
     before = {number: signal.signal(number, signal.SIG_DFL) for number in NUMBERS}
-    hook = sys.unraisablehook
-    yield heed
+    with mock.patch("sys.unraisablehook", sys.__unraisablehook__):  # not that of pytest
+        yield outside.end_in_order
     outside.heeded()
-    sys.unraisablehook = hook
     for number in NUMBERS:
         signal.signal(number, before[number])
 
@@ -114,22 +106,27 @@ def test_nothing_is_written_where_one_was_dropped(signals, room, write):
     assert room.files() == {"page.html": b"old"}
 
 
+def test_one_that_is_ignored(signals):
+    """As nohup has it, it stays so."""
+    signal.signal(signal.SIGHUP, signal.SIG_IGN)
+    signals()
+    signal.raise_signal(signal.SIGHUP)
+
+
 def test_a_second_one(signals):
     """It ends the process at once where the first was dropped, or came more than a second ago."""
     signals()
-    ended = []
-    with mock.patch("os._exit", ended.append):
+    with mock.patch("os._exit") as end:
         with pytest.raises(outside.Stopped):
             signal.raise_signal(signal.SIGINT)
         signal.raise_signal(signal.SIGINT)
-        assert ended == []
-        with mock.patch("time.monotonic", lambda now=time.monotonic() + 2: now):
+        end.assert_not_called()
+        with mock.patch("time.monotonic", return_value=time.monotonic() + 2):
             signal.raise_signal(signal.SIGTERM)
-        assert ended == [143]
-        outside.end_in_order()
+        signals()
         dropped(signal.SIGTERM)
         signal.raise_signal(signal.SIGHUP)
-        assert ended == [143, 129]
+    assert end.mock_calls == [mock.call(143), mock.call(129)]
 
 
 # What a page of others says, by member
@@ -180,18 +177,6 @@ def test_what_is_no_page(room):
         refused(room, page, "no file")
 
 
-def test_names_in_an_index(room, said):
-    """A link goes on from the index, whatever its file is called; and no name is more than a text."""
-    for folder in ("pages", "indexes"):
-        os.mkdir(room.named(folder))
-    name = os.fsdecode(b"pages/\xff <\x1b>.html")
-    os.rename(page_saying(room, said), room.named(name))
-    index = index_of(room.named("indexes/all.html"), [room.named(name)], [Fault("/x", NAME, "a fault of " + NAME)])
-    assert '<a href="../pages/%FF%20%3C%1B%3E.html">side</a>' in index
-    wanted = re.escape(shown(NAME).replace("&", "&amp;").replace("<", "&lt;").replace(">", "&gt;"))
-    assert re.search("<tr><td>%s</td><td class=.*>fault</td>.*<td>a fault of %s</td></tr>" % (wanted, wanted), index)
-
-
 LONGEST = 255  # bytes of a name
 
 
@@ -211,7 +196,7 @@ def test_each_is_written(room, name):
         with pytest.raises(KeyboardInterrupt), mock.patch(kept), part:
             raise KeyboardInterrupt
         assert len(room.names()) == 2
-        drop_part(path, os.getpid())
+        outputs.drop_part(path, os.getpid())
         assert room.names() == [name]
 
 
@@ -230,18 +215,6 @@ def test_what_processes_left_that_are_gone(room):
         assert left in room.names()
     outputs.drop_parts(room.folder)
     assert room.names() == sorted(kept)
-
-
-def test_a_fault_is_of_the_file_that_was_asked_for(room):
-    full = OSError(28, "No space left on device")
-    with pytest.raises(OSError) as caught, whole_file(room.path):
-        raise full
-    assert caught.value.filename == room.path
-    hidden = OSError(28, "No space left on device", room.named(".part"))
-    with mock.patch("os.mkdir", side_effect=hidden), pytest.raises(OSError) as caught, whole_path(room.path, ()):
-        pytest.fail("there is no folder to write to")
-    assert caught.value.filename == room.path
-    assert room.names() == []
 
 
 @pytest.mark.parametrize("older, mode", ((None, None), ("old", 0o640)))
@@ -267,17 +240,11 @@ def test_it_appears_at_the_end(room, older, mode):
     assert stat.S_IMODE(os.stat(room.path).st_mode) == (mode or 0o666 & ~mask)
 
 
-def test_links_and_what_is_no_file(room):
-    """A link stays one, and what is no file is written to."""
+def test_a_link_stays_one(room):
     os.symlink("target", room.named("link"))
-    os.mkfifo(room.named("pipe"))
-    pipe = os.open(room.named("pipe"), os.O_RDWR)  # so that nobody waits for the other end
-    room.cleanup.callback(os.close, pipe)
-    for name in ("link", "pipe"):
-        with whole_file(room.named(name)) as file:
-            file.write("new")
+    with whole_file(room.named("link")) as file:
+        file.write("new")
     assert (os.path.islink(room.named("link")), room.read("target")) == (True, b"new")
-    assert (os.read(pipe, 99), stat.S_ISFIFO(os.stat(room.named("pipe")).st_mode)) == (b"new", True)
 
 
 def test_no_place_for_it(room):
@@ -306,4 +273,4 @@ def test_which_are_refused(room):
                 (None, [1], [0, side]), (None, [99], [99]),  # 99 is no open file
                 (new, [new, new], []), (again, [new, again], []), (near, [None, near], [side, meta]),
                 (side, [number, side], []), (number, [number], [side])):
-            assert reason(refuse_inputs, written_to, inputs) == (name and IN_PLACE % name)
+            assert reason(outputs.refuse_inputs, written_to, inputs) == (name and IN_PLACE % name)

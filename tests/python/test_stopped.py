@@ -7,11 +7,11 @@ import atexit
 import contextlib
 import io
 import os
+import pathlib
 import random
 import re
 import signal
 import subprocess
-import sys
 import time
 from multiprocessing import resource_tracker, util
 from unittest import mock
@@ -22,7 +22,7 @@ from ldvbi_side.command import processes
 from ldvbi_side.command.folders import Found, sides_in
 from ldvbi_side.command.outputs import _part_by
 from ldvbi_side.command.processes import Ended, SideBySide
-from ldvbi_side.command.progress import heard_by, Progress, SidesProgress
+from ldvbi_side.command.progress import Progress, SidesProgress
 from ldvbi_side.command.scan import scan
 import pytest
 from room import buffered, children, command_of, DEADLINE, in_database
@@ -48,12 +48,10 @@ def heed_all():
 
 def is_heeded(process):
     """Whether the process has a function for SIGTERM, or has ended."""
-    try:
-        with open("/proc/%d/status" % process.pid, encoding="ascii") as file:
-            caught = next((line.split()[1] for line in file if line.startswith("SigCgt:")), "0")
-    except OSError:
-        return True
-    return bool(int(caught, 16) >> (signal.SIGTERM - 1) & 1) or process.poll() is not None
+    with contextlib.suppress(OSError):
+        caught = re.search(r"^SigCgt:\s*(\w+)", pathlib.Path("/proc/%d/status" % process.pid).read_text("ascii"), re.M)
+        return process.poll() is not None or bool(int(caught[1], 16) >> (signal.SIGTERM - 1) & 1)
+    return True
 
 
 @pytest.fixture
@@ -64,9 +62,8 @@ def stopped(room):
             fields[place][1:] = [worn_line(0xF00000 + place, NTSC, 10, 12)] * 2
         room.add(name, fields)
         room.metadata(name + ".json", count=len(fields), field={"vbi": {"vbiData": [0, 0, 0]}})
-    rows = [(place, place % 2) for place in range(FIELDS + 1)]
     in_database(room.named("side.db"), *FORM.split(";"), *(
-        ("INSERT INTO field_record VALUES (4, ?, 0.5, ?, 17.25)", row) for row in rows))
+        "INSERT INTO field_record VALUES (4, %d, 0.5, %d, 17.25)" % (place, place % 2) for place in range(FIELDS + 1)))
     room.inputs = room.files()
     return room
 
@@ -82,27 +79,29 @@ def new_files(stopped):
 
 @pytest.mark.unrecorded
 def test_at_a_random_moment(stopped):
+    """A run gets a signal, with all of its processes or alone, when a part of its time is over since it began to heed
+    signals."""
     chance, wanted = random.Random(SEED), {}
     for words in COMMANDS:
         begun = time.monotonic()
         status, printed, said = stopped.run_command(words, env=buffered())
         assert (said, status in (0, 1)) == ("", True)
-        wanted[words] = (status, printed, new_files(stopped), time.monotonic() - begun)
+        wanted[words] = (status, printed, new_files(stopped)), time.monotonic() - begun
     for run in range(RUNS):
         words = COMMANDS[run % len(COMMANDS)]
         number, part, to_all = chance.choice(list(STATUSES)), chance.random(), chance.random() < 0.5
-        stopped_at(stopped, words, number, part, to_all, *wanted[words])
+        whole, seconds = wanted[words]
+        process = stopped.started(words, start_new_session=True, preexec_fn=heed_all)
+        while not is_heeded(process):
+            time.sleep(0.001)
+        time.sleep(part * seconds)
+        with contextlib.suppress(ProcessLookupError):  # it has ended
+            (os.killpg if to_all else os.kill)(process.pid, number)
+        check_stopped(stopped, process, number, *whole)
 
 
-def stopped_at(stopped, words, number, part, to_all, whole_status, whole_text, whole_files, seconds):
-    """A run that gets this signal, with all of its processes or alone, when this part of its time is over since it
-    began to heed it."""
-    process = stopped.started(words, start_new_session=True, preexec_fn=heed_all)
-    while not is_heeded(process):
-        time.sleep(0.001)
-    time.sleep(part * seconds)
-    with contextlib.suppress(ProcessLookupError):  # it has ended
-        (os.killpg if to_all else os.kill)(process.pid, number)
+def check_stopped(stopped, process, number, whole_status, whole_text, whole_files):
+    """What a run that got this signal has printed and written is a part of the whole; or it was done before."""
     try:
         printed, said = process.communicate(timeout=60)
     except subprocess.TimeoutExpired:
@@ -122,7 +121,7 @@ def test_while_a_process_is_started(room):
     """It is started whole, and ended before it has a job: one that is broken off says what it lacks."""
     for number in (*HEEDED, signal.SIGALRM):
         room.cleanup.callback(signal.signal, number, signal.getsignal(number))
-    room.cleanup.callback(setattr, sys, "unraisablehook", sys.unraisablehook)
+    room.enter_context(mock.patch("sys.unraisablehook"))
     heed_all()
     resource_tracker.ensure_running()
     for number in HEEDED:
@@ -152,24 +151,22 @@ def leaves_a_copy(task):
     os._exit(3)
 
 
-def test_faults_that_nobody_thought_of(room):
-    """What a scan that reads sides by one of these functions prints of a folder; nothing is left of a copy."""
+@pytest.mark.parametrize("name, sides, read, fault", (
+    ("1.tbc", sides_in, fails, "KeyError: 'a fault of the program'"),
+    ("1.tbc", sides_in, leaves_a_copy, "its process ended with status 3"),
+    ("d", lambda _: [Found("d", "Permission denied")], fails, "Permission denied")))
+def test_faults_that_nobody_thought_of(room, capsys, name, sides, read, fault):
+    """A scan that reads sides by such a function prints them in rows; nothing is left of a copy."""
     room.add("1.tbc")
-    side = room.named("1.tbc")
-    for sides, read, row in (
-            (sides_in, fails, side + ",fault,,,,,,,,,,,KeyError: 'a fault of the program'"),
-            (sides_in, leaves_a_copy, side + ",fault,,,,,,,,,,,its process ended with status 3"),
-            (lambda _: [Found("d", "Permission denied")], fails, "d,fault,,,,,,,,,,,Permission denied")):
-        with mock.patch("ldvbi_side.command.scan.sides_in", sides), \
-                contextlib.redirect_stdout(io.StringIO()) as printed:
-            assert scan(["--csv", "--into", room.named("copies"), room.folder], read) == 2
-        assert printed.getvalue().split("\n")[1:] == [row, ""]
-        assert room.names("copies") == []
+    with contextlib.chdir(room.folder), mock.patch("ldvbi_side.command.scan.sides_in", sides):
+        assert scan(["--csv", "--into", "copies", "1.tbc"], read) == 2
+    assert capsys.readouterr().out.split("\n")[1:] == [name + ",fault" + "," * 11 + fault, ""]
+    assert not [*pathlib.Path(room.folder).rglob("*.part")]
 
 
 def scanning(room, words, count):
     """A scan that has printed so many lines, which are the answer, too."""
-    process = room.started("scan " + words, start_new_session=True)
+    process = room.started("scan --csv " + words, start_new_session=True)
     return process, [process.stdout.readline().decode() for _ in range(count)]
 
 
@@ -178,49 +175,37 @@ def test_one_side_fails_and_the_others_are_read(room):
     for name in ("1.tbc", "3.tbc"):
         room.add(name)
     os.mkfifo(room.named("2.vbi.json"))
-    process, lines = scanning(room, "--csv -j 1 --html pages . 2.vbi.json", 2)
+    process, lines = scanning(room, "-j 1 --html pages . 2.vbi.json", 2)
     assert lines[1] == "./1.tbc,yes,0,0,cav,1,30,30,0,1,61,,\n"
     with room.opened_by(process, "2.vbi.json"):
         os.kill(children(process.pid)[0], signal.SIGKILL)
         room.ended(process, 2, b"./2.vbi.json,fault,,,,,,,,,,,its process was ended by SIGKILL\n"
                                b"./3.tbc,yes,0,0,cav,1,30,30,0,1,61,,\n")
     assert room.names("pages") == ["1.html", "3.html", "index.html"]
-    process, _ = scanning(room, "--csv -j 2 . 2.vbi.json", 1)
+    process, _ = scanning(room, "-j 2 . 2.vbi.json", 1)
     process.stdout.close()  # there is no reader any longer
     assert (process.wait(DEADLINE), process.stderr.read()) == (2, b"")
 
 
-def test_while_a_page_is_written(room):
-    """A page with drawings of many lines, and by Ctrl-C at a terminal, which all processes get, by a signal to the
-    first one alone, or to the one that writes. No process is left over."""
+@pytest.mark.parametrize("number, to_all, status, row, left", (
+    (signal.SIGINT, True, 130, b"", []), (signal.SIGHUP, False, 129, b"", []),
+    (signal.SIGKILL, False, 2, b"1.tbc,fault,,,,,,,,,,,its process was ended by SIGKILL\n", ["index.html"])))
+def test_while_a_page_is_written(room, number, to_all, status, row, left):
+    """By Ctrl-C at a terminal, which all processes get, by a signal to the first one alone, or to the one that writes.
+    No process is left over."""
     worn = line_with(0xF00001, NTSC, [(430, 441, False)])
     room.add("1.tbc", [[worn, worn, worn]] * 80)
-    for number, to_all, status in ((signal.SIGINT, True, 130), (signal.SIGHUP, True, 129), (signal.SIGINT, False, 130),
-                                   (signal.SIGTERM, False, 143), (signal.SIGKILL, False, 2)):
-        process, _ = scanning(room, "--csv --html pages 1.tbc", 1)
-        names = []
-        while not names:
-            assert process.poll() is None
-            time.sleep(0.005)
-            names = os.path.exists(room.named("pages")) and room.names("pages")
-        assert names[0].endswith(".part")
-        one, = children(process.pid)
-        (os.killpg if to_all else os.kill)(one if number == signal.SIGKILL else process.pid, number)
-        row = b"1.tbc,fault,,,,,,,,,,,its process was ended by SIGKILL\n" if number == signal.SIGKILL else b""
-        room.ended(process, status, row)
-        assert b"spawn_main" not in command_of(one)
-        assert room.names("pages") == (["index.html"] if row else [])
-
-
-def test_one_line_for_all(room):
-    """Sides whose pages are kept are no part of it."""
-    room.add("1.tbc")
-    room.scan("--html pages .")
-    room.add("2.tbc", "Lx200")
-    shown, text = room.on_terminal(4, "scan --csv --html pages .")
-    assert text.count(b"\n") == 3
-    assert shown.startswith("\r0 of 1 sides, 0 %\x1b[K")
-    assert shown.endswith("\r\x1b[K")
+    os.mkdir(room.named("pages"))
+    process, _ = scanning(room, "--html pages 1.tbc", 1)
+    while not room.names("pages"):
+        assert process.poll() is None
+        time.sleep(0.005)
+    assert room.names("pages")[0].endswith(".part")
+    one, = children(process.pid)
+    (os.killpg if to_all else os.kill)(one if row else process.pid, number)
+    room.ended(process, status, row)
+    assert b"spawn_main" not in command_of(one)
+    assert room.names("pages") == left
 
 
 def ignores(task, tell):
@@ -233,44 +218,28 @@ def ignores(task, tell):
 def tidies(task, tell):
     """A job that signals reach while its process ends, behind a first one, or by itself, as it took much memory."""
     processes._peak = lambda: 1 << 60
-
-    def tidy():
-        os.kill(os.getpid(), signal.SIGTERM)
-        os.kill(os.getpid(), signal.SIGHUP)
-        tell([])
-
-    atexit.register(tidy)
+    for end in (lambda: tell([]), lambda: os.kill(os.getpid(), signal.SIGHUP),
+                lambda: os.kill(os.getpid(), signal.SIGTERM)):  # the last one comes first
+        atexit.register(end)
     os.kill(os.getpid(), task)
 
 
-def tells(task, tell):
-    """A job that says in which process it runs, and ends that if it is asked to."""
+def tells(_, tell):
+    """A job that says in which process it runs."""
     tell(os.getpid())
-    if task:
-        os.kill(os.getpid(), task)
-
-
-def test_one_after_the_other():
-    """A process that is killed takes the job that it is at with it, and the next one is done by another process."""
-    after, tasks = [], [0, 0, signal.SIGKILL, 0, 0]
-    with SideBySide(tells, tasks, 1, lambda *one: after.append(one)) as messages:
-        found = list(messages)
-    one, other = found[0][1], found[-2][1]
-    assert one != other
-    ends = [(one, 0), (one, 0), (one, -signal.SIGKILL), (other, 0), (other, 0)]
-    assert found == [message for place, (process, status) in enumerate(ends)
-                     for message in ((place, process), (place, Ended(status)))]
-    assert after == list(zip(tasks, (process for process, _ in ends)))
-    assert children(os.getpid()) == []
 
 
 def test_processes_that_stay_or_end():
-    """One that has to be killed, and those that get signals while they end."""
+    """One that does several jobs, one that has to be killed, and those that get signals while they end."""
     ended = []
+    with SideBySide(tells, [1, 2], 1, lambda *one: ended.append(one)) as messages:
+        first, *others = messages
+    assert others == [(0, Ended(0)), (1, first[1]), (1, Ended(0))]
+    assert ended == [(1, first[1]), (2, first[1])]
     with mock.patch.object(processes, "GRACE", 0.1), \
-            SideBySide(ignores, [1, 2], 1, lambda task, process: ended.append(task)) as messages:
-        assert next(iter(messages)) == (0, 1)
-    assert (ended, children(os.getpid())) == ([1], [])
+            SideBySide(ignores, [3, 4], 1, lambda task, process: ended.append(task)) as messages:
+        assert next(iter(messages)) == (0, 3)
+    assert (ended[2:], children(os.getpid())) == ([3], [])
     with SideBySide(tidies, [0, signal.SIGHUP], 1, lambda task, process: None) as messages:
         assert list(messages) == [(0, []), (0, Ended(0)), (1, []), (1, Ended(1))]
 
@@ -285,66 +254,58 @@ def shown(*texts):
     return "".join("\r%s\x1b[K" % text for text in texts)
 
 
-def run_over(fields, count, step, seconds, is_wanted=True, errors=Terminal):
-    """What is written to standard error over so many items, each of which takes so many seconds."""
-    clock = mock.Mock(return_value=100.0)
+@pytest.fixture
+def clock():
+    with mock.patch("time.monotonic", return_value=100.0) as clock:
+        yield clock
 
+
+def run_over(clock, fields, count, step, seconds, is_wanted=True, errors=Terminal):
+    """What is written to standard error over so many items, each of which takes so many seconds."""
     def slow():
         for item in range(count):
             clock.return_value += seconds
             yield item
 
-    with mock.patch("time.monotonic", clock), mock.patch("sys.stderr", errors()) as said, \
-            Progress(fields, is_wanted) as progress:
+    with mock.patch("sys.stderr", errors()) as said, Progress(fields, is_wanted) as progress:
         assert list(progress.over(slow(), step)) == list(range(count))
     return said.getvalue()
 
 
-def test_whole_texts():
+def test_whole_texts(clock):
     long = shown("0 of 200 fields, 0 %", "64 of 200 fields, 32 %, 1:04 left", "128 of 200 fields, 64 %, 0:34 left",
                  "192 of 200 fields, 96 %, 0:04 left", "200 of 200 fields, 100 %", "")
     for run, wanted in (((200, 4, 64, 30.0), long), ((0, 0, 64, 1.0), shown("0 of 0 fields, 100 %", "")),
                         ((10, 10, 1, 1.0, True, io.StringIO), ""), ((10, 10, 1, 1.0, False), "")):
-        assert run_over(*run) == wanted
-    assert shown("1 of 1000 fields, 0 %, 166:30 left") in run_over(1000, 1000, 1, 10.0)
-    text = run_over(1003, 1003, 1, 0.01)
+        assert run_over(clock, *run) == wanted
+    assert shown("1 of 1000 fields, 0 %, 166:30 left") in run_over(clock, 1000, 1000, 1, 10.0)
+    text = run_over(clock, 1003, 1003, 1, 0.01)
     assert text.count("\r") == 3 + 10 * 5  # the first, the last, the empty line, and five a second
-    assert text.endswith(shown("1003 of 1003 fields, 100 %", ""))
     with mock.patch("sys.stderr", None), Progress(3) as progress:
         assert list(progress.over("abc")) == ["a", "b", "c"]
-
-
-def test_who_listens():
-    """In the place of a terminal, whose line is emptied by an exception, too."""
-    heard = []
-    with mock.patch("sys.stderr", Terminal()) as errors:
-        with heard_by(lambda *one: heard.append(one)), Progress(3) as progress:
-            assert list(progress.over("abc")) == ["a", "b", "c"]
-        assert (heard, errors.getvalue()) == ([(0, 3), (3, 3)], "")
-        with pytest.raises(KeyboardInterrupt), Progress(10):
-            raise KeyboardInterrupt
+    with mock.patch("sys.stderr", Terminal()) as errors, pytest.raises(KeyboardInterrupt), Progress(10):
+        raise KeyboardInterrupt
     assert errors.getvalue() == shown("0 of 10 fields, 0 %", "")
 
 
-def test_a_line_for_all():
+@pytest.mark.parametrize("sizes, seconds, parts, errors, wanted", (
+    ([200, 100, 100], 1, [(0, 0.5), (1, 1), None, (0, 0.6), (0, 1), (2, 1)], Terminal, shown(
+        "0 of 3 sides, 0 %", "0 of 3 sides, 25 %, 0:03 left", "1 of 3 sides, 50 %, 0:02 left", "",
+        "1 of 3 sides, 55 %, 0:02 left", "2 of 3 sides, 75 %, 0:01 left", "3 of 3 sides, 100 %", "")),
+    ([1], 0, [*9 * [(0, 0.5)], None, (0, 0.5)], Terminal, shown(
+        "0 of 1 sides, 0 %", "", "0 of 1 sides, 50 %, 0:00 left", "")),
+    ([], 1, [], Terminal, shown("")), ([1], 1, [(0, 0.5), None, (0, 1)], io.StringIO, "")))
+def test_a_line_for_all(clock, sizes, seconds, parts, errors, wanted):
     """What is written while these parts of sides are reached, each so many seconds after the one before; for None the
     line is emptied. Of the fields of three sides the first has a half, and the others a quarter each."""
-    clock = mock.Mock(return_value=100.0)
-    for sizes, seconds, parts, errors, wanted in (
-            ([200, 100, 100], 1, [(0, 0.5), (1, 1), None, (0, 0.6), (0, 1), (2, 1)], Terminal(), shown(
-                "0 of 3 sides, 0 %", "0 of 3 sides, 25 %, 0:03 left", "1 of 3 sides, 50 %, 0:02 left", "",
-                "1 of 3 sides, 55 %, 0:02 left", "2 of 3 sides, 75 %, 0:01 left", "3 of 3 sides, 100 %", "")),
-            ([1], 0, [*9 * [(0, 0.5)], None, (0, 0.5)], Terminal(), shown(
-                "0 of 1 sides, 0 %", "", "0 of 1 sides, 50 %, 0:00 left", "")),
-            ([], 1, [], Terminal(), shown("")), ([1], 1, [(0, 0.5), None, (0, 1)], io.StringIO(), "")):
-        with mock.patch("time.monotonic", clock), mock.patch("sys.stderr", errors), SidesProgress(sizes) as progress:
-            for part in parts:
-                clock.return_value += seconds * (part is not None)
-                if part:
-                    progress.reached(*part)
-                else:
-                    progress.clear()
-        assert errors.getvalue() == wanted
+    with mock.patch("sys.stderr", errors()) as said, SidesProgress(sizes) as progress:
+        for part in parts:
+            if part:
+                clock.return_value += seconds
+                progress.reached(*part)
+            else:
+                progress.clear()
+    assert said.getvalue() == wanted
 
 
 def steps(task):
@@ -355,21 +316,15 @@ def steps(task):
 
 
 def test_sides_of_both_kinds_in_one_scan(room):
-    """What part of a scan a side is goes by its fields, whether it is a TBC file or a document: of 200 fields and of
-    600 these are about a quarter and three quarters. It is done when it has been judged."""
-    room.add("1.tbc", "1..100")
-    room.add("long.tbc", "1..300")
-    room.write("2.vbi.json", room.extracted("long.tbc"))
-    texts = []
-    with mock.patch("ldvbi_side.command.progress.PAUSE", 0), \
-            mock.patch("ldvbi_side.command.progress._is_terminal", lambda: True), \
-            mock.patch("ldvbi_side.command.progress._show_line", texts.append), \
-            contextlib.redirect_stdout(io.StringIO()):
-        scan(["-j", "1", room.named("1.tbc"), room.named("2.vbi.json")], steps)
-    shown = [tuple(map(int, re.findall(r"\d+", text)[:3:2])) for text in texts if text]
-    assert [done for done, _ in shown] == sorted(done for done, _ in shown)
-    first, second = ([part for done, part in shown if done == count] for count in (0, 1))
-    assert (first[0], shown[-1]) == (0, (2, 100))
-    assert 17 <= first[-1] <= 33
-    assert 17 <= second[0] <= 33
-    assert max(first) < second[0] < 100 > second[-1] > 90
+    """What part of a scan a side is goes by its fields, of which a document has three times as many here as a TBC
+    file. It is done when it has been judged. A side whose page is kept is no part."""
+    for name, fields in (("1.tbc", "1..100"), ("2.tbc", "1..300"), ("3.tbc", "1..3")):
+        room.add(name, fields)
+    room.write("2.vbi.json", room.extracted("2.tbc"))
+    room.scan("--html pages 3.tbc")
+    with mock.patch("ldvbi_side.command.scan.SidesProgress") as progress, contextlib.chdir(room.folder):
+        scan(["-j", "1", "--html", "pages", "1.tbc", "2.vbi.json", "3.tbc"], steps)
+    (one, other), = progress.call_args.args
+    assert 2 < other / one < 4.5
+    assert [call.args for call in progress().__enter__().reached.call_args_list] == [
+        (side, part) for side in (0, 1) for part in (0.0, 0.99, 1)]
