@@ -151,7 +151,8 @@ class Room(contextlib.ExitStack):
         process = subprocess.Popen([*command, *self.words(*words)], cwd=self.folder, stdin=subprocess.DEVNULL,
                                    **{"stdout": subprocess.PIPE, "stderr": subprocess.PIPE, "env": buffered(), **more})
         for stream in filter(None, (process.stdout, process.stderr)):
-            self.cleanup.callback(stream.close)
+            self.enter_context(stream)
+        self.cleanup.callback(process.kill)
         return process
 
     def opened_by(self, process, name):
@@ -169,8 +170,7 @@ class Room(contextlib.ExitStack):
         assert (*process.communicate(timeout=DEADLINE), process.returncode) == (text, b"", status)
 
     def stopped(self, process, number, status):
-        """Checks how a run ends that gets this signal, again until it ends: one that comes right before a run begins to
-        wait for its input is heeded only behind that."""
+        """Checks how a run ends by this signal, which is sent again where it came right before a run began to wait."""
         for _ in range(DEADLINE):
             process.send_signal(number)
             with contextlib.suppress(subprocess.TimeoutExpired):

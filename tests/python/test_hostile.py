@@ -1,6 +1,6 @@
-"""Names, documents, metadata and databases that somebody made to do harm, or that broke: whatever they are, a run ends
-in time with a documented status. Where that is a fault one line says so, which names the file, and nothing is left of
-what was to be written. The same of outputs that take nothing."""
+"""Names, documents, metadata and databases that somebody made to do harm, or that broke: whatever they are, a run ends,
+and in time, as python.sh has it, with a documented status. Where that is a fault one line says so, which names the
+file, and nothing is left of what was to be written. The same of outputs that take nothing."""
 
 import html
 import json
@@ -9,7 +9,6 @@ import random
 import re
 import resource
 import shutil
-import signal
 import xml.etree.ElementTree as xml
 from collections import Counter
 from unittest import mock
@@ -25,45 +24,28 @@ from test_into import FORM
 
 pytestmark = pytest.mark.unrecorded
 
-SECONDS = 60  # of one run: for what hangs, not for what is slow
 NAMES = [
     b"new\nline", b"\r", b"'", b'"', b"`x` $(x)", b"-", b"--csv", b"-o", b"\xff\xfe", b"\xed\xa0\x80", b"<script>",
     b"'><script>", b"<!--", b"&lt;", b"]]>", b"-->", b"%s %d %", b"\x1b[2J", b" ", b"..", b"*", b"\\", b"a" * 245,
     b"\xff" * 245, "\u202e".encode(), "ü\U0001f4bf".encode()]
 
 
-def hangs(*_):
-    raise AssertionError("it takes more than %d seconds" % SECONDS)
-
-
-@pytest.fixture
-def hostile(drawn):
-    drawn.cleanup.callback(signal.signal, signal.SIGALRM, signal.signal(signal.SIGALRM, hangs))
-    drawn.cleanup.callback(signal.alarm, 0)
-    return drawn
-
-
-def run_words(hostile, *words):
-    signal.alarm(SECONDS)
-    return hostile.run_words(*words)
-
-
-def ends(hostile, files, *words, statuses=(2,)):
+def ends(drawn, files, *words, statuses=(2,)):
     """The status of a run. A fault is said in one line that names one of these files, and files are as before."""
-    before = hostile.files()
-    status, printed, said = run_words(hostile, *words)
+    before = drawn.files()
+    status, printed, said = drawn.run_words(*words)
     assert status in statuses
     if status == 2:
         assert re.search(r"\Aldvbi-side: [^\n]*\n\Z", said) and said.strip().isprintable() and len(said) < 650
         assert any(legible(one)[:100] in said for one in files)
-        assert (printed, hostile.files()) == ("", before)
+        assert (printed, drawn.files()) == ("", before)
     else:
         assert re.search(r"\A(ldvbi-side: [^\n]*\n)*\Z", said)
-    if "copy.db" in hostile.names():  # which has all words
-        found, = in_database(hostile.named("copy.db"), "SELECT vbi0, vbi1, vbi2 FROM vbi ORDER BY field_id")
+    if "copy.db" in drawn.names():  # which has all words
+        found, = in_database(drawn.named("copy.db"), "SELECT vbi0, vbi1, vbi2 FROM vbi ORDER BY field_id")
         assert [list(three) for three in found] == pictures(12)
-    for name in set(hostile.files()) - set(before):
-        os.unlink(hostile.named(name))
+    for name in set(drawn.files()) - set(before):
+        os.unlink(drawn.named(name))
     return status
 
 
@@ -73,41 +55,41 @@ def title_of(text, scripts=0):
     return html.unescape(re.search("<title>(.*?)</title>", text, re.DOTALL)[1])
 
 
-def test_names(hostile):
+def test_names(drawn):
     """Of sides that are there or absent, and of all that is written."""
-    hostile.metadata("meta.json", count=12)
-    os.mkdir(hostile.named("some"))
+    drawn.metadata("meta.json", count=12)
+    os.mkdir(drawn.named("some"))
     for name in (os.fsdecode(b"some/" + name) for name in NAMES):
         for end in (".tbc", ".vbi.json"):
             for words in (["--"], ["join", "--", "side.vbi.json"], ["side.tbc", "--meta"]):
-                ends(hostile, [name + end], *words, name + end)
-            os.link(hostile.named("side" + end), hostile.named(name + end))
-            os.mkdir(hostile.named("made"))
-            check_outputs(hostile, name + end)
-            shutil.rmtree(hostile.named("made"))
-            os.unlink(hostile.named(name + end))
+                ends(drawn, [name + end], *words, name + end)
+            os.link(drawn.named("side" + end), drawn.named(name + end))
+            os.mkdir(drawn.named("made"))
+            check_outputs(drawn, name + end)
+            shutil.rmtree(drawn.named("made"))
+            os.unlink(drawn.named(name + end))
 
 
-def check_outputs(hostile, name):
+def check_outputs(drawn, name):
     """In pages, drawings and indexes a name is text, in tables it stands as it is."""
     paths = [name.replace("some", "made", 1) + end for end in ("", "2", "3", "4", "5")]
     options = sum(zip(("--html", "--svg", "-o", "--map", "--into"), paths), ())
-    assert run_words(hostile, "--meta", "meta.json", "--json", *options, "--", name) == (0, "", "")
-    assert hostile.names("made") == sorted(map(os.path.basename, paths))
+    assert drawn.run_words("--meta", "meta.json", "--json", *options, "--", name) == (0, "", "")
+    assert drawn.names("made") == sorted(map(os.path.basename, paths))
     wanted = shown(os.path.basename(name))
-    title = next(xml.fromstring(hostile.read(paths[1])).iter("{http://www.w3.org/2000/svg}title"))
-    assert (title_of(hostile.text(paths[0])), title.text) == (wanted, wanted)
-    assert json.loads(hostile.read(paths[2]))["fields"] == 12
-    index = index_of(hostile.named("some/index.html"), [hostile.named(paths[0])], [Fault("/x", name, "of " + name)])
+    title = next(xml.fromstring(drawn.read(paths[1])).iter("{http://www.w3.org/2000/svg}title"))
+    assert (title_of(drawn.text(paths[0])), title.text) == (wanted, wanted)
+    assert json.loads(drawn.read(paths[2]))["fields"] == 12
+    index = index_of(drawn.named("some/index.html"), [drawn.named(paths[0])], [Fault("/x", name, "of " + name)])
     title_of(index, 1)  # it has a script of its own
     link, = re.findall('<a href="(.*?)">', index)
     assert unquote_to_bytes(html.unescape(link)) == os.fsencode("../" + paths[0])
     assert {wanted, shown(name), shown("of " + name)} <= {
         html.unescape(one) for one in re.findall("<t?[ad][^>]*>([^<]*)</", index)}
     if name.endswith(".json"):
-        assert run_words(hostile, "join", "--html", "made/both", "--", "side.vbi.json", name)[::2] == (0, "")
-        assert title_of(hostile.text("made/both")) == "side.vbi.json, " + shown(name)
-        status, printed, said = run_words(hostile, "scan", "--json", "--", name)
+        assert drawn.run_words("join", "--html", "made/both", "--", "side.vbi.json", name)[::2] == (0, "")
+        assert title_of(drawn.text("made/both")) == "side.vbi.json, " + shown(name)
+        status, printed, said = drawn.run_words("scan", "--json", "--", name)
         assert (status, said, json.loads(printed)["sides"][0]["side"]) == (1, "", name)
 
 
@@ -136,20 +118,20 @@ def broken(text, chance, count):
         yield text[:member + 1] + value + b"," + text[name:]  # there twice
 
 
-def test_broken_texts(hostile):
+def test_broken_texts(drawn):
     """Of documents and metadata, of which there are so many faults at least, and others."""
     field = {"vbi": {"vbiData": [0, 0, 0]}, "dropOuts": {"startx": [100], "endx": [120], "fieldLine": [17]}}
-    hostile.metadata("sound.json", count=12, field=field, numberOfSequentialFields=12, fieldWidth=910)
+    drawn.metadata("sound.json", count=12, field=field, numberOfSequentialFields=12, fieldWidth=910)
     for seed, name, text, faults, others, *runs in (
-            (30, "wrong.vbi.json", hostile.document, 180, 0, "wrong.vbi.json --json",
+            (30, "wrong.vbi.json", drawn.document, 180, 0, "wrong.vbi.json --json",
              "join side.vbi.json wrong.vbi.json"),
-            (31, "wrong.json", hostile.read("sound.json"), 120, 10, "side.tbc --meta wrong.json --json",
+            (31, "wrong.json", drawn.read("sound.json"), 120, 10, "side.tbc --meta wrong.json --json",
              "side.tbc --meta wrong.json --into copy.json")):
         found = Counter()
         for data in broken(text, random.Random(seed), 30):
-            hostile.write(name, data)
+            drawn.write(name, data)
             for words in map(str.split, runs):
-                found[ends(hostile, [name, words[0]], *words, statuses=(0, 2, 3))] += 1
+                found[ends(drawn, [name, words[0]], *words, statuses=(0, 2, 3))] += 1
         assert found[2] > faults
         assert found[0] + found[3] >= others
 
@@ -186,33 +168,33 @@ OTHERS = (
     (*SOUND, 'CREATE TABLE "%s" (field_id, is_first_field)' % ("\x1b\n<script>" * 5000)))
 
 
-def end_both(hostile, statuses):
+def end_both(drawn, statuses):
     with mock.patch.object(database, "MOST_STEPS", 20 * database.STEPS):
         for words in (["--json"], ["--into", "copy.db"]):
-            ends(hostile, ["wrong.db"], "side.tbc", "--meta", "wrong.db", *words, statuses=statuses)
+            ends(drawn, ["wrong.db"], "side.tbc", "--meta", "wrong.db", *words, statuses=statuses)
 
 
-def test_forms_of_databases(hostile):
+def test_forms_of_databases(drawn):
     for statements in (*REFUSED, *OTHERS):
-        hostile.write("wrong.db", b"")
-        in_database(hostile.named("wrong.db"), *statements)
-        end_both(hostile, (2,) if statements in REFUSED else (0, 2))
+        drawn.write("wrong.db", b"")
+        in_database(drawn.named("wrong.db"), *statements)
+        end_both(drawn, (2,) if statements in REFUSED else (0, 2))
 
 
-def test_broken_databases(hostile):
+def test_broken_databases(drawn):
     """Of a sound one that somebody cut, encrypted, or wrote over."""
-    in_database(hostile.named("wrong.db"), *SOUND)
-    sound, chance = hostile.read("wrong.db"), random.Random(32)
-    end_both(hostile, (0,))
+    in_database(drawn.named("wrong.db"), *SOUND)
+    sound, chance = drawn.read("wrong.db"), random.Random(32)
+    end_both(drawn, (0,))
     for begin, end in ((0, 16), (0, 100), (16, 100), (100, 4096), (0, len(sound))):
-        hostile.write("wrong.db", sound[:begin] + bytes(one ^ 0xA5 for one in sound[begin:end]) + sound[end:])
-        end_both(hostile, (0, 2) if begin == 16 else (2,))
+        drawn.write("wrong.db", sound[:begin] + bytes(one ^ 0xA5 for one in sound[begin:end]) + sound[end:])
+        end_both(drawn, (0, 2) if begin == 16 else (2,))
     for _ in range(40):
         at, count = chance.randrange(len(sound)), chance.choice([1, 4, 100, 4096])
-        hostile.write("wrong.db", sound[:at] + chance.randbytes(count) + sound[at + count:])
-        end_both(hostile, (0, 2))
-        hostile.write("wrong.db", sound[:at])
-        end_both(hostile, (0, 2) if at > len(sound) - 4096 else (2,))  # the last page is empty but for its head
+        drawn.write("wrong.db", sound[:at] + chance.randbytes(count) + sound[at + count:])
+        end_both(drawn, (0, 2))
+        drawn.write("wrong.db", sound[:at])
+        end_both(drawn, (0, 2) if at > len(sound) - 4096 else (2,))  # the last page is empty but for its head
 
 
 # What is printed, and what is written to a file

@@ -86,8 +86,7 @@ def test_no_field_at_all(room, old, new):
 
 
 def test_documents_all_else_is_the_same(room):
-    """White space of any kind, and numbers that are written in another way: what isn't a word stays, but for what an
-    older copy says of its words."""
+    """What isn't a word stays, as white space, and numbers in any form, but for what an older copy says of itself."""
     choose = random.Random(49)
     parts = {"?": ["1.50", "-0", "1E+2", '"\\u00fc\\/"', '"ü"', "[ 1,2 ]", '{"vbi" : 3}', "null", "1" * 30],
              "~": ["", "", " ", "\n", "\r\n\t", "  "]}
@@ -128,7 +127,7 @@ def words(count):
 
 
 def make(room, *more, count=12, form=FORM, begin=0, name="side.tbc.db"):
-    """The path of a database of so many fields, each third one of which has words, and of what these statements make."""
+    """The path of a database of so many fields, each third one of which has words, and what these statements make."""
     path, fields = room.named(name), []
     pathlib.Path(path).unlink(missing_ok=True)
     for number in range(begin, begin + count):

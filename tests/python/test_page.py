@@ -3,6 +3,7 @@
 import os
 import re
 import xml.etree.ElementTree as xml
+from unittest import mock
 
 from compact import made
 from discs import side
@@ -22,8 +23,7 @@ DAMAGED = "Lx2 1..40 21..40 L 7=83D0A1/?/88FFFB 9=8DC0A1/#79999/#4 11=8AE000/S/#
 
 
 class Page:
-    """The parts of a page, which is XML but for its <meta>: its tags with their attributes, the texts of all elements,
-    and of each list the heads and the rows."""
+    """The parts of a page, which is XML but for its <meta>."""
 
     def __init__(self, text):
         tree = xml.fromstring(re.sub("(<meta [^>]*)>", r"\1/>", text))
@@ -103,8 +103,7 @@ def test_names_are_escaped():
 
 
 def test_long_lists():
-    """Before the first 500 rows of a list stand its groups, or the runs of its numbers, under their heads; and it is
-    said how many rows are left out. Where each second number isn't read, no run has more than one."""
+    """Before the first 500 rows of a list stand its groups, or the runs of its numbers."""
     read = Page(page("1..501 4..9 ?/!/?x167 ~/-/?"))
     assert list(map(" ".join, read.rows["badLines"][:5])) == [
         "18 change 168 1015 1182", "16 change 167 1015 1181", "17 hold 167 1015 1181", "16 unfinished 1 1182 1182", ""]
@@ -116,24 +115,19 @@ def test_long_lists():
     assert "and 150 more groups" in Page(page("1..1300 3:2600/4=B")).texts["p"]
 
 
-def test_bad_lines_are_drawn_up_to_a_count():
-    """And up to a size."""
-    def heads_of(text):
-        return re.findall("<h2>Bad lines, (.*)</h2>", text)
-
-    for text, count, last, heads in (
-            ("1", 0, [], []), ("?/-/-", 1, [(1, 16)], ["drawn"]), ("?/?/?x66 ?", 200, [(67, 18)], ["drawn"]),
-            ("?/?/?x67", 200, [(67, 17)], ["the first 200 of 201, drawn"])):
-        drawn = []
-        assert heads_of(page(text, lambda bad, drawn=drawn: drawn.append(bad[:2]) or "<svg></svg>")) == heads
-        assert (len(drawn), drawn[:1], drawn[-1:]) == (count, [(1, 16)] if count else [], last)
-        assert "<h2>" not in page(text)
-    assert heads_of(page("?/?/?x67", lambda bad: "x" * 600000)) == ["the first 3 of 201, drawn"]
+@pytest.mark.parametrize("text, count, size, heads", (
+    ("1", 0, 1, []), ("?/-/-", 1, 1, ["drawn"]), ("?/?/?x66 ?", 200, 1, ["drawn"]),
+    ("?/?/?x67", 200, 1, ["the first 200 of 201, drawn"]), ("?/?/?x67", 3, 600000, ["the first 3 of 201, drawn"])))
+def test_bad_lines_are_drawn_up_to_a_count_and_a_size(text, count, size, heads):
+    plot = mock.Mock(return_value="x" * size)
+    assert re.findall("<h2>Bad lines, (.*)</h2>", page(text, plot)) == heads
+    bad = made(text, side).analysis.answer.bad_lines
+    assert plot.call_args_list == [mock.call(one) for one in bad[:count]]
+    assert "<h2>" not in page(text)
 
 
 def test_each_drawing_is_that_of_the_same_line_alone(drawn):
-    """The row of a worn line's word is drawn behind it, from column 150 on. A line with a few high columns has no such
-    row, and no line has one without recovered words, nor one that shows a word."""
+    """A line with a few high columns has no row of a word behind it, and none has one without recovered words."""
     words = {(1, 17): 0xF00001, (3, 17): 0xF00002, (3, 18): 0xF00002, (6, 16): 0x8DC0A1}
     lines = {place: worn_line(words[place], NTSC, 7 + count, 10 + count) for count, place in enumerate(words)}
     lines[7, 16], name = line_with(0, NTSC, [(3, 30, True)]), "a <b>&.tbc"
@@ -189,8 +183,7 @@ document.querySelector("pre").textContent = [() => {}, () => click("side"), () =
 
 
 def test_the_index(room):
-    """In a browser it is sorted by a click on the head of a column, and filtered by words typed into its box, which are
-    sought in whole rows. Numbers in names count, and a fault has no fields."""
+    """In a browser it is sorted by clicks, and filtered by words. Numbers in names count, and a fault has no fields."""
     for name, fields in (("a/2", "1..3"), ("a/10", "7..9 12..14"), ("b/1 & #1", "Bx9")):
         room.add("sides/%s.tbc" % name, fields)
         room.write("sides/%s.vbi.json" % name, room.extracted("sides/%s.tbc" % name))

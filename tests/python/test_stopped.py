@@ -6,12 +6,12 @@ far a run is, as text for a terminal."""
 import atexit
 import contextlib
 import io
+import itertools
 import os
 import pathlib
 import random
 import re
 import signal
-import subprocess
 import time
 from multiprocessing import resource_tracker, util
 from unittest import mock
@@ -79,41 +79,30 @@ def new_files(stopped):
 
 @pytest.mark.unrecorded
 def test_at_a_random_moment(stopped):
-    """A run gets a signal, with all of its processes or alone, when a part of its time is over since it began to heed
-    signals."""
-    chance, wanted = random.Random(SEED), {}
+    """All processes of a run get a signal, or the first one alone."""
+    chance, whole = random.Random(SEED), {}
     for words in COMMANDS:
         begun = time.monotonic()
         status, printed, said = stopped.run_command(words, env=buffered())
         assert (said, status in (0, 1)) == ("", True)
-        wanted[words] = (status, printed, new_files(stopped)), time.monotonic() - begun
-    for run in range(RUNS):
-        words = COMMANDS[run % len(COMMANDS)]
+        whole[words] = status, printed, new_files(stopped), time.monotonic() - begun
+    for words in itertools.islice(itertools.cycle(COMMANDS), RUNS):
         number, part, to_all = chance.choice(list(STATUSES)), chance.random(), chance.random() < 0.5
-        whole, seconds = wanted[words]
+        whole_status, whole_text, whole_files, seconds = whole[words]
         process = stopped.started(words, start_new_session=True, preexec_fn=heed_all)
         while not is_heeded(process):
             time.sleep(0.001)
         time.sleep(part * seconds)
         with contextlib.suppress(ProcessLookupError):  # it has ended
             (os.killpg if to_all else os.kill)(process.pid, number)
-        check_stopped(stopped, process, number, *whole)
-
-
-def check_stopped(stopped, process, number, whole_status, whole_text, whole_files):
-    """What a run that got this signal has printed and written is a part of the whole; or it was done before."""
-    try:
         printed, said = process.communicate(timeout=60)
-    except subprocess.TimeoutExpired:
-        os.killpg(process.pid, signal.SIGKILL)
-        raise
-    files = new_files(stopped)
-    assert (said, process.returncode in (STATUSES[number], whole_status, -number)) == (b"", True)
-    if process.returncode == STATUSES[number]:
-        assert whole_text.startswith(printed)
-        assert files.items() <= whole_files.items()
-    else:
-        assert (printed, files) == (whole_text, whole_files)
+        files = new_files(stopped)
+        assert (said, process.returncode in (STATUSES[number], whole_status, -number)) == (b"", True)
+        if process.returncode == STATUSES[number]:
+            assert whole_text.startswith(printed)
+            assert files.items() <= whole_files.items()
+        else:
+            assert (printed, files) == (whole_text, whole_files)
 
 
 @pytest.mark.unrecorded
@@ -164,10 +153,11 @@ def test_faults_that_nobody_thought_of(room, capsys, name, sides, read, fault):
     assert not [*pathlib.Path(room.folder).rglob("*.part")]
 
 
-def scanning(room, words, count):
-    """A scan that has printed so many lines, which are the answer, too."""
+def scanning(room, words):
+    """A scan that has printed the heads of its table."""
     process = room.started("scan --csv " + words, start_new_session=True)
-    return process, [process.stdout.readline().decode() for _ in range(count)]
+    assert process.stdout.readline().startswith(b"side,whole,")
+    return process
 
 
 def test_one_side_fails_and_the_others_are_read(room):
@@ -175,14 +165,14 @@ def test_one_side_fails_and_the_others_are_read(room):
     for name in ("1.tbc", "3.tbc"):
         room.add(name)
     os.mkfifo(room.named("2.vbi.json"))
-    process, lines = scanning(room, "-j 1 --html pages . 2.vbi.json", 2)
-    assert lines[1] == "./1.tbc,yes,0,0,cav,1,30,30,0,1,61,,\n"
+    process = scanning(room, "-j 1 --html pages . 2.vbi.json")
+    assert process.stdout.readline() == b"./1.tbc,yes,0,0,cav,1,30,30,0,1,61,,\n"
     with room.opened_by(process, "2.vbi.json"):
         os.kill(children(process.pid)[0], signal.SIGKILL)
         room.ended(process, 2, b"./2.vbi.json,fault,,,,,,,,,,,its process was ended by SIGKILL\n"
                                b"./3.tbc,yes,0,0,cav,1,30,30,0,1,61,,\n")
     assert room.names("pages") == ["1.html", "3.html", "index.html"]
-    process, _ = scanning(room, "-j 2 . 2.vbi.json", 1)
+    process = scanning(room, "-j 2 . 2.vbi.json")
     process.stdout.close()  # there is no reader any longer
     assert (process.wait(DEADLINE), process.stderr.read()) == (2, b"")
 
@@ -191,12 +181,11 @@ def test_one_side_fails_and_the_others_are_read(room):
     (signal.SIGINT, True, 130, b"", []), (signal.SIGHUP, False, 129, b"", []),
     (signal.SIGKILL, False, 2, b"1.tbc,fault,,,,,,,,,,,its process was ended by SIGKILL\n", ["index.html"])))
 def test_while_a_page_is_written(room, number, to_all, status, row, left):
-    """By Ctrl-C at a terminal, which all processes get, by a signal to the first one alone, or to the one that writes.
-    No process is left over."""
+    """By Ctrl-C, which all processes get, by a signal to the first one, or to the one that writes. None is left."""
     worn = line_with(0xF00001, NTSC, [(430, 441, False)])
     room.add("1.tbc", [[worn, worn, worn]] * 80)
     os.mkdir(room.named("pages"))
-    process, _ = scanning(room, "--html pages 1.tbc", 1)
+    process = scanning(room, "--html pages 1.tbc")
     while not room.names("pages"):
         assert process.poll() is None
         time.sleep(0.005)
@@ -296,8 +285,7 @@ def test_whole_texts(clock):
         "0 of 1 sides, 0 %", "", "0 of 1 sides, 50 %, 0:00 left", "")),
     ([], 1, [], Terminal, shown("")), ([1], 1, [(0, 0.5), None, (0, 1)], io.StringIO, "")))
 def test_a_line_for_all(clock, sizes, seconds, parts, errors, wanted):
-    """What is written while these parts of sides are reached, each so many seconds after the one before; for None the
-    line is emptied. Of the fields of three sides the first has a half, and the others a quarter each."""
+    """What is written while parts of sides are reached, each so many seconds after the other; None empties the line."""
     with mock.patch("sys.stderr", errors()) as said, SidesProgress(sizes) as progress:
         for part in parts:
             if part:
