@@ -1,6 +1,6 @@
-"""Names, documents, metadata and databases that somebody made to do harm, or that broke: whatever they are, a run ends,
-and in time, as python.sh has it, with a documented status. Where that is a fault one line says so, which names the
-file, and nothing is left of what was to be written. The same of outputs that take nothing."""
+"""Names, documents, metadata and databases that somebody made to do harm, or that broke: whatever they are, a run ends
+with a documented status. A fault is one line that names the file, and leaves nothing of what was to be written. The
+same of outputs that take nothing."""
 
 import html
 import json
@@ -211,9 +211,8 @@ def test_outputs_that_take_nothing(drawn):
     in_database(drawn.named("side.db"), *SOUND)
     before, full = drawn.files(), "No space left on device"
     for words in PRINTED:
-        for path, said in (("/dev/full", full), (None, "Bad file descriptor")):
-            with open(path or os.devnull, "wb") as file:
-                close = None if path else lambda: os.close(1)
+        for close, said in ((None, full), (lambda: os.close(1), "Bad file descriptor")):
+            with open("/dev/full", "wb") as file:
                 assert drawn.run_command(words, stdout=file, env=buffered(), preexec_fn=close) == (
                     2, None, "ldvbi-side: standard output: %s\n" % said)
     for words in WRITTEN:

@@ -275,16 +275,16 @@ def test_the_words_of_the_document(copies):
     text = copies.text("side.tbc.json").replace(", ", ",\r\n").replace("\\u00fc", "ü")
     copies.write("side.tbc.json", text)
     before, (wanted, _) = copies.files(), words_of(copies, "side.vbi.json")
-    for name, texts in (("copy.db", ("side.tbc --meta side.tbc.db", "side.tbc LEVELS --meta side.tbc.db",
-                                     "side.vbi.json --meta side.tbc.db")),
-                        ("copy.json", ("side.tbc", "side.tbc LEVELS", "side.tbc --no-recover", "side.tbc --seek 3",
-                                       "side.tbc --document", "side.vbi.json --meta side.tbc.json"))):
+    for name, side, options in (
+            ("copy.db", "side.tbc", "--meta side.tbc.db"), ("copy.db", "side.tbc", "LEVELS --meta side.tbc.db"),
+            ("copy.db", "side.vbi.json", "--meta side.tbc.db"), ("copy.json", "side.tbc", "LEVELS"),
+            ("copy.json", "side.tbc", "--seek 3"), ("copy.json", "side.tbc", "--document"),
+            ("copy.json", "side.vbi.json", "--meta side.tbc.json"), ("copy.json", "side.tbc", "--no-recover")):
         os.chmod(copies.write(name, b"old"), 0o640)
-        for words in texts:
-            shown = {"side.tbc --seek 3": b"field 4, frame 2\n", "side.tbc --document": copies.document}.get(words, b"")
-            assert copies.printed("%s --into %s" % (words, name)) == shown
-            assert words_of(copies, name) == (wanted, "believed")
-            before.setdefault(name, copies.read(name))
+        shown = {"--seek 3": b"field 4, frame 2\n", "--document": copies.document}.get(options, b"")
+        assert copies.printed("%s %s --into %s" % (side, options, name)) == shown
+        assert words_of(copies, name) == (wanted, "believed")
+        assert copies.read(name) == before.setdefault(name, copies.read(name))
         assert os.stat(copies.named(name)).st_mode & 0o777 == 0o640
     assert copies.files() == before
     text = text.replace("{", '{"ldvbiWords": "believed", ', 1)

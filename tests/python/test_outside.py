@@ -1,6 +1,5 @@
-"""What can't be shown as it is, and files of others: texts for messages, terminals and pages, documents without an end,
-signals that are dropped, and pages that another program wrote. Files that appear when they are whole, with parts under
-names of their own as long as names may be, and outputs that would be written in the place of an input."""
+"""What can't be shown as it is, documents without an end, signals that are dropped, and pages that another program wrote.
+Files that appear when they are whole, and outputs that would be written in the place of an input."""
 
 import contextlib
 import functools
@@ -44,8 +43,8 @@ def test_texts(call, text, wanted):
 
 
 def read_document(data):
-    with io.BufferedReader(io.BytesIO(data)) as file:
-        return bytes_of_document(file, file.peek(64))
+    file = io.BufferedReader(io.BytesIO(data))
+    return bytes_of_document(file, file.peek(64))
 
 
 def test_how_much_is_read():
@@ -133,8 +132,8 @@ def test_a_second_one(signals):
 WRONG = {
     "whole": ("perhaps", None, ["yes"]), "fields": (None, True, 1.5), "reasons": (None, ["lost"], [{"text": 1}], 5),
     "numbers": (None, [], {"count": 1, "least": 1}, {"count": "1", "least": 1, "greatest": 1}), "lost": (None,),
-    "format": (1,), "counts": ([], {"lost": 1}),
-    "leadIn": (None, True), "leadOut": ("1",), "try": (1, []), "side": (1,), "options": (None, 1, [1])}
+    "format": (1,), "counts": ([], {"lost": 1}), "leadIn": (None, True), "leadOut": ("1",), "try": (1, []),
+    "side": (1,), "options": (None, 1, [1])}
 META = '<meta name="%s" content="%%s">' % MARK
 NO_PAGES = ("", "<", "<![", "<![if x", "<![[foo]]><body>", "<!doctype [<!", "<" * 100000, "\0" * 100000,
             '<meta name="ldvbi-side">', "<meta name=x>", b"<title>\xff\xfe</title>", *(META % one for one in (
@@ -158,8 +157,9 @@ def refused(room, page, why="no page that --html wrote"):
 def test_what_pages_of_others_say(room, said):
     """However long their head is, of which a part is read at once."""
     assert head_of(page_saying(room, said)) == ("side", said)
-    for name, value in ((name, value) for name, values in WRONG.items() for value in values):
-        refused(room, page_saying(room, dict(said, **{name: value})))
+    for name, values in WRONG.items():
+        for value in values:
+            refused(room, page_saying(room, {**said, name: value}))
     for name in said.keys() - {"version", "system", "unit"}:
         refused(room, page_saying(room, {one: value for one, value in said.items() if one != name}))
     said["reasons"] = [{"why": "x", "whole": "no", "text": "a reason" * 20000}]

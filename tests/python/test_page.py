@@ -44,10 +44,8 @@ def page(one, plot=None, title="side.tbc", more=()):
 def cell(value):
     """What a cell says of a value of the answer."""
     if isinstance(value, dict):
-        return "%s in field %s" % (value["number"], value["field"])
-    if isinstance(value, list):
-        return ", ".join(map(str, value))
-    return {"None": "", "False": "no", "True": "yes"}.get(str(value), str(value))
+        return "%(number)s in field %(field)s" % value
+    return {"None": "", "False": "no", "True": "yes"}.get(str(value), str(value).strip("[]"))
 
 
 def test_each_list_is_there_in_full():
@@ -152,9 +150,9 @@ def test_other_lines(drawn):
     drawn.write("side.tbc", bytes(field))
     for place, text in (("1 263", b">F12345, by the samples as they are"), ("1 1", b">no word: blank (no sample is")):
         assert text in drawn.printed("side.tbc LEVELS --plot-line " + place)
-    for words, text in (("side.tbc LEVELS --plot-line 1 264", "there is no line 264: a field of NTSC has 263"),
-                        ("side.tbc LEVELS --plot-line 2 16", "it has no field 2, but 1 whole fields")):
-        drawn.refused("side.tbc: " + text, words)
+    for place, text in (("1 264", "there is no line 264: a field of NTSC has 263"),
+                        ("2 16", "it has no field 2, but 1 whole fields")):
+        drawn.refused("side.tbc: " + text, "side.tbc LEVELS --plot-line " + place)
     drawn.refused("side.vbi.json is a document, and --plot-line is for a TBC file", "side.vbi.json --plot-line 1 16")
 
 

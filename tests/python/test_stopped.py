@@ -1,7 +1,6 @@
 """Runs of the command that a signal stops at a random moment, from the one on in which the command heeds signals: the
 status is as documented, nothing is said, and nothing unfinished is left. `STOPPED_RUNS` has how many runs there are.
-How scans end whose processes don't: killed, interrupted, or without a reader; what a terminal shows of them, and how
-far a run is, as text for a terminal."""
+How scans end whose processes don't: killed, interrupted, or without a reader; and what a terminal shows of a run."""
 
 import atexit
 import contextlib
