@@ -1,5 +1,5 @@
-"""What can't be shown as it is, documents without an end, signals that are dropped, and pages that another program wrote.
-Files that appear when they are whole, and outputs that would be written in the place of an input."""
+"""What can't be shown as it is, documents without an end, signals that are dropped, and pages of other programs. Files
+that appear when they are whole, and outputs that would be written in the place of an input."""
 
 import contextlib
 import functools

@@ -1,5 +1,5 @@
-"""The command: metadata beside TBC files, tables, chapters. And where what is around it isn't as usual: streams that are
-closed or a terminal's, signals at any time, no reader, names and files of others."""
+"""The command: metadata beside TBC files, tables, chapters. And where what is around it isn't as usual: streams that
+are closed or a terminal's, signals at any time, no reader, names and files of others."""
 
 import contextlib
 import fcntl
