@@ -147,12 +147,7 @@ said_line() {
     { [ -z "$1" ] || printf '%s\n' "$1"; } > wanted
 }
 
-# check_refusal NAME COMMAND..: `check` of a run whose words clap refused. The Rust program is built with any clap 4,
-# which words that in its own way: of that program it is checked that the run was refused.
-check_refusal() {
-    [ -z "${DIFFERENCES:-}" ] || set -- "$1" is_refused
-    check "$@"
-}
+# is_refused: whether clap refused the words of the last run, which each version of it words in its own way
 is_refused() {
     [ "$status" = 2 ] && [ ! -s out ] && [ "$(head -c 7 err)" = 'error: ' ] && ! grep -q '^ldvbi: ' err
 }
