@@ -3,7 +3,6 @@ bytes each time, and compares what it answers with what stands there.
 
 usage: judged.py"""
 
-import functools
 import os
 import re
 import struct
@@ -32,7 +31,7 @@ def tables(name):
     with open(os.path.join(os.path.dirname(__file__), name)) as file:
         text = re.sub("^#.*\n|^\n", "", file.read().replace("\n    ", " "), flags=re.M)
     for table in re.split("^= ", text, flags=re.M)[1:]:
-        head, *rows = table.splitlines()
+        head, *rows = re.split(r" \|\| |\n", table.rstrip())
         kind, *settings = head.split()
         yield kind, settings, [[column.strip() for column in row.split("|")] for text in rows for row in expanded(text)]
 
@@ -110,23 +109,27 @@ def answered(name, asked, fields, answer=NUMBER):
     return found[0]
 
 
-def test_numbers(setting, text, wanted, is_found=False):
+def test_numbers(setting, text, wanted):
     """A side as a whole, and each field by the part around it that its answer depends on."""
     name, counted, _ = setting.split(":")
     *asked, pace = named(*setting.split(":"))
     fields, wanted = side_of(text, counted, RATES[name]), answers_of(wanted, text)
-    for judged_at in [pace] + [NUMBERS.FIND_PACE] * is_found:
-        found, _ = answered("judge", (*asked, judged_at), fields)
-        expect(found == wanted, setting, text, found)
+    found, _ = answered("judge", (*asked, pace), fields)
+    expect(found == wanted, setting, text, found)
     for field, answer in enumerate(wanted):
         begin, number = max(field - 2 * NUMBERS.REACH, 0), FOUND.put(bytes(NUMBER.size))
         part = fields[begin:begin + NUMBERS.PART]
         status = call("judge_field")(*asked, pace, READ.put(b"".join(part)), len(part), field - begin, number)
         found = NUMBER.unpack(FOUND.get(NUMBER.size))
         expect((status, found) == (0, answer), setting, text, "alone", field, status, found)
-    if is_found:
-        found, _ = answered("find_pace", asked, fields, STATE)
-        expect(found == [(pace, )], setting, text, "pace", found)
+    return asked, pace, fields, wanted
+
+
+def test_found(*row):
+    """The same, whose pace is found."""
+    asked, pace, fields, wanted = test_numbers(*row)
+    found = answered("judge", (*asked, NUMBERS.FIND_PACE), fields)[0], answered("find_pace", asked, fields, STATE)[0]
+    expect(found == (wanted, [(pace, )]), *row, "found", *found)
 
 
 def test_chapters(setting, text, wanted):
@@ -189,14 +192,13 @@ def test_completed(setting, text):
 
 # ---- The first of some numbers
 
-def test_first(setting, text, first):
-    """Of the first so many answers, which end where no page follows; of none nothing is read. States are as numbers."""
+def test_first(_, number, text, first):
+    """Of none nothing is read. Where one is found, nothing is read behind it, however many are said to follow."""
     numbers = [NUMBER.pack(*map(int, one.split("*"))) for one in text.split()]
     at_end, is_found = FOUND.put(b"".join(numbers)), int(first) < len(numbers)
-    # Where one is found, nothing is read behind it, however many are said to follow.
     for count, at in ((len(numbers), at_end), (0, FOUND.end), (0, None), *[(2 ** 64 - 1, at_end)] * is_found):
-        found = call("first_of")(at, count, int(setting))
-        expect(found == (int(first) if count else 0), "first of", setting, "in", text, "is", found)
+        found = call("first_of")(at, count, int(number))
+        expect(found == (int(first) if count else 0), "first of", number, "in", text, "is", found)
 
 
 # ---- Whole sides, which are judged already
@@ -270,23 +272,20 @@ def answer_of_side(asked, fields, room, said=None):
     return side, list(GAP.iter_unpack(written[:written_bytes]))
 
 
-def test_side(setting, text, gaps, wanted, nothing=NO_FIELD):
+def test_side(setting, text, gaps, wanted):
     """A side with room for none of its gaps, for some, for all, and for one more. A number in a setting stands for
-    itself."""
+    itself. Of a state that no call answers nothing is believed, and nothing is in doubt."""
     asked = [int(word) if word.isdigit() else named(word)[0] for word in setting.split(":")]
-    fields, gaps = spread(text, judged_field, nothing), [gap_of(gap) for gap in gaps.split(",") if gap]
+    fields, gaps = spread(text, judged_field, NO_FIELD), [gap_of(gap) for gap in gaps.split(",") if gap]
     wanted = side_found(wanted, gaps)
+    for state in (4, 257, 258, 65537, 65538, 0x80000001, 2 ** 32 - 1):
+        odd = spread(text, judged_field, (NO_FIELD[0], NUMBER.pack(700, state), STATE.pack(state)))
+        expect(answer_of_side(asked, odd, 0) == (wanted, []), setting, text, "with the state", state)
     for room in range(len(gaps) + 2):
         found = answer_of_side(asked, fields, room)
         expect(found == (wanted, gaps[:room]), setting, text, room, *found)
     for said in (2 ** 64 - 1, 2 ** 63, 2 ** 60) if gaps else ():
         expect(answer_of_side(asked, fields, len(gaps), said) == (wanted, gaps), setting, text, "room for", said)
-
-
-def test_odd(setting, text, gaps, wanted):
-    """Of what no call answers nothing is believed, and nothing is in doubt."""
-    for state in (4, 257, 258, 65537, 65538, 0x80000001, 2 ** 32 - 1):
-        test_side(setting, text, gaps, wanted, (NO_FIELD[0], NUMBER.pack(700, state), STATE.pack(state)))
 
 
 def test_both(setting, text, wanted):
@@ -297,14 +296,11 @@ def test_both(setting, text, wanted):
 
 
 def main():
-    tests = {"numbers": test_numbers, "found": functools.partial(test_numbers, is_found=True), "shown": test_shown,
-             "chapters": test_chapters, "alone": test_alone, "completed": test_completed, "first": test_first,
-             "side": test_side, "odd": test_odd, "both": test_both}
-    rows = [(tests[kind], setting, row) for name in ("judged.txt", "whole.txt") for kind, settings, rows in tables(name)
+    rows = [(kind, setting, row) for name in ("judged.txt", "whole.txt") for kind, settings, rows in tables(name)
             for setting in settings for row in rows]
-    expect(len(rows) == 604, "there are more rows, or fewer:", len(rows))
-    for test, setting, row in rows:
-        test(setting, *row)
+    expect(len(rows) == 573, "there are more rows, or fewer:", len(rows))
+    for kind, setting, row in rows:
+        globals()["test_" + kind](setting, *row)
     finish()
 
 

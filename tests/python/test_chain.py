@@ -1,13 +1,13 @@
 """What breaks cost, how far apart numbers stand, which are believed, and what becomes of those passed over."""
 
-from compact import cells_of
 from ldvbi_side.answer.missing import Passed, PassedOver
 from ldvbi_side.judge.chain import chosen
 from ldvbi_side.judge.paces import ChapterPace, MinutePace, Pace, price
 from ldvbi_side.judge.readings import Reading
 import pytest
 
-PACES = {"video": Pace("video"), "both": Pace("both"), "film": Pace("film"), "minutes": MinutePace("PAL"),
+VIDEO = Pace("video")
+PACES = {"video": VIDEO, "both": Pace("both"), "film": Pace("film"), "minutes": MinutePace("PAL"),
          "chapters": ChapterPace()}
 # Of a pace: fields, a number, the step to the next one and their variants, and how many fields are too many or too few.
 # A video picture has 2 fields; of both fields the second one is one behind; minutes fit within one minute; one chapter
@@ -42,11 +42,9 @@ def test_least_off():
     for pace in PACES.values():
         ways = [(one, other) for one in range(pace.variants) for other in range(pace.variants)]
         for number, step, fields in rows + [(7, 1, 6001), (8, 3, 5), (8, -2, 9), (3, 2, 17), (3, 90, 4)]:
-            least = pace.least_off(fields, number, step)
+            least = abs(pace.least_off(fields, number, step) or 0)
             offs = [abs(pace.off(fields, number, step, *way) or 0) for way in ways]
-            assert abs(least or 0) <= min(offs)
-            if len(ways) == 1:
-                assert abs(least or 0) == offs[0]
+            assert least == offs[0] if len(ways) == 1 else least <= min(offs)
 
 
 def readings(*numbers, first=1):
@@ -55,59 +53,57 @@ def readings(*numbers, first=1):
 
 
 def believed(ones, sure=()):
-    return [(one.field, one.number) for one in chosen(ones, Pace("video"), dict(sure))]
+    """The fields of which a number is believed, each with it."""
+    return {one.field: one.number for one in chosen(ones, VIDEO, dict(sure))}
 
 
 # Many numbers, one in four fields or more, are noise if few go on with one of the four before.
 def test_noise():
-    video = PACES["video"]
     noise = [Reading(4 * place, place ** 3 % 10007, 4, (17, 18)) for place in range(1, 1002)]
-    assert chosen(noise, video, {}) == []
+    assert not believed(noise)
     for others in (noise[:1000], noise[:-1] + [noise[-1]._replace(field=4009)],  # few, and too far apart
                    noise[:749] + readings(*range(252), first=3001)):
-        assert chosen(others, video, {})
+        assert believed(others)
     sure = {one.field: one.number for one in noise[::500]}  # between two of the library's there are fewer
-    assert len(chosen(noise, video, sure)) > len(sure)
+    assert len(believed(noise, sure)) > len(sure)
 
 
-def test_which_are_believed():
-    """Of two of a field the one that fits, of two that fit equally well none; pass 1 counts for more than 2."""
-    on, still, wild = list(range(1, 20)), [1, 2, 3, *[4] * 50, 5, 6, 7], list(range(40000, 40020))
-    two = [Reading(1, 5, 2, (17,)), Reading(1, 6, 2, (18,))]
-    for ones, wanted in (
-            ([], []), (readings(5, 6, 70000, 8, 9), [5, 6, 8, 9]), (two, []),
-            (sorted(readings(5, 6, 7) + [Reading(3, 80, 2, (18,))]), [5, 6, 7]),
-            ([two[0], Reading(1, 6, 1, (18,))], [5]),
-            # a jump that many follow, and a wild number at the end; a number that stays costs nothing
-            (readings(*on, *wild), on + wild), (readings(*on, 40000), on), (readings(*still), still),
-            # it fits the still before it, but the number behind it goes back
-            (readings(*[30] * 10, 31, *[30] * 10), [30] * 20)):
-        assert [number for _, number in believed(ones)] == wanted
-    ones = [*readings(5), Reading(3, 7, 2, (17,)), Reading(3, 5, 2, (18,)), *readings(7, first=5)]
-    assert 3 not in dict(believed(ones))
+ON, STILL, WILD = list(range(1, 20)), [1, 2, 3, *[4] * 50, 5, 6, 7], list(range(40000, 40020))
+TWO = [Reading(1, 5, 2, (17,)), Reading(1, 6, 2, (18,))]
+
+
+# Of two of a field the one that fits, of two that fit equally well none; pass 1 counts for more than 2. A jump that
+# many follow, and a wild number at the end; a number that stays costs nothing; one fits the still before it, but the
+# number behind it goes back.
+@pytest.mark.parametrize("ones, wanted", (
+    ([], []), (readings(5, 6, 70000, 8, 9), [5, 6, 8, 9]), (TWO, []), ([TWO[0], Reading(1, 6, 1, (18,))], [5]),
+    (sorted(readings(5, 6, 7) + [Reading(3, 80, 2, (18,))]), [5, 6, 7]), (readings(*ON, *WILD), ON + WILD),
+    (readings(*ON, 40000), ON), (readings(*STILL), STILL), (readings(*[30] * 10, 31, *[30] * 10), [30] * 20),
+    ([*readings(5), Reading(3, 7, 2, (17,)), Reading(3, 5, 2, (18,)), *readings(7, first=5)], [5, 7])))
+def test_which_are_believed(ones, wanted):
+    assert list(believed(ones).values()) == wanted
 
 
 def test_between_two_that_are_sure():
     """Of a single number the two breaks cost more than it weighs, of ten they don't; a sure one is believed whatever
     stands around it or in its field."""
-    assert believed(readings(1, 2, 70000, 4, 5), {3: 2, 7: 4}) == [(1, 1), (3, 2), (7, 4), (9, 5)]
-    row = readings(1, 2, *range(500, 510), 13, 14)
-    assert [number for _, number in believed(row, {3: 2, 25: 13})] == [1, 2, *range(500, 510), 13, 14]
-    ones = readings(1, 2, 3, 4, 5)
-    ones[2:3] = [Reading(5, 900, 1, (17,)), Reading(5, 3, 4, (18,))]
-    assert believed(ones, {5: 900}) == [(5, 900)]
+    assert believed(readings(1, 2, 70000, 4, 5), {3: 2, 7: 4}) == {1: 1, 3: 2, 7: 4, 9: 5}
+    row = [1, 2, *range(500, 510), 13, 14]
+    assert list(believed(readings(*row), {3: 2, 25: 13}).values()) == row
+    both = [*readings(1, 2), Reading(5, 900, 1, (17,)), Reading(5, 3, 4, (18,)), *readings(4, 5, first=7)]
+    assert believed(both, {5: 900}) == {5: 900}
 
 
 def test_a_long_row_of_wrong_numbers():
     """As far as the search goes back, and beyond. Those that fit one another weigh 14, and the jumps there and back
     cost 8 each: the best of all chains goes astray before the end."""
     for count in (30, 39, 40, 41):
-        right = list(range(1, 31)), list(range(31 + count, 121))
-        ones = readings(*right[0], *[(place * 7919) % 79999 for place in range(30, 30 + count)], *right[1])
-        assert [number for _, number in believed(ones)] == right[0] + right[1]
+        right = *range(1, 31), *range(31 + count, 121)
+        wrong = [(place * 7919) % 79999 for place in range(30, 30 + count)]
+        assert tuple(believed(readings(*right[:30], *wrong, *right[30:])).values()) == right
     wrong = [Reading(41 + 2 * place, 61 + place, 1, (18,)) for place in range(14)]
     ones = believed(readings(*range(1, 21)) + wrong + readings(*range(35, 61), first=69))
-    assert [number for _, number in ones] == [*range(1, 21), *range(35, 61)]
+    assert list(ones.values()) == [*range(1, 21), *range(35, 61)]
 
 
 def test_a_chain_that_went_astray():
@@ -118,29 +114,22 @@ def test_a_chain_that_went_astray():
         wrong = [Reading(40, 21, 3, (17,)), *(Reading(41 + place, (place * 7919 + 30000) % 79999, 1, (18,))
                                               for place in range(count - 1))]
         ones = believed(readings(*range(1, 21)) + wrong + readings(*range(60, 80), first=119))
-        assert [number for _, number in ones] == [*range(1, 21), *range(60, 80)]
+        assert list(ones.values()) == [*range(1, 21), *range(60, 80)]
 
 
-# Which numbers were passed over, for how many of them there are fields, whether fields are lost, and why each is
-# missing. A field for a number is enough, and between two sides (50 to 200 in the last row) it is none of either.
-FATES = """
-    at either end of a wide jump | 1-100 5 True | 1-5 undecided, 6-95 lost, 96-100 undecided
-    no field | 1-100 0 True | 1-100 lost || one | 1-100 1 True | 2-99 lost
-    for a tenth | 1-100 10 True | 1-10 undecided, 11-90 lost, 91-100 undecided
-    for more | 1-100 11 True | 1-100 undecided || no field is lost | 1-100 0 False | 1-100 unread
-    with fields for all | 1-100 100 False | 1-100 unread || it is left open | 1-100 0 None | 1-100 undecided
-    with fields for all | 1-100 100 None | 1-100 undecided
-    more than once | 1-100 0 True, 40-60 0 False, 55-80 0 None | 1-39 lost, 40-60 unread, 61-80 undecided, 81-100 lost,
-        101-200 unshown, 201-201 undecided
-"""
-
-
-@pytest.mark.parametrize("name, passed, fates", cells_of(FATES))
-def test_fates(name, passed, fates):
-    ones = [one.replace("-", " ").split() for one in passed.split(", ")]
-    spans = {"unread": [], "undecided": [], "lost": [], "unshown": [(50, 200)] if len(ones) > 1 else []}
-    for *numbers, is_lost in ones:
-        for why, *span in Passed(*map(int, numbers), {"True": True, "False": False}.get(is_lost)).parts():
+# The first and the last number that were passed over, for how many of them there are fields, and whether fields are
+# lost; and why each is missing. Between two sides (50 to 200 in the last row) a number is of neither.
+@pytest.mark.parametrize("passed, fates", (
+    ([(1, 100, 5, True)], "1-5 undecided, 6-95 lost, 96-100 undecided"), ([(1, 100, 0, True)], "1-100 lost"),
+    ([(1, 100, 10, True)], "1-10 undecided, 11-90 lost, 91-100 undecided"), ([(1, 100, 11, True)], "1-100 undecided"),
+    ([(1, 100, 1, True)], "1-1 undecided, 2-99 lost"), ([(1, 100, 100, False)], "1-100 unread"),
+    ([(1, 100, 100, None)], "1-100 undecided"),
+    ([(1, 100, 0, True), (40, 60, 0, False), (55, 80, 0, None)],
+     "1-39 lost, 40-60 unread, 61-80 undecided, 81-100 lost, 101-200 unshown, 201-201 undecided")))
+def test_fates(passed, fates):
+    spans = {"unread": [], "undecided": [], "lost": [], "unshown": [(50, 200)] if len(passed) > 1 else []}
+    for one in passed:
+        for why, *span in Passed(*one).parts():
             spans[why].append(tuple(span))
     found = PassedOver(list(spans.items()))
     for first, last, why in (fate.replace("-", " ").split() for fate in fates.split(", ")):

@@ -25,33 +25,32 @@ STATES = (
     ("t1497..1502 5=B", "1497b - 1498b - 1499u - 1500b - 1501b - 1502b -", 2, 3))
 
 
-def judged(text, *words):
+def asked(call, text, *words, **more):
+    """What a call answers of the side with this text."""
     one = made(text, side)
-    return ldvbi.judge(one.readings, one.system, *words)
+    return call(one.readings, one.system, *words, **more)
 
 
 def test_states_rows():
     for text, wanted, *words in STATES:
         assert " ".join("-" if one == NOTHING else "%d%s" % (one.number, LETTERS[one.state]) for one in
-                        judged(text, *words)) == wanted
+                        asked(ldvbi.judge, text, *words)) == wanted
 
 
 def test_paces():
     for text, pace, *words in (("NTSC f1..3", Pace.film), ("NTSC f1..3", Pace.video, Counted.times),
                                ("f1..3", Pace.video, 1)):
-        one = made(text, side)
-        assert ldvbi.find_pace(one.readings, one.system, *words) is pace
+        assert asked(ldvbi.find_pace, text, *words) is pace
 
 
 def test_one_field():
     """Each of the first fields, of the 97 that all of them rest on."""
-    numbers = judged("NTSC f1..59 41=B 61=999", "pictures", "film")
-    readings = made("NTSC f1..59 41=B 61=999", side).readings[:97]
-    assert [ldvbi.judge_field(readings, field, "NTSC", "pictures", "film") for field in range(49)] == numbers[:49]
+    fields, words = made("NTSC f1..59 41=B 61=999", side).readings, ("NTSC", "pictures", "film")
+    assert [ldvbi.judge_field(fields[:97], place, *words) for place in range(49)] == ldvbi.judge(fields, *words)[:49]
 
 
 def test_first_of():
-    numbers = judged("1..3 -/#79999/- B 5..7 30 3..6")
+    numbers = asked(ldvbi.judge, "1..3 -/#79999/- B 5..7 30 3..6")
     assert [ldvbi.first_of(numbers, number) for number in (None, *range(9), 30, 79999)] == [
         None, None, 0, 2, 4, 6, 8, 10, 12, None, None, None]
 
@@ -67,20 +66,19 @@ def test_each(room):
     with ldvbi.Stream(room.path, *NTSC) as stream:
         block, = stream.packed(0, 8)
         known = bytes(block)
-        for form in (lambda: readings, lambda: tuple(readings), lambda: iter(readings), lambda: plain,
-                     lambda: ldvbi.fields(room.path, *NTSC), lambda: stream, lambda: block, lambda: known,
-                     lambda: bytearray(known), lambda: memoryview(known), lambda: memoryview(b"x" + known)[1:],
-                     lambda: (ctypes.c_uint32 * 48).from_buffer_copy(known)):
+        for form in (lambda: readings, lambda: iter(readings), lambda: plain, lambda: ldvbi.fields(room.path, *NTSC),
+                     lambda: stream, lambda: block, lambda: known, lambda: bytearray(known),
+                     lambda: memoryview(b"x" + known)[1:], lambda: (ctypes.c_uint32 * 48).from_buffer_copy(known)):
             assert (ldvbi.judge(form(), ldvbi.System.NTSC), ldvbi.judge_chapters(form())) == wanted
     assert (len(readings), reason(ldvbi.judge, stream, "NTSC")) == (8, "the stream is closed")
     assert repr(ldvbi.judge(known, "NTSC")[0]) == "Number(number=3, state=<State.believed: 1>)"
 
 
-@pytest.mark.parametrize("one", ([], (), b"", iter([]), ldvbi.Stream(b"", *NTSC)))
+@pytest.mark.parametrize("one", ([], b"", iter([]), ldvbi.Stream(b"", *NTSC)))
 def test_none(one):
     assert [ldvbi.judge(one, "NTSC"), ldvbi.judge_chapters(one), ldvbi.judge_stops(one)] == [[]] * 3
-    assert ldvbi.find_pace(one, "NTSC") is Pace.video
-    assert ldvbi.first_of(ldvbi.judge(one, "NTSC"), 5) is None
+    assert (ldvbi.find_pace(one, "NTSC"), ldvbi.complete_times(one, "NTSC")) == (Pace.video, b"")
+    assert ldvbi.first_of([], 5) is None
 
 
 def test_refused():
@@ -88,7 +86,6 @@ def test_refused():
     for readings, text in ((None, "readings are not those of fields, but of the type NoneType"),
                            (b"12345", "packed readings have 24 bytes to a field, and these are 5"),
                            ([[line] * 3, [line] * 2], "readings[1] is not three readings"),
-                           ([[line, line, (0, 0, 0)]], "readings[0] is not three readings"),
                            ([[line, line, (0, 0, 0, 2 ** 32)]], "readings[0] is not three readings"),
                            ("ab", "readings[0] is not three readings")):
         for call, *words in ((ldvbi.judge, "PAL"), (ldvbi.find_pace, "PAL"), (ldvbi.complete_times, "PAL"),
@@ -96,70 +93,56 @@ def test_refused():
             assert reason(call, readings, *words) == text
 
 
-def test_times_that_are_completed(room):
-    """Times without their minute, in each form. What the library completes has tests/library/judged.txt. It is judged
-    as what was read: by itself no field here would be believed."""
+def test_times_that_are_completed():
+    """By itself no field here would be believed. What the library completes has tests/library/judged.txt."""
     text = "t1496..1497 s59.23/-/- B s59.24/-/- B s0.0/-/- B s0.1/-/- B s0.2/-/-"
-    fields, none = made(text, side).readings, made("u1..9", side).readings
     wanted = made("t1496..1497 s59.23/@0:00/- B s59.24/@0:00/- B s0.0/@0:01/- B s0.1/@0:01/- B s0.2/@0:01/-", side)
-    write_stream(room.path, PAL, words_of(text))
-    with ldvbi.Stream(room.path, *PAL) as stream:
-        for form in (fields, fields.data, iter(fields), bytearray(fields.data), stream):
-            assert ldvbi.complete_times(form, ldvbi.System.PAL) == wanted.readings.data
-    assert (ldvbi.complete_times(none, "PAL"), ldvbi.complete_times([], "NTSC")) == (none.data, b"")
-    before, after = (ldvbi.judge(one, "PAL", "times") for one in (fields, wanted.readings))
-    assert [one.state for one in before[::2]] == [State.doubtful] * 2 + [State.nothing] * 5
-    assert after[::2] == [Number(number, State.believed) for number in range(1496, 1503)]
-
-
-def judged_side(text, *words, **more):
-    one = made(text, side)
-    return ldvbi.judge_side(one.readings, one.system, *words, **more)
+    completed = asked(ldvbi.complete_times, text)
+    assert completed == wanted.readings.data
+    assert ldvbi.judge(completed, "PAL", "times")[::2] == [(number, State.believed) for number in range(1496, 1503)]
 
 
 def test_what_stands_beside():
-    found = judged_side("L 1..30!15 22=? O")
+    found = asked(ldvbi.judge_side, "L 1..30!15 22=? O")
     assert (found.first, found.last, found.swap, found.pace, found.on_both) == (1, 57, None, Pace.video, False)
     assert found.tally._asdict() == dict.fromkeys(found.tally._fields, 0) | {
         "gaps": 1, "lost": 2, "lost_numbers": 1, "unread": 1}
     assert found.gaps == (Gap(27, 29, 2, 0, 14, 16, GapKind.lost),)
-    assert found.numbers == judged("L 1..30!15 22=? O")
+    assert found.numbers == asked(ldvbi.judge, "L 1..30!15 22=? O")
     # the field that shows picture 11, which belongs into the one before
-    found = judged_side("1..30 ~21 O")
+    found = asked(ldvbi.judge_side, "1..30 ~21 O")
     assert (found.verdict, found.reasons, found.swap) == (Verdict.not_whole, Reason.is_swapped, 21)
-    found = judged_side("1..30 -/#70/#70 B -/#80/#80 B 200..230 O")
+    found = asked(ldvbi.judge_side, "1..30 -/#70/#70 B -/#80/#80 B 200..230 O")
     assert found.gaps == (Gap(58, 64, 334, 2, 30, 200, GapKind.lost),)
-    found = judged_side("L Bx9 O")
+    found = asked(ldvbi.judge_side, "L Bx9 O")
     assert (found.first, found.last, found.swap, found.gaps, found.reasons) == (None, None, None, (), Reason.no_numbers)
 
 
 def test_what_is_asked():
-    assert judged_side("1..30", may_end=True).verdict is Verdict.whole
+    assert asked(ldvbi.judge_side, "1..30", may_end=True).verdict is Verdict.whole
     for both, is_so in ((Both.find, True), ("on_both", True), (1, True), (Both.on_one, False)):
-        found = judged_side("b1..30 O", both=both)
+        found = asked(ldvbi.judge_side, "b1..30 O", both=both)
         assert (found.on_both, found.verdict is Verdict.whole) == (is_so, is_so)
     for pace, wanted in (("film", Pace.film), (Pace.video, Pace.video), (3, Pace.film)):
-        assert judged_side("NTSC f1..30", "pictures", pace).pace is wanted
+        assert asked(ldvbi.judge_side, "NTSC f1..30", "pictures", pace).pace is wanted
 
 
 def test_many_gaps():
     """All of them, also where there are more than a first call has room for: pictures 4, 14, .. are lost."""
-    found = judged_side("1..1000!4%10 O")
+    found = asked(ldvbi.judge_side, "1..1000!4%10 O")
     assert [(gap.from_, gap.to, gap.fields) for gap in found.gaps] == [
         (number - 1, number + 1, 2) for number in range(4, 1000, 10)]
     assert (found.tally.gaps, found.tally.lost) == (100, 200)
 
 
 def test_ends():
-    """One line in pass 1, or two lines, on lines 17 and 18. Of stops test_sides.py has more."""
-    states = ldvbi.judge_ends(made("L O -/88FFFF/- -/-/80EEEE* -/88FFFF*/80EEEE* 88FFFF/-/- 1", side).readings)
-    assert [state.name for state in states] == ["lead_in", "lead_out", "lead_in", "doubtful", "doubtful", "none",
-                                                "none", "none"]
+    """Of stops test_sides.py has more."""
+    states = ldvbi.judge_ends(made("L O -/88FFFF*/80EEEE* 88FFFF/-/-", side).readings)
+    assert [state.name for state in states] == ["lead_in", "lead_out", "doubtful", "none"]
 
 
 def side_of(fields, setup=PAL, rest=0):
-    """A side of these fields, or of those of a text, in memory. No pages are touched but those of drawn lines."""
-    fields = words_of(fields) if isinstance(fields, str) else fields
+    """A side of these fields in memory. No pages are touched but those of drawn lines."""
     length = len(fields) * ldvbi.field_bytes(setup[0]) + rest
     memory = mmap.mmap(-1, max(length, 1))
     write_fields(memory, setup, fields)
@@ -173,16 +156,16 @@ SOUGHT = (
     ("f100..299", NTSC, (206,), (265, *FILM)), ("f100..299", NTSC, (206, "pictures", "film"), (265, *FILM)),
     ("t3000..3399", PAL, (3111, "times"), (222, *VIDEO)), (MISREAD, PAL, (150,), (298, State.due, Pace.video)),
     (MISREAD, PAL, (79999,), None), ("", PAL, (5,), None), ("5..6", PAL, (5,), None), ("5..7", PAL, (6,), (2, *VIDEO)),
-    *(("Lx30 1..399 Ox300", PAL, (number,), (28 + 2 * number, *VIDEO)) for number in (1, 2, 3, 30, 199, 200, 398, 399)),
+    *(("Lx30 1..399 Ox300", PAL, (number,), (28 + 2 * number, *VIDEO)) for number in (1, 2, 30, 199, 200, 398, 399)),
     *(("Lx30 1..399 Ox300", PAL, (number,), None) for number in (0, 400, 79999, 2 ** 32 - 1)))
 
 
 def test_seeking():
-    for text, setup, asked, wanted in SOUGHT:
-        found = ldvbi.seek(side_of(text, setup), *asked)
+    for text, setup, words, wanted in SOUGHT:
+        found = ldvbi.seek(side_of(words_of(text), setup), *words)
         assert (found and (found.field, found.number.state, found.pace)) == wanted
-        assert found is None or found.number.number == asked[0]
-    cut = side_of("5..7", rest=700000)
+        assert found is None or found.number.number == words[0]
+    cut = side_of(words_of("5..7"), rest=700000)
     assert ldvbi.seek(cut, 7)[0] == 4
     cut.close()
     assert reason(ldvbi.seek, cut, 7) == "the stream is closed"
