@@ -15,10 +15,12 @@ from ldvbi_side.answer.as_json import as_json
 from ldvbi_side.answer.entries import Doubt, Lost, Missing, Speed, Stretch, Swapped
 from ldvbi_side.answer.gaps import Gaps
 from ldvbi_side.answer.whole import counted_by, reasons_of
+from ldvbi_side.command.map import COLUMNS, map_rows
 from ldvbi_side.judge.paces import Unit
 from ldvbi_side.judge.places import Break
 from ldvbi_side.judge.readings import Stray
 import pytest
+from streams import TOP
 
 MOST = 16  # fields whose calls a field of noise may take
 ROWS = list(table_in(os.path.join(os.path.dirname(__file__), "sides.txt")))
@@ -28,8 +30,6 @@ ROWS = list(table_in(os.path.join(os.path.dirname(__file__), "sides.txt")))
 def test_row(cells, more):
     check_row(*cells, **more)
 
-
-# ---- Numbers
 
 def test_what_stands_beside_entries():
     one = made("1..600 799=79999")["doubtful"][0]
@@ -48,6 +48,16 @@ def test_what_stands_beside_entries():
                               {"field": 15, "frame": 7, "number": 8, "lines": [16, 17, 18]},
                               {"field": 20, "frame": 10, "number": None, "lines": [16]}]
     assert [one["pass"] for one in found["stray"]] == [2, 3]
+
+
+def test_what_schema_and_map_say():
+    """With which field frame 1 begins, and that columns count from 1: the first field shows picture 1 and begins the
+    first frame."""
+    with open(os.path.join(TOP, "share/schema/ldvbi-side.schema.json"), encoding="utf-8") as file:
+        assert "frame 1 begins: 2 if `isFirstField` of field 1 is false, else 1." in file.read()
+    row = dict(zip(COLUMNS, next(iter(map_rows(made("1..30", typed))))))
+    assert (row["kind"], row["number"]) == ("picture", 1)
+    assert all(COLUMNS[column].endswith("from %d" % row[column]) for column in ("field", "frame"))
 
 
 def test_loops():
@@ -93,8 +103,6 @@ def test_the_worst_sides():
         assert calls(fields) < most
 
 
-# ---- Parts
-
 def test_the_stops_that_the_library_believes():
     chance, items = random.Random(82), ["-", "?", "S", "S", "S*", "S^", "#7", "8BA0A1"]
     text = " ".join("/".join(chance.choice(items) for _ in range(3)) for _ in range(500))
@@ -120,16 +128,6 @@ def test_bad_lines():
                     {"field": 2, "line": 17, "cause": "hold 200", "column": 200, "offset": 507780, "bytes": 1820},
                     {"field": 2, "line": 18, "cause": "unfinished", "column": None, "offset": 509600, "bytes": 1820}]
     assert [(one["offset"], one["bytes"]) for one in pal] == [(744560, 2270), (746830, 2270), (749100, 2270)]
-
-
-# ---- Whether a side is whole
-
-def test_numbers_on_their_own_in_a_wide_jump():
-    found = made("1..60 90 120 150 180 210 240..299")
-    lost = {number for one in found["missing"] if one["why"] == "lost"
-            for number in range(one["first"], one["last"] + 1)}
-    assert found["breaks"] == [{"kind": "lost", "after": 119, "before": 131, "from": 60, "to": 240, "fields": 348}]
-    assert ({90, 120, 150, 180, 210} & lost, {70, 100, 200} - lost) == (set(), set())
 
 
 @pytest.mark.parametrize("text, said, breaks", (
