@@ -11,7 +11,6 @@ import ldvbi
 from ldvbi import Both, Counted, Gap, GapKind, Number, Pace, Reason, State, Verdict
 import pytest
 from room import reason
-from simulate import simulated
 from streams import NTSC, PAL, write_fields, write_stream
 
 NOTHING = Number(None, State.nothing)
@@ -37,16 +36,12 @@ def test_states_rows():
                         asked(ldvbi.judge, text, *words)) == wanted
 
 
-def test_paces():
-    for text, pace, *words in (("NTSC f1..3", Pace.film), ("NTSC f1..3", Pace.video, Counted.times),
-                               ("f1..3", Pace.video, 1)):
-        assert asked(ldvbi.find_pace, text, *words) is pace
-
-
 def test_one_field():
-    """Each of the first fields, of the 97 that all of them rest on."""
+    """Each of the first fields, of the 97 that all of them rest on, and the pace of all."""
     fields, words = made("NTSC f1..59 41=B 61=999", side).readings, ("NTSC", "pictures", "film")
     assert [ldvbi.judge_field(fields[:97], place, *words) for place in range(49)] == ldvbi.judge(fields, *words)[:49]
+    paces = [ldvbi.find_pace(fields, *asked) for asked in (("NTSC",), ("NTSC", Counted.times), ("PAL", 1))]
+    assert paces == [Pace.film, Pace.video, Pace.video]
 
 
 def test_first_of():
@@ -125,10 +120,7 @@ def test_what_is_asked():
         assert (found.on_both, found.verdict is Verdict.whole) == (is_so, is_so)
     for pace, wanted in (("film", Pace.film), (Pace.video, Pace.video), (3, Pace.film)):
         assert asked(ldvbi.judge_side, "NTSC f1..30", "pictures", pace).pace is wanted
-
-
-def test_many_gaps():
-    """All of them, also where there are more than a first call has room for: pictures 4, 14, .. are lost."""
+    # more gaps than a first call has room for: pictures 4, 14, .. are lost
     found = asked(ldvbi.judge_side, "1..1000!4%10 O")
     assert [(gap.from_, gap.to, gap.fields) for gap in found.gaps] == [
         (number - 1, number + 1, 2) for number in range(4, 1000, 10)]
@@ -141,8 +133,9 @@ def test_ends():
     assert [state.name for state in states] == ["lead_in", "lead_out", "doubtful", "none"]
 
 
-def side_of(fields, setup=PAL, rest=0):
-    """A side of these fields in memory. No pages are touched but those of drawn lines."""
+def side_of(text, setup=PAL, rest=0):
+    """The side with this text in memory. No pages are touched but those of drawn lines."""
+    fields = words_of(text)
     length = len(fields) * ldvbi.field_bytes(setup[0]) + rest
     memory = mmap.mmap(-1, max(length, 1))
     write_fields(memory, setup, fields)
@@ -150,38 +143,31 @@ def side_of(fields, setup=PAL, rest=0):
 
 
 VIDEO, FILM = (State.believed, Pace.video), (State.believed, Pace.film)
-MISREAD = "1..299 299=-/#79999/#7"  # picture 150
+MISREAD, LONG = "1..299 299=-/#79999/#7", "Lx30 1..399 Ox300"  # picture 150 is misread
 # Numbers that are sought in the bytes of a side, and the answer: the field, counted from 0, the state, and the pace
 SOUGHT = (
     ("f100..299", NTSC, (206,), (265, *FILM)), ("f100..299", NTSC, (206, "pictures", "film"), (265, *FILM)),
     ("t3000..3399", PAL, (3111, "times"), (222, *VIDEO)), (MISREAD, PAL, (150,), (298, State.due, Pace.video)),
     (MISREAD, PAL, (79999,), None), ("", PAL, (5,), None), ("5..6", PAL, (5,), None), ("5..7", PAL, (6,), (2, *VIDEO)),
-    *(("Lx30 1..399 Ox300", PAL, (number,), (28 + 2 * number, *VIDEO)) for number in (1, 2, 30, 199, 200, 398, 399)),
-    *(("Lx30 1..399 Ox300", PAL, (number,), None) for number in (0, 400, 79999, 2 ** 32 - 1)))
+    *((LONG, PAL, (number,), (28 + 2 * number, *VIDEO)) for number in (1, 2, 30, 199, 200, 398, 399)),
+    *((LONG, PAL, (number,), None) for number in (0, 400, 79999, 2 ** 32 - 1)))
 
 
 def test_seeking():
     for text, setup, words, wanted in SOUGHT:
-        found = ldvbi.seek(side_of(words_of(text), setup), *words)
+        found = ldvbi.seek(side_of(text, setup), *words)
         assert (found and (found.field, found.number.state, found.pace)) == wanted
         assert found is None or found.number.number == words[0]
-    cut = side_of(words_of("5..7"), rest=700000)
+    cut = side_of("5..7", rest=700000)
     assert ldvbi.seek(cut, 7)[0] == 4
     cut.close()
     assert reason(ldvbi.seek, cut, 7) == "the stream is closed"
 
 
-def test_most_numbers_of_simulated_sides_are_found():
-    found, known = 0, 0
-    for seed in range(20):
-        one = simulated(seed, count=250)
-        setup = NTSC if one.document["videoParameters"]["system"] == "NTSC" else PAL
-        stream = side_of([field["vbi"]["vbiData"] for field in one.document["fields"]], setup)
-        counted = "times" if one.layout.startswith("clv") else "pictures"
-        answers = ldvbi.judge(stream, setup[0], counted)
-        for number in set(one.numbers[::37]) - {None}:
-            is_found = ldvbi.seek(stream, number, counted) is not None
-            found += is_found
-            known += is_found or ldvbi.first_of(answers, number) is not None
-    assert known > 20
-    assert found >= 0.97 * known
+def test_numbers_of_a_damaged_side_are_found():
+    """Where they are first in the whole side: each third picture isn't read, and some are misread."""
+    damaged = side_of("1..299 3:590/6=? 11:590/22=-/#79999/#7 241:260=B")
+    numbers = ldvbi.judge(damaged, "PAL")
+    for number in range(1, 300, 7):
+        found, first = ldvbi.seek(damaged, number), ldvbi.first_of(numbers, number)
+        assert (found and found.field) == first, number
