@@ -24,9 +24,10 @@ BETWEEN = {"video": "7 5 0 0: 10", "film": "1 1 0 0: 3, 2 1 0 0: 2, 1 4 0 0: 10,
 NUMBERS = {"video": "5: 2", "both": "3: 1", "film": "2: 1, 4: 1, 5: 2, 7: 3", "minutes": "2999: 0, 5999: 1"}
 
 
-def test_a_break_costs_1_and_its_binary_digits():
-    for off, cost in ((0, 0), (1, 2), (2, 3), (4, 4), (20, 6), (20000, 16), (-1, 2), (-20, 6), (None, 0)):
-        assert price(off) == cost
+# A break costs 1 and its binary digits.
+@pytest.mark.parametrize("off, cost", ((0, 0), (1, 2), (2, 3), (4, 4), (20000, 16), (-1, 2), (-20, 6), (None, 0)))
+def test_price(off, cost):
+    assert price(off) == cost
 
 
 @pytest.mark.parametrize("name, table", (("off", OFF), ("between", BETWEEN), ("numbers_in", NUMBERS)))
@@ -95,12 +96,12 @@ def test_between_two_that_are_sure():
 
 
 def test_a_long_row_of_wrong_numbers():
-    """As far as the search goes back, and beyond. Those that fit one another weigh 14, and the jumps there and back
-    cost 8 each: the best of all chains goes astray before the end."""
+    """Those that fit one another weigh 14, and the jumps there and back cost 8 each: the best of all chains goes astray
+    before the end."""
     for count in (30, 39, 40, 41):
-        right = *range(1, 31), *range(31 + count, 121)
         wrong = [(place * 7919) % 79999 for place in range(30, 30 + count)]
-        assert tuple(believed(readings(*right[:30], *wrong, *right[30:])).values()) == right
+        ones = believed(readings(*range(1, 31), *wrong, *range(31 + count, 121)))
+        assert list(ones.values()) == [*range(1, 31), *range(31 + count, 121)]
     wrong = [Reading(41 + 2 * place, 61 + place, 1, (18,)) for place in range(14)]
     ones = believed(readings(*range(1, 21)) + wrong + readings(*range(35, 61), first=69))
     assert list(ones.values()) == [*range(1, 21), *range(35, 61)]

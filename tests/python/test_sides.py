@@ -6,7 +6,7 @@ import os
 import random
 
 from compact import check_row, made, of_member, rows, table_in
-from discs import answer, picture, plain, side, typed
+from discs import answer, minutes, picture, plain, second, side, typed
 import ldvbi
 from ldvbi import Kind, Reason
 from ldvbi.readings import Cut
@@ -32,10 +32,9 @@ def test_row(cells, more):
 
 
 def test_what_stands_beside_entries():
-    one = made("1..600 799=79999")["doubtful"][0]
-    assert (one["before"], one["after"]) == ({"field": 797, "number": 399}, {"field": 801, "number": 401})
-    assert [(one["before"], one["after"]) for one in made("1..30 1.18=#7 59.18=#7")["doubtful"]] == [
-        (None, {"number": 2, "field": 3}), ({"number": 29, "field": 57}, None)]
+    assert [(one["before"], one["after"]) for one in made("1..30 1.18=#7 9.18=#7 59.18=#7")["doubtful"]] == [
+        (None, {"number": 2, "field": 3}), ({"number": 4, "field": 7}, {"number": 6, "field": 11}),
+        ({"number": 29, "field": 57}, None)]
     # the metadata has two fields more than were read
     for more in ([True, True], [False, True]):
         assert answer(rows("1..30"), first=[True, False] * 30 + more)["lost"] == []
@@ -81,23 +80,20 @@ def test_no_number_is_due_where_both_lines_say_another():
     assert {one["why"] for one in found["missing"]} - {"lost", "undecided"} == set()
 
 
-def calls(fields):
-    profile = cProfile.Profile()
-    profile.runcall(analyse, plain(fields))
-    return sum(one.callcount for one in profile.getstats()) / len(fields)
-
-
 @pytest.mark.unrecorded
 def test_the_worst_sides():
+    def calls(fields):
+        profile = cProfile.Profile()
+        profile.runcall(analyse, plain(fields))
+        return sum(one.callcount for one in profile.getstats()) / len(fields)
+
     dice, count = random.Random(7), 2000
-    seconds = ["%X" % (0x800000 | 10 + dice.randrange(6) << 16 | 0xE000 | dice.randrange(10) << 8
-                       | 16 * dice.randrange(2) + dice.randrange(10)) for _ in range(count)]
-    minute = ["F%dDD%02d" % (dice.randrange(10), dice.randrange(60)) for _ in range(2 * count)]
+    times = ["%s %s %s" % (second(dice.randrange(60), dice.randrange(20)), *(
+        minutes(dice.randrange(10), dice.randrange(60)) for _ in (17, 18))) for _ in range(count)]
     wild = [picture(dice.randrange(80000)) for _ in range(2 * count)]
     most = MOST * calls(rows("0..%d" % (count // 2 - 1)))
     for fields in (["- %s %s" % pair for pair in zip(wild, wild[count:])],
-                   ["- %s %s" % (one, one) for one in wild[:count]],
-                   ["%s %s %s" % three for three in zip(seconds, minute, minute[count:])],
+                   ["- %s %s" % (one, one) for one in wild[:count]], times,
                    rows("-/#100/#20000x%d" % count), rows("5x%d" % (count // 2)),
                    rows(" ".join(str(40000 * (place // 5 % 2) + place) for place in range(count // 2)))):
         assert calls(fields) < most
