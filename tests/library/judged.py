@@ -24,8 +24,6 @@ TIME = re.compile(r"(\d+):(\d+)\.(\d+)([~^]?)([-+/=]?)([~^]?)(c?)")
 PASSES = {"": 1, "=": 1, "~": 2, "^": 3}
 
 
-# ---- Sides and answers from text
-
 def tables(name):
     """Of each table of this file its kind, its settings, and its rows with their columns."""
     with open(os.path.join(os.path.dirname(__file__), name)) as file:
@@ -90,8 +88,6 @@ def answers_of(text, side):
         return int(items[0] or items[1]), state
     return spread(side if text in ALL else text, answer_of, (0, NOTHING))
 
-
-# ---- The judging
 
 def answered(name, asked, fields, answer=NUMBER):
     """What is answered, which may be of each field, and what was seen, whatever stands there before the call. What is
@@ -162,8 +158,6 @@ def test_alone(setting, text, wanted):
     expect(found == [state, (0, ), state], setting, text, found)
 
 
-# ---- Times that are completed
-
 def times_of(text, is_completed):
     """The readings of each field, before and after."""
     fields = []
@@ -189,8 +183,6 @@ def test_completed(setting, text):
     _, judged = answered("judge", (system, counted, pace), fields)
     expect(seen == judged, setting, text, "sees something else than the judge")
 
-
-# ---- The first of some numbers
 
 def test_first(_, number, text, first):
     """Of none nothing is read. Where one is found, nothing is read behind it, however many are said to follow."""
@@ -288,17 +280,10 @@ def test_side(setting, text, gaps, wanted):
         expect(answer_of_side(asked, fields, len(gaps), said) == (wanted, gaps), setting, text, "room for", said)
 
 
-def test_both(setting, text, wanted):
-    """Of one side alone, whatever its fields show."""
-    numbers = b"".join(number for _, number, _ in spread(text, judged_field, NO_FIELD))
-    found = call(setting)(PARTS[1].put(numbers) if numbers else None, len(numbers) // NUMBER.size)
-    expect(found == int(wanted) and PARTS[1].get(len(numbers)) == numbers, "find both", text, found)
-
-
 def main():
     rows = [(kind, setting, row) for name in ("judged.txt", "whole.txt") for kind, settings, rows in tables(name)
             for setting in settings for row in rows]
-    expect(len(rows) == 489, "there are more rows, or fewer:", len(rows))
+    expect(len(rows) == 482, "there are more rows, or fewer:", len(rows))
     for kind, setting, row in rows:
         globals()["test_" + kind](setting, *row)
     finish()

@@ -5,13 +5,12 @@ import cProfile
 import os
 import random
 
-from compact import check_row, made, of_member, rows, table_in
+from compact import check_row, made, rows, table_in
 from discs import answer, minutes, picture, plain, second, side, typed
 import ldvbi
 from ldvbi import Kind, Reason
 from ldvbi.readings import Cut
-from ldvbi_side.answer.analysis import analyse, analysed
-from ldvbi_side.answer.as_json import as_json
+from ldvbi_side.answer.analysis import analyse
 from ldvbi_side.answer.entries import Doubt, Lost, Missing, Speed, Stretch, Swapped
 from ldvbi_side.answer.gaps import Gaps
 from ldvbi_side.answer.whole import counted_by, reasons_of
@@ -57,16 +56,6 @@ def test_what_schema_and_map_say():
     row = dict(zip(COLUMNS, next(iter(map_rows(made("1..30", typed))))))
     assert (row["kind"], row["number"]) == ("picture", 1)
     assert all(COLUMNS[column].endswith("from %d" % row[column]) for column in ("field", "frame"))
-
-
-def test_loops():
-    for length in range(4, 12):
-        for fields in (rows("t50..139"), rows("50..139")):
-            found = answer(fields[:100] + 9 * fields[100 - length:100] + fields[100:])["breaks"]
-            assert {one["kind"] for one in found} == {"back"}
-            assert sum(one["fields"] for one in found) == 9 * length
-            # in fields 95 to 99 stand the times 98 and 99; a round ends before 98 comes again
-            assert length != 5 or len({(one["from"], one["to"]) for one in found}) == 1
 
 
 def test_no_number_is_due_where_both_lines_say_another():
@@ -124,18 +113,6 @@ def test_bad_lines():
                     {"field": 2, "line": 17, "cause": "hold 200", "column": 200, "offset": 507780, "bytes": 1820},
                     {"field": 2, "line": 18, "cause": "unfinished", "column": None, "offset": 509600, "bytes": 1820}]
     assert [(one["offset"], one["bytes"]) for one in pal] == [(744560, 2270), (746830, 2270), (749100, 2270)]
-
-
-@pytest.mark.parametrize("text, said, breaks", (
-    ("b1..30 18=? 20=? -25", "lost 25-26 13 to 14, 1", "lost 24-26 13 to 14, 1"),
-    ("b1..30 18=? 20=? -21", "lost 21-22 11 to 12, 1", "lost 16-22 11 to 12, 1"),
-    ("b1..30 23=? 25=? -22", "lost 25-26 13 to 14, 1", "lost 20-26 13 to 14, 1")))
-def test_breaks_of_its_own(text, said, breaks):
-    """Where both fields of a picture have its number, the library doesn't say where a single field is lost. Of what was
-    read in one field it isn't known which field it is: with one lost behind it, or before it."""
-    known = analysed(made(text, plain))
-    both = known.answer, known.answer._replace(breaks=known.breaks)
-    assert [of_member(as_json(one), "breaks") for one in both] == [said, breaks]
 
 
 def test_what_else_is_known():
