@@ -1,7 +1,5 @@
 """Judges the sides of judged.txt and whole.txt by the library, in arrays that end where no page follows and hold other
-bytes each time, and compares what it answers with what stands there.
-
-usage: judged.py"""
+bytes each time, and compares what it answers with what stands there."""
 
 import os
 import re
@@ -90,8 +88,7 @@ def answers_of(text, side):
 
 
 def answered(name, asked, fields, answer=NUMBER):
-    """What is answered, which may be of each field, and what was seen, whatever stands there before the call. What is
-    read stays as it is."""
+    """What is answered and what was seen, whatever stands there before the call. What is read stays as it is."""
     count, read, found = len(fields), b"".join(fields), []
     length = 1 if name == "find_pace" else count
     for before in BEFORE:
@@ -140,8 +137,7 @@ def lines_of(text, cause=0, column=0):
 
 
 def test_shown(setting, text, wanted):
-    """The field alone, so that what it shows is in doubt: its number on line 17, else that on line 18. The causes and
-    the columns of its readings say nothing."""
+    """The field alone: its number, of line 17, else of line 18, is in doubt. Causes and columns say nothing."""
     first, other, *instead = wanted.replace("-", "0*0").split()
     lines = [tuple(map(int, shown.split("*"))) for shown in (first, other)]
     number = next(((number, DOUBTFUL) for number, weight in lines if weight), (0, NOTHING))
@@ -250,8 +246,8 @@ def side_found(text, gaps):
 
 
 def answer_of_side(asked, fields, room, said=None):
-    """What is answered, and the gaps that are written into room for so many, or for as many as is said. What is read
-    stays as it is. Without fields, or without room, null stands for the array."""
+    """What is answered, and the gaps that are written into room for so many, or for as many as is said. Without fields,
+    or without room, null stands for the array."""
     parts = [b"".join(part) for part in zip(*fields)] or [b""] * 3
     arrays = [(memory.put(part) if fields else None, len(fields)) for memory, part in zip(PARTS, parts)]
     gaps, side = GAPS.put(BEFORE[0] * GAP.size * room) if room else None, ANSWER.put(BEFORE[0] * SIDE.size)
@@ -265,8 +261,8 @@ def answer_of_side(asked, fields, room, said=None):
 
 
 def test_side(setting, text, gaps, wanted):
-    """A side with room for none of its gaps, for some, for all, and for one more. A number in a setting stands for
-    itself. Of a state that no call answers nothing is believed, and nothing is in doubt."""
+    """With room for none of its gaps, for some, for all, and for one more. A number in a setting stands for itself. Of
+    a state that no call answers nothing is believed, and nothing is in doubt."""
     asked = [int(word) if word.isdigit() else named(word)[0] for word in setting.split(":")]
     fields, gaps = spread(text, judged_field, NO_FIELD), [gap_of(gap) for gap in gaps.split(",") if gap]
     wanted = side_found(wanted, gaps)

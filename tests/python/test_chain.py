@@ -24,10 +24,8 @@ BETWEEN = {"video": "7 5 0 0: 10", "film": "1 1 0 0: 3, 2 1 0 0: 2, 1 4 0 0: 10,
 NUMBERS = {"video": "5: 2", "both": "3: 1", "film": "2: 1, 4: 1, 5: 2, 7: 3", "minutes": "2999: 0, 5999: 1"}
 
 
-# A break costs 1 and its binary digits.
-@pytest.mark.parametrize("off, cost", ((0, 0), (1, 2), (2, 3), (4, 4), (20000, 16), (-1, 2), (-20, 6), (None, 0)))
-def test_price(off, cost):
-    assert price(off) == cost
+def test_a_break_costs_1_and_its_binary_digits():
+    assert [price(off) for off in (0, 1, 2, 4, 20, 20000, -1, -20, None)] == [0, 2, 3, 4, 6, 16, 2, 6, 0]
 
 
 @pytest.mark.parametrize("name, table", (("off", OFF), ("between", BETWEEN), ("numbers_in", NUMBERS)))

@@ -73,7 +73,6 @@ def test_each(room):
 def test_none(one):
     assert [ldvbi.judge(one, "NTSC"), ldvbi.judge_chapters(one), ldvbi.judge_stops(one)] == [[]] * 3
     assert (ldvbi.find_pace(one, "NTSC"), ldvbi.complete_times(one, "NTSC")) == (Pace.video, b"")
-    assert ldvbi.first_of([], 5) is None
 
 
 def test_refused():
@@ -81,11 +80,10 @@ def test_refused():
     for readings, text in ((None, "readings are not those of fields, but of the type NoneType"),
                            (b"12345", "packed readings have 24 bytes to a field, and these are 5"),
                            ([[line] * 3, [line] * 2], "readings[1] is not three readings"),
-                           ([[line, line, (0, 0, 0, 2 ** 32)]], "readings[0] is not three readings"),
-                           ("ab", "readings[0] is not three readings")):
-        for call, *words in ((ldvbi.judge, "PAL"), (ldvbi.find_pace, "PAL"), (ldvbi.complete_times, "PAL"),
-                             (ldvbi.judge_chapters,), (ldvbi.judge_stops,), (ldvbi.judge_side, "PAL")):
-            assert reason(call, readings, *words) == text
+                           ([[line, line, (0, 0, 0, 2 ** 32)]], "readings[0] is not three readings")):
+        for call in (ldvbi.judge, ldvbi.find_pace, ldvbi.complete_times, ldvbi.judge_side):
+            assert reason(call, readings, "PAL") == text
+        assert [reason(call, readings) for call in (ldvbi.judge_chapters, ldvbi.judge_stops)] == [text] * 2
 
 
 def test_times_that_are_completed():
@@ -128,18 +126,16 @@ def test_what_is_asked():
 
 
 def test_ends():
-    """Of stops test_sides.py has more."""
     states = ldvbi.judge_ends(made("L O -/88FFFF*/80EEEE* 88FFFF/-/-", side).readings)
     assert [state.name for state in states] == ["lead_in", "lead_out", "doubtful", "none"]
 
 
-def side_of(text, setup=PAL, rest=0):
-    """The side with this text in memory. No pages are touched but those of drawn lines."""
+def side_of(text, setup=PAL):
+    """The side with this text, and a cut field, in memory. No pages are touched but those of drawn lines."""
     fields = words_of(text)
-    length = len(fields) * ldvbi.field_bytes(setup[0]) + rest
-    memory = mmap.mmap(-1, max(length, 1))
+    memory = mmap.mmap(-1, len(fields) * ldvbi.field_bytes(setup[0]) + 400000)
     write_fields(memory, setup, fields)
-    return ldvbi.Stream(memoryview(memory)[:length], *setup)
+    return ldvbi.Stream(memory, *setup)
 
 
 VIDEO, FILM = (State.believed, Pace.video), (State.believed, Pace.film)
@@ -158,10 +154,9 @@ def test_seeking():
         found = ldvbi.seek(side_of(text, setup), *words)
         assert (found and (found.field, found.number.state, found.pace)) == wanted
         assert found is None or found.number.number == words[0]
-    cut = side_of("5..7", rest=700000)
-    assert ldvbi.seek(cut, 7)[0] == 4
-    cut.close()
-    assert reason(ldvbi.seek, cut, 7) == "the stream is closed"
+    with side_of("5..7") as closed:
+        assert ldvbi.seek(closed, 7)[0] == 4
+    assert reason(ldvbi.seek, closed, 7) == "the stream is closed"
 
 
 def test_numbers_of_a_damaged_side_are_found():

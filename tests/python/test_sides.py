@@ -88,15 +88,6 @@ def test_the_worst_sides():
         assert calls(fields) < most
 
 
-def test_the_stops_that_the_library_believes():
-    chance, items = random.Random(82), ["-", "?", "S", "S", "S*", "S^", "#7", "8BA0A1"]
-    text = " ".join("/".join(chance.choice(items) for _ in range(3)) for _ in range(500))
-    stops = [field for field, state in enumerate(ldvbi.judge_stops(made(text, side).readings), 1)
-             if state == ldvbi.State.believed]
-    assert len(stops) > 200
-    assert [one["field"] for one in made(text)["stops"]] == stops
-
-
 def test_counts_of_lines():
     """In pass 1, in pass 2, recovered, blank, unfinished, change and hold."""
     assert " ".join(made("B")["lines"]["16"]) == "pass1 pass2 near blank unfinished change hold"
