@@ -123,8 +123,8 @@ USER_NUMBER=1000 FAULT=1
 export USER_NUMBER FAULT
 tools install
 check 'setup by sudo, which fails where the packages do' [ "$status $(grep -c '^sudo$' out)" = '1 1' ]
-check 'setup leaves to the gate what it alone needs' [ "$(grep -c debootstrap out) $(echo "$all" | grep -c debootstrap)" = \
-    '0 1' ]
+check 'setup leaves to the gate what it alone needs' \
+    [ "$(grep -c debootstrap out) $(echo "$all" | grep -c debootstrap)" = '0 1' ]
 for tool in cc c++ nm make python3 jq prove pkg-config cmake git chromium ffmpeg mandoc mypy pv zsh debootstrap rustc \
     cargo rustfmt cargo-clippy; do
     stub alone/$tool 'exit 0'
