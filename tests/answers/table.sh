@@ -12,7 +12,8 @@ print(*rows(sys.stdin.read(), int(sys.argv[1])), sep="\n")' $2 > side.words
 
 # draws_sides: draws the side NAME.tbc of each name in the table
 draws_sides() {
-    discs
+    output_of draw $ntsc "$top/examples/cav.words" > cav.tbc
+    output_of draw $pal "$top/examples/clv.words" > clv.tbc
     bounded sh "$top/examples/side.sh" "$program"
     sed -n 's/^= \([a-z]* [A-Z]*\) .*/\1/p' "$here/answers.txt" | uniq > sides
     while read -r side system; do
