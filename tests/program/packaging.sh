@@ -221,7 +221,7 @@ proves libldvbi.a
 printf '%s proved, N s\n' $library_crates > wanted_text
 judge 'make lib says one line of a crate' 0 wanted_text ''
 # An archive with a call that nobody has is linked to no library.
-rm -f tree/libldvbi.so.1
+rm -f tree/libldvbi.so.1 tree/libldvbi.a
 echo 'int ldvbi_absent(void); int ldvbi_call(void); int ldvbi_call(void) { return ldvbi_absent(); }' > call.c
 bounded "${CC:-cc}" -fPIC -c -o call.o call.c && ar rc tree/libldvbi.a call.o
 made lib
