@@ -230,6 +230,12 @@ def test_it_appears_at_the_end(room, older, mode):
     assert stat.S_IMODE(os.stat(room.path).st_mode) == (mode or 0o666 & ~mask)
 
 
+def test_a_fault_is_of_the_file_that_was_asked_for(room):
+    with pytest.raises(OSError, match=r"No space.*side\.tbc"), whole_file(room.path):
+        raise OSError(28, "No space left on device")
+    assert room.names() == []
+
+
 def test_a_link_stays_one(room):
     os.symlink("target", room.named("link"))
     with whole_file(room.named("link")) as file:
