@@ -62,17 +62,12 @@ stub() {
 }
 
 # run WORD..: the program, with nothing on standard input. It would take the rows of the loop that it stands in.
-# run_with FILE WORD..: the program, with this file there; run_leaving: what it hasn't read then is in the file `rest`
+# run_with FILE WORD..: the program, with this file there; what it hasn't read then is in the file `rest`
 # run_inheriting WORD..: the program, with standard input as the caller has it
 run() {
     run_inheriting "$@" < empty
 }
 run_with() {
-    run_input=$1
-    shift
-    run_inheriting "$@" < "$run_input"
-}
-run_leaving() {
     run_input=$1
     shift
     { run_inheriting "$@"; cat > rest; } < "$run_input"

@@ -7,8 +7,7 @@ function go into different rounds. Each round begins from what `rt lib`, or `rt 
 as it stands, and looks at the edited functions alone, so nothing that is right is proved again. Rounds run side by
 side, those of a crate as soon as it is proved. What a round doesn't refuse is tried once more alone.
 
-What an edit is, which function it has to be refused for, and which edits share a round: wrong_edits.py. Each public
-function needs one.
+What an edit is, and which of them share a round: wrong_edits.py. Each public function needs one.
 
 usage: python3 tests/wrong_bodies.py [--only WORD] [--plan] [CRATE..]    (at the top, `rt` on the PATH)
 """

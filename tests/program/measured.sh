@@ -125,7 +125,6 @@ done << 'END'
 |0|0
 disc|0|1ldverify finds an error on a drawn disc, or ldvbi doesn't read its words
 libzvbi|0|1the words of lines as they were drawn are not read alike
-MAME|F12345|1the words of lines as they were drawn are not read alike
 recovered|F12345|1the words of lines as they were drawn are not read alike
 END
 # Of each three words the last of these readers reads the first one wrong, by pass 3, and the others by pass 2. Of a row

@@ -76,7 +76,7 @@ echo 82CFFF | signal NTSC 0 8224 16448 > line.raw
 { cat line.raw; echo rest; } > longer.raw
 run_with line.raw line $levels -
 judge 'standard input as -' 0 "$stored/stdout" ''
-run_leaving longer.raw line $levels
+run_with longer.raw line $levels
 judge 'a longer input' 0 "$stored/stdout" ''
 check 'the rest is left unread' [ "$(cat rest)" = rest ]
 run_inheriting line $levels <&-
@@ -94,7 +94,7 @@ for place in /dev/full '&-' '&4'; do
 done
 exec 4>&-
 for command in line extract show draw; do
-    run_leaving longer.raw $command $levels line.raw
+    run_with longer.raw $command $levels line.raw
     check "$command: standard input beside a file" cmp rest longer.raw
 done
 
@@ -104,7 +104,7 @@ printf '{"a":NaN}' > nan.json
 run line --meta absent.json --black 65536 absent.raw
 check 'words before files' is_refused
 while IFS='|' read -r words said; do
-    run_leaving line.raw $words
+    run_with line.raw $words
     judge "$words" 1 empty "ldvbi: $said"
     check "$words: the input is left" cmp rest line.raw
 done << END

@@ -48,7 +48,6 @@ rust-compare|tests/scripts.sh rust/ldvbi rust_compare
 rust-compare TARGET=x-windows-y|tests/scripts.sh rust/x-windows-y/ldvbi.exe rust_compare
 bench|rust/build.sh,bench/all.sh ./ldvbi
 peers|peers/compare.sh ./ldvbi 200 docs/measured/peers.txt
-peers PROGRAM=/a/ldvbi|peers/compare.sh /a/ldvbi 200 docs/measured/peers.txt
 channel|bench/channel/tables.sh ./libldvbi.so.1 docs/measured/channel
 channel PROGRAM=/a/ldvbi|bench/channel/tables.sh libldvbi.so.1 docs/measured/channel
 END
@@ -59,10 +58,6 @@ check 'the words of make rust-compare reach the script' [ "$status $(cat out)" =
 targets=$(sed -n 's/^\([a-z][a-z-]*\):.*/\1/p' "$top/Makefile" | grep -vx ldvbi | sort | paste -s -d ' ')
 sed -n 's/^\.PHONY: //p' "$top/Makefile" | tr ' ' '\n' | sort | paste -s -d ' ' > out
 check 'each target that is no file is said to be none' [ "$targets" = "$(cat out)" ]
-rm bin/rt
-ran tree env PATH=/usr/bin:/bin make -s toolchain
-check 'without the toolchain make says so' \
-    [ "$status $(grep -c 'toolchain of Rattle, whose command rt is not on the PATH' err)" = '2 1' ]
 
 # rust/build.sh for another machine: by the compiler on the PATH if that has its library, else by Debian's
 mkdir -p other/rust own/lib/rustlib/mips debian/lib/rustlib/mips
