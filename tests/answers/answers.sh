@@ -1,7 +1,6 @@
 #!/bin/sh
 # Asks the examples in C, C++ and Python, and `ldvbi-side` for pictures, times, chapters and stops of drawn sides,
-# whether they are whole, and for their gaps; where the Rust program is tested, the crate of `make rust`, too, by the
-# player in examples/rust and by its example `answers`. Each has to answer what the table answers.txt has.
+# whether they are whole, and for their gaps. Each has to answer what the table answers.txt has.
 # Needs libldvbi.so.1 beside the program, or at the top of the repository (`make lib`).
 # usage: sh tests/answers/answers.sh PROGRAM
 # runs: library rust
@@ -59,40 +58,11 @@ by_side() {
         *) finds $command --seek "$question" ;;
     esac
 }
-# plays SAID COMMAND..: what a player finds, which says this behind the field
-plays() {
-    wanted="s/^[a-z]*: \(field [0-9]*\)$1\$/\1/p"
-    shift
-    ! does "$@" || sed -n "$wanted" out > answer
-}
 plays_in() {
     player=./player_$1
     [ "$1" != python ] || player="python3 $top/examples/player.py"
     plays " picture $4" $player "$2.tbc" $3 search "$4"
 }
-# The example of the crate counts fields from 0, the player from 1.
-in_rust() {
-    case $3 in
-        stops) does ./answers "$1.tbc" $2
-            awk '/ true$/ && $2 != "bytes" { fields = fields " " $1 + 1 } END { if (fields) print "field" fields }' \
-                out > answer ;;
-        whole*) does ./answers "$1.tbc" $2
-            sed -n "s/^$3: \(Yes\|No\)\$/\L\1/p" out > answer ;;
-        gaps) does ./answers "$1.tbc" $2
-            awk '$1 == "gap:" { printf "%s%s %d %d %d", parted, tolower($2), $5 + 1, $9 + 1, $3; parted = ", " }' \
-                out > answer ;;
-        chapter*) plays '\( picture [0-9]*\)\?' ./player "$1.tbc" $2 $3 ;;
-        *:*) plays '\( picture [0-9]*\)\?' ./player "$1.tbc" $2 search $3 ;;
-        *) plays "\( picture $3\)\?" ./player "$1.tbc" $2 search $3 ;;
-    esac
-}
-# What `Side::seek` finds, which the example prints, too; the player has it of the judged side.
-by_seek() {
-    does ./answers "$1.tbc" $2 "$3"
-    ! grep -qx "$3: none" out || status=1
-    sed -n "s/^$3: \([0-9]*\)\$/\1/p" out | awk '{ print "field " $1 + 1 }' > answer
-}
-
 asks c 'searches c'
 asks c++ 'searches cpp'
 asks python 'searches python' '[0-9c].*'
@@ -100,17 +70,4 @@ for language in c cpp python; do
     asks player "plays_in $language" '[0-9]*'
 done
 asks side by_side '[0-9csw].*'
-[ "${DIFFERENCES:-}" ] || finish
-
-cp -r "$top/examples/rust" project
-[ ! -d "$top/rust/crate/.cargo" ] || cp -r "$top/rust/crate/.cargo" project
-sed -i "s|\"../../rust/crate\"|\"$top/rust/crate\"|" project/Cargo.toml
-export CARGO_TARGET_DIR="$top/rust/out" RUSTFLAGS=
-for place in "$top/rust/crate" project; do
-    # By the settings of the folder
-    check "cargo builds in $(basename "$place")" does sh -c 'cd "$1" && cargo build --quiet --examples --bins' sh $place
-done
-cp "$CARGO_TARGET_DIR/debug/examples/answers" "$CARGO_TARGET_DIR/debug/player" . || exit 1
-asks rust in_rust
-asks rust by_seek '[0-9c].*'
 finish

@@ -24,6 +24,13 @@ draws_sides() {
     done < sides
 }
 
+# plays SAID COMMAND..: what a player finds, which says this behind the field
+plays() {
+    wanted="s/^[a-z]*: \(field [0-9]*\)$1\$/\1/p"
+    shift
+    ! does "$@" || sed -n "$wanted" out > answer
+}
+
 # asks NAME ANSWERER [PATTERN]: checks what a program, which the table calls NAME, answers to each question, or to those
 # that the pattern matches as a whole. ANSWERER is a function, with words or without, that is called with the side, its
 # system and levels, and the question, which is in `question`, too: it leaves an answer in the file `answer`, or none

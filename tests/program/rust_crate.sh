@@ -104,7 +104,7 @@ check 'the example project is built' quiet cargo build --quiet
 player=$CARGO_TARGET_DIR/debug/player
 cd "$work" || exit 1
 
-# What it answers of drawn sides is tried by tests/answers/answers.sh; here what it plays, and what it refuses.
+# What it answers of drawn sides is tried by tests/answers/rust_answers.sh; here what it plays, and what it refuses.
 bounded sh "$top/examples/side.sh" "$program" || exit 1
 head -c 100 side.tbc > cut.tbc
 printf '%s\n' '- F00001 F00001' '- 800DDD 800DDD' '- F00002 F00002' '- 800DDD 800DDD' '82CFFF 82CFFF F00003' \
