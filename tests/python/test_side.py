@@ -161,9 +161,9 @@ SUMMARIES = """
     n0..3x3000 -3501:4500 | lost fields: 1000 (at least 1000, between fields 3001 and 5000)
     m9..11x3000 | lost: 9 (minutes 0:00 to 0:08 before field 1) | lost fields: 27000 (at least 27000 before field 1)
     PAL/1500 n0..2x3000 | lost fields: 1 (1 or more after field 1499)
-    1..30 2:60/2.16=8DC0A1 4=8BA0A1/88FFFB/800DDD 6=83D00F/800DDD/F00E81*
-        | unknown words: 2 (88FFFB in field 4 line 17, F00E81 in field 6 line 18)
-        | programme status: 29 (CX on 0A1 in 28 fields, CX off 0A1 in 1 field), users' codes: 1 (3 00F in 1 field)
+    1..30 4:60/2.16=8DC0A1 2=8BA0A1/88FFFB/800DDD 6=83D00F/800DDD/F00E81*
+        | unknown words: 2 (88FFFB in field 2 line 17, F00E81 in field 6 line 18)
+        | programme status: 29 (CX off 0A1 in 1 field, CX on 0A1 in 28 fields), users' codes: 1 (3 00F in 1 field)
     NTSC f1..30 | whole: yes | system: NTSC, CAV, film (2 and 3 fields a picture)
     NTSC t0..1 t3..4 | system: NTSC, CLV | unread: none, undecided: 1 (time 0:00:00.02 after field 3)
     NTSC t0..5999!400%1001 | skipped by the disc itself: 6
