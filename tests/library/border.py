@@ -80,7 +80,8 @@ def expect(is_right, *what):
 
 
 def finish():
-    """Ends with the status that says whether anything was wrong."""
+    """Prints how much was wrong, and ends with the status that says so."""
+    print(len(_wrong), "wrong")
     sys.exit(bool(_wrong))
 
 

@@ -82,6 +82,6 @@ check 'what is written is never null' [ "$(grep -c 'Wnonnull]' err)" = 1 ]
 
 PYTHONPATH=$PYTHONPATH:$tests/python
 for part in refusals judged lines worn; do
-    check "the tests of $part" does python3 "$here/$part.py"
+    check "the tests of $part" prints 0 '0 wrong' python3 "$here/$part.py"
 done
 finish

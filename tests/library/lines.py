@@ -174,13 +174,16 @@ def test_pages(tv, at, is_end):
         lines = b"".join(drawn(tv, word_of(place, line)).tobytes() for line in range(3))
         ctypes.memmove(address, lines, len(lines))
     protect(memory.end - memory.pages, memory.pages)
-    for address in rows:
-        protect(address, 3 * row, mmap.PROT_READ)
+    protect(rows[at], 3 * row, mmap.PROT_READ)
     places = [(at, line) for line in range(3)]
     are_read(tv, "read_field", begin + at * field, field, places)
     for name in ("read_rows", "recover_rows"):
         are_read(tv, name, rows[at], 3 * row, places)
     are_read(tv, "read_line", rows[at] + 2 * row * is_end, row, places[2:] if is_end else places[:1])
+    for name in ("read_fields", "recover_fields"):
+        are_read(tv, name, begin + at * field, field, places, 1)
+    for address in rows:
+        protect(address, 3 * row, mmap.PROT_READ)
     for name in ("read_fields", "recover_fields"):
         are_read(tv, name, begin, FIELDS * field, [divmod(line, 3) for line in range(3 * FIELDS)], FIELDS)
 

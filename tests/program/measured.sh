@@ -1,7 +1,6 @@
 #!/bin/sh
-# Tries what makes the tables of docs/measured/: the bounds of `make bench`, and the scripts around the simulated lines
-# and the other readers, with stubs for what they run; what compare.py counts of readers that know the words that were
-# drawn; and the readers that are ours, of drawn lines.
+# Tries what makes the tables of docs/measured/: the bounds of `make bench`; what peers/compare.py counts of readers that
+# know the words that were drawn; and the readers that are ours, of drawn lines.
 # usage: sh tests/program/measured.sh PROGRAM
 # runs: everywhere
 # fails where: bench/bounds.awk|s/ratio < least/ratio > least/
@@ -54,42 +53,6 @@ bounds_say 'each line but one is missing' 1
 for files in 'empty lines' "$bench/bounds.txt empty"; do
     does awk -f "$bench/bounds.awk" $files
     check "no bounds, or no measurement: ${files##*/}" [ "$status" = 1 ]
-done
-
-# ---- The scripts around the measurements, with stubs that say their words, but for the folders in them, and fail where
-# FAILS is one of these words
-mkdir said_by
-for tool in python3 cc; do
-    stub said_by/$tool "said=$tool
-for word; do said=\"\$said \${word##*/}\"; done
-echo \"\$said\"; case \$said in *\"\${FAILS:-nothing fails}\"*) exit 1 ;; esac"
-done
-# tries FAILS SCRIPT WORD..: runs a script with these words, where this fails
-tries() {
-    fails=$1
-    shift
-    rm -f tables*
-    does env -u CC PATH="$work/said_by:$PATH" PYTHON="$work/said_by/python3" FAILS="$fails" sh "$@"
-}
-tries '' "$bench/channel/tables.sh" /lib/libldvbi.so.1 "$work/tables" 30 400
-grep . tables_* > said
-cat > wanted << 'END'
-tables_ntsc.txt:python3 measure.py NTSC 30 1 libldvbi.so.1
-tables_ntsc_none.txt:python3 without_words.py NTSC 400 1 libldvbi.so.1
-tables_pal.txt:python3 measure.py PAL 30 1 libldvbi.so.1
-tables_pal_none.txt:python3 without_words.py PAL 400 1 libldvbi.so.1
-END
-check 'simulated lines: the tables are what the scripts print' cmp said wanted
-tries without_words.py "$bench/channel/tables.sh" peers "$work/tables"
-check 'it ends where a script fails' [ "$status $(echo tables_*)" = '1 tables_ntsc.txt' ]
-check 'the reader by edges is built for it' [ "$(cat out)" = 'cc -std=c99 -O2 -Wall -o edges edges.c' ]
-tries '' "$top/peers/compare.sh" ./ldvbi 7 "$work/tables"
-check 'the other readers are built' [ "$(sed -n 's/^cc .* \([a-z]*\.c\).*/\1/p' out | paste -s -d ' ')" = \
-    'edges.c recovered.c zvbi.c' ]
-check 'their tables are kept' [ "$status $(cut -d ' ' -f 1-3,5 tables)" = '0 python3 compare.py ldvbi 7' ]
-for fault in recovered.c compare.py; do
-    tries "$fault" "$top/peers/compare.sh" ./ldvbi 7 "$work/tables"
-    check "$fault fails, and no table is kept" [ "$status $(echo tables*)" = '1 tables*' ]
 done
 
 # ---- What compare.py counts of lines as they were drawn and of worse ones, where each reader says the words that were

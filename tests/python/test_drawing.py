@@ -32,31 +32,40 @@ ENTRIES = {
     "speeds": Speed(9, 49, "1/3"), "stills": Still(5, 9, 15), "repeated": Repeated(5, 6, 21, 23, 9)}
 PLACE, LOST = ", after field 9, before field 13: ", " between fields 9 and 10, "
 DOUBT, PASS_2 = "doubtful 7: doubtful: picture 79999 in field 7, line 18", ", read only after smoothing: "
-# The list, what is other there, and the lane, its fields, and what it says; and other reasons of each list
+# The list, what is other there, and the lane, its fields, and what it says
 MARKS = (
     ("missing", {"why": "unread"}, "unread 10-12: unread: 5" + PLACE + "fields are there for it, and none shows it"),
+    ("missing", {"why": "undecided"},
+     "undecided 13: undecided: 5" + PLACE + "lost or unread, or skipped by the disc itself"),
     ("missing", {"after": 0}, "lost 13: lost: 5, before field 13: no field is there for it"),
     ("missing", {"last": 7, "count_": 3}, "lost 13: lost: 5 to 7" + PLACE + "no field is there for it"),
     ("lost", {"after": 0}, "lost fields 10: lost: 1 field before field 10, by the numbers"),
     ("lost", {"by": "both", "fields": 3},
      "lost fields 10: lost: 3 fields" + LOST + "by the numbers and by isFirstField"),
     ("lost", {"by": "parity", "fields": None}, "lost fields 10: lost: one or more fields" + LOST + "by isFirstField"),
+    ("lost", {"by": "undecided", "fields": 2},
+     "lost fields 10: lost: 2 fields" + LOST + "or a number was skipped by the disc itself"),
     ("lost", {"unit": "minute", "after": 3610, "before": 7111, "fields": 90},
      "lost fields 3611-7110: lost: at least 90 fields between fields 3611 and 7110, by the minute's length"),
     ("breaks", {}, "jumps 12: 4 fields too many, from 5 in field 9 to 6 in field 12"),
     ("breaks", {"kind": "back", "to": 2}, "jumps 12: back from 5 in field 9 to 2 in field 12"),
+    *(("doubtful", {"why": why}, DOUBT + PASS_2 + text) for why, text in (
+        ("neighbours", "the numbers around it fit each other"), ("minute", "no minutes are there to join it"),
+        ("alone", "there is a break, or the end of the side, here too"),
+        ("chapter", "it doesn't fit the chapters around it"))),
     ("doubtful", {"why": "clock", "number": None, "kind": Kind.time, "word": 0xF0DD75},
      "doubtful 7: doubtful: time F0DD75 in field 7, line 18" + PASS_2 + "no clock shows it"),
     ("doubtful", {"pass_": 1}, DOUBT + ": lines 17 and 18 differ"),
     ("doubtful", {"pass_": 3}, DOUBT + ", recovered: lines 17 and 18 differ"),
     ("doubtful", {"before": Neighbour(5, 3)}, DOUBT + PASS_2 + "lines 17 and 18 differ (3 in field 5)"),
-    ("stray", {}, "out of place 7: out of place: clv in field 7, line 16: no disc has it on this line"),
+    *(("stray", {"why": why}, "out of place 7: out of place: clv in field 7, line 16: " + text) for why, text in (
+        ("line", "no disc has it on this line"), ("format", "a code of the other format"),
+        ("place", "it stands between two numbers that fit each other"),
+        ("unsure", "line 16 or 17 has to show it without smoothing, or both"))),
     ("swapped", {}, "swapped fields 9-10: fields 9 and 10 are swapped: 5"),
     ("speeds", {}, "other speeds 9-49: 1/3 numbers a picture in fields 9 to 49"),
     ("stills", {}, "stills 9-15: 5 stands still in fields 9 to 15"),
     ("repeated", {}, "shown again 21-23: 5 to 6 again in fields 21 to 23; first shown in field 9"))
-REASONS = {"missing": ("why", "lost", "undecided"), "lost": ("by", "number", "undecided"), "stray": (
-    "why", "format", "place", "unsure"), "doubtful": ("why", "neighbours", "alone", "minute", "chapter")}
 
 
 def marks_with(name, unit="picture", **other):
@@ -70,9 +79,6 @@ def test_each():
     for name, other, wanted in MARKS:
         assert marks_with(name, **other) == [wanted]
     assert marks_with("breaks", kind="lost") == []
-    for name, (member, *reasons) in REASONS.items():
-        texts = [text for one in reasons for text in marks_with(name, **{member: one})]
-        assert len(set(texts)) == len(reasons)
 
 
 def test_texts_and_ticks_that_fit():

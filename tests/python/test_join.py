@@ -4,6 +4,7 @@ better, and where they disagree about a number; the same of random sets of captu
 import functools
 import json
 import xml.etree.ElementTree as xml
+from collections import Counter
 
 from compact import cells_of, made, span, words_of
 from discs import side
@@ -24,8 +25,8 @@ from truth import number_of, Truth
 SPACE = "{http://www.w3.org/2000/svg}"
 # What stands for sides, or their ends, in the tables
 NAMES = {
-    # of 4 numbers ONE has 3, 2, none that is read, and 2 of another pass; OTHER has 2, and a line that is doubtful. On
-    # line 16 of 13 stands no number. ONE lost 21 to 23, OTHER 31, and each perhaps a field of the picture before
+    # of 4 numbers ONE has 3, 2, none that is read, and 2 of another pass; OTHER has 2, and a line that is doubtful. What
+    # line 16 of 13 says isn't the number's. ONE lost 21 to 23, OTHER 31, and each perhaps a field of the picture before
     "ONE": "1..40 3=-/#2*/#2 5=-/?/#3 7=? 15=-/#8*/#8* -41:46",
     "OTHER": "1..40 9=-/#5*/#5* 11=-/#6/#70000 15=-/#8/- 25=#13/#13/#13 -61:62",
     # without five times, which the clock leaves out
@@ -278,13 +279,21 @@ def check_random_set(seed):
         assert all(numbers <= having[int(name)] for name in stretch["in"])
     assert joined["disagreements"] == []
     field_of = {row[0]: row[2] for row in joined["taken"]}
-    for stretch in joined["ranges"] if ones[0].kind != "clv-minutes" else ():
-        order = ones[int(stretch["source"])].order[stretch["field"] - 1:field_of[stretch["last"]]]
-        assert order == list(range(order[0], order[-1] + 1))
-    return len(taken)
+    rows = list(field_of)
+    for stretch in joined["ranges"]:  # which have each number once
+        numbers, rows = rows[:stretch["count"]], rows[stretch["count"]:]
+        assert [stretch["first"], stretch["last"]] == [numbers[0], numbers[-1]]
+        if ones[0].kind != "clv-minutes":
+            order = ones[int(stretch["source"])].order[stretch["field"] - 1:field_of[stretch["last"]]]
+            assert order == list(range(order[0], order[-1] + 1))
+    assert rows == []
+    return Counter(taken=len(taken), due=sum(row[4] == "neighbours" for row in joined["taken"]),
+                   missing=sum(stretch["count"] for stretch in joined["missing"]),
+                   lacking=sum(stretch["count"] for stretch in joined["lacks"]))
 
 
 @pytest.mark.unrecorded
 def test_random_sets():
     """Two to four captures of one drawn disc with losses, jumps and damage of their own, beside the truth."""
-    assert sum(map(check_random_set, range(100))) > 25000
+    counts = sum(map(check_random_set, range(100)), Counter())
+    assert counts > Counter(taken=25000, due=80, missing=90, lacking=2000)

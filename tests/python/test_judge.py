@@ -90,6 +90,8 @@ def test_times_that_are_completed():
     """By itself no field here would be believed. What the library completes has tests/library/judged.txt."""
     text = "t1496..1497 s59.23/-/- B s59.24/-/- B s0.0/-/- B s0.1/-/- B s0.2/-/-"
     wanted = made("t1496..1497 s59.23/@0:00/- B s59.24/@0:00/- B s0.0/@0:01/- B s0.1/@0:01/- B s0.2/@0:01/-", side)
+    alone = asked(ldvbi.judge, text, "times")
+    assert [one.state for one in alone[::2]] == [State.doubtful] * 2 + [State.nothing] * 5
     completed = asked(ldvbi.complete_times, text)
     assert completed == wanted.readings.data
     assert ldvbi.judge(completed, "PAL", "times")[::2] == [(number, State.believed) for number in range(1496, 1503)]
@@ -162,7 +164,9 @@ def test_seeking():
 def test_numbers_of_a_damaged_side_are_found():
     """Where they are first in the whole side: each third picture isn't read, and some are misread."""
     damaged = side_of("1..299 3:590/6=? 11:590/22=-/#79999/#7 241:260=B")
-    numbers = ldvbi.judge(damaged, "PAL")
+    numbers, count = ldvbi.judge(damaged, "PAL"), 0
     for number in range(1, 300, 7):
         found, first = ldvbi.seek(damaged, number), ldvbi.first_of(numbers, number)
         assert (found and found.field) == first, number
+        count += found is not None
+    assert count > 20

@@ -10,7 +10,7 @@ import re
 from compact import cells_of
 import ldvbi
 from ldvbi_side.command.faults import naming
-from ldvbi_side.command.parsers import parsers
+from ldvbi_side.command.parsers import parser_of_side, parsers
 from ldvbi_side.command.statuses import MEANINGS, statuses_of
 import pytest
 from room import in_database, IN_PLACE, NO_METADATA
@@ -158,6 +158,9 @@ OPTIONS = {"": (0, 1, 4, 1), "--summary": (0, 1, 4, 1), "--seek 12": (0, 1, 1, 0
 # The same of commands, in front of the name of a side; a side without numbers can't be joined.
 COMMANDS = {"scan %s": (0, 1, 4, 1), "join whole.tbc %s": (0, 0, 2, 3)}
 PRINTED = ("--help", "--version")
+# What goes with options, and has no status of its own
+WITH_OTHERS = {"--meta", "--system", "--black", "--white", "--no-recover", "--recovered", "--as-read", "--strict",
+               "--open-end", "--output"}
 
 
 @pytest.fixture
@@ -198,6 +201,9 @@ def test_the_table():
     wanted = {(words.split() or ["no option"])[0]: set(statuses) - {2}
               for words, statuses in [*OPTIONS.items(), *COMMANDS.items()]}
     assert sorted(found) == sorted({**wanted, **dict.fromkeys(PRINTED, {0})}.items())
+    options = {name for action in parser_of_side("ldvbi-side")._actions for name in action.option_strings}
+    assert {name for name in options if name.startswith("--")} - WITH_OTHERS == {
+        name for name, _ in found if name.startswith("--")}
 
 
 # The statuses of each command, and of none, but for those of signals: yes or done, no, a fault, a cut field, can't tell
@@ -207,7 +213,9 @@ STATUSES = {"": [0, 1, 2, 3, 4], "join": [0, 2, 3], "scan": [0, 1, 2, 4]}
 def test_texts_of_commands():
     """Each says its statuses, and texts of options are parts of sentences: so the manual page makes sentences of them,
     and zsh shows their first clause."""
-    for command, parser in parsers("ldvbi-side").items():
+    found = parsers("ldvbi-side")
+    assert {*found} == {*STATUSES}
+    for command, parser in found.items():
         said = statuses_of(command)
         assert list(said) == STATUSES[command] + [129, 130, 143]
         sentence = "Statuses: %s." % "; ".join("%d %s" % (one, ", or ".join(texts)) for one, texts in said.items())

@@ -89,19 +89,22 @@ def test_samples(room, setup):
 def test_each_call(room, setup):
     """The last of 100 fields. Line 16 is recovered without dropouts: its word is 11 columns off (PAL: 14), another one
     17 or more. On line 17 three of the turned columns are enough; dropouts come in any order, and may be far beyond.
-    Fields are read in blocks of 64, each with its own dropouts."""
+    Fields are read in blocks of 64, each with its own dropouts: so the last one of the first block is recovered by
+    those that it has, and the first one of the second block isn't."""
     _, (begin, end), (second, last) = TURNED[setup[0]]
     lines = [worn_line(0x85D0A1, setup, 5, 11 + 3 * (setup == PAL)), worn(setup), line_with(0xF54321, setup)]
-    write_stream(room.path, setup, [[]] * 99 + [lines])
+    write_stream(room.path, setup, [[]] * 63 + [lines, lines] + [[]] * 34 + [lines])
     field = room.read("side.tbc")[-ldvbi.field_bytes(setup[0]):]
     for recover, dropouts, is_found in ((False, None, False), (True, None, False), *((True, *row) for row in (
             ([], False), ([(17, second, last), (17, begin, end)], True),
             ([(17, begin, begin + 1)], False), ([(17, begin, begin + 2)], True),
             ([(17, begin, begin)] * 9, False), ([(16, begin, end), (18, begin, last)], False),
             ([(17, 1050, 2 ** 40), (17, begin, end), (17, 0, 5)], True), ([(17, 0, 2 ** 40)], False)))):
-        others = [(field, 17, 0, 5) for field in (0, 63, 64)] if dropouts else []
+        others = [(0, 17, 0, 5), (63, 17, begin, end), (64, 17, 0, 5)] if dropouts else []
         of_stream = None if dropouts is None else [*others, *((99, *one) for one in dropouts)]
         with ldvbi.Stream(room.path, *setup, recover, of_stream) as side:
+            assert [fields[place][1].word for fields in (side, list(side)) for place in (63, 64)] == [
+                WORD if dropouts else 0, 0] * 2
             readings = [list(side)[99], side[99], side[-1], side[60:][39],
                         list(ldvbi.fields(room.path, *setup, recover=recover, dropouts=of_stream))[99],
                         *(call(samples, *setup, recover, dropouts) for call, samples in
