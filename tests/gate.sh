@@ -18,7 +18,9 @@ memory_of_both=14000000
 
 work=$(mktemp -d)
 proofs=
+rust=
 leave() {
+    [ -z "$rust" ] || kill "$rust" 2> /dev/null || :
     # Until `setsid` has run there is no group of their own.
     [ -z "$proofs" ] || kill -- "-$proofs" 2> /dev/null || kill "$proofs" 2> /dev/null || :
     rm -rf "$work"
@@ -77,6 +79,7 @@ rust=$!
 python3 tests/wrong_bodies_trials.py || fails 'the script that tries wrong bodies takes what it has to refuse'
 make JOBS=1 ldvbi lib || fails 'program and library are not built'
 wait "$rust" || { cat "$work/rust"; fails 'the Rust program is not built'; }
+rust=
 part 'programs and libraries'
 if [ -n "$proofs" ]; then
     ends_proofs

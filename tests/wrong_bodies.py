@@ -173,9 +173,9 @@ def planned(crates, word):
 def tried(rounds):
     """Proves the crates, tries the rounds of those that are, the largest first, prints each verdict, and returns how
     many edits were refused by what, or None where a crate isn't proved. Checks run side by side, one a processor, as
-    far as memory goes."""
+    far as memory goes, and beside them the proof of a crate."""
     counts, free = collections.Counter(), int(re.search(r"MemAvailable:\s+(\d+)", read("/proc/meminfo"))[1])
-    lanes = max(min(len(os.sched_getaffinity(0)), free // CHECK_MEMORY), 1)
+    lanes = max(min(len(os.sched_getaffinity(0)), free // CHECK_MEMORY - 1), 1)
     begun, waiting, order = [], queue.PriorityQueue(), itertools.count()
 
     def try_largest():

@@ -43,8 +43,9 @@ class Item:
         opens = OPENS.search(self.text, head.start(), ends.start())
         self.begin = head.start() if constant else opens.end() if opens else head.end()
         self.end = ends.end() if constant else ends.start()
-        # A law has an empty body, and so no wrong one; all that it says is what it names.
-        self.law = NAME.findall(self.text[head.start():ends.end()]) if function and "{}" in ends[0] else None
+        # A law has an empty body, and so no wrong one; all that it says is what it names, with what its proof uses.
+        begin = self.text.rfind("\n\n", 0, head.start()) + 1
+        self.law = NAME.findall(self.text[begin:ends.end()]) if function and "{}" in ends[0] else None
         self.is_public = bool(public and function) and self.law is None
         self.simple_name = function or constant
         _, self.crate, _, *inside = path[:-len(".rt")].split("/")
@@ -82,6 +83,10 @@ def resting_on(folder, names):
     for text in (text for path in glob.glob(f"{folder}/specs/**/*.antt", recursive=True) for _, text in blocks(path)):
         for name in DEFINES.findall(text):
             named[name].update(NAME.findall(text))
+    for path in glob.glob(f"{folder}/src/**/*.rt", recursive=True):
+        for it in items(path):
+            if not it.is_function:
+                named[it.simple_name].update(NAME.findall(it.text[it.begin:it.end]))
     found, new = set(), {*names}
     while new:
         found |= new
@@ -152,13 +157,13 @@ class Edit:
     def law_of(self, folder):
         """Returns what the law may rest on that has to refuse this, or None where it isn't one without a proof."""
         laws = [it.law for path in glob.glob(f"{folder}/src/**/*.rt", recursive=True) for it in items(path)
-                if it.law and [it.name] == self.refuses]
+                if it.law and "using" not in it.law and [it.name] == self.refuses]
         is_written = os.path.exists(f"{folder}/proofs/{self.refuses[0].replace('::', '/')}")
         return resting_on(folder, frozenset(laws[0])) if laws and not is_written else None
 
     def can_share(self, other):
         """Whether neither of two edits has an effect on what the other one is judged by."""
-        if {*self.refuses} & {*other.refuses} or (self.law is None) != (other.law is None):
+        if self.changes & other.changes or (self.law is None) != (other.law is None):
             return False
         if self.law is None:
             return not self.alone and not other.alone

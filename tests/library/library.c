@@ -1,14 +1,42 @@
 /* Prints the versions that the header has, whether the library is of this one, and the texts of numbers from 0 on. What
-   the structs and the other numbers of the header mean, border.py takes from there. */
+   the structs and the other numbers of the header mean, border.py takes from there. Then a call is left by a handler. */
+#define _GNU_SOURCE
 #include <ldvbi.h>
+#include <setjmp.h>
+#include <signal.h>
 #include <stdio.h>
 #include <string.h>
+#include <sys/mman.h>
+#include <unistd.h>
 
 typedef const char *TextOf(uint32_t number);
 
 static void print_known(const char *text)
 {
     if (strcmp(text, "unknown") != 0) puts(text);
+}
+
+static sigjmp_buf before;
+
+static void leave(int number)
+{
+    siglongjmp(before, number);
+}
+
+/* 2 where a call is left, since its file was cut off while it was mapped, which raises SIGBUS, and the next one returns. */
+static int calls_that_return(void)
+{
+    size_t field = ldvbi_field_bytes(LDVBI_NTSC);
+    int file = fileno(tmpfile());
+    LdvbiFieldReadings readings;
+    volatile int returned = 0;
+    void *mapped = mmap(NULL, field, PROT_READ | PROT_WRITE, MAP_SHARED, file, 0);
+
+    signal(SIGBUS, leave);
+    for (int is_whole = 0; is_whole <= 1; is_whole++)
+        if (ftruncate(file, is_whole ? (off_t)field : 0) == 0 && sigsetjmp(before, 1) == 0)
+            returned += ldvbi_read_field(LDVBI_NTSC, 1, 2, mapped, field, &readings) == LDVBI_DONE ? 1 + is_whole : 4;
+    return returned;
 }
 
 int main(void)
@@ -22,5 +50,6 @@ int main(void)
         for (int bit = 17; bit < 32; bit++) print_known(texts[i](1u << bit));
         print_known(texts[i](UINT32_MAX));
     }
+    printf("%d\n", calls_that_return());
     return ldvbi_abi() != LDVBI_ABI || ldvbi_version() != LDVBI_VERSION;
 }

@@ -54,9 +54,9 @@ list of erased columns is not sorted, or has columns of no line;line is none of 
 whether dropouts are known is neither 0 nor 1
 word;blank;unfinished;change;hold
 other;picture;chapter;time;clv picture;cx on;cx off;users;lead-in;lead-out;picture stop;clv
-neither;cav;clv;both;nothing;believed;doubtful;due
+neither;cav;clv;both;nothing;believed;doubtful;due;2
 END
-check 'its versions, and its texts' prints 0 "$(cat texts)" ./library
+check 'its versions, its texts, and that a call is left and the next one returns' prints 0 "$(cat texts)" ./library
 
 # The quick start at its head, which finds a picture, and the stop after it
 {

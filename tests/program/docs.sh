@@ -141,10 +141,18 @@ tail -c +27301 trial/side.tbc > trial/line.raw
 cp "$top/examples/cav.words" trial/disc.words
 document "$top/docs/FORMATS.md" trial
 
-# SQL in the documents, for a program that isn't asked for, has the names of ld-decode's columns.
-sed -n 's/^sqlite3 [a-z.]* //p' "$top"/*.md "$top"/docs/*.md > out
+# SQL in the documents, for a program that isn't asked for, has names that the tests have in ld-decode's form.
+cat > sql.py << 'END'
+import re, sqlite3, sys
+form, *documents = (open(path, encoding="utf-8").read() for path in sys.argv[1:])
+database = sqlite3.connect(":memory:")
+database.executescript(re.search(r'^FORM = """(.*?)"""', form, re.M | re.S)[1])
+for words in re.findall(r"\bsqlite3 [\w.]+ ('[^']*'|[^\n`]*)", "".join(documents)):
+    print(*database.execute(words[1:-1]).fetchall() if words.startswith("'") else [words])
+END
+does python3 sql.py "$tests/python/test_into.py" "$top"/*.md "$top"/docs/*.md
 check 'what documents ask of a database' \
-    [ "$(cat out)" = "'SELECT system, black_16b_ire, white_16b_ire FROM capture'" ]
+    [ "$status $(sort -u out | paste -s -d ' ')" = "0 ('NTSC', 16384, 51200) .schema" ]
 
 # The lines of README and of the pages for callers stand in a program of examples/, or in a caller that is proved, but
 # for indents; of an import each word does.
@@ -166,8 +174,8 @@ END
 for crate in vbi_words vbi_line vbi_near; do
     sed -n 's/^| \(`[^|]*\)|.*/\1/p' "$top/crates/$crate/CALLING.md" | grep -o '[a-z_][a-z_]*`' | sort -u > found
     find "$top/crates/$crate/src" -name '*.rt' ! -name '*laws.rt' -exec sed -n 's/.*pub fn \([a-z_]*\).*/\1`/p' {} + |
-        sort -u | cmp found - > err
-    check "the page for callers of $crate has a row for each public function" [ ! -s err ]
+        sort -u > functions
+    check "the page for callers of $crate has a row for each public function" cmp found functions
 done
 
 # The examples of the manual pages: the last line that the one of ldvbi prints is of the drawn field; ldvbi-side has a

@@ -1,6 +1,5 @@
 #!/bin/sh
-# Tries what makes the tables of docs/measured/: the bounds of `make bench`; what peers/compare.py counts of readers that
-# know the words that were drawn; and the readers that are ours, of drawn lines.
+# Tries what makes the tables of docs/measured/: the bounds of `make bench`, and the readers that are ours, of drawn lines.
 # usage: sh tests/program/measured.sh PROGRAM
 # runs: everywhere
 # fails where: bench/bounds.awk|s/ratio < least/ratio > least/
@@ -54,52 +53,6 @@ for files in 'empty lines' "$bench/bounds.txt empty"; do
     does awk -f "$bench/bounds.awk" $files
     check "no bounds, or no measurement: ${files##*/}" [ "$status" = 1 ]
 done
-
-# ---- What compare.py counts of lines as they were drawn and of worse ones, where each reader says the words that were
-# drawn, but one says something else of the first
-cat > trial.py << 'END'
-import sys
-
-sys.path.insert(0, sys.argv.pop(1))
-import compare
-
-faulty, word, passed = sys.argv.pop(), int(sys.argv.pop(), 16), int(sys.argv.pop())
-drawn, draw = [], compare.worsen.drawn_words
-
-
-def drawn_words(*given):
-    drawn[:] = draw(*given)
-    return [*drawn]
-
-
-def read_by_all(*_):
-    return [([word if name == faulty else drawn[0], *drawn[1:]], [passed, 2, 2]) for name in compare.READERS]
-
-
-compare.verify_disc = lambda program: faulty != "disc"
-compare.worsen.drawn_words, compare.read_by_all = drawn_words, read_by_all
-compare.TABLES = [(what, rows[:2], *more) for what, rows, *more in compare.TABLES[:2]]
-compare.main()
-END
-while IFS='|' read -r faulty word said; do
-    does env PYTHONDONTWRITEBYTECODE=1 python3 trial.py "$top/peers" "$program" . 1 3 "$word" "$faulty"
-    check "${faulty:-no reader} says $word in place of a word" [ "$status$(tail -n 1 err)" = "$said" ]
-done << 'END'
-|0|0
-disc|0|1ldverify finds an error on a drawn disc, or ldvbi doesn't read its words
-libzvbi|0|1the words of lines as they were drawn are not read alike
-recovered|F12345|1the words of lines as they were drawn are not read alike
-END
-# Of each three words the last of these readers reads the first one wrong, by pass 3, and the others by pass 2. Of a row
-# of dropouts there are five rounds.
-cat > wanted << 'END'
-| as drawn | 1000/0/0 | 667/333/0 | 1000/0/0 | 1000/0/0 | 1000/0/0 | 1000/0/0 |
-| as drawn | 0/0 | 2/0 | 2/0 | 0/1 | 2/0 | 1/0 |
-| 20 %, noise | 15/0/0 | 10/5/0 | 15/0/0 | 15/0/0 | 15/0/0 | 15/0/0 |
-| 20 %, noise | 0/0 | 10/0 | 10/0 | 0/5 | 10/0 | 5/0 |
-END
-grep '^| \(as drawn\|20 %, noise\) ' out > found
-check 'the counts of words, and those of each pass' cmp found wanted
 
 # ---- The reader by edges, and that of recovered words, which needs the library: of three lines one by one, and of four
 # of which each two bear a word

@@ -115,7 +115,7 @@ done
 touch tree/ldvbi
 
 # Archives of source and program, of that program and its crate, which have nothing of this machine. They are the same
-# ones each time, whoever packs them.
+# ones each time, whatever mode new files get.
 # packed NAME FILES: whether an archive of dist/ has these below its folder
 packed() {
     rm -rf unpacked
@@ -212,6 +212,8 @@ proves() {
 }
 rm tree/ldvbi
 proves ldvbi JOBS=3
+check 'large crates are proved by as many jobs as are asked for' \
+    grep -qx 'rt lib --jobs 3' tree/crates/vbi_near/out/make.log
 printf '%s proved, N s\n' $program_crates > wanted_text
 judge 'make says one line of a crate' 0 wanted_text ''
 { echo 'rt run --jobs 1 -- --help'; seq 99; } > wanted
@@ -252,12 +254,12 @@ while read -r target files; do
         is_due $target $file || echo "$target doesn't depend on $file"
     done
     for file in README.md Makefile include/ldvbi.h; do ! is_due $target $file || echo "$target depends on $file"; done
-done > err << END
+done > undue << END
 ldvbi $(printf 'crates/%s/src/lib.rt ' $program_crates | sed 's,ldvbi/src/lib,ldvbi/src/main,')
 libldvbi.a $(printf 'crates/%s/src/lib.rt ' $library_crates)
 libldvbi.so libldvbi.a
 END
-check 'program and library are built anew after a change of a source alone' [ ! -s err ]
+check 'program and library are built anew after a change of a source alone' cmp undue empty
 
 # `make clean` takes away what was built, and leaves the source
 mkdir -p tree/rust/out tree/rust/x86_64-pc-windows-gnu

@@ -42,7 +42,8 @@ while read -r what count altering; do
 done << 'END'
 words 50 "$@" > all || exit; sed 's/^Usage: /Use: /' all
 words 50 "$@" || exit 1
-streams 2 "$@" | sed 's/[0-9A-F] *$/~/'
+words 50 "$@" 2> said || { status=$?; sed 's/^ldvbi: /ldvbi, /' said >&2; exit $status; }
+streams 2 "$@" > all; status=$?; sed 's/[0-9A-F]\(.\?\)$/~\1/' all; exit $status
 END
 echo 'unsigned ldvbi_classify(unsigned word, void *code) { return word >> 23 == 1 ? 0 : 4; }' |
     "${CC:-cc}" -shared -fPIC -o other.so -x c - -x none -Wl,--no-as-needed,-rpath,"$top" "$top/libldvbi.so.1" || exit 1
