@@ -64,8 +64,8 @@ soname=
 case ${target:-$(uname -s)} in
     *inux*) soname='-C link-arg=-Wl,-soname,libldvbi.so.1' ;;
 esac
-# The program; then the libraries for C, each on its own, so that it holds no more than it needs. Who depends on the crate
-# builds neither of these.
+# The program; then the libraries for C, each on its own, so that it holds no more than it needs. Who depends on the
+# crate builds neither of these.
 (
     cd "$here/crate"
     "$cargo" build --release --quiet --features cli ${target:+--target "$target"}

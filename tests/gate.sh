@@ -4,10 +4,11 @@
 # which is compared with what was proved. What was run is compared with the list in git (tests/ran.sh), count by
 # count.
 #
-# `rt ci` works on a copy without must-fail/, whose edits it would try one at a time, while the crates are proved here
-# for the wrong bodies, and then built. So the program is proved and built twice, and the two are compared byte for
-# byte. The last line counts crates and wrong bodies, 'N passed, 0 failed'; the status is 0 only where all of it
-# passed. Before it stands when each part ended.
+# `rt ci` works on a copy without must-fail/, whose edits it would try one at a time, while here the crates are proved
+# and built, and their wrong bodies tried as soon as each is proved: by make or wrong_bodies.py, of which the other one
+# waits. So the program is proved and built twice, and the two are compared byte for byte. The last line counts crates
+# and wrong bodies, 'N passed, 0 failed'; the status is 0 only where all of it passed. Before it stands when each part
+# ended.
 # usage: sh tests/gate.sh
 set -eu
 
@@ -18,11 +19,12 @@ memory_of_both=14000000
 
 work=$(mktemp -d)
 proofs=
-rust=
+built=
 leave() {
-    [ -z "$rust" ] || kill "$rust" 2> /dev/null || :
-    # Until `setsid` has run there is no group of their own.
-    [ -z "$proofs" ] || kill -- "-$proofs" 2> /dev/null || kill "$proofs" 2> /dev/null || :
+    for group in $proofs $built; do
+        # Until `setsid` has run there is no group of their own.
+        kill -- "-$group" 2> /dev/null || kill "$group" 2> /dev/null || :
+    done
     rm -rf "$work"
 }
 trap leave EXIT
@@ -68,18 +70,17 @@ if [ "$(awk '/^MemAvailable/ { print $2 }' /proc/meminfo)" -lt "$memory_of_both"
     ends_proofs
     part 'proofs and tests'
 fi
+setsid sh -c 'make JOBS=1 rust ldvbi lib && python3 tests/wrong_bodies_trials.py' > "$work/built" 2>&1 &
+built=$!
 python3 tests/wrong_bodies.py > "$work/wrong" || { cat "$work/wrong"; fails 'a wrong body is missing or not refused'; }
 cat "$work/wrong"
 sed -n 's,^\(\w*/\w*\): refused by a .*,wrong body \1,p' "$work/wrong" > "$work/bodies"
 # The last line says how many were refused, and by what: that nobody can know before, and it isn't in the list.
 tail -n 1 "$work/wrong" | sed 's/ (.*)//' | cat "$work/bodies" - >> "$work/ran"
 part 'wrong bodies'
-make -s rust > "$work/rust" 2>&1 &
-rust=$!
-python3 tests/wrong_bodies_trials.py || fails 'the script that tries wrong bodies takes what it has to refuse'
-make JOBS=1 ldvbi lib || fails 'program and library are not built'
-wait "$rust" || { cat "$work/rust"; fails 'the Rust program is not built'; }
-rust=
+wait "$built" || { cat "$work/built"; fails 'not all is built, or what tries wrong bodies takes what it has to refuse'; }
+built=
+cat "$work/built"
 part 'programs and libraries'
 if [ -n "$proofs" ]; then
     ends_proofs

@@ -64,7 +64,7 @@ exit "${RT:-0}"
 END
 stub stubs/make << 'END'
 echo "${BUILT:-program}" > ldvbi
-case $* in *rust) exit "${RUST:-0}" ;; *) exit "${MAKE:-0}" ;; esac
+exit "${MAKE:-0}"
 END
 stub stubs/python3 << 'END'
 case $1 in *trials*) exit "${TRIALS:-0}" ;; esac
@@ -88,7 +88,7 @@ fails_with() {
 }
 check 'the gate passes where nothing is wrong' gate
 for fault in RT=1 FAILED=1 CRATES=2 ENDED=failed MORE=yes MAKE=2 BUILT=another WRONG=1 REFUSED=not BODIES=2 TRIALS=1 \
-    SCRIPTS=1 NEW=1 RUST=2 RUST_SCRIPTS=1; do
+    SCRIPTS=1 NEW=1 RUST_SCRIPTS=1; do
     check "the gate fails with $fault" fails_with "$fault"
 done
 finish

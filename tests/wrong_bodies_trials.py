@@ -14,7 +14,7 @@ import tempfile
 
 sys.dont_write_bytecode = True
 from wrong_bodies import Crate, FOLDER, REFUSED, REFUSES, write  # noqa: E402
-from wrong_edits import public_functions, read, resting_on  # noqa: E402
+from wrong_edits import closed, named_by, public_functions, read  # noqa: E402
 
 CRATE = "vbi_words"
 # Name, file, old text, new text, and what the script has to say of it
@@ -65,7 +65,7 @@ def checks():
     """Yields the name of each check, what was found and what was wanted."""
     refuses = {line: re.search(REFUSED.format("f"), f"fn {line}") is not None for line in LINES}
     yield "what refuses", refuses, LINES
-    names = resting_on(f"crates/{CRATE}", frozenset(["IsCode"]))
+    names = closed({"IsCode"}, named_by(f"crates/{CRATE}")[0])
     yield "what IsCode rests on", {"picture_of", "digit_of", "fits"} & names, {"picture_of", "digit_of"}
     public = public_functions(set())
     yield "without edits a public function has one", (public != {}, {*public.values()}), (True, {False})

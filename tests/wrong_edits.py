@@ -3,9 +3,9 @@ can share a check.
 
 An edit has lines 'file: src/x.rt', 'old: TEXT' (once in that file) and 'new: TEXT', as for `rt must-fail`. The function
 that the prover has to refuse is the one that a row of must-fail/refuses.md names, else the one whose body the edit
-changes, else any of the crate. An edit that changes more than bodies, as a constant or a head, gets a round of its own,
-but for those which change definitions of specs/ and which a law without a written proof has to refuse: these share
-rounds in which no law rests on a definition that another edit changes.
+changes, else any of the crate. Edits share a round where each changes a body of its own, and what one changes beside
+bodies, as a constant, a head or a definition of specs/, is nothing on which the verdict on another one rests. By which
+names that is told takes in more than is needed, and never less: see `Edit.rests_on`.
 Each public function needs an edit that has to be refused there, or changes its body or what that names itself: a
 function or constant of the same file, or the only one of that name.
 """
@@ -22,10 +22,15 @@ ITEM = re.compile(r"^( *)(pub )?(?:pub\([^)]*\) )?"
 OPENS = re.compile(r"^(?!.*\b(?:requires|ensures|ghost)\b).*\{ *$", re.M)
 # Texts, characters and comments, which name nothing
 SILENT = re.compile(r'"(?:\\.|[^"\\])*"|\'(?:\\.|[^\'\\])\'|//[^\n]*', re.S)
-# What begins a definition of specs/, with its name; a name; and what begins a text of specs/ that defines no function
-DEFINES = re.compile(r"^(?:(?:pub|abbrev|unfoldable|record|data) )*([A-Za-z][\w']*)", re.M)
-NAME = re.compile(r"[A-Za-z_][\w']*")
+# The begin of a definition of specs/ at the top of a file, with its name; that of one or of a lemma anywhere, with its
+# type; a name; another name for one; what begins a text of specs/ that defines no function; and a type
+DEFINES = re.compile(r"^(?!(?:pub )?(?:use|mod)\b)(?:(?:pub|abbrev|unfoldable|record|data) )*([A-Za-z][\w'-]*)", re.M)
+STATES = re.compile(r"^ *(?:(?:pub|abbrev|unfoldable|record|data) )*([A-Za-z][\w'-]*)(?= :)"
+                    r"|^ *(?:pub )?(?:record|data) (?:pub )?([\w'-]+)", re.M)
+NAME = re.compile(r"[A-Za-z_][\w']*(?:-[\w']+)*")
+RENAMED = re.compile(r"([\w']+) as ([\w']+)")
 NO_FUNCTION = re.compile(r"^(?:pub )?(?:use|module|record|data)\b", re.M)
+TYPE = re.compile(r"^(?:pub(?:\([^)]*\))? )?(?:struct|enum|trait|type) (\w+)[^{;]*(?:\{.*?^\}|;)", re.M | re.S)
 
 
 def read(path):
@@ -41,23 +46,25 @@ class Item:
         self.path, self.text, self.is_function = path, head.string, function is not None
         ends = re.compile(rf"^{indent}(?:\}}|\{{\}}$)" if function else ";$", re.M).search(self.text, head.end())
         opens = OPENS.search(self.text, head.start(), ends.start())
+        self.start = self.text.rfind("\n\n", 0, head.start()) + 1
         self.begin = head.start() if constant else opens.end() if opens else head.end()
         self.end = ends.end() if constant else ends.start()
-        # A law has an empty body, and so no wrong one; all that it says is what it names, with what its proof uses.
-        begin = self.text.rfind("\n\n", 0, head.start()) + 1
-        self.law = NAME.findall(self.text[begin:ends.end()]) if function and "{}" in ends[0] else None
-        self.is_public = bool(public and function) and self.law is None
+        # A law has an empty body, and so no wrong one.
+        self.is_public = bool(public and function) and "{}" not in ends[0]
+        self.whole, self.head = self.text[self.start:ends.end()], self.text[self.start:self.begin]
         self.simple_name = function or constant
         _, self.crate, _, *inside = path[:-len(".rt")].split("/")
-        names = [*inside, *self.owner(head.start()) * bool(indent), self.simple_name]
+        owner = self.owner(head.start()) if indent else []
+        # Before a method the prover writes the type of the impl around it, then its trait.
+        names = [*inside, *(type_name + of for of, type_name in owner), self.simple_name]
         self.name = "::".join(names[inside in (["lib"], ["main"]):])
+        self.implementor = owner[0][1] if owner and owner[0][0] else self.simple_name
 
     def owner(self, place):
-        """Returns what the prover writes before a method: the type of the impl around it, then its trait."""
+        """Returns the trait, or "", and the type of the impl around a method."""
         heads = re.findall(r"^(?:\}|(?:unsafe )?impl\b.*)", self.text[:place], re.M)
         head = re.sub(r"<[^<>]*>", "", re.sub(r"<[^<>]*>", "", heads[-1] if heads else ""))
-        return [type_name + of for of, type_name in
-                re.findall(r"impl\s+(?:[\w:]*?(\w+)\s+for\s+)?(?:[\w:]*::)?(\w+)", head)]
+        return re.findall(r"impl\s+(?:[\w:]*?(\w+)\s+for\s+)?(?:[\w:]*::)?(\w+)", head)
 
     def named(self):
         body = SILENT.sub("", self.text[self.begin:self.end])
@@ -77,20 +84,50 @@ def blocks(path):
 
 
 @functools.lru_cache(maxsize=None)
-def resting_on(folder, names):
-    """Returns these names with all that the crate's definitions of them name, and so on."""
-    named = collections.defaultdict(set)
-    for text in (text for path in glob.glob(f"{folder}/specs/**/*.antt", recursive=True) for _, text in blocks(path)):
-        for name in DEFINES.findall(text):
-            named[name].update(NAME.findall(text))
-    for path in glob.glob(f"{folder}/src/**/*.rt", recursive=True):
-        for it in items(path):
-            if not it.is_function:
-                named[it.simple_name].update(NAME.findall(it.text[it.begin:it.end]))
+def items_of(folder):
+    return [it for path in sorted(glob.glob(f"{folder}/src/**/*.rt", recursive=True)) for it in items(path)]
+
+
+def words(text):
+    return NAME.findall(re.sub("(?://|--).*", "", text))
+
+
+@functools.lru_cache(maxsize=None)
+def named_by(folder):
+    """Returns what each name of a crate names: of definitions, constants and types; of lemmas; and of a function's head,
+    or of the heads of all that a type implements."""
+    definitions, lemmas, heads = (collections.defaultdict(set) for _ in range(3))
+    for part, of_part in ("specs", definitions), ("proofs", lemmas):
+        for texts in map(blocks, glob.glob(f"{folder}/{part}/**/*.antt", recursive=True)):
+            # What a module is given stands for all in it.
+            given = {name for _, text in texts if text.lstrip().startswith("module ") for name in words(text)}
+            for _, text in texts:
+                names = DEFINES.findall(text) if part == "specs" and not given else []
+                if not names:
+                    names = [one or other for one, other in STATES.findall(text)]
+                for name in names:
+                    of_part[name].update(words(text), given)
+    for it in items_of(folder):
+        if it.is_function:
+            for name in it.simple_name, it.implementor:
+                heads[name].update(words(it.head))
+        else:
+            definitions[it.simple_name].update(words(it.text[it.begin:it.end]))
+    for text in map(read, glob.glob(f"{folder}/src/**/*.rt", recursive=True)
+                    + glob.glob(f"{folder}/specs/**/*.antt", recursive=True)):
+        for one in TYPE.finditer(text):
+            definitions[one[1]].update(words(one[0]))
+        for old, new in RENAMED.findall(text):
+            definitions[new].add(old)
+    return definitions, lemmas, heads
+
+
+def closed(names, *maps):
+    """Returns these names with all that they name by these maps, and so on."""
     found, new = set(), {*names}
     while new:
         found |= new
-        new = {other for name in new for other in named[name]} - found
+        new = {other for name in new for of_names in maps for other in of_names.get(name, ())} - found
     return found
 
 
@@ -133,12 +170,11 @@ class Edit:
         # What an earlier pair has put there stands where that pair does.
         touched = [self.items_around(path, old) for path, old in places if old in read(path)]
         functions = [[it.name for it in around if it.is_function][-1:] for around in touched]
-        self.alone = [] in functions
         self.refuses = refuses or list(dict.fromkeys(sum(functions, []))) or ["*"]
         self.changes = {*self.refuses, *(it.name for around in touched for it in around[-1:])}
         redefined = [self.redefined_at(path, old) for path, old in places if old in read(path)]
-        self.redefined = {*sum(redefined, [])}
-        self.law = self.law_of(folder) if self.alone and [] not in redefined else None
+        self.redefined = None if None in redefined else {name for names in redefined for name in names}
+        self.rests_on = self.rests_on_in(folder)
 
     @staticmethod
     def items_around(path, old):
@@ -146,28 +182,41 @@ class Edit:
         return [it for it in items(path) if it.begin <= at and at + len(old) <= it.end]
 
     def redefined_at(self, path, old):
-        """Returns the names of what this text defines, "" for a body, on which no law rests; none where it is neither
-        in a body, nor a constant, nor in definitions of functions."""
-        if path.endswith(".rt"):
-            return ["" if it.is_function else it.simple_name for it in self.items_around(path, old)[-1:]]
+        """Returns the names of which others see it where this text is another one, none for a body, and None where it
+        is neither in a function or constant nor in definitions of functions."""
         at = read(path).find(old)
+        if path.endswith(".rt"):
+            inside = [it for it in items(path) if it.start <= at and at + len(old) <= it.end]
+            seen = {it.simple_name for it in inside[-1:] if not (it.is_function and it.begin <= at)}
+            return seen if inside else None
         texts = [text for begin, text in blocks(path) if begin < at + len(old) and at < begin + len(text)]
-        return [] if any(map(NO_FUNCTION.search, texts)) else [name for text in texts for name in DEFINES.findall(text)]
+        names = {name for text in texts for name in DEFINES.findall(text)}
+        return None if any(map(NO_FUNCTION.search, texts)) or not names else names
 
-    def law_of(self, folder):
-        """Returns what the law may rest on that has to refuse this, or None where it isn't one without a proof."""
-        laws = [it.law for path in glob.glob(f"{folder}/src/**/*.rt", recursive=True) for it in items(path)
-                if it.law and "using" not in it.law and [it.name] == self.refuses]
-        is_written = os.path.exists(f"{folder}/proofs/{self.refuses[0].replace('::', '/')}")
-        return resting_on(folder, frozenset(laws[0])) if laws and not is_written else None
+    def rests_on_in(self, folder):
+        """Returns the names on which the verdict on this rests, among others, or None where it is any function's."""
+        judged = [it for it in items_of(folder) if it.name in self.refuses]
+        if {it.name for it in judged} != {*self.refuses}:
+            return None
+        definitions, lemmas, heads = named_by(folder)
+        proofs = [path for it in judged
+                  for path in glob.glob(f"{folder}/proofs/{it.name.replace('::', '/')}/**/*.antt", recursive=True)]
+        inside = {name for text in [*(it.text[it.begin:it.end] for it in judged), *(new for *_, new in self.pairs),
+                                    *map(read, proofs)] for name in words(text)}
+        # What a body calls is known by its head, as is what the types implement that such a head names.
+        called = {other for name in inside for other in heads.get(name, ())}
+        names = inside | called | {other for name in called for other in heads.get(name, ())}
+        names |= {name for it in judged for name in words(it.whole)}
+        return closed(names, definitions, *[lemmas] * bool(proofs or "using" in names))
 
     def can_share(self, other):
         """Whether neither of two edits has an effect on what the other one is judged by."""
-        if self.changes & other.changes or (self.law is None) != (other.law is None):
-            return False
-        if self.law is None:
-            return not self.alone and not other.alone
-        return not self.law & other.redefined and not other.law & self.redefined
+        return not self.changes & other.changes and not self.affects(other) and not other.affects(self)
+
+    def affects(self, other):
+        if self.redefined is None or other.rests_on is None:
+            return self.redefined != set()
+        return bool(self.redefined & other.rests_on)
 
 
 def texts_with(edits, folder):

@@ -151,9 +151,9 @@ class Sound:
         return 1 in passes or len(passes) == 2
 
     def _look_at_places(self):
-        """Nothing is lost behind the last number, or between two sides, but that minute 0 may lack fields after lead-in.
-        Before the first number no more is than the disc has there. A still has no other number in between. No number is due where both lines say
-        another one in pass 1."""
+        """Nothing is lost behind the last number, or between two sides, but that minute 0 may lack fields after
+        lead-in. Before the first number no more is than the disc has there. A still has no other number in between. No
+        number is due where both lines say another one in pass 1."""
         for one in self.answer["lost"]:
             is_minute = self.unit == "minute" and one["after"] in self.ends
             if self.numbered and one["before"] == self.numbered[0]:

@@ -1,5 +1,5 @@
-/* Prints the versions that the header has, whether the library is of this one, and the texts of numbers from 0 on. What
-   the structs and the other numbers of the header mean, border.py takes from there. Then a call is left by a handler. */
+/* Prints the versions that the header has, whether the library is of this one, and the texts of numbers from 0 on.
+   What the structs and the other numbers of the header mean, border.py takes from there. Then a handler leaves a call. */
 #define _GNU_SOURCE
 #include <ldvbi.h>
 #include <setjmp.h>
@@ -23,7 +23,7 @@ static void leave(int number)
     siglongjmp(before, number);
 }
 
-/* 2 where a call is left, since its file was cut off while it was mapped, which raises SIGBUS, and the next one returns. */
+/* 2 where a call is left, since its file was cut off while it was mapped (SIGBUS), and the next one returns. */
 static int calls_that_return(void)
 {
     size_t field = ldvbi_field_bytes(LDVBI_NTSC);

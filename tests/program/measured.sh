@@ -1,5 +1,5 @@
 #!/bin/sh
-# Tries what makes the tables of docs/measured/: the bounds of `make bench`, and the readers that are ours, of drawn lines.
+# Tries what makes the tables of docs/measured/: the bounds of `make bench`, and our own readers, of drawn lines.
 # usage: sh tests/program/measured.sh PROGRAM
 # runs: everywhere
 # fails where: bench/bounds.awk|s/ratio < least/ratio > least/

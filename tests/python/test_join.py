@@ -25,8 +25,8 @@ from truth import number_of, Truth
 SPACE = "{http://www.w3.org/2000/svg}"
 # What stands for sides, or their ends, in the tables
 NAMES = {
-    # of 4 numbers ONE has 3, 2, none that is read, and 2 of another pass; OTHER has 2, and a line that is doubtful. What
-    # line 16 of 13 says isn't the number's. ONE lost 21 to 23, OTHER 31, and each perhaps a field of the picture before
+    # of 4 numbers ONE has 3, 2, none that is read, and 2 of another pass; OTHER has 2, and a line that is doubtful.
+    # What line 16 of 13 says isn't the number's. ONE lost 21 to 23, OTHER 31, and each perhaps a field before it
     "ONE": "1..40 3=-/#2*/#2 5=-/?/#3 7=? 15=-/#8*/#8* -41:46",
     "OTHER": "1..40 9=-/#5*/#5* 11=-/#6/#70000 15=-/#8/- 25=#13/#13/#13 -61:62",
     # without five times, which the clock leaves out

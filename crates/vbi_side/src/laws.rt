@@ -242,22 +242,34 @@ pub fn worked_numbers()
         ∷ field_of 12345 1 12345 2 ∷ field_of 88687 1 88687 1 ∷ [] }
 {}
 
-/// The numbers that codes tell, what they weigh by the passes of their lines, and the codes that stand in place of one.
-pub fn worked_lines()
+/// The numbers that codes of times tell at either system's rate.
+pub fn worked_rates()
     ensures ntsc { map (λ line_16. number_from Ntsc Times line_16 (Some (Time 1 23)))
         (Some (ClvPicture 0 0) ∷ Some (ClvPicture 0 29) ∷ Some (ClvPicture 0 30) ∷ Some (ClvPicture 59 29) ∷ None ∷ [])
         ≡ Some 149400 ∷ Some 149429 ∷ None ∷ Some 151199 ∷ None ∷ [] }
     ensures pal { map (λ line_16. number_from Pal Times line_16 (Some (Time 1 23)))
         (Some (ClvPicture 0 0) ∷ Some (ClvPicture 0 24) ∷ Some (ClvPicture 0 25) ∷ Some (ClvPicture 59 24) ∷ None ∷ [])
         ≡ Some 124500 ∷ Some 124524 ∷ None ∷ Some 125999 ∷ None ∷ [] }
-    ensures minutes { map (number_from Pal Times (Some (ClvPicture 59 24)))
+{}
+
+/// The numbers of the last second of a minute and of an hour, and of a minute that is none.
+pub fn worked_minutes()
+    ensures { map (number_from Pal Times (Some (ClvPicture 59 24)))
         (Some (Time 0 59) ∷ Some (Time 0 60) ∷ Some (Time 9 59) ∷ None ∷ [])
         ≡ Some 89999 ∷ None ∷ Some 899999 ∷ None ∷ [] }
+{}
+
+/// What a number weighs by the passes of its lines: of a time by the lighter one.
+pub fn worked_weights()
     ensures weights { map pass_weight (0 ∷ 1 ∷ 2 ∷ 3 ∷ 4 ∷ []) ≡ 2 ∷ 2 ∷ 1 ∷ 1 ∷ 2 ∷ [] }
     ensures lighter { map (λ pass. number_weight Times (shown_in pass 0) (shown_in 1 0)) (1 ∷ 2 ∷ []) ≡ 2 ∷ 1 ∷ [] }
     ensures lighter_line { map (λ pass. number_weight Times (shown_in 1 0) (shown_in pass 0)) (1 ∷ 2 ∷ [])
         ≡ 2 ∷ 1 ∷ [] }
     ensures own { map (λ pass. number_weight Pictures (shown_in 2 0) (shown_in pass 0)) (1 ∷ 2 ∷ []) ≡ 2 ∷ 1 ∷ [] }
+{}
+
+/// The codes that stand in place of a number.
+pub fn worked_instead()
     ensures instead { map (is_instead Pictures)
         (Some (Chapter 0) ∷ Some LeadIn ∷ Some LeadOut ∷ Some (Time 0 0) ∷ Some (Picture 0) ∷ Some ClvMark ∷ None ∷ [])
         ≡ true ∷ true ∷ true ∷ true ∷ false ∷ false ∷ false ∷ [] }
@@ -266,9 +278,7 @@ pub fn worked_lines()
         ≡ true ∷ true ∷ true ∷ false ∷ true ∷ false ∷ false ∷ [] }
 {}
 
-/// When two numbers fit, or are of one still, at each edge: number 100 in field 10, and the fields in which another one
-/// fits it. Others count within 24 fields, a weight of 10 is enough, and a still loses 4 of it. Between numbers at most
-/// 8 fields apart others may be a field off.
+/// When two numbers fit, at each edge: number 100 in field 10, and the fields in which another one fits it.
 pub fn worked_fits()
     ensures video { map (λ j. fits Video 10 100 j 101) (11 ∷ 12 ∷ 13 ∷ []) ≡ false ∷ true ∷ false ∷ [] }
     ensures video_back { map (λ j. fits Video 10 100 j 96) (1 ∷ 2 ∷ 3 ∷ []) ≡ false ∷ true ∷ false ∷ [] }
@@ -276,13 +286,31 @@ pub fn worked_fits()
     ensures film_two { map (λ j. fits Film 10 100 j 102) (13 ∷ 14 ∷ 15 ∷ 16 ∷ 17 ∷ [])
         ≡ false ∷ true ∷ true ∷ true ∷ false ∷ [] }
     ensures film_back { map (λ j. fits Film 10 100 j 97) (1 ∷ 2 ∷ 3 ∷ 4 ∷ []) ≡ false ∷ true ∷ true ∷ false ∷ [] }
+    ensures nearly { map (λ j. nearly Video 1 10 100 j 101) (10 ∷ 11 ∷ 12 ∷ 13 ∷ 14 ∷ [])
+        ≡ false ∷ true ∷ true ∷ true ∷ false ∷ [] }
+{}
+
+/// When two numbers are of one still: number 100 in field 10, and the fields that have it by the same turn.
+pub fn worked_stills()
     ensures still { map (λ j. stays 10 100 j 100) (8 ∷ 9 ∷ 10 ∷ 11 ∷ 34 ∷ [])
         ≡ true ∷ false ∷ true ∷ false ∷ true ∷ [] }
     ensures still_of_one { map (stays 10 100 12) (99 ∷ 100 ∷ 101 ∷ []) ≡ false ∷ true ∷ false ∷ [] }
-    ensures numbers { (reach ≡ 24) × (enough ≡ 10) × (field_most ≡ 4) }
-    ensures close { map (slack_of 0) (2 ∷ 8 ∷ 9 ∷ 48 ∷ []) ≡ 1 ∷ 1 ∷ 0 ∷ 0 ∷ [] }
-    ensures nearly { map (λ j. nearly Video 1 10 100 j 101) (10 ∷ 11 ∷ 12 ∷ 13 ∷ 14 ∷ [])
-        ≡ false ∷ true ∷ true ∷ true ∷ false ∷ [] }
+    ensures most { field_most ≡ 4 }
+{}
+
+/// Others count within 24 fields.
+pub fn worked_reach()
+    ensures { reach ≡ 24 }
+{}
+
+/// A weight of 10 is enough.
+pub fn worked_enough()
+    ensures { enough ≡ 10 }
+{}
+
+/// Between numbers at most 8 fields apart others may be a field off.
+pub fn worked_slack()
+    ensures { map (slack_of 0) (2 ∷ 8 ∷ 9 ∷ 48 ∷ []) ≡ 1 ∷ 1 ∷ 0 ∷ 0 ∷ [] }
 {}
 
 /// What supports a number: others within 24 fields, on either side, and not further; of a still all but the weight of
