@@ -231,10 +231,10 @@ def texts_with(edits, folder):
 
 
 def rounds_of(edits, folder):
-    """Shares the edits among rounds, lists of some, those of the most often edited function first. No two of a round
-    change one function, and each applies beside the others."""
+    """Shares the edits among rounds, lists of some, those first that can share with the fewest. No two of a round change
+    one function, and each applies beside the others."""
     made = []
-    for edit in sorted(edits, key=lambda it: -sum(it.refuses == other.refuses for other in edits)):
+    for edit in sorted(edits, key=lambda it: sum(map(it.can_share, edits))):
         for others in made:
             if all(map(edit.can_share, others)) and texts_with([*others, edit], folder) is not None:
                 others.append(edit)

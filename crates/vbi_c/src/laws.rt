@@ -64,12 +64,6 @@ pub fn worked_numbers()
 pub fn worked_answers()
     ensures paces { map pace_for_c (Video ∷ Film ∷ []) ≡ 1 ∷ 2 ∷ [] }
     ensures formats { map format_for_c (Neither ∷ Cav ∷ Clv ∷ Both ∷ []) ≡ 0 ∷ 1 ∷ 2 ∷ 3 ∷ [] }
-    ensures pictures { map code_for_c (Other ∷ Picture 12345 ∷ Chapter 7 ∷ PictureStop ∷ [])
-        ≡ code_as 0 0 0 ∷ code_as 1 12345 0 ∷ code_as 2 7 0 ∷ code_as 10 0 0 ∷ [] }
-    ensures times { map code_for_c (Time 1 23 ∷ ClvPicture 45 6 ∷ ClvMark ∷ [])
-        ≡ code_as 3 1 23 ∷ code_as 4 45 6 ∷ code_as 11 0 0 ∷ [] }
-    ensures others { map code_for_c (CxOn 0x123 ∷ CxOff 0x456 ∷ Users 7 0x89A ∷ LeadIn ∷ LeadOut ∷ [])
-        ≡ code_as 5 0x123 0 ∷ code_as 6 0x456 0 ∷ code_as 7 7 0x89A ∷ code_as 8 0 0 ∷ code_as 9 0 0 ∷ [] }
     ensures words { map (outcome_for_c (Word 0xF12345)) (1 ∷ 2 ∷ 3 ∷ [])
         ≡ reading_as 0 1 0 0xF12345 ∷ reading_as 0 2 0 0xF12345 ∷ reading_as 0 3 0 0xF12345 ∷ [] }
     ensures causes { map (λ outcome. outcome_for_c outcome 0) (Blank ∷ Unfinished ∷ Change 34 ∷ Hold 46 ∷ [])
@@ -78,6 +72,21 @@ pub fn worked_answers()
     ensures none_near { near_for_c (near_of None 0 2 3 2 2) ≡ near_as 0 0 2 3 2 }
     ensures record_bytes { (written : LdvbiRecord) → HasText (123 ∷ 125 ∷ []) written
         → (written.length ≡ 2) × (written.text ≡ 123 ∷ 125 ∷ replicate 446 0) }
+{}
+
+/// The numbers of codes, and what goes with them.
+pub fn worked_codes()
+    ensures pictures { map code_for_c (Other ∷ Picture 12345 ∷ Chapter 7 ∷ PictureStop ∷ [])
+        ≡ code_as 0 0 0 ∷ code_as 1 12345 0 ∷ code_as 2 7 0 ∷ code_as 10 0 0 ∷ [] }
+    ensures times { map code_for_c (Time 1 23 ∷ ClvPicture 45 6 ∷ ClvMark ∷ [])
+        ≡ code_as 3 1 23 ∷ code_as 4 45 6 ∷ code_as 11 0 0 ∷ [] }
+    ensures others { map code_for_c (CxOn 0x123 ∷ CxOff 0x456 ∷ Users 7 0x89A ∷ LeadIn ∷ LeadOut ∷ [])
+        ≡ code_as 5 0x123 0 ∷ code_as 6 0x456 0 ∷ code_as 7 7 0x89A ∷ code_as 8 0 0 ∷ code_as 9 0 0 ∷ [] }
+{}
+
+/// How many fields a search looks at, and what it answers where it finds none.
+pub fn worked_searches()
+    ensures reads { (probe_most ≡ 12) × (probe_longest ≡ 144) × (probed_most ≡ 812) × (around_most ≡ 188) }
     ensures looked { (seek : Seek) (bytes : List ℕ) (number : ℕ) (sought : LdvbiSought)
         → IsSought seek bytes number sought → sought.looked ≤ 1000 }
     ensures unfound { (seek : Seek) (bytes : List ℕ) (count number : ℕ) (sought : LdvbiSought)
@@ -158,11 +167,9 @@ pub fn worked_sides()
     ensures none_on_16 { (answer : ℕ) → IsEndOf (lines_read_as 0x80EEEE 0 0) answer → answer ≡ 0 }
 {}
 
-/// How many fields a search reads, and which numbers fields tell together: what supports one has to weigh 6, at either
-/// pace, or what all fields show at that of video. So one field alone tells none, and fields tell no number that none
-/// of them shows.
+/// Which numbers fields tell together: what supports one has to weigh 6, at either pace, or what all fields show at
+/// that of video. So one field alone tells none, and fields tell no number that none of them shows.
 pub fn worked_telling()
-    ensures numbers { (probe_most ≡ 12) × (probe_longest ≡ 144) × (probed_most ≡ 812) × (around_most ≡ 188) }
     ensures video { IsTold (video_ending 2) 0 5 × (IsTold (video_ending 1) 0 5 → ⊥) }
     ensures film { IsTold (film_ending 2) 0 5 × (IsTold (film_ending 1) 0 5 → ⊥) }
     ensures far { IsTold (far_ending 2) 0 5 × (IsTold (far_ending 1) 0 5 → ⊥) }
