@@ -4,11 +4,10 @@
 # which is compared with what was proved. What was run is compared with the list in git (tests/ran.sh), count by
 # count.
 #
-# `rt ci` works on a copy without must-fail/, whose edits it would try one at a time, while here the crates are proved
-# and built, and their wrong bodies tried as soon as each is proved: by make or wrong_bodies.py, of which the other one
-# waits. So the program is proved and built twice, and the two are compared byte for byte. The last line counts crates
-# and wrong bodies, 'N passed, 0 failed'; the status is 0 only where all of it passed. Before it stands when each part
-# ended.
+# `rt ci` works on a copy without must-fail/, whose edits it would try one at a time, while the crates are proved here,
+# by make or wrong_bodies.py, and built, and wrong bodies are tried. So the program is proved and built twice, and the
+# two are compared byte for byte. The last line counts crates and wrong bodies, 'N passed, 0 failed'; the status is 0
+# only where all of it passed. Before it stands when each part ended.
 # usage: sh tests/gate.sh
 set -eu
 
@@ -78,7 +77,7 @@ sed -n 's,^\(\w*/\w*\): refused by a .*,wrong body \1,p' "$work/wrong" > "$work/
 # The last line says how many were refused, and by what: that nobody can know before, and it isn't in the list.
 tail -n 1 "$work/wrong" | sed 's/ (.*)//' | cat "$work/bodies" - >> "$work/ran"
 part 'wrong bodies'
-wait "$built" || { cat "$work/built"; fails 'not all is built, or what tries wrong bodies takes what it has to refuse'; }
+wait "$built" || { cat "$work/built"; fails 'not all is built, or a wrong body may pass for a refused one'; }
 built=
 cat "$work/built"
 part 'programs and libraries'

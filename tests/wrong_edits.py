@@ -4,10 +4,8 @@ can share a check.
 An edit has lines 'file: src/x.rt', 'old: TEXT' (once in that file) and 'new: TEXT', as for `rt must-fail`. The function
 that the prover has to refuse is the one that a row of must-fail/refuses.md names, else the one whose body the edit
 changes, else any of the crate. Edits share a round where each changes a body of its own, and what one changes beside
-bodies, as a constant, a head or a definition of specs/, is nothing on which the verdict on another one rests. By which
-names that is told takes in more than is needed, and never less: see `Edit.rests_on`.
-Each public function needs an edit that has to be refused there, or changes its body or what that names itself: a
-function or constant of the same file, or the only one of that name.
+bodies, as a constant, a head or a definition of specs/, is nothing on which the verdict on another one rests. That is
+told by names, of which it takes more than are needed (`Edit.judged_by`).
 """
 import collections
 import functools
@@ -22,14 +20,12 @@ ITEM = re.compile(r"^( *)(pub )?(?:pub\([^)]*\) )?"
 OPENS = re.compile(r"^(?!.*\b(?:requires|ensures|ghost)\b).*\{ *$", re.M)
 # Texts, characters and comments, which name nothing
 SILENT = re.compile(r'"(?:\\.|[^"\\])*"|\'(?:\\.|[^\'\\])\'|//[^\n]*', re.S)
-# The begin of a definition of specs/ at the top of a file, with its name; that of one or of a lemma anywhere, with its
-# type; a name; another name for one; what begins a text of specs/ that defines no function; and a type
-DEFINES = re.compile(r"^(?!(?:pub )?(?:use|mod)\b)(?:(?:pub|abbrev|unfoldable|record|data) )*([A-Za-z][\w'-]*)", re.M)
-STATES = re.compile(r"^ *(?:(?:pub|abbrev|unfoldable|record|data) )*([A-Za-z][\w'-]*)(?= :)"
-                    r"|^ *(?:pub )?(?:record|data) (?:pub )?([\w'-]+)", re.M)
+# The begin of a definition or a lemma, at the top of a file or also in its modules, with its name; a name; another name
+# for one; and a type
+STATES = [re.compile(rf"^{indent}(?:(?:pub|abbrev|unfoldable|record|data) )*([A-Za-z][\w'-]*)(?= :)"
+                     rf"|^{indent}(?:pub )?(?:record|data) (?:pub )?([\w'-]+)", re.M) for indent in ("", " *")]
 NAME = re.compile(r"[A-Za-z_][\w']*(?:-[\w']+)*")
 RENAMED = re.compile(r"([\w']+) as ([\w']+)")
-NO_FUNCTION = re.compile(r"^(?:pub )?(?:use|module|record|data)\b", re.M)
 TYPE = re.compile(r"^(?:pub(?:\([^)]*\))? )?(?:struct|enum|trait|type) (\w+)[^{;]*(?:\{.*?^\}|;)", re.M | re.S)
 
 
@@ -85,7 +81,7 @@ def blocks(path):
 
 @functools.lru_cache(maxsize=None)
 def items_of(folder):
-    return [it for path in sorted(glob.glob(f"{folder}/src/**/*.rt", recursive=True)) for it in items(path)]
+    return [it for path in glob.glob(f"{folder}/src/**/*.rt", recursive=True) for it in items(path)]
 
 
 def words(text):
@@ -94,25 +90,19 @@ def words(text):
 
 @functools.lru_cache(maxsize=None)
 def named_by(folder):
-    """Returns what each name of a crate names: of definitions, constants and types; of lemmas; and of a function's head,
-    or of the heads of all that a type implements."""
+    """Returns what each name of a crate names: of definitions, constants and types; of lemmas; and of a function's
+    head, or of the heads of all that a type implements."""
     definitions, lemmas, heads = (collections.defaultdict(set) for _ in range(3))
     for part, of_part in ("specs", definitions), ("proofs", lemmas):
         for texts in map(blocks, glob.glob(f"{folder}/{part}/**/*.antt", recursive=True)):
             # What a module is given stands for all in it.
             given = {name for _, text in texts if text.lstrip().startswith("module ") for name in words(text)}
-            for _, text in texts:
-                names = DEFINES.findall(text) if part == "specs" and not given else []
-                if not names:
-                    names = [one or other for one, other in STATES.findall(text)]
-                for name in names:
-                    of_part[name].update(words(text), given)
+            for text in (text for _, text in texts):
+                for names in STATES[bool(given)].findall(text):
+                    of_part["".join(names)].update(words(text), given)
     for it in items_of(folder):
-        if it.is_function:
-            for name in it.simple_name, it.implementor:
-                heads[name].update(words(it.head))
-        else:
-            definitions[it.simple_name].update(words(it.text[it.begin:it.end]))
+        for name in it.simple_name, it.implementor:
+            (heads if it.is_function else definitions)[name].update(words(it.head if it.is_function else it.whole))
     for text in map(read, glob.glob(f"{folder}/src/**/*.rt", recursive=True)
                     + glob.glob(f"{folder}/specs/**/*.antt", recursive=True)):
         for one in TYPE.finditer(text):
@@ -166,34 +156,33 @@ class Edit:
                 self.fault = f"a line is none of 'file:', 'old:' and 'new:': {line}"
         if not self.pairs or texts_with([self], folder) is None:
             self.fault = "it changes nothing, or an 'old:' text isn't in its file just once"
-        places = [(f"{folder}/{file}", old) for file, old, _ in self.pairs]
-        # What an earlier pair has put there stands where that pair does.
-        touched = [self.items_around(path, old) for path, old in places if old in read(path)]
-        functions = [[it.name for it in around if it.is_function][-1:] for around in touched]
-        self.refuses = refuses or list(dict.fromkeys(sum(functions, []))) or ["*"]
-        self.changes = {*self.refuses, *(it.name for around in touched for it in around[-1:])}
-        redefined = [self.redefined_at(path, old) for path, old in places if old in read(path)]
-        self.redefined = None if None in redefined else {name for names in redefined for name in names}
-        self.rests_on = self.rests_on_in(folder)
+        functions, changed, self.redefined = [], set(), set()
+        for file, old, new in self.pairs:
+            path = f"{folder}/{file}"
+            at = read(path).find(old)
+            if at >= 0:  # else an earlier pair has put it there, and it stands where that one does
+                around = [it for it in items(path) if it.begin <= at and at + len(old) <= it.end]
+                functions += [it.name for it in around if it.is_function][-1:]
+                changed |= {it.name for it in around[-1:]}
+                names = self.redefined_at(path, at, old, new)
+                self.redefined = None if None in (names, self.redefined) else self.redefined | names
+        self.refuses = refuses or list(dict.fromkeys(functions)) or ["*"]
+        self.changes = {*self.refuses, *changed}
+        self.rests_on = self.judged_by(folder)
 
     @staticmethod
-    def items_around(path, old):
-        at = read(path).find(old)
-        return [it for it in items(path) if it.begin <= at and at + len(old) <= it.end]
-
-    def redefined_at(self, path, old):
-        """Returns the names of which others see it where this text is another one, none for a body, and None where it
-        is neither in a function or constant nor in definitions of functions."""
-        at = read(path).find(old)
+    def redefined_at(path, at, old, new):
+        """Returns the names of which others see it where this text is another one: none for a body, also after a head
+        that stays. It returns None where the text isn't in a function or constant, nor in definitions of functions."""
         if path.endswith(".rt"):
-            inside = [it for it in items(path) if it.start <= at and at + len(old) <= it.end]
-            seen = {it.simple_name for it in inside[-1:] if not (it.is_function and it.begin <= at)}
-            return seen if inside else None
+            inside = [it for it in items(path) if it.start <= at and at + len(old) <= it.end][-1:]
+            stays = [it.is_function and (it.begin <= at or " ".join(new.split()).startswith(
+                " ".join(it.text[at:it.begin].split()))) for it in inside]
+            return {it.simple_name for it in inside if stays != [True]} if inside else None
         texts = [text for begin, text in blocks(path) if begin < at + len(old) and at < begin + len(text)]
-        names = {name for text in texts for name in DEFINES.findall(text)}
-        return None if any(map(NO_FUNCTION.search, texts)) or not names else names
+        return {"".join(names) for text in texts for names in STATES[0].findall(text)} or None
 
-    def rests_on_in(self, folder):
+    def judged_by(self, folder):
         """Returns the names on which the verdict on this rests, among others, or None where it is any function's."""
         judged = [it for it in items_of(folder) if it.name in self.refuses]
         if {it.name for it in judged} != {*self.refuses}:
@@ -214,9 +203,8 @@ class Edit:
         return not self.changes & other.changes and not self.affects(other) and not other.affects(self)
 
     def affects(self, other):
-        if self.redefined is None or other.rests_on is None:
-            return self.redefined != set()
-        return bool(self.redefined & other.rests_on)
+        return self.redefined is None or self.redefined and (
+            other.rests_on is None or self.redefined & other.rests_on)
 
 
 def texts_with(edits, folder):
@@ -231,14 +219,14 @@ def texts_with(edits, folder):
 
 
 def rounds_of(edits, folder):
-    """Shares the edits among rounds, lists of some, those first that can share with the fewest. No two of a round change
-    one function, and each applies beside the others."""
+    """Shares the edits among rounds, lists of some, those first that can share with the fewest. No two of a round
+    change one function, and each applies beside the others. Each goes to the smallest: of some calls of a function
+    that is refused the prover leaves the caller unjudged, so the fewer share a round, the fewer are tried alone."""
     made = []
     for edit in sorted(edits, key=lambda it: sum(map(it.can_share, edits))):
-        for others in made:
-            if all(map(edit.can_share, others)) and texts_with([*others, edit], folder) is not None:
-                others.append(edit)
-                break
-        else:
-            made.append([edit])
+        fits = [others for others in made
+                if all(map(edit.can_share, others)) and texts_with([*others, edit], folder) is not None]
+        if not fits:
+            made.append([])
+        min(fits or made[-1:], key=len).append(edit)
     return made

@@ -1,9 +1,8 @@
 /* Loaded before a program's libraries (LD_PRELOAD), it says to the file that ADVISED names of how many bytes of a
- * mapped file, from its first on, the system shall read none ahead, which bytes the program asks for ahead (their first
- * byte and the byte behind the last), and how many fields it then reads from which byte on. It passes all calls on. */
+ * mapped file, from its first on, the system shall read none ahead, and which bytes the program asks for ahead (their
+ * first byte and the byte behind the last). It passes all calls on. */
 #define _GNU_SOURCE
 #include <dlfcn.h>
-#include <ldvbi.h>
 #include <stdio.h>
 #include <stdlib.h>
 #include <sys/mman.h>
@@ -22,11 +21,4 @@ int madvise(void *address, size_t length, int advice) {
     if (advice == MADV_RANDOM) say("random", mapped = address, length);
     if (advice == MADV_WILLNEED) say("asks", address, (size_t)((const char *)address - mapped) + length);
     return next(address, length, advice);
-}
-
-uint32_t ldvbi_recover_fields(uint32_t system, uint32_t black, uint32_t white, const void *samples, size_t length,
-                              LdvbiFieldReadings *readings, size_t count) {
-    __typeof__(ldvbi_recover_fields) *next = dlsym(RTLD_NEXT, "ldvbi_recover_fields");
-    if (count > 0) say("reads", samples, count);
-    return next(system, black, white, samples, length, readings, count);
 }

@@ -158,21 +158,15 @@ while IFS='|' read -r examples ended text side words said; do
     done
 done < rows
 
-# The pages with lines 16 to 18 are asked for a block of 64 fields ahead, once; the last block has what is left.
-bounded $cc -std=c99 -Wall -Wextra -Werror -shared -fPIC -I"$top/include" -o advised.so "$here/advised.c" -ldl
+# The pages with lines 16 to 18 are asked for ahead, once.
+bounded $cc -std=c99 -Wall -Wextra -Werror -shared -fPIC -o advised.so "$here/advised.c" -ldl
 awk -v fields=129 'BEGIN {
     print "random", 0, 478660 * fields
-    for (begin = 0; begin < fields; begin += 64) {
-        for (; asked < fields && asked < begin + 128; asked++) {
-            rows = 478660 * asked + 15 * 1820
-            print "asks", rows - rows % 4096, rows + 3 * 1820
-        }
-        print "reads", 478660 * begin, fields - begin < 64 ? fields - begin : 64
-    }
+    for (rows = 15 * 1820; asked++ < fields; rows += 478660) print "asks", rows - rows % 4096, rows + 3 * 1820
 }' > wanted_advice
 check 'seek finds the last field so' prints 0 'field 129' \
     env ADVISED=advice LD_PRELOAD="$work/advised.so" ./seek long.tbc $on_cav 65
-check 'seek asks for a block ahead' cmp advice wanted_advice
+check 'seek asks for the pages ahead' cmp advice wanted_advice
 # The others that map a side have nothing read ahead. Of a file on standard input few bytes are read, and of a pipe all;
 # it may begin behind the file's first field.
 for asked in 'player play' 'player_cpp play' 'whole cut' 'whole_cpp cut'; do

@@ -1,14 +1,13 @@
 #!/bin/sh
-# Tries what makes the tables of docs/measured/: the bounds of `make bench`, and our own readers, of drawn lines.
+# Tries the bounds of `make bench`: a ratio over its bound, a line that is missing and a measurement that fails each end
+# it with status 1.
 # usage: sh tests/program/measured.sh PROGRAM
 # runs: everywhere
 # fails where: bench/bounds.awk|s/ratio < least/ratio > least/
 
 . "$(dirname "$0")/../helpers.sh"
 
-# ---- Bounds of measurements: a ratio over its bound, a line that is missing and a measurement that fails each end
-# `make bench` with status 1. Each stub of a measurement writes each fifth line of the file `lines`, and fails where
-# FAILS has its name.
+# Each stub of a measurement writes each fifth line of the file `lines`, and fails where FAILS has its name.
 bench=$top/bench
 mkdir stubs
 cp "$bench/all.sh" "$bench/bounds.awk" "$bench/bounds.txt" stubs
@@ -53,24 +52,4 @@ for files in 'empty lines' "$bench/bounds.txt empty"; do
     does awk -f "$bench/bounds.awk" $files
     check "no bounds, or no measurement: ${files##*/}" [ "$status" = 1 ]
 done
-
-# ---- The reader by edges, and that of recovered words, which needs the library: of three lines one by one, and of four
-# of which each two bear a word
-while IFS='|' read -r reader words system lines read; do
-    [ $reader = edges ] || [ -e "$built/libldvbi.so" ] || { leave_out 1; continue; }
-    # Lines 16 to 18 of a drawn field begin behind fifteen.
-    set -- $words
-    echo 'F12345 - 800001' | bounded "$program" draw --system ${system#* } --black $1 --white $2 - |
-        tail -c +$((15 * ${system% *} + 1)) | head -c $((3 * ${system% *})) > drawn
-    set -- -std=c99 -Wall -Wextra -Werror -o "$reader" "$top/peers/$reader.c"
-    [ $reader = edges ] || set -- "$@" "-I$top/include" "-L$built" -lldvbi "-Wl,-rpath,$built"
-    bounded "${CC:-cc}" "$@" && { cat drawn; [ $lines = 3 ] || tail -c ${system% *} drawn; } |
-        ./$reader $words > read
-    check "the reader $reader of $lines lines of ${system#* }" [ "$(paste -s -d ' ' read)" = "$read" ]
-done << 'END'
-edges|16384 51200|1820 NTSC|3|F12345 none 800001
-edges|16384 54016 PAL|2270 PAL|3|F12345 none 800001
-recovered|16384 51200 1|1820 NTSC|3|F12345 1 none 800001 1
-recovered|16384 51200 2|1820 NTSC|4|F12345 1 800001 1
-END
 finish
