@@ -4,10 +4,10 @@
 # which is compared with what was proved. What was run is compared with the list in git (tests/ran.sh), count by
 # count.
 #
-# `rt ci` works on a copy without must-fail/, whose edits it would try one at a time, while the crates are proved here,
-# by make or wrong_bodies.py, and built, and wrong bodies are tried. So the program is proved and built twice, and the
-# two are compared byte for byte. The last line counts crates and wrong bodies, 'N passed, 0 failed'; the status is 0
-# only where all of it passed. Before it stands when each part ended.
+# `rt ci` works on a copy without must-fail/, whose edits it would try one at a time, and wrong_bodies.py on another,
+# since the toolchain has a command wait for another one in its folder; a library it takes from another. So the program
+# is proved and built twice, and the two are compared byte for byte. The last line counts crates and wrong bodies, 'N
+# passed, 0 failed'; the status is 0 only where all of it passed. Before it stands when each part ended.
 # usage: sh tests/gate.sh
 set -eu
 
@@ -58,9 +58,11 @@ compared() {
 }
 
 rm -f .ci/ran.new
-mkdir "$work/copy"
-tar --exclude='./.git' --exclude='./crates/*/out' --exclude='./rust/out' --exclude='./crates/*/must-fail' -cf - . |
-    tar -C "$work/copy" -xf -
+for copy in copy tried; do
+    mkdir "$work/$copy"
+    tar --exclude='./.git' --exclude='./crates/*/out' --exclude='./rust/out' -cf - . | tar -C "$work/$copy" -xf -
+done
+rm -rf "$work"/copy/crates/*/must-fail
 # One job for each crate, which takes a quarter less of the processors' time than several, and as many crates side by
 # side as there are processors
 (cd "$work/copy" && RT_JOBS=$(nproc) && export RT_JOBS && exec setsid rt ci > "$work/log" 2>&1) &
@@ -71,7 +73,8 @@ if [ "$(awk '/^MemAvailable/ { print $2 }' /proc/meminfo)" -lt "$memory_of_both"
 fi
 setsid sh -c 'make JOBS=1 rust ldvbi lib && python3 tests/wrong_bodies_trials.py' > "$work/built" 2>&1 &
 built=$!
-python3 tests/wrong_bodies.py > "$work/wrong" || { cat "$work/wrong"; fails 'a wrong body is missing or not refused'; }
+(cd "$work/tried" && exec python3 tests/wrong_bodies.py) > "$work/wrong" ||
+    { cat "$work/wrong"; fails 'a wrong body is missing or not refused'; }
 cat "$work/wrong"
 sed -n 's,^\(\w*/\w*\): refused by a .*,wrong body \1,p' "$work/wrong" > "$work/bodies"
 # The last line says how many were refused, and by what: that nobody can know before, and it isn't in the list.

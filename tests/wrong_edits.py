@@ -18,7 +18,6 @@ ITEM = re.compile(r"^( *)(pub )?(?:pub\([^)]*\) )?"
                   r"(?:(?:const |unsafe |extern \"C\" )*fn (\w+)|(?:const|static) (\w+):)", re.M)
 # The line that opens a function's body
 OPENS = re.compile(r"^(?!.*\b(?:requires|ensures|ghost)\b).*\{ *$", re.M)
-# Texts, characters and comments, which name nothing
 SILENT = re.compile(r'"(?:\\.|[^"\\])*"|\'(?:\\.|[^\'\\])\'|//[^\n]*', re.S)
 # The begin of a definition or a lemma, at the top of a file or also in its modules, with its name; a name; another name
 # for one; and a type
