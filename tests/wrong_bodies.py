@@ -4,8 +4,8 @@
 A check says of each function whether its own body meets its contract, also where a function that it calls is refused.
 So wrong bodies of different functions share a check, and each is judged by the line of its own function. Those of one
 function go into different rounds. Each round begins from what `rt lib`, or `rt check` of a program, kept of the crate
-as it stands, and looks at the edited functions alone, so nothing that is right is proved again. Rounds run side by
-side, those of a crate as soon as it is proved. What a round doesn't refuse is tried once more alone.
+as it stands, and looks at the edited functions alone, so nothing that is right is proved again. Rounds run side by side
+as soon as their crate is proved, and let proofs go first (`nice`). What one doesn't refuse is tried again alone.
 
 What an edit is, and which of them share a round: wrong_edits.py. Each public function needs one.
 
@@ -48,8 +48,8 @@ def write(path, text):
 
 
 def ran(folder, *words):
-    """Runs the toolchain there, and returns its status and what it says."""
-    run = subprocess.run(["rt", *words], cwd=folder, stdin=subprocess.DEVNULL, stdout=subprocess.PIPE,
+    """Runs a command there, and returns its status and what it says."""
+    run = subprocess.run(words, cwd=folder, stdin=subprocess.DEVNULL, stdout=subprocess.PIPE,
                          stderr=subprocess.STDOUT, errors="replace", check=False)
     return run.returncode, run.stdout
 
@@ -85,20 +85,18 @@ class Crate:
         shutil.copy("HANDLES", copy)
         rows = rows_of(self.name)
         parts = [f"crates/{name}/{part}" for name in rows for part in ("src", "specs", "proofs", "out/rlib")]
-        # What another command takes away meanwhile is left out.
         subprocess.run(["cp", "-al", "--parents", *filter(os.path.isdir, [*parts, f"{self.folder}/out/incremental"]),
-                        copy], stderr=subprocess.DEVNULL, check=False)
+                        copy], check=True)
         write(f"{copy}/crates.txt", "".join(f"{row}\n" for row in rows.values()))
         return copy
 
     def check(self, edits):
-        """Returns what the check of the functions that it has to refuse, or of all, says with these edits."""
+        """Returns what the check of the functions that it has to refuse says with these edits."""
         copy = self.copy()
         for file, text in texts_with(edits, self.folder).items():
             write(f"{copy}/crates/{self.name}/{file}", text)
-        names = [name for edit in edits for name in edit.refuses]
-        only = [] if "*" in names else [f"--only={name}" for name in names]
-        said = ran(f"{copy}/crates/{self.name}", "check", *ONE_JOB, *only)[1]
+        only = [f"--only={name}" for edit in edits for name in edit.refuses]
+        said = ran(f"{copy}/crates/{self.name}", "nice", "rt", "check", *ONE_JOB, *only)[1]
         shutil.rmtree(copy)
         return said
 
@@ -106,16 +104,13 @@ class Crate:
         """Returns 'proved' or 'not-proved', or None where the check came to no verdict on this crate. Those on crates
         below it, which are built first where they have changed, aren't it."""
         own = re.search(rf"^crate {self.name}: modules .*", said, re.M)
-        if own is None:
-            return None
-        found = re.search(r"^logic=(proved|not-proved)", said[own.end():], re.M)
-        some = re.search(r"^only=(\d+) proved=(\d+)", said[own.end():], re.M)
-        return found[1] if found else some and ("proved" if some[1] == some[2] else "not-proved")
+        some = own and re.search(r"^only=(\d+) proved=(\d+)", said[own.end():], re.M)
+        return some and ("proved" if some[1] == some[2] else "not-proved")
 
     def fault(self):
         """Proves the crate as it stands, and returns the end of what the toolchain says where it isn't, else None."""
         is_program = os.path.exists(f"{self.folder}/src/main.rt")
-        status, said = ran(self.folder, "check" if is_program else "lib", *ONE_JOB)
+        status, said = ran(self.folder, "rt", "check" if is_program else "lib", *ONE_JOB)
         return said[-300:] if status else None
 
     def judged(self, edit, said):
@@ -127,8 +122,7 @@ class Crate:
         if verdict is None:
             return "bad", next((line for line in said.split("\n") if "error" in line), said[-300:])
         for name in edit.refuses:
-            whole = re.escape(f"{self.name}::{name}") if name != "*" else r"\S+"
-            refused = re.search(REFUSED.format(whole), said, re.M)
+            refused = re.search(REFUSED.format(re.escape(f"{self.name}::{name}")), said, re.M)
             if refused:
                 place = name.replace("::", "/")
                 errors = re.findall(rf"^(?:\./)?proofs/{place}/\S+:\d+:\d+: error.*", said, re.M)

@@ -14,7 +14,7 @@ import tempfile
 
 sys.dont_write_bytecode = True
 from wrong_bodies import Crate, FOLDER, REFUSED, REFUSES, write  # noqa: E402
-from wrong_edits import closed, named_by, public_functions, read  # noqa: E402
+from wrong_edits import public_functions, read  # noqa: E402
 
 CRATE = "vbi_words"
 # Name, file, old text, new text, and what the script has to say of it
@@ -30,11 +30,17 @@ EDITS = [
     ("has_another_line", "src/levels.rt", "if black >= white {", "if black > white {\nrefuses: levels::Levels::new",
      "BAD EDIT"),
     ("another_is_named", "src/system.rt", "System::Pal => 190,", "System::Pal => 191,", "NOT REFUSED"),
+    ("none_is_named", "specs/Geometry.antt", "start_of Pal = 190", "start_of Pal = 191", "BAD EDIT"),
 ]
 # Rows of refuses.md: of a wrong edit, for which it names a function that is right, and of none
 ROWS = "| `another_is_named` | `levels::Levels::black` |\n| `gone` | `levels::Levels::black` |\n"
 WANTED = {**{name: verdict for name, *_, verdict in EDITS}, "gone": "BAD EDIT"}
-LAST = "wrong bodies: 1 refused (1 by a goal, 0 by a written proof, 0 by a name alone), 7 not"
+LAST = "wrong bodies: 1 refused (1 by a goal, 0 by a written proof, 0 by a name alone), 8 not"
+# Whether two of the crate's own edits may share a check: not where one changes a definition on which the other rests
+SHARED = {("digits_from_the_right", "midway_is_high"): True, ("midway_is_high", "midway_is_high_alike"): False,
+          ("midway_is_high_alike", "stops_are_no_format_alike"): True,
+          ("rounded_boundaries", "starts_a_column_late_alike"): False,
+          ("starts_a_column_late_alike", "rounded_boundaries"): False}
 # What a check says of the function f, and whether that refuses its own body
 LINES = {
     "f: not proved": True,
@@ -56,8 +62,8 @@ def copy_of_crate(room):
 def ran(folder):
     """Returns the script's status, and what it says."""
     done = subprocess.run([sys.executable, os.path.abspath("tests/wrong_bodies.py"), CRATE], cwd=f"{folder}/../..",
-                          stdin=subprocess.DEVNULL, stdout=subprocess.PIPE, stderr=subprocess.STDOUT,
-                          universal_newlines=True, check=False)
+                          stdin=subprocess.DEVNULL, stdout=subprocess.PIPE, stderr=subprocess.STDOUT, text=True,
+                          check=False)
     return done.returncode, done.stdout
 
 
@@ -65,8 +71,8 @@ def checks():
     """Yields the name of each check, what was found and what was wanted."""
     refuses = {line: re.search(REFUSED.format("f"), f"fn {line}") is not None for line in LINES}
     yield "what refuses", refuses, LINES
-    names = closed({"IsCode"}, named_by(f"crates/{CRATE}")[0])
-    yield "what IsCode rests on", {"picture_of", "digit_of", "fits"} & names, {"picture_of", "digit_of"}
+    edits = {edit.name: edit for edit in Crate("", CRATE).edits("")[0]}
+    yield "what shares a check", {pair: edits[pair[0]].can_share(edits[pair[1]]) for pair in SHARED}, SHARED
     public = public_functions(set())
     yield "without edits a public function has one", (public != {}, {*public.values()}), (True, {False})
     with tempfile.TemporaryDirectory(prefix="wrong-bodies-trials-", dir=os.getcwd()) as room:
@@ -80,7 +86,6 @@ def checks():
         folder = copy_of_crate(room)
         _, file, old, new, _ = EDITS[0]
         text = read(f"{folder}/{file}")
-        yield "the first edit", text.count(old), 1
         write(f"{folder}/{file}", text.replace(old, new))
         status, said = ran(folder)
         yield "a crate that isn't proved", (status, f"{CRATE}: not proved as it stands" in said), (1, True)

@@ -3,9 +3,9 @@ can share a check.
 
 An edit has lines 'file: src/x.rt', 'old: TEXT' (once in that file) and 'new: TEXT', as for `rt must-fail`. The function
 that the prover has to refuse is the one that a row of must-fail/refuses.md names, else the one whose body the edit
-changes, else any of the crate. Edits share a round where each changes a body of its own, and what one changes beside
-bodies, as a constant, a head or a definition of specs/, is nothing on which the verdict on another one rests. That is
-told by names, of which it takes more than are needed (`Edit.judged_by`).
+changes. Edits share a round where each changes a body of its own, and what one changes beside bodies, as a constant, a
+head or a definition of specs/, is nothing on which the verdict on another one rests. That is told by names, of which it
+takes more than are needed (`Edit.judged_by`).
 """
 import collections
 import functools
@@ -18,6 +18,7 @@ ITEM = re.compile(r"^( *)(pub )?(?:pub\([^)]*\) )?"
                   r"(?:(?:const |unsafe |extern \"C\" )*fn (\w+)|(?:const|static) (\w+):)", re.M)
 # The line that opens a function's body
 OPENS = re.compile(r"^(?!.*\b(?:requires|ensures|ghost)\b).*\{ *$", re.M)
+# Texts, characters and comments, which name nothing
 SILENT = re.compile(r'"(?:\\.|[^"\\])*"|\'(?:\\.|[^\'\\])\'|//[^\n]*', re.S)
 # The begin of a definition or a lemma, at the top of a file or also in its modules, with its name; a name; another name
 # for one; and a type
@@ -165,14 +166,15 @@ class Edit:
                 changed |= {it.name for it in around[-1:]}
                 names = self.redefined_at(path, at, old, new)
                 self.redefined = None if None in (names, self.redefined) else self.redefined | names
-        self.refuses = refuses or list(dict.fromkeys(functions)) or ["*"]
+        self.refuses = refuses or list(dict.fromkeys(functions))
+        self.fault = self.fault or (None if self.refuses else "it changes no body, and no row names what is refused")
         self.changes = {*self.refuses, *changed}
         self.rests_on = self.judged_by(folder)
 
     @staticmethod
     def redefined_at(path, at, old, new):
         """Returns the names of which others see it where this text is another one: none for a body, also after a head
-        that stays. It returns None where the text isn't in a function or constant, nor in definitions of functions."""
+        that stays. It returns None where the text isn't in a function or constant, nor in definitions or records."""
         if path.endswith(".rt"):
             inside = [it for it in items(path) if it.start <= at and at + len(old) <= it.end][-1:]
             stays = [it.is_function and (it.begin <= at or " ".join(new.split()).startswith(
@@ -202,8 +204,7 @@ class Edit:
         return not self.changes & other.changes and not self.affects(other) and not other.affects(self)
 
     def affects(self, other):
-        return self.redefined is None or self.redefined and (
-            other.rests_on is None or self.redefined & other.rests_on)
+        return self.redefined is None or self.redefined and (other.rests_on is None or self.redefined & other.rests_on)
 
 
 def texts_with(edits, folder):

@@ -1,5 +1,5 @@
-/* Prints the versions that the header has, whether the library is of this one, and the texts of numbers from 0 on.
-   What the structs and the other numbers of the header mean, border.py takes from there. Then a handler leaves a call. */
+/* Prints the versions that the header has, whether the library is of this one, and the texts of numbers from 0 on. What
+   the structs and the other numbers of the header mean, border.py takes from there. Then a handler leaves a call. */
 #define _GNU_SOURCE
 #include <ldvbi.h>
 #include <setjmp.h>

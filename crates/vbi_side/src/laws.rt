@@ -252,7 +252,7 @@ pub fn worked_rates()
         ≡ Some 124500 ∷ Some 124524 ∷ None ∷ Some 125999 ∷ None ∷ [] }
 {}
 
-/// The numbers of the last second of a minute and of an hour, and of a minute that is none.
+/// The numbers of the last pictures of hours 0 and 9, and of a minute 60, which is none.
 pub fn worked_minutes()
     ensures { map (number_from Pal Times (Some (ClvPicture 59 24)))
         (Some (Time 0 59) ∷ Some (Time 0 60) ∷ Some (Time 9 59) ∷ None ∷ [])
@@ -290,7 +290,8 @@ pub fn worked_fits()
         ≡ false ∷ true ∷ true ∷ true ∷ false ∷ [] }
 {}
 
-/// When two numbers are of one still: number 100 in field 10, and the fields that have it by the same turn.
+/// When two numbers are of one still: number 100 in field 10, and again an even number of fields away. A still loses 4
+/// of its weight.
 pub fn worked_stills()
     ensures still { map (λ j. stays 10 100 j 100) (8 ∷ 9 ∷ 10 ∷ 11 ∷ 34 ∷ [])
         ≡ true ∷ false ∷ true ∷ false ∷ true ∷ [] }
