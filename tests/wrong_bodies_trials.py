@@ -8,15 +8,15 @@ usage: python3 tests/wrong_bodies_trials.py     (at the top, with `rt` on the PA
 """
 import os
 import re
-import subprocess
 import sys
 import tempfile
 
 sys.dont_write_bytecode = True
-from wrong_bodies import Crate, FOLDER, REFUSED, REFUSES, write  # noqa: E402
+from wrong_bodies import Crate, FOLDER, REFUSED, REFUSES, ran, write  # noqa: E402
 from wrong_edits import public_functions, read  # noqa: E402
 
 CRATE = "vbi_words"
+SCRIPT = [sys.executable, os.path.abspath("tests/wrong_bodies.py"), CRATE]
 # Name, file, old text, new text, and what the script has to say of it
 EDITS = [
     ("wrong", "src/format.rt", "Some(word) => matches!(classify(word), Code::Picture(_) | Code::PictureStop),",
@@ -59,14 +59,6 @@ def copy_of_crate(room):
     return folder
 
 
-def ran(folder):
-    """Returns the script's status, and what it says."""
-    done = subprocess.run([sys.executable, os.path.abspath("tests/wrong_bodies.py"), CRATE], cwd=f"{folder}/../..",
-                          stdin=subprocess.DEVNULL, stdout=subprocess.PIPE, stderr=subprocess.STDOUT, text=True,
-                          check=False)
-    return done.returncode, done.stdout
-
-
 def checks():
     """Yields the name of each check, what was found and what was wanted."""
     refuses = {line: re.search(REFUSED.format("f"), f"fn {line}") is not None for line in LINES}
@@ -80,14 +72,14 @@ def checks():
         for name, file, old, new, _ in EDITS:
             write(f"{folder}/{FOLDER}/{name}.edit", f"file: {file}\nold: {old}\nnew: {new}\n")
         write(f"{folder}/{REFUSES}", ROWS)
-        status, said = ran(folder)
+        status, said = ran(f"{folder}/../..", *SCRIPT)
         yield "the edits", dict(re.findall(rf"^{CRATE}/(\w+): ([a-zA-Z ]+): ", said, re.M)), WANTED
         yield "the edits, at last", (status, said.split("\n")[-2]), (1, LAST)
         folder = copy_of_crate(room)
         _, file, old, new, _ = EDITS[0]
         text = read(f"{folder}/{file}")
         write(f"{folder}/{file}", text.replace(old, new))
-        status, said = ran(folder)
+        status, said = ran(f"{folder}/../..", *SCRIPT)
         yield "a crate that isn't proved", (status, f"{CRATE}: not proved as it stands" in said), (1, True)
 
 

@@ -20,11 +20,12 @@ ITEM = re.compile(r"^( *)(pub )?(?:pub\([^)]*\) )?"
 OPENS = re.compile(r"^(?!.*\b(?:requires|ensures|ghost)\b).*\{ *$", re.M)
 # Texts, characters and comments, which name nothing
 SILENT = re.compile(r'"(?:\\.|[^"\\])*"|\'(?:\\.|[^\'\\])\'|//[^\n]*', re.S)
-# The begin of a definition or a lemma, at the top of a file or also in its modules, with its name; a name; another name
-# for one; and a type
+# The begin of a definition or a lemma, at the top of a file or also in its modules, with its name; a name; an import;
+# another name for one; and a type
 STATES = [re.compile(rf"^{indent}(?:(?:pub|abbrev|unfoldable|record|data) )*([A-Za-z][\w'-]*)(?= :)"
                      rf"|^{indent}(?:pub )?(?:record|data) (?:pub )?([\w'-]+)", re.M) for indent in ("", " *")]
 NAME = re.compile(r"[A-Za-z_][\w']*(?:-[\w']+)*")
+USE = re.compile(r"^ *(?:pub |ghost )?use .*?(?:\n(?! )|;)", re.M | re.S)
 RENAMED = re.compile(r"([\w']+) as ([\w']+)")
 TYPE = re.compile(r"^(?:pub(?:\([^)]*\))? )?(?:struct|enum|trait|type) (\w+)[^{;]*(?:\{.*?^\}|;)", re.M | re.S)
 
@@ -93,8 +94,9 @@ def named_by(folder):
     """Returns what each name of a crate names: of definitions, constants and types; of lemmas; and of a function's
     head, or of the heads of all that a type implements."""
     definitions, lemmas, heads = (collections.defaultdict(set) for _ in range(3))
-    for part, of_part in ("specs", definitions), ("proofs", lemmas):
-        for texts in map(blocks, glob.glob(f"{folder}/{part}/**/*.antt", recursive=True)):
+    # What is in a folder below proofs/ is of one function, and no other one uses it.
+    for part, of_part in ("specs/**", definitions), ("proofs", lemmas):
+        for texts in map(blocks, glob.glob(f"{folder}/{part}/*.antt", recursive=True)):
             # What a module is given stands for all in it.
             given = {name for _, text in texts if text.lstrip().startswith("module ") for name in words(text)}
             for text in (text for _, text in texts):
@@ -107,7 +109,7 @@ def named_by(folder):
                     + glob.glob(f"{folder}/specs/**/*.antt", recursive=True)):
         for one in TYPE.finditer(text):
             definitions[one[1]].update(words(one[0]))
-        for old, new in RENAMED.findall(text):
+        for old, new in RENAMED.findall("".join(USE.findall(text))):
             definitions[new].add(old)
     return definitions, lemmas, heads
 
@@ -181,22 +183,27 @@ class Edit:
                 " ".join(it.text[at:it.begin].split()))) for it in inside]
             return {it.simple_name for it in inside if stays != [True]} if inside else None
         texts = [text for begin, text in blocks(path) if begin < at + len(old) and at < begin + len(text)]
+        if all(USE.match(text.lstrip()) for text in texts):
+            return {*words(old)} ^ {*words(new)}
         return {"".join(names) for text in texts for names in STATES[0].findall(text)} or None
 
     def judged_by(self, folder):
         """Returns the names on which the verdict on this rests, among others, or None where it is any function's."""
-        judged = [it for it in items_of(folder) if it.name in self.refuses]
-        if {it.name for it in judged} != {*self.refuses}:
+        names = {name.split("::")[-1] for name in self.refuses}
+        # The prover names a method by the module of its type, which may be of another file.
+        judged = [it for it in items_of(folder)
+                  if it.name in self.refuses or it.name in self.changes and it.simple_name in names]
+        if {it.simple_name for it in judged} != names:
             return None
         definitions, lemmas, heads = named_by(folder)
-        proofs = [path for it in judged
-                  for path in glob.glob(f"{folder}/proofs/{it.name.replace('::', '/')}/**/*.antt", recursive=True)]
-        inside = {name for text in [*(it.text[it.begin:it.end] for it in judged), *(new for *_, new in self.pairs),
-                                    *map(read, proofs)] for name in words(text)}
+        proofs = [path for name in {*self.refuses, *(it.name for it in judged)}
+                  for path in glob.glob(f"{folder}/proofs/{name.replace('::', '/')}/**/*.antt", recursive=True)]
+        inside = {name for text in [*(it.text[it.begin:it.end] for it in judged), *(new for *_, new in self.pairs)]
+                  for name in words(text)}
         # What a body calls is known by its head, as is what the types implement that such a head names.
         called = {other for name in inside for other in heads.get(name, ())}
         names = inside | called | {other for name in called for other in heads.get(name, ())}
-        names |= {name for it in judged for name in words(it.whole)}
+        names |= {name for text in [*(it.whole for it in judged), *map(read, proofs)] for name in words(text)}
         return closed(names, definitions, *[lemmas] * bool(proofs or "using" in names))
 
     def can_share(self, other):
