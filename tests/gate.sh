@@ -1,7 +1,7 @@
 #!/bin/sh
 # The whole gate, at the top of the repository: every proof, test and stored run by `rt ci`, each wrong body by
-# tests/wrong_bodies.py, then the scripts on the built program and library, and on the same source, built by cargo,
-# which is compared with what was proved. What was run is compared with the list in git (tests/ran.sh), count by
+# tests/wrong_bodies.py, and beside both the scripts on the built program and library, and on the same source, built by
+# cargo, which is compared with what was proved. What was run is compared with the list in git (tests/ran.sh), count by
 # count.
 #
 # `rt ci` works on a copy without must-fail/, whose edits it would try one at a time, and wrong_bodies.py on another,
@@ -13,14 +13,14 @@ set -eu
 
 # The minutes that README says it takes
 minutes='40 to 80'
-# Memory in kB with which the proofs and the build can run side by side
-memory_of_both=14000000
+# Memory in kB with which the proofs and all else can run side by side
+memory_of_both=16000000
 
 work=$(mktemp -d)
 proofs=
-built=
+tried=
 leave() {
-    for group in $proofs $built; do
+    for group in $proofs $tried; do
         # Until `setsid` has run there is no group of their own.
         kill -- "-$group" 2> /dev/null || kill "$group" 2> /dev/null || :
     done
@@ -71,28 +71,27 @@ if [ "$(awk '/^MemAvailable/ { print $2 }' /proc/meminfo)" -lt "$memory_of_both"
     ends_proofs
     part 'proofs and tests'
 fi
-setsid sh -c 'make JOBS=1 rust ldvbi lib && python3 tests/wrong_bodies_trials.py' > "$work/built" 2>&1 &
-built=$!
-(cd "$work/tried" && exec python3 tests/wrong_bodies.py) > "$work/wrong" ||
-    { cat "$work/wrong"; fails 'a wrong body is missing or not refused'; }
+(cd "$work/tried" && exec setsid python3 tests/wrong_bodies.py > "$work/wrong") &
+tried=$!
+make JOBS=1 rust ldvbi lib || fails 'not all is built'
+python3 tests/wrong_bodies_trials.py || fails 'a wrong body may pass for a refused one'
+part 'programs and libraries'
+compared sh tests/scripts.sh ./ldvbi || fails 'of the scripts one failed'
+part 'scripts'
+compared sh tests/scripts.sh rust/ldvbi --rust || fails 'of the scripts on the Rust program one failed'
+part 'scripts on the Rust program'
+wait "$tried" || { cat "$work/wrong"; fails 'a wrong body is missing or not refused'; }
+tried=
 cat "$work/wrong"
 sed -n 's,^\(\w*/\w*\): refused by a .*,wrong body \1,p' "$work/wrong" > "$work/bodies"
 # The last line says how many were refused, and by what: that nobody can know before, and it isn't in the list.
 tail -n 1 "$work/wrong" | sed 's/ (.*)//' | cat "$work/bodies" - >> "$work/ran"
 part 'wrong bodies'
-wait "$built" || { cat "$work/built"; fails 'not all is built, or a wrong body may pass for a refused one'; }
-built=
-cat "$work/built"
-part 'programs and libraries'
 if [ -n "$proofs" ]; then
     ends_proofs
     part 'proofs and tests, where they took longer'
 fi
 cmp ldvbi "$work/copy/crates/ldvbi/out/ldvbi" || fails 'the program was built twice, and the two differ'
-compared sh tests/scripts.sh ./ldvbi || fails 'of the scripts one failed'
-part 'scripts'
-compared sh tests/scripts.sh rust/ldvbi --rust || fails 'of the scripts on the Rust program one failed'
-part 'scripts on the Rust program'
 compared sh tests/ran.sh '^(crate |tests|wrong )' < "$work/ran" || fails 'what was run is not compared'
 [ ! -e .ci/ran.new ] || { diff .ci/ran.txt .ci/ran.new || fails "what was run isn't what .ci/ran.txt has (make ran)"; }
 cat "$work/times"
