@@ -251,37 +251,36 @@ pub record IsWindow (count from to first many : ℕ) : Type 0 where
   pub from_is : first + (from - first) ≡ from
   pub to_is : first + (to - first) ≡ to
 
-pub window : (low high count from wide near first more : ℕ) → low ≤ high → high ≤ count → from ≡ low - 24
-    → wide ≡ min (high - low) 32 → near ≡ min (count - low) (wide + 12 + 24) → first ≡ from - 48
-    → more ≡ min (count - (low + near)) 48 → IsWindow count from (low + near) first (low + near + more - first)
-window low high count from wide near first more order inside from_is wide_is near_is first_is more_is = record {
-  inside = omega (arith, order, inside, from_is, near_is, first_is, more_is);
+pub window : (low high count from to first end : ℕ) → low ≤ high → high ≤ count → from ≡ low - 24
+    → to ≡ low + min (count - low) (min (high - low) 32 + 12 + 24) → first ≡ from - 48
+    → end ≡ to + min (count - to) 48 → IsWindow count from to first (end - first)
+window low high count from to first end order inside from_is to_is first_is end_is = record {
+  inside = omega (arith, order, inside, from_is, to_is, first_is, end_is);
   before = elim (leb_tells 48 from) [
     | inl (t, far) ↦ inr (omega (arith, first_is, far))
     | inr (t, close) ↦ inl (omega (arith, first_is, close))
   ];
-  behind = elim (leb_tells 48 (count - (low + near))) [
-    | inl (t, far) ↦ inl (omega (arith, more_is, far, first_is, from_is))
-    | inr (t, close) ↦ inr (omega (arith, order, inside, more_is, near_is, close, first_is, from_is))
+  behind = elim (leb_tells 48 (count - to)) [
+    | inl (t, far) ↦ inl (omega (arith, end_is, far, first_is, from_is, to_is))
+    | inr (t, close) ↦ inr (omega (arith, order, inside, end_is, to_is, close, first_is, from_is))
   ];
-  order = omega (arith, from_is, first_is);
-  ahead = omega (arith, first_is, from_is);
-  few = omega (arith, from_is, wide_is, near_is, first_is, more_is);
-  read = elim (leb_tells 72 (low + near + more - first)) [
+  order = omega (arith, from_is, to_is, first_is);
+  ahead = omega (arith, first_is, from_is, to_is, end_is);
+  few = omega (arith, from_is, to_is, first_is, end_is);
+  read = elim (leb_tells 72 (end - first)) [
     | inl (t, much) ↦ inr much
-    | inr (t, little) ↦ inl (omega (arith, order, inside, from_is, wide_is, near_is, first_is, more_is, little))
+    | inr (t, little) ↦ inl (omega (arith, order, inside, from_is, to_is, first_is, end_is, little))
   ];
   from_is = omega (arith, first_is);
-  to_is = omega (arith, from_is, first_is);
+  to_is = omega (arith, from_is, to_is, first_is);
 }
 
 -- a field to which the fields lead is among those in which the number is looked for
-pub reached : (t low high count from wide near : ℕ) → low ≤ t → t < high + 12 → high ≤ low + 32 → t < count
-    → from ≡ low - 24 → wide ≡ min (high - low) 32 → near ≡ min (count - low) (wide + 12 + 24)
-    → (from ≤ t) × (t < low + near)
-reached t low high count from wide near after before few inside from_is wide_is near_is = (
+pub reached : (t low high count from to : ℕ) → low ≤ t → t < high + 12 → high ≤ low + 32 → t < count
+    → from ≡ low - 24 → to ≡ low + min (count - low) (min (high - low) 32 + 12 + 24) → (from ≤ t) × (t < to)
+reached t low high count from to after before few inside from_is to_is = (
   omega (arith, after, from_is),
-  omega (arith, before, few, inside, wide_is, near_is),
+  omega (arith, after, before, few, inside, to_is),
 )
 
 -- one of them is judged with all on which its answer depends

@@ -5,7 +5,7 @@
 //! side.
 
 ghost use Rattle.std.specs.Prelude.{◌≡◌, ◌≢◌, ℕ, ◌+◌, ◌-◌, ◌*◌, ◌<◌, ◌≤◌, ◌⊎◌, length, map, take, drop, false, Some};
-ghost use Rattle.std.specs.Prelude.{None, IfOk, IfSome, IsTrue};
+ghost use Rattle.std.specs.Prelude.{None, IfOk, IfSome, IsTrue, min};
 ghost use Rattle.std.specs.List.{range_with_len};
 ghost use Rattle.vbi_words.specs.Geometry.{field_bytes};
 ghost use Rattle.vbi_side.specs.declared.pace.Pace as paces;
@@ -125,6 +125,40 @@ fn first_between(
     Some(at)
 }
 
+/// Fields of a side, each counted from its first.
+#[derive(Clone, Copy)]
+struct Around {
+    /// The first of those that are judged.
+    first: usize,
+    /// The first of those in which the number is looked for.
+    from: usize,
+    /// One past the last of those.
+    to: usize,
+    /// One past the last of those that are judged.
+    end: usize,
+}
+
+/// The fields around a place: so many in which the number is looked for, and as many before and behind them as their
+/// answers depend on.
+fn fields_around(place: Between, count: usize) -> Around
+    requires order { place.low ≤ place.high }
+    requires inside { place.high ≤ count }
+    ensures from { result.from ≡ place.low - 24 }
+    ensures to { result.to ≡ place.low + min (count - place.low) (min (place.high - place.low) 32 + 12 + 24) }
+    ensures first { result.first ≡ result.from - 48 }
+    ensures end { result.end ≡ result.to + min (count - result.to) 48 }
+{
+    let from = place.low.saturating_sub(BESIDE);
+    let wide = (place.high - place.low).min(LEFT) + PROBE + BESIDE;
+    let to = place.low + (count - place.low).min(wide);
+    Around {
+        first: from.saturating_sub(2 * REACH),
+        from,
+        to,
+        end: to + (count - to).min(2 * REACH),
+    }
+}
+
 /// Looks for the number in the fields around its place.
 fn look_around(
     seek: &Seek,
@@ -142,11 +176,12 @@ fn look_around(
     ensures complete { (t : ℕ) (pace : paces.Pace) → IsFirstKnown seek.now bytes.now count number t pace
         → IsPlaced t place → result.field ≡ t }
 {
-    let from = place.low.saturating_sub(BESIDE);
-    let wide = (place.high - place.low).min(LEFT) + PROBE + BESIDE;
-    let to = place.low + (count - place.low).min(wide);
-    let first = from.saturating_sub(2 * REACH);
-    let end = to + (count - to).min(2 * REACH);
+    let Around {
+        first,
+        from,
+        to,
+        end,
+    } = fields_around(place, count);
     let mut all_numbers = [NO_NUMBER; AROUND];
     let numbers = &mut all_numbers[..end - first];
     let pace = judge_from(seek, bytes, count, first, end, numbers, looked);

@@ -1,6 +1,6 @@
-use Rattle.std.proofs.Common.{◌≡◌, ℕ, Bool, List, subst, sym}
+use Rattle.std.proofs.Common.{ℕ, Bool, List, subst, sym}
 use Rattle.vbi_c.specs.Erased.{none_erased}
-use Rattle.vbi_c.specs.Recovering.{AreRecovered, code_bytes}
+use Rattle.vbi_c.specs.Recovering.{AreRecovered}
 use Rattle.vbi_c.proofs.Marks.{erased_of-empty}
 use Rattle.vbi_c.proofs.OneRecovery.{only_recovery}
 use Rattle.vbi_c.proofs.recovering.recover_whole.Goals as goal

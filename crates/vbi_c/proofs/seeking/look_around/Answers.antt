@@ -6,24 +6,22 @@ use Rattle.vbi_c.proofs.seeking.look_around.Goals as goal
 
 pub returns-in-Some-clause-sought : goal.returns-in-Some-clause-sought
 returns-in-Some-clause-sought c =
-    let from = c.saturating_sub-from.result in
-    let first = c.saturating_sub-first.result in
-    let to = c.args.place.low + c.min-2.result in
-    let many = to + c.min-3.result - first in
+    let a = c.fields_around-first.result in
+    let is = c.fields_around-first.ensures in
+    let many = a.end - a.first in
     let place = c.in-Some.at in
     let pace = c.judge_from-pace.result in
-    let around = window c.args.place.low c.args.place.high c.args.count from c.min.result c.min-2.result first
-    c.min-3.result c.requires.order c.requires.inside c.saturating_sub-from.ensures c.min.ensures c.min-2.ensures
-    c.saturating_sub-first.ensures c.min-3.ensures in
-    let found = found_at c.args.seek.now c.args.bytes.now c.args.count first many (from - first) (to - first) place
-    (from + place) c.args.number pace c.judge_from-pace.new.numbers (record { number = 0; state = 0 })
+    let around = window c.args.place.low c.args.place.high c.args.count a.from a.to a.first a.end c.requires.order
+    c.requires.inside is.from is.to is.first is.end in
+    let found = found_at c.args.seek.now c.args.bytes.now c.args.count a.first many (a.from - a.first) (a.to - a.first)
+    place (a.from + place) c.args.number pace c.judge_from-pace.new.numbers (record { number = 0; state = 0 })
     (omega (arith, around.from_is)) around.inside around.before around.behind around.order around.ahead
     c.judge_from-pace.ensures.answers c.in-Some.ensures.first
     (elim c.in-Some.ensures.known [
       | inl later ↦ inl later
-      | inr begins ↦ inr (around.from_is ∙ begins_there from begins)
+      | inr begins ↦ inr (around.from_is ∙ begins_there a.from begins)
     ]) in
-    let near = found_within c.judge_from-pace.new.numbers (from - first) (to - first) place c.args.number
+    let near = found_within c.judge_from-pace.new.numbers (a.from - a.first) (a.to - a.first) place c.args.number
     c.in-Some.ensures.first in
     record {
       few = omega (arith, c.judge_from-pace.ensures.counted, around.few, c.requires.few);
@@ -36,11 +34,12 @@ returns-in-Some-clause-sought c =
         pace,
         record {
           judged = (
-            first,
+            a.first,
             many,
             omega (arith, c.judge_from-pace.ensures.counted),
-            judged_in c.args.seek.now c.args.bytes.now c.args.count from to first many (from + place) pace around
-                (omega arith) (omega (arith, near, around.from_is, around.to_is)) c.judge_from-pace.ensures.asked,
+            judged_in c.args.seek.now c.args.bytes.now c.args.count a.from a.to a.first many (a.from + place) pace
+                around (omega arith) (omega (arith, near, around.from_is, around.to_is))
+                c.judge_from-pace.ensures.asked,
           );
           pace_is = c.pace_for_c.ensures;
           known = found.known;
@@ -53,49 +52,45 @@ returns-in-Some-clause-sought c =
 
 pub returns-in-Some-clause-complete : goal.returns-in-Some-clause-complete
 returns-in-Some-clause-complete c = λ t pace known placed.
-    let from = c.saturating_sub-from.result in
-    let first = c.saturating_sub-first.result in
-    let to = c.args.place.low + c.min-2.result in
-    let many = to + c.min-3.result - first in
+    let a = c.fields_around-first.result in
+    let is = c.fields_around-first.ensures in
+    let many = a.end - a.first in
     let here = c.judge_from-pace.result in
-    let around = window c.args.place.low c.args.place.high c.args.count from c.min.result c.min-2.result first
-    c.min-3.result c.requires.order c.requires.inside c.saturating_sub-from.ensures c.min.ensures c.min-2.ensures
-    c.saturating_sub-first.ensures c.min-3.ensures in
-    let among = reached t c.args.place.low c.args.place.high c.args.count from c.min.result c.min-2.result placed.from
-    placed.to placed.near known.inside c.saturating_sub-from.ensures c.min.ensures c.min-2.ensures in
-    let same = known.asked first many here around.few (judged_in c.args.seek.now c.args.bytes.now c.args.count from to
-    first many t here around among.0 among.1 c.judge_from-pace.ensures.asked) in
-    let found = first_found c.args.seek.now c.args.bytes.now c.args.count first many (from - first) (to - first) t
-    c.args.number here c.judge_from-pace.new.numbers (record { number = 0; state = 0 }) around.inside around.before
-    around.behind around.order around.ahead c.judge_from-pace.ensures.answers
+    let around = window c.args.place.low c.args.place.high c.args.count a.from a.to a.first a.end c.requires.order
+    c.requires.inside is.from is.to is.first is.end in
+    let among = reached t c.args.place.low c.args.place.high c.args.count a.from a.to placed.from placed.to placed.near
+    known.inside is.from is.to in
+    let same = known.asked a.first many here around.few (judged_in c.args.seek.now c.args.bytes.now c.args.count a.from
+    a.to a.first many t here around among.0 among.1 c.judge_from-pace.ensures.asked) in
+    let found = first_found c.args.seek.now c.args.bytes.now c.args.count a.first many (a.from - a.first)
+    (a.to - a.first) t c.args.number here c.judge_from-pace.new.numbers (record { number = 0; state = 0 })
+    around.inside around.before around.behind around.order around.ahead c.judge_from-pace.ensures.answers
     (subst (IsFirstKnown c.args.seek.now c.args.bytes.now c.args.count c.args.number t) (sym same) known)
     (omega (arith, around.from_is, among.0)) (omega (arith, around.to_is, among.1)) in
     omega (arith, found.at c.in-Some.at c.in-Some.ensures.first, around.from_is)
 
 pub returns-in-None-clause-complete : goal.returns-in-None-clause-complete
 returns-in-None-clause-complete c = λ t pace known placed.
-    let from = c.saturating_sub-from.result in
-    let first = c.saturating_sub-first.result in
-    let to = c.args.place.low + c.min-2.result in
-    let many = to + c.min-3.result - first in
+    let a = c.fields_around-first.result in
+    let is = c.fields_around-first.ensures in
+    let many = a.end - a.first in
     let here = c.judge_from-pace.result in
-    let around = window c.args.place.low c.args.place.high c.args.count from c.min.result c.min-2.result first
-    c.min-3.result c.requires.order c.requires.inside c.saturating_sub-from.ensures c.min.ensures c.min-2.ensures
-    c.saturating_sub-first.ensures c.min-3.ensures in
-    let among = reached t c.args.place.low c.args.place.high c.args.count from c.min.result c.min-2.result placed.from
-    placed.to placed.near known.inside c.saturating_sub-from.ensures c.min.ensures c.min-2.ensures in
-    let same = known.asked first many here around.few (judged_in c.args.seek.now c.args.bytes.now c.args.count from to
-    first many t here around among.0 among.1 c.judge_from-pace.ensures.asked) in
-    let found = first_found c.args.seek.now c.args.bytes.now c.args.count first many (from - first) (to - first) t
-    c.args.number here c.judge_from-pace.new.numbers (record { number = 0; state = 0 }) around.inside around.before
-    around.behind around.order around.ahead c.judge_from-pace.ensures.answers
+    let around = window c.args.place.low c.args.place.high c.args.count a.from a.to a.first a.end c.requires.order
+    c.requires.inside is.from is.to is.first is.end in
+    let among = reached t c.args.place.low c.args.place.high c.args.count a.from a.to placed.from placed.to placed.near
+    known.inside is.from is.to in
+    let same = known.asked a.first many here around.few (judged_in c.args.seek.now c.args.bytes.now c.args.count a.from
+    a.to a.first many t here around among.0 among.1 c.judge_from-pace.ensures.asked) in
+    let found = first_found c.args.seek.now c.args.bytes.now c.args.count a.first many (a.from - a.first)
+    (a.to - a.first) t c.args.number here c.judge_from-pace.new.numbers (record { number = 0; state = 0 })
+    around.inside around.before around.behind around.order around.ahead c.judge_from-pace.ensures.answers
     (subst (IsFirstKnown c.args.seek.now c.args.bytes.now c.args.count c.args.number t) (sym same) known)
     (omega (arith, around.from_is, among.0)) (omega (arith, around.to_is, among.1)) in
     absurd (elim (c.in-None.ensures.none refl) [
       | inl none ↦ found.there none
-      | inr (begins, isnt) ↦ begins_elsewhere from c.args.place.low t isnt (omega (
+      | inr (begins, isnt) ↦ begins_elsewhere a.from c.args.place.low t isnt (omega (
         arith,
         found.at 0 begins,
         around.from_is,
-      )) placed.from c.saturating_sub-from.ensures
+      )) placed.from is.from
     ])
