@@ -1,23 +1,23 @@
 -- How a run ends that fetched less than a row: its reader ended or failed, or too many bytes came.
-use Rattle.std.proofs.Common.{◌≡◌, ℕ, ◌+◌, ◌*◌, ◌≤◌, ◌<◌, inr, List, ◌++◌, length, take, sym, ap, ◌∙◌, arith, subst}
+use Rattle.std.proofs.Common.{◌≡◌, ℕ, ◌+◌, ◌*◌, ◌≤◌, ◌<◌, inl, inr, List, ◌++◌, length, take, refl, sym, ap, ◌∙◌, arith, subst}
 use Rattle.std.specs.Prelude.{Option, Result, Ok, Err, OnOk, IfOk, OnErr, IfErr, IsErrAnd}
 use Rattle.std.proofs.KnownBytes.{Appends-trans, Consumes-trans}
 use Rattle.std.proofs.lemmas.List.{length-append, take_at}
-use Rattle.std.proofs.Math.Nat.{le_of_eq, le_trans}
+use Rattle.std.proofs.Math.Nat.{le_of_eq, le_trans, zero-mul}
 use Rattle.vbi_field.specs.ConfigView.{width_of, height_of, line_bytes, ConfigView, allowed_bytes}
 use Rattle.vbi_field.specs.Outlet.{NoError, HasCause, Outlet}
 use Rattle.vbi_line.specs.Intake as intakes
 use Rattle.vbi_line.specs.declared.intake.Filled.{Filled}
-use Rattle.vbi_line.specs.declared.intake.Filled.TheVariants.{Ended}
+use Rattle.vbi_line.specs.declared.intake.Filled.TheVariants.{Full, Ended}
 use Rattle.vbi_line.specs.declared.intake.Intake.{Intake}
-use Rattle.vbi_field.specs.Extracts.{Runs, TakesLine}
+use Rattle.vbi_field.specs.Extracts.{Runs, TakesLine, AnswersAtLimit, EndsAtLimit}
 use Rattle.vbi_field.specs.Outlet as outlets
 use Rattle.vbi_field.specs.Ran.{EndsInside, RunFault, Summary, Read, Write, TooManyFields}
 use Rattle.vbi_field.specs.Stream.{fields_of, rest_of, cut_of, looks_of}
 use Rattle.vbi_field.specs.Feed.{selected}
 use Rattle.vbi_field.specs.Texts.{text_before_tail, whole_text, Kind}
 use Rattle.vbi_field.specs.declared.progress.Progress.{Progress}
-use Rattle.vbi_field.proofs.Counts.{all_fields, bytes_of_fields, rows_fit}
+use Rattle.vbi_field.proofs.Counts.{sizes_of, all_fields, bytes_of_fields, rows_fit}
 use Rattle.vbi_field.proofs.Counts.{whole_fields, past_fields, selected_is, selected_past}
 use Rattle.vbi_field.proofs.FeedTexts.{begun_same}
 use Rattle.vbi_field.proofs.AddedRows.{fields_at}
@@ -211,3 +211,27 @@ module _ {t : Kind} {R W : Type 0} {remaining : R → Option (List ℕ)} {conten
               ∙ sym (selected_past c.system (length (g.z ++ b)) c.max_fields (length b) both few'));
         };
       }
+
+  -- the answer behind all fields that are allowed
+  pub at_limit : {i' : Intake R} {o' : Outlet W} (r : Result Summary RunFault) → k ≡ c.max_fields * height_of c.system
+      → EndsAtLimit t remaining contents p.fields (p.row * line_bytes c.system) i i' o o' r
+      → Runs t remaining contents c i0 i' o0 o' r
+  at_limit {i'} {o'} r last e = by e.got e.takes e.fault e.answers
+    where
+      by : (came : Result Filled RunFault) → TakesLine remaining i i' came
+          → IfErr came (λ f. f ≡ Read (p.fields + 1) (p.row * line_bytes c.system + length (intakes.held_of i')))
+          → AnswersAtLimit t contents o o' p.fields i'.line.looked came r → Runs t remaining contents c i0 i' o0 o' r
+      by (Ok (Ended n)) row fault (inl (none, tail)) =
+          let at = g.at in
+          let all = all_fields c.system p.fields p.row c.max_fields at.inside (g.rows ∙ last) in
+          let rows = rows_fit c.system k c.max_fields (le_of_eq last) in
+          ended n row refl (rw all.1 (omega (arith, zero-mul (line_bytes c.system), none))) (omega (arith, none, rows))
+          refl tail.puts r tail.written tail.no_error tail.ok tail.failed tail.short tail.fault
+      by (Ok (Ended n)) row fault (inr (some, same, is)) =
+          let got = row.got in
+          rw (same, is) (too_many row last (omega (arith, got.count_of)) (omega (arith, got.short)) got.no_error)
+      by (Ok Full) row fault (same, is) =
+          let got = row.got in
+          let sizes = sizes_of i.line.system in
+          rw (same, is) (too_many row last (omega (arith, got.0)) (le_of_eq got.0) got.1)
+      by (Err came) row fault (same, is) = rw (same, is) (read_fault row (le_of_eq last) (Err came) fault)

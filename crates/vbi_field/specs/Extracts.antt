@@ -1,6 +1,7 @@
 -- What `extract` and `show` do, by their answer, for a kind t of text: z are the bytes fetched, text is what was
 -- written, and n what was counted.
 use Rattle.std.specs.Prelude.{◌≡◌, ℕ, ◌+◌, ◌<◌, ◌≤◌, ◌⊎◌, List, [], ◌++◌, length, take, Option, Result, Ok, Err}
+use Rattle.std.specs.Prelude.{OnOk, IfOk, OnErr, IfErr}
 use Rattle.vbi_field.specs.Ran.{IsAtEnd, Counts, HasFailed, IsCalm, Ran, EndsInside, Summary, RunFault, Read, Write}
 use Rattle.vbi_field.specs.Ran.{TooManyFields, Failed}
 use Rattle.vbi_field.specs.ConfigView.{line_bytes, field_bytes, ConfigView, allowed_bytes}
@@ -9,7 +10,7 @@ use Rattle.vbi_line.specs.declared.intake.Intake.{Intake}
 use Rattle.vbi_field.specs.Outlet as outlets
 use Rattle.vbi_field.specs.Stream.{fields_of, rest_of, cut_of, looks_of}
 use Rattle.vbi_field.specs.Texts.{text_before_tail, whole_text, Kind}
-use Rattle.vbi_line.specs.Intake.{counted_of, fetched_of, line_of, FetchesBytes}
+use Rattle.vbi_line.specs.Intake.{counted_of, fetched_of, held_of, line_of, FetchesBytes}
 use Rattle.vbi_line.specs.declared.intake.Filled.{Filled}
 use Rattle.vbi_line.specs.declared.intake.Filled.TheVariants.{Full, Ended}
 
@@ -113,3 +114,31 @@ module _ {R : Type 0} (remaining : R → Option (List ℕ)) (old new : Intake R)
     pub bytes : List ℕ
     pub fetches : FetchesBytes remaining old new bytes
     pub got : Got bytes result
+
+-- ---- what a run does at its end
+
+module _ (t : Kind) {W : Type 0} (contents : W → Option (List ℕ)) (old new : Outlet W) where
+  -- the tail behind these fields and bytes was put, and the answer says so; or the writer failed inside it
+  pub record PutsTail (fields rest looked : ℕ) (result : Result Summary RunFault) : Type 0 where
+    pub puts : outlets.Puts contents old new (t.tail fields rest)
+    pub written : OnOk result (outlets.written_of new ≡ outlets.written_of old + length (t.tail fields rest))
+    pub no_error : OnOk result (NoError (outlets.counted_of old) (outlets.counted_of new))
+    pub ok : IfOk result (λ s. s ≡ record { fields = fields; cut = cut_of rest; looked = looked })
+    pub failed : OnErr result (HasCause (outlets.counted_of old) (outlets.counted_of new))
+    pub short : OnErr result (outlets.written_of new < outlets.written_of old + length (t.tail fields rest))
+    pub fault : IfErr result (λ e. e ≡ Write (outlets.written_of new))
+
+  -- the answer to what was got behind all fields that are allowed: nothing may come any more
+  abbrev pub AnswersAtLimit : ℕ → ℕ → Result Filled RunFault → Result Summary RunFault → Type 0
+  AnswersAtLimit fields looked (Ok (Ended count)) result =
+      ((count ≡ 0) × PutsTail fields 0 looked result) ⊎ ((0 < count) × (new ≡ old) × (result ≡ Err TooManyFields))
+  AnswersAtLimit fields looked (Ok Full) result = (new ≡ old) × (result ≡ Err TooManyFields)
+  AnswersAtLimit fields looked (Err fault) result = (new ≡ old) × (result ≡ Err fault)
+
+-- one line more was asked for behind all fields that are allowed, and this is the answer
+pub record EndsAtLimit (t : Kind) {R W : Type 0} (remaining : R → Option (List ℕ)) (contents : W → Option (List ℕ))
+    (fields offset : ℕ) (i i' : Intake R) (o o' : Outlet W) (result : Result Summary RunFault) : Type 0 where
+  pub got : Result Filled RunFault
+  pub takes : TakesLine remaining i i' got
+  pub fault : IfErr got (λ e. e ≡ Read (fields + 1) (offset + length (held_of i')))
+  pub answers : AnswersAtLimit t contents o o' fields (line_of i').looked got result

@@ -8,7 +8,7 @@ ghost use Rattle.vbi_words.specs.Geometry.{height_of, line_bytes};
 ghost use Rattle.vbi_line.specs.Counted.{failures_of, IsSameDevice};
 ghost use Rattle.vbi_line.specs.Intake as intakes;
 ghost use Rattle.vbi_line.specs.Intake.{fetched_of, held_of, line_of, IsFresh};
-ghost use Rattle.vbi_field.specs.Extracts.{Runs, TakesLine};
+ghost use Rattle.vbi_field.specs.Extracts.{Runs, TakesLine, EndsAtLimit};
 ghost use Rattle.vbi_field.specs.Texts.{document, recovered_document, report, recovered_report};
 ghost use Rattle.vbi_field.specs.Progress.{HoldsOn};
 ghost use Rattle.vbi_field.specs.ConfigView.{most_fields};
@@ -79,6 +79,36 @@ fn keep_row<K: Kind, R: Read>(
     }
 }
 
+/// Ends a run after as many whole fields as are allowed. The stream has to end here, and only another read can show
+/// whether it does.
+fn end_at_limit<K: Kind, R: Read, W: Write>(
+    config: &Config,
+    progress: &Progress,
+    intake: &mut Intake<R>,
+    outlet: &mut Outlet<W>,
+) -> Result<Summary, RunFault>
+    requires fields { progress.now.fields ≤ most_fields }
+    requires inside { progress.now.row < height_of config.now.system }
+    requires system { (line_of intake.old).system ≡ config.now.system }
+    requires empty { held_of intake.old ≡ [] }
+    requires passes { (line_of intake.old).cursors ≡ [] }
+    requires looked { (line_of intake.old).looked ≤ 2 ^ 61 }
+    requires fetched { fetched_of intake.old ≤ 2 ^ 62 }
+    requires reads { (failures_of (intakes.counted_of intake.old)).all ≤ 2 ^ 62 }
+    requires written { outlets.written_of outlet.old ≤ 2 ^ 62 }
+    requires writes { (failures_of (outlets.counted_of outlet.old)).all ≤ 2 ^ 62 }
+    ensures same_reader { IsSameDevice (intakes.counted_of intake.old) (intakes.counted_of intake.new) }
+    ensures same_writer { IsSameDevice (outlets.counted_of outlet.old) (outlets.counted_of outlet.new) }
+    ensures ends { EndsAtLimit K.kind R.remaining W.contents progress.now.fields
+        (progress.now.row * line_bytes config.now.system) intake.old intake.new outlet.old outlet.new result }
+{
+    match fill_line(config, progress, intake)? {
+        Filled::Ended(0) => end::<K, W>(outlet, progress.fields, 0, intake.looked()),
+        Filled::Ended(_) => Err(RunFault::TooManyFields),
+        Filled::Full => Err(RunFault::TooManyFields),
+    }
+}
+
 /// Writes the text of a stream, with room for the rows that are kept.
 fn run<K: Kind, R: Read, W: Write>(
     config: &Config,
@@ -109,13 +139,7 @@ fn run<K: Kind, R: Read, W: Write>(
             }
         }
     }
-    // As many fields as are allowed are whole. The stream has to end here, and only another read can show whether it
-    // does.
-    match fill_line(config, &progress, intake)? {
-        Filled::Ended(0) => end::<K, W>(outlet, progress.fields, 0, intake.looked()),
-        Filled::Ended(_) => Err(RunFault::TooManyFields),
-        Filled::Full => Err(RunFault::TooManyFields),
-    }
+    end_at_limit::<K, R, W>(config, &progress, intake, outlet)
 }
 
 /// Writes the document of the stream that the intake reads: the head before the first read, the record of each field as

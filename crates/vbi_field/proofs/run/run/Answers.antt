@@ -1,10 +1,10 @@
 use Rattle.std.specs.Prelude.{IsTrue}
 use Rattle.vbi_field.specs.Progress.{HoldsRows}
 use Rattle.std.proofs.Common.{◌≡◌, ◌++◌, ◌<◌, ◌≤◌, ◌+◌, ◌*◌, refl, ◌∙◌, arith, rules}
-use Rattle.std.proofs.Math.Nat.{zero-mul, le_of_eq, le_of_lt}
-use Rattle.vbi_words.specs.Geometry.{height_of, line_bytes, field_bytes}
-use Rattle.vbi_field.proofs.Counts.{sizes_of, all_fields, rows_fit, row_fits}
-use Rattle.vbi_field.proofs.PullEnds.{ended, read_fault, too_many}
+use Rattle.std.proofs.Math.Nat.{le_of_lt}
+use Rattle.vbi_words.specs.Geometry.{height_of, line_bytes}
+use Rattle.vbi_field.proofs.Counts.{row_fits}
+use Rattle.vbi_field.proofs.PullEnds.{ended, read_fault, at_limit}
 use Rattle.vbi_field.proofs.PullFaults.{head_fault}
 use Rattle.vbi_field.proofs.PullRows.{row_came, step, entry_fault}
 use Rattle.vbi_field.proofs.HeldRows.{holds_none}
@@ -95,48 +95,8 @@ returns-in-Ended-clause-run g c =
     c.looked.ensures e.puts _
     e.written e.no_error e.ok e.failed e.short e.fault
 
-pub returns-in-Ended-eq0-clause-run : goal.returns-in-Ended-eq0-clause-run
-returns-in-Ended-eq0-clause-run g c =
-    let v = c.loop-row.invariant.pulled in
-    let at = v.at in
+pub returns-clause-run : goal.returns-clause-run
+returns-clause-run g c =
     let last : c.loop-row.row ≡ c.args.config.now.max_fields * height_of c.args.config.now.system =
     omega (arith, c.row_limit-row-end.ensures.value) in
-    let none =
-    (all_fields c.args.config.now.system c.loop-row.progress.fields c.loop-row.progress.row
-    c.args.config.now.max_fields at.inside
-    (v.rows ∙ last)).1 in
-    let rows = rows_fit c.args.config.now.system c.loop-row.row c.args.config.now.max_fields (le_of_eq last) in
-    let within : c.loop-row.row * line_bytes c.args.config.now.system + c.in-Ended-eq0.field-0
-    ≤ c.args.config.now.max_fields * field_bytes c.args.config.now.system =
-    omega (arith, c.in-Ended-eq0.field-0-test) in
-    let e = c.end-in-Ended-eq0.ensures in
-    ended v c.in-Ended-eq0.field-0
-    (rw c.in-Ended-eq0.is at c.in_ok-fill_line-2.ensures.takes)
-    refl (rw none (omega (arith, zero-mul (line_bytes c.args.config.now.system), c.in-Ended-eq0.field-0-test))) within
-    c.looked-in-Ended-eq0.ensures e.puts _
-    e.written e.no_error e.ok e.failed e.short e.fault
-
-pub returns-in_err-fill_line-2-clause-run : goal.returns-in_err-fill_line-2-clause-run
-returns-in_err-fill_line-2-clause-run g c =
-    let last : c.loop-row.row ≡ c.args.config.now.max_fields * height_of c.args.config.now.system =
-    omega (arith, c.row_limit-row-end.ensures.value) in
-    read_fault c.loop-row.invariant.pulled c.in_err-fill_line-2.ensures.takes (le_of_eq last)
-    c.from_residual-in_err-fill_line-2.result (search rules)
-
-pub returns-in-Ended-2-clause-run : goal.returns-in-Ended-2-clause-run
-returns-in-Ended-2-clause-run g c =
-    let t = rw c.in-Ended-2.is at c.in_ok-fill_line-2.ensures.takes in
-    let got = t.got in
-    let last : c.loop-row.row ≡ c.args.config.now.max_fields * height_of c.args.config.now.system =
-    omega (arith, c.row_limit-row-end.ensures.value) in
-    too_many c.loop-row.invariant.pulled t last (omega (arith, got.count_of))
-    (omega (arith, got.short)) got.no_error
-
-pub returns-in-Full-2-clause-run : goal.returns-in-Full-2-clause-run
-returns-in-Full-2-clause-run g c =
-    let t = rw c.in-Full-2.is at c.in_ok-fill_line-2.ensures.takes in
-    let got = t.got in
-    let sizes = sizes_of c.loop-row.intake.line.system in
-    let last : c.loop-row.row ≡ c.args.config.now.max_fields * height_of c.args.config.now.system =
-    omega (arith, c.row_limit-row-end.ensures.value) in
-    too_many c.loop-row.invariant.pulled t last (omega (arith, got.0)) (le_of_eq got.0) got.1
+    at_limit c.loop-row.invariant.pulled c.end_at_limit.result last c.end_at_limit.ensures.ends
