@@ -1,10 +1,10 @@
 //! Lines by their shapes, and what each reader has to report of them.
 
-use crate::lines::{at_once, by_bits, by_intake, in_place, levels_of, plain, reading, set};
+use crate::lines::{at_once, by_bits, by_intake, drawn, in_place, levels_of, plain, reading, set};
 use std::fmt::Debug;
 use std::test::Fail;
 use vbi_test_devices::same;
-use vbi_words::{System, Word24, drawn_sample};
+use vbi_words::{Levels, System, Word24};
 
 /// An outcome, its word as a number.
 #[derive(Clone, Copy, Debug, PartialEq, Eq)]
@@ -37,44 +37,45 @@ pub(crate) enum Turned {
     Low(usize, usize),
 }
 
-/// The samples of a line of this shape.
-fn samples_of(system: System, shape: Shape) -> [u16; 1135] {
-    let levels = levels_of(system);
+/// So many lows, and then so many runs of a length, the first of them high; the rest is low.
+fn runs(levels: Levels, low: usize, length: usize, count: usize) -> [u16; 1135] {
     let mut samples = [levels.black(); 1135];
-    match shape {
-        Shape::Run(low, high) => {
-            set(&mut samples, low, low.saturating_add(high), levels.white());
+    let mut column = low;
+    for run in 0..count {
+        let end = column.saturating_add(length);
+        if run % 2 == 0 {
+            set(&mut samples, column, end, levels.white());
         }
-        Shape::Runs(low, length, count) => {
-            let mut column = low;
-            for run in 0..count {
-                let end = column.saturating_add(length);
-                if run % 2 == 0 {
-                    set(&mut samples, column, end, levels.white());
-                }
-                column = end;
+        column = end;
+    }
+    samples
+}
+
+/// A word in half cells of the least length, behind so many lows.
+fn least(system: System, levels: Levels, value: u32, lows: usize) -> [u16; 1135] {
+    let mut samples = [levels.black(); 1135];
+    if let Ok(word) = Word24::new(value) {
+        let mut column = lows;
+        for half in 0..48 {
+            let end = column.saturating_add(system.half_min());
+            if word.half(half) {
+                set(&mut samples, column, end, levels.white());
             }
-        }
-        Shape::Drawn(value) => {
-            for column in 0..system.width() {
-                let word = Word24::new(value).ok();
-                samples[column] = drawn_sample(system, levels, word, column);
-            }
-        }
-        Shape::Least(value, lows) => {
-            if let Ok(word) = Word24::new(value) {
-                let mut column = lows;
-                for half in 0..48 {
-                    let end = column.saturating_add(system.half_min());
-                    if word.half(half) {
-                        set(&mut samples, column, end, levels.white());
-                    }
-                    column = end;
-                }
-            }
+            column = end;
         }
     }
     samples
+}
+
+/// The samples of a line of this shape.
+fn samples_of(system: System, shape: Shape) -> [u16; 1135] {
+    let levels = levels_of(system);
+    match shape {
+        Shape::Run(low, high) => runs(levels, low, high, 1),
+        Shape::Runs(low, length, count) => runs(levels, low, length, count),
+        Shape::Drawn(value) => drawn(system, levels, value),
+        Shape::Least(value, lows) => least(system, levels, value, lows),
+    }
 }
 
 /// Fails where a reader reports another outcome than this of some samples, or another reading.

@@ -4,7 +4,7 @@ use byteorder::{ByteOrder, LittleEndian};
 use std::io::Read;
 use std::test::Fail;
 use vbi_line::{Filled, Intake, IntakeFault};
-use vbi_test_devices::{Resumed, Tape, holds, same};
+use vbi_test_devices::{Resumed, Tape, same};
 use vbi_words::{Levels, System, Word24, drawn_sample};
 
 /// 82CFFF drawn with NTSC levels 8224 and 16448: each byte is a space or an `@`.
@@ -65,22 +65,27 @@ static WHOLE: [(usize, usize, u64, u64); 6] = [
     (455, 16, 64, 68),
 ];
 
+/// What a first call of `fill_line` answers, how many bytes were fetched, and how often the reader was asked.
+fn first_call(mut reader: Tape, system: System) -> (Call, u64, u64) {
+    let mut intake = Intake::new(&mut reader, system);
+    let answer = intake.fill_line();
+    let call = with_counts(answer, &intake);
+    (call, intake.fetched(), intake.into_reader().asked)
+}
+
 #[test]
 fn reads_of_any_length_fill_a_line() -> Result<(), Fail> {
     let line = stored_line();
     for &(piece, again, failures, asked) in &WHOLE {
-        let mut reader = Tape {
+        let reader = Tape {
             piece,
             interrupts: again,
             again,
             ..Tape::new(&line)
         };
-        let mut intake = Intake::new(&mut reader, System::Ntsc);
-        let answer = intake.fill_line();
-        let found = with_counts(answer, &intake);
-        same(found, (FULL, 1820, failures, 0), (piece, again))?;
-        same(intake.fetched(), 1820, (piece, again))?;
-        same(intake.into_reader().asked, asked, (piece, again))?;
+        let found = first_call(reader, System::Ntsc);
+        let call = (FULL, 1820, failures, 0);
+        same(found, (call, 1820, asked), (piece, again))?;
     }
     Ok(())
 }
@@ -96,6 +101,19 @@ static FAULTS: [(usize, usize, Option<usize>, Call, Call, u64); 5] = [
     (0, 34, None, (READ, 1000, 17, 0), (READ, 1000, 34, 0), 35),
 ];
 
+/// What two calls of `fill_line` answer, and how many bytes were fetched, where the first call doesn't fill the line.
+fn two_calls<R: Read>(reader: &mut R, system: System) -> Option<(Call, Call, u64)> {
+    let mut intake = Intake::new(reader, system);
+    let answer = intake.fill_line();
+    let first = with_counts(answer, &intake);
+    if intake.held() >= system.line_bytes() {
+        return None;
+    }
+    let answer = intake.fill_line();
+    let second = with_counts(answer, &intake);
+    Some((first, second, intake.fetched()))
+}
+
 #[test]
 fn a_line_is_filled_after_a_fault() -> Result<(), Fail> {
     let line = stored_line();
@@ -107,14 +125,13 @@ fn a_line_is_filled_after_a_fault() -> Result<(), Fail> {
             fault,
             ..Tape::new(&line)
         };
-        let mut intake = Intake::new(&mut reader, System::Ntsc);
-        let answer = intake.fill_line();
-        same(with_counts(answer, &intake), first, "the first call")?;
-        holds(intake.held() < 1820, first)?;
-        let answer = intake.fill_line();
-        same(with_counts(answer, &intake), second, "the second call")?;
-        same(intake.fetched(), intake.held() as u64, second)?;
-        same(intake.into_reader().asked, asked, second)?;
+        let found = two_calls(&mut reader, System::Ntsc);
+        let expected = Some((first, second, second.1 as u64));
+        same(
+            (found, reader.asked),
+            (expected, asked),
+            (interrupts, again),
+        )?;
     }
     Ok(())
 }
@@ -122,24 +139,28 @@ fn a_line_is_filled_after_a_fault() -> Result<(), Fail> {
 #[test]
 fn the_last_byte_may_come_after_the_end() -> Result<(), Fail> {
     let line = stored_line();
-    let (first, more) = line.as_slice().split_at_checked(1819).ok_or("short")?;
-    let mut reader = Resumed { first, more };
+    let (first, more) = line.split_at(1819);
+    let found = two_calls(&mut Resumed { first, more }, System::Ntsc);
+    let short = (Ok(Filled::Ended(1819)), 1819, 0, 0);
+    let whole = (FULL, 1820, 0, 0);
+    same(found, Some((short, whole, 1820)), "the last byte")
+}
+
+/// What a call of `fill_line` answers, the passes over the line and the looks at it; and the bytes held and fetched
+/// when it is cleared.
+fn cleared(mut reader: Tape) -> (Answer, (usize, u64), (usize, u64)) {
     let mut intake = Intake::new(&mut reader, System::Ntsc);
-    same(intake.fill_line(), Ok(Filled::Ended(1819)), "short")?;
-    holds(intake.held() < 1820, "short")?;
-    same(intake.fill_line(), FULL, "behind the end")?;
-    same((intake.fetched(), intake.failures()), (1820, 0), "then")
+    let answer = intake.fill_line();
+    let passes = (intake.passes(), intake.looked());
+    intake.clear_line();
+    (answer, passes, (intake.held(), intake.fetched()))
 }
 
 #[test]
 fn a_cleared_line_holds_nothing() -> Result<(), Fail> {
     let line = stored_line();
-    let mut reader = Tape::new(&line);
-    let mut intake = Intake::new(&mut reader, System::Ntsc);
-    same(intake.fill_line(), FULL, "a line")?;
-    same((intake.passes(), intake.looked()), (0, 0), "filled")?;
-    intake.clear_line();
-    same((intake.held(), intake.fetched()), (0, 1820), "cleared")
+    let found = cleared(Tape::new(&line));
+    same(found, (FULL, (0, 0), (0, 1820)), "a line")
 }
 
 /// A system, the bytes of a reader, the answer, and how often the reader is asked, which has a byte for each read.
@@ -163,16 +184,16 @@ fn a_line_has_as_many_bytes_as_its_system_says() -> Result<(), Fail> {
             piece: 1,
             ..Tape::new(front)
         };
-        let mut intake = Intake::new(&mut reader, system);
-        same(intake.fill_line(), expected, (system, count))?;
         let held = count.min(asked as usize);
-        same(intake.held(), held, (system, count))?;
-        // A reader that ended is asked again.
-        if intake.held() < system.line_bytes() {
-            same(intake.fill_line(), expected, (system, count, "again"))?;
-            same(intake.into_reader().asked, asked + 1, (system, count))?;
+        let call = (expected, held, 0, 0);
+        if held < system.line_bytes() {
+            // A reader that ended is asked again.
+            let found = two_calls(&mut reader, system);
+            let expected = (Some((call, call, held as u64)), asked + 1);
+            same((found, reader.asked), expected, (system, count))?;
         } else {
-            same(intake.into_reader().asked, asked, (system, count))?;
+            let found = first_call(reader, system);
+            same(found, (call, held as u64, asked), (system, count))?;
         }
     }
     Ok(())

@@ -29,6 +29,16 @@ pub(crate) fn set(samples: &mut [u16; 1135], from: usize, to: usize, sample: u16
     }
 }
 
+/// The samples of the drawn row of a word.
+pub(crate) fn drawn(system: System, levels: Levels, value: u32) -> [u16; 1135] {
+    let mut samples = [levels.black(); 1135];
+    for column in 0..system.width() {
+        let word = Word24::new(value).ok();
+        samples[column] = drawn_sample(system, levels, word, column);
+    }
+    samples
+}
+
 /// The bytes of these samples, of which a line of NTSC has the first.
 fn bytes_of(samples: &[u16; 1135]) -> [u8; 2270] {
     let mut bytes = [0; 2270];
@@ -94,6 +104,24 @@ pub(crate) fn at_once(system: System, levels: Levels, samples: &[u16; 1135]) -> 
     with_pass(read_bytes_twice(&bytes[..2 * system.width()], system, levels))
 }
 
+/// The outcome of an intake that is filled with the bytes of a line.
+fn intake_outcome(system: System, levels: Levels, mut line: &[u8]) -> Option<Answer> {
+    let mut intake = Intake::new(&mut line, system);
+    let Ok(Filled::Full) = intake.fill_line() else {
+        return None;
+    };
+    Some(in_numbers(intake.outcome(levels)))
+}
+
+/// The reading of an intake that is filled with the bytes of a line, and its pass.
+fn intake_reading(system: System, levels: Levels, mut line: &[u8]) -> Option<(Answer, u8)> {
+    let mut intake = Intake::new(&mut line, system);
+    let Ok(Filled::Full) = intake.fill_line() else {
+        return None;
+    };
+    Some(with_pass(intake.reading(levels)))
+}
+
 /// The outcome, and the reading with its pass, of an intake that is filled with the line's bytes.
 pub(crate) fn by_intake(
     system: System,
@@ -101,18 +129,10 @@ pub(crate) fn by_intake(
     samples: &[u16; 1135],
 ) -> Option<(Answer, (Answer, u8))> {
     let bytes = bytes_of(samples);
-    let mut first = &bytes[..2 * system.width()];
-    let mut intake = Intake::new(&mut first, system);
-    let Ok(Filled::Full) = intake.fill_line() else {
-        return None;
-    };
-    let outcome = intake.outcome(levels);
-    let mut second = &bytes[..2 * system.width()];
-    let mut intake = Intake::new(&mut second, system);
-    let Ok(Filled::Full) = intake.fill_line() else {
-        return None;
-    };
-    Some((in_numbers(outcome), with_pass(intake.reading(levels))))
+    let line = &bytes[..2 * system.width()];
+    let outcome = intake_outcome(system, levels, line)?;
+    let reading = intake_reading(system, levels, line)?;
+    Some((outcome, reading))
 }
 
 /// A system, the sample in the high columns of the drawn row of 82CFFF, and its reading by the system's usual levels.
@@ -126,19 +146,35 @@ static MIDWAY: [(System, u16, (Answer, u8)); 4] = [
 #[test]
 fn a_sample_midway_is_low() -> Result<(), Fail> {
     for &(system, high, expected) in &MIDWAY {
-        let drawn = Levels::new(16384, high)?;
+        let samples = drawn(system, Levels::new(16384, high)?, 0x82CFFF);
         let levels = levels_of(system);
-        let mut samples = [16384; 1135];
-        for column in 0..system.width() {
-            let word = Word24::new(0x82CFFF).ok();
-            samples[column] = drawn_sample(system, drawn, word, column);
-        }
-        let found = reading(system, levels, &samples);
-        same(found, expected, (system, high))?;
-        let found = plain(system, levels, &samples);
-        same(found, expected.0, (system, high))?;
+        let found = (
+            plain(system, levels, &samples),
+            reading(system, levels, &samples),
+        );
+        same(found, (expected.0, expected), (system, high))?;
     }
     Ok(())
+}
+
+/// The passes over a line, and the looks at its samples in these.
+fn passes_over(line: &LineBuf) -> (usize, usize) {
+    (line.passes(), line.looks())
+}
+
+/// The passes over a line of these samples that each reader makes, with their looks.
+fn passes_of_readers(system: System, levels: Levels, samples: &[u16; 1135]) -> [(usize, usize); 3] {
+    let mut once = line_of(system, samples);
+    read_line(&mut once, system, levels);
+    let mut twice = line_of(system, samples);
+    read_twice(&mut twice, system, levels);
+    let mut sliced = line_of(system, samples);
+    slice_lanes(&mut sliced, levels);
+    [
+        passes_over(&once),
+        passes_over(&twice),
+        passes_over(&sliced),
+    ]
 }
 
 #[test]
@@ -147,15 +183,8 @@ fn each_reader_makes_one_pass() -> Result<(), Fail> {
         let levels = levels_of(system);
         let mut samples = [levels.black(); 1135];
         samples[0] = levels.white();
-        let mut line = line_of(system, &samples);
-        read_line(&mut line, system, levels);
-        same((line.passes(), line.looks()), (1, width), system)?;
-        let mut line = line_of(system, &samples);
-        read_twice(&mut line, system, levels);
-        same((line.passes(), line.looks()), (1, width), system)?;
-        let mut line = line_of(system, &samples);
-        slice_lanes(&mut line, levels);
-        same((line.passes(), line.looks()), (1, width), system)?;
+        let found = passes_of_readers(system, levels, &samples);
+        same(found, [(1, width); 3], system)?;
     }
     Ok(())
 }

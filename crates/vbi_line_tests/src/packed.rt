@@ -36,8 +36,8 @@ fn the_last_column_alone_is_high() -> Result<(), Fail> {
         let mut samples = [levels.black(); 1135];
         samples[last] = levels.white();
         let packed = packed_of(system, levels, &samples);
-        same(packed.width(), last + 1, (last, "the width"))?;
-        same(highs_of(&packed), (1, Some(last)), (last, "high"))?;
+        let found = (packed.width(), highs_of(&packed));
+        same(found, (last + 1, (1, Some(last))), system)?;
     }
     Ok(())
 }
@@ -50,8 +50,8 @@ fn the_comparison_does_not_wrap() -> Result<(), Fail> {
             let mut samples = [black; 1135];
             samples[1] = white;
             let packed = packed_of(system, levels, &samples);
-            same(packed.level(0), false, (system, black))?;
-            same(packed.level(1), true, (system, white))?;
+            let found = (packed.level(0), packed.level(1));
+            same(found, (false, true), (system, black))?;
         }
     }
     Ok(())

@@ -56,23 +56,30 @@ static SYSTEMS: [(System, &str, [usize; 7]); 2] = [
     (System::Pal, "PAL", [1135, 2270, 313, 710_510, 14, 22, 190]),
 ];
 
+/// The numbers of a system, in the order of `SYSTEMS`.
+fn numbers_of(system: System) -> [usize; 7] {
+    [
+        system.width(),
+        system.line_bytes(),
+        system.height(),
+        system.field_bytes(),
+        system.half_min(),
+        system.half_max(),
+        system.start(),
+    ]
+}
+
+/// Names of no system.
+static NO_NAMES: [&str; 6] = ["", "ntsc", "Pal", "NTSC ", "PALM", "SECAM"];
+
 #[test]
 fn both_systems_have_their_geometry() -> Result<(), Fail> {
     for &(system, name, numbers) in &SYSTEMS {
-        same(system.name(), name, system)?;
-        same(System::named(name), Some(system), name)?;
-        let found = [
-            system.width(),
-            system.line_bytes(),
-            system.height(),
-            system.field_bytes(),
-            system.half_min(),
-            system.half_max(),
-            system.start(),
-        ];
-        same(found, numbers, system)?;
+        let found = (system.name(), System::named(name));
+        same(found, (name, Some(system)), system)?;
+        same(numbers_of(system), numbers, system)?;
     }
-    for name in ["", "ntsc", "Pal", "NTSC ", "PALM", "SECAM"] {
+    for &name in &NO_NAMES {
         same(System::named(name), None, name)?;
     }
     Ok(())
