@@ -19,19 +19,28 @@ fn nested(alloc: Global, depth: usize) -> Result<Vec<u8>, AllocError> {
     Ok(text)
 }
 
+/// Depths of arrays, and what they are refused for.
+static DEPTHS: [(usize, Option<MetaFault>); 3] = [
+    (127, None),
+    (128, Some(MetaFault::NotJson)),
+    (524_288, Some(MetaFault::NotJson)),
+];
+
+/// What metadata that are JSON are refused for, without options.
+fn unsettled(alloc: Global, bytes: &[u8]) -> Result<Option<MetaFault>, MetaFault> {
+    let value = read_meta(alloc, bytes)?;
+    Ok(settings(Some(&value), &NONE).err())
+}
+
 #[test]
 fn a_document_is_nested_at_most_127_deep(rt: HostRuntime) -> Result<(), Fail> {
     let alloc = rt.alloc();
-    for (depth, fault) in [
-        (127, None),
-        (128, Some(MetaFault::NotJson)),
-        (524_288, Some(MetaFault::NotJson)),
-    ] {
+    for &(depth, fault) in &DEPTHS {
         let text = nested(alloc, depth)?;
         same(refusal(alloc, text.as_slice()), fault, depth)?;
     }
-    let value = read_meta(alloc, nested(alloc, 127)?.as_slice())?;
-    let found = settings(Some(&value), &NONE).err();
+    let text = nested(alloc, 127)?;
+    let found = unsettled(alloc, text.as_slice())?;
     same(found, Some(MetaFault::NoVideoParameters), "127 deep")
 }
 
@@ -98,12 +107,8 @@ fn faults_have_their_texts(rt: HostRuntime) -> Result<(), Fail> {
 #[test]
 fn want_of_memory_is_answered_as_such(rt: HostRuntime) -> Result<(), Fail> {
     let alloc = rt.alloc();
-    match read_meta(alloc, FULL.as_bytes()) {
-        Ok(value) => same(
-            settings(Some(&value), &NONE).err(),
-            None,
-            "the full metadata",
-        )?,
+    match unsettled(alloc, FULL.as_bytes()) {
+        Ok(fault) => same(fault, None, "the full metadata")?,
         Err(fault) => same(fault, MetaFault::OutOfMemory, "memory")?,
     }
     let fault = refusal(alloc, b"{\"a\":NaN}");

@@ -1,11 +1,10 @@
 //! How metadata name the system: what each kind of JSON means as `isSourcePal` and as `system`.
 
-use crate::settling::{NONE, Settled, document, refuses, settled};
+use crate::settling::{LEVELS, NONE, names, refuses};
 use std::alloc::Global;
 use std::test::Fail;
 use vbi_meta::MetaFault::UnknownSystem;
 use vbi_meta::Overrides;
-use vbi_test_devices::same;
 use vbi_words::System;
 
 /// Values that are no truth value. Languages differ on which of them they take for one.
@@ -62,40 +61,51 @@ static NO_NAMES: [&str; 30] = [
     r#""NTSC\u0000""#,
 ];
 
-/// Levels that are in order, as they follow another member.
-const LEVELS: &str = r#","black16bIre":0,"white16bIre":65535"#;
-
-/// What these levels settle for a system.
-fn settled_as(system: System) -> Settled {
-    (system, 0, 65535, 1_000_000)
+/// Fails where members with levels that are in order don't make the system unknown.
+fn is_unknown(alloc: Global, members: &str) -> Result<(), Fail> {
+    let members = format!(in alloc; "{members}{LEVELS}")?;
+    refuses(alloc, members.as_str(), &NONE, UnknownSystem)
 }
 
-/// Fails where members with levels that are in order don't settle this system.
-fn names(alloc: Global, members: &str, overrides: &Overrides, system: System) -> Result<(), Fail> {
-    let members = format!(in alloc; "{members}{LEVELS}")?;
-    let text = document(alloc, members.as_str())?;
-    let found = settled(alloc, text.as_str(), overrides);
-    same(found, Ok(settled_as(system)), members)
+/// The same of a member before another one, and behind it.
+fn is_unknown_beside(alloc: Global, member: &str, other: &str) -> Result<(), Fail> {
+    let members = format!(in alloc; "{member},{other}")?;
+    is_unknown(alloc, members.as_str())?;
+    let members = format!(in alloc; "{other},{member}")?;
+    is_unknown(alloc, members.as_str())
+}
+
+/// Fails where an option doesn't stand in for a member.
+fn gives_way(alloc: Global, member: &str, system: System) -> Result<(), Fail> {
+    let given = Overrides {
+        system: Some(system),
+        ..NONE
+    };
+    names(alloc, member, &given, system)
 }
 
 /// Fails where a member doesn't make the system unknown, alone, with levels that are in order, and before or behind the
 /// other member, whatever that says; and where an option doesn't stand in for it.
 fn makes_it_unknown(alloc: Global, member: &str, others: &[&str]) -> Result<(), Fail> {
     refuses(alloc, member, &NONE, UnknownSystem)?;
-    let members = format!(in alloc; "{member}{LEVELS}")?;
-    refuses(alloc, members.as_str(), &NONE, UnknownSystem)?;
+    is_unknown(alloc, member)?;
     for other in others {
-        let members = format!(in alloc; "{member},{other}{LEVELS}")?;
-        refuses(alloc, members.as_str(), &NONE, UnknownSystem)?;
-        let members = format!(in alloc; "{other},{member}{LEVELS}")?;
-        refuses(alloc, members.as_str(), &NONE, UnknownSystem)?;
+        is_unknown_beside(alloc, member, other)?;
     }
-    for system in [System::Ntsc, System::Pal] {
-        let given = Overrides {
-            system: Some(system),
-            ..NONE
-        };
-        names(alloc, member, &given, system)?;
+    gives_way(alloc, member, System::Ntsc)?;
+    gives_way(alloc, member, System::Pal)
+}
+
+/// Fails where a member with one of these values doesn't make the system unknown, as above.
+fn make_it_unknown(
+    alloc: Global,
+    name: &str,
+    values: &[&str],
+    others: &[&str],
+) -> Result<(), Fail> {
+    for value in values {
+        let member = format!(in alloc; "\"{name}\":{value}")?;
+        makes_it_unknown(alloc, member.as_str(), others)?;
     }
     Ok(())
 }
@@ -105,12 +115,8 @@ fn a_flag_is_true_or_false(rt: HostRuntime) -> Result<(), Fail> {
     let alloc = rt.alloc();
     names(alloc, r#""isSourcePal":true"#, &NONE, System::Pal)?;
     names(alloc, r#""isSourcePal":false"#, &NONE, System::Ntsc)?;
-    for value in &NO_FLAGS {
-        let member = format!(in alloc; "\"isSourcePal\":{value}")?;
-        let others = [r#""system":"NTSC""#, r#""system":"PAL""#];
-        makes_it_unknown(alloc, member.as_str(), &others)?;
-    }
-    Ok(())
+    let others = [r#""system":"NTSC""#, r#""system":"PAL""#];
+    make_it_unknown(alloc, "isSourcePal", &NO_FLAGS, &others)
 }
 
 #[test]
@@ -118,10 +124,6 @@ fn a_name_is_that_of_a_system(rt: HostRuntime) -> Result<(), Fail> {
     let alloc = rt.alloc();
     names(alloc, r#""system":"PAL""#, &NONE, System::Pal)?;
     names(alloc, r#""system":"NTSC""#, &NONE, System::Ntsc)?;
-    for value in &NO_NAMES {
-        let member = format!(in alloc; "\"system\":{value}")?;
-        let others = [r#""isSourcePal":true"#, r#""isSourcePal":false"#];
-        makes_it_unknown(alloc, member.as_str(), &others)?;
-    }
-    Ok(())
+    let others = [r#""isSourcePal":true"#, r#""isSourcePal":false"#];
+    make_it_unknown(alloc, "system", &NO_NAMES, &others)
 }

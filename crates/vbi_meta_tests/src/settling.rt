@@ -164,12 +164,23 @@ static REFUSED: [(&str, MetaFault); 29] = [
     ),
 ];
 
-#[test]
-fn of_two_faults_the_first_in_order_is_the_refusal(rt: HostRuntime) -> Result<(), Fail> {
-    for &(members, fault) in &REFUSED {
-        refuses(rt.alloc(), members, &NONE, fault)?;
+/// Fails where one of these rows, behind such members, isn't refused for its fault.
+fn refuses_each(
+    alloc: Global,
+    before: &str,
+    overrides: &Overrides,
+    rows: &[(&str, MetaFault)],
+) -> Result<(), Fail> {
+    for &(members, fault) in rows {
+        let members = format!(in alloc; "{before}{members}")?;
+        refuses(alloc, members.as_str(), overrides, fault)?;
     }
     Ok(())
+}
+
+#[test]
+fn of_two_faults_the_first_in_order_is_the_refusal(rt: HostRuntime) -> Result<(), Fail> {
+    refuses_each(rt.alloc(), "", &NONE, &REFUSED)
 }
 
 /// The same with overrides, each of which replaces its member whatever that holds.
@@ -240,29 +251,40 @@ static NAMED: [(&str, System); 4] = [
     (r#""system":"PAL""#, System::Pal),
 ];
 
+/// Levels that are in order, as they follow another member.
+pub(crate) const LEVELS: &str = r#","black16bIre":0,"white16bIre":65535"#;
+
+/// Fails where members with levels that are in order don't settle this system.
+pub(crate) fn names(
+    alloc: Global,
+    members: &str,
+    overrides: &Overrides,
+    system: System,
+) -> Result<(), Fail> {
+    let members = format!(in alloc; "{members}{LEVELS}")?;
+    let text = document(alloc, members.as_str())?;
+    let found = settled(alloc, text.as_str(), overrides);
+    same(found, Ok((system, 0, 65535, 1_000_000)), members)
+}
+
+/// Fails where a name doesn't settle this system, or sizes aren't refused beside it as they are with this system.
+fn has_its_sizes(alloc: Global, name: &str, system: System) -> Result<(), Fail> {
+    names(alloc, name, &NONE, system)?;
+    let members = format!(in alloc; "{name}{LEVELS},")?;
+    let sizes = match system {
+        System::Ntsc => &NTSC_SIZES,
+        System::Pal => &PAL_SIZES,
+    };
+    refuses_each(alloc, members.as_str(), &NONE, sizes)
+}
+
 #[test]
 fn sizes_are_those_of_the_system(rt: HostRuntime) -> Result<(), Fail> {
     let alloc = rt.alloc();
-    for &(members, fault) in &NTSC_SIZES {
-        refuses(alloc, members, &NTSC_LEVELS, fault)?;
-    }
-    for &(members, fault) in &PAL_SIZES {
-        refuses(alloc, members, &PAL_LEVELS, fault)?;
-    }
+    refuses_each(alloc, "", &NTSC_LEVELS, &NTSC_SIZES)?;
+    refuses_each(alloc, "", &PAL_LEVELS, &PAL_SIZES)?;
     for &(name, system) in &NAMED {
-        let levels = r#""black16bIre":0,"white16bIre":65535"#;
-        let members = format!(in alloc; "{name},{levels}")?;
-        let text = document(alloc, members.as_str())?;
-        let found = settled(alloc, text.as_str(), &NONE);
-        same(found, Ok((system, 0, 65535, 1_000_000)), name)?;
-        let sizes = match system {
-            System::Ntsc => &NTSC_SIZES,
-            System::Pal => &PAL_SIZES,
-        };
-        for &(size, fault) in sizes {
-            let members = format!(in alloc; "{name},{levels},{size}")?;
-            refuses(alloc, members.as_str(), &NONE, fault)?;
-        }
+        has_its_sizes(alloc, name, system)?;
     }
     Ok(())
 }
