@@ -4,74 +4,47 @@ use std::test::Fail;
 use vbi_test_devices::same;
 use vbi_words::{Code, Format, Word24, classify, format_of};
 
-/// Words and their codes. The law `worked_codes` has a dozen words of each class, and the scripts try the corners of
-/// every pattern.
-static CODES: [(u32, Code); 22] = [
-    (0x88FFFF, Code::LeadIn),
-    (0x80EEEE, Code::LeadOut),
-    (0x82CFFF, Code::PictureStop),
-    (0x87FFFF, Code::ClvMark),
-    (0xF00000, Code::Picture(0)),
-    (0xF79999, Code::Picture(79999)),
-    // The top bit of the second digit doesn't count, in pictures and in chapters.
-    (0xF80000, Code::Picture(0)),
-    (0xF92345, Code::Picture(12345)),
-    (0xFF9999, Code::Picture(79999)),
-    (0x800DDD, Code::Chapter(0)),
-    (0x879DDD, Code::Chapter(79)),
-    (0x880DDD, Code::Chapter(0)),
-    (0x8F9DDD, Code::Chapter(79)),
-    (
-        0xF9DD59,
-        Code::Time {
-            hours: 9,
-            minutes: 59,
-        },
-    ),
-    (
-        0xF0DD99,
-        Code::Time {
-            hours: 0,
-            minutes: 99,
-        },
-    ),
-    (
-        0x8AE712,
-        Code::ClvPicture {
-            seconds: 7,
-            picture: 12,
-        },
-    ),
-    (
-        0x8FE999,
-        Code::ClvPicture {
-            seconds: 59,
-            picture: 99,
-        },
-    ),
-    (0x8DCFFF, Code::CxOn(0xFFF)),
-    (
-        0x80D000,
-        Code::Users {
-            digit: 0,
-            number: 0,
-        },
-    ),
-    (
-        0x87DDDD,
-        Code::Users {
-            digit: 7,
-            number: 0xDDD,
-        },
-    ),
-    // The least and the greatest word of all.
-    (0x800000, Code::Other),
-    (0xFFFFFF, Code::Other),
-];
+fn time(hours: u8, minutes: u8) -> Code {
+    Code::Time { hours, minutes }
+}
 
+fn clv_picture(seconds: u8, picture: u8) -> Code {
+    Code::ClvPicture { seconds, picture }
+}
+
+fn users(digit: u8, number: u16) -> Code {
+    Code::Users { digit, number }
+}
+
+// The law `worked_codes` has a dozen words of each class, and the scripts try the corners of every pattern.
 #[test]
 fn known_words_have_their_codes() -> Result<(), Fail> {
-    for &(value, code) in &CODES {
+    for (value, code) in [
+        (0x88FFFF, Code::LeadIn),
+        (0x80EEEE, Code::LeadOut),
+        (0x82CFFF, Code::PictureStop),
+        (0x87FFFF, Code::ClvMark),
+        (0xF00000, Code::Picture(0)),
+        (0xF79999, Code::Picture(79999)),
+        // The top bit of the second digit doesn't count, in pictures and in chapters.
+        (0xF80000, Code::Picture(0)),
+        (0xF92345, Code::Picture(12345)),
+        (0xFF9999, Code::Picture(79999)),
+        (0x800DDD, Code::Chapter(0)),
+        (0x879DDD, Code::Chapter(79)),
+        (0x880DDD, Code::Chapter(0)),
+        (0x8F9DDD, Code::Chapter(79)),
+        (0xF9DD59, time(9, 59)),
+        (0xF0DD99, time(0, 99)),
+        (0x8AE712, clv_picture(7, 12)),
+        (0x8FE999, clv_picture(59, 99)),
+        (0x8DCFFF, Code::CxOn(0xFFF)),
+        (0x80D000, users(0, 0)),
+        (0x87DDDD, users(7, 0xDDD)),
+        // The least and the greatest word of all.
+        (0x800000, Code::Other),
+        (0xFFFFFF, Code::Other),
+    ] {
         same(classify(Word24::new(value)?), code, value)?;
     }
     Ok(())
