@@ -1,6 +1,8 @@
 -- Adding one line more.
 use Rattle.std.proofs.Common.{◌≡◌, ℕ, suc, zero, ◌≤◌, ◌<◌, ◌+◌, ◌*◌, List, [], ◌∷◌, Bool, true, false, length}
-use Rattle.std.proofs.Common.{◌++◌, get_or, arith, ap, sym, ◌∙◌, refl, cond, subst}
+use Rattle.std.proofs.Common.{◌++◌, ◌⊎◌, inl, inr, get_or, arith, ap, sym, ◌∙◌, refl, cond, subst}
+use Rattle.std.proofs.Math.Nat.{min-le_right}
+use Rattle.std.proofs.lemmas.Bool.{cases_lt}
 use Rattle.std.proofs.Math.ListN.{replicate, take}
 use Rattle.std.proofs.lemmas.List.{length-take-le, length-replicate, take-replicate}
 use Rattle.std.proofs.lemmas.List.Elements.{All-append}
@@ -127,6 +129,25 @@ pub record IsAdded (bytes : List ℕ) (erased : List Bool) (most level : ℕ) (c
   pub below : (k : ℕ) → k < i
       → get_or new k 0 ≡ get_or costs k 0 + kept most (get_or erased k false) (sample_at bytes k) level
   pub behind : (k : ℕ) → i ≤ k → get_or new k 0 ≡ get_or costs k 0
+
+kept-few : (most : ℕ) (erased : Bool) (sample level : ℕ) → kept most erased sample level ≤ most
+kept-few most true sample level = omega arith
+kept-few most false sample level = min-le_right (abs_diff sample level) most
+
+-- no column costs more than what a sample can be off
+pub added-few : (bytes : List ℕ) (erased : List Bool) (most level : ℕ) (costs new : List ℕ) (i : ℕ) → most ≤ 65535
+    → (lines : ℕ) → AreFew lines costs → IsAdded bytes erased most level costs new i → AreFew (lines + 1) new
+added-few bytes erased most level costs new i low lines few is k = go (cases_lt k i)
+  where
+    go : (k < i) ⊎ (i ≤ k) → get_or new k 0 ≤ 65535 * (lines + 1)
+    go (inl l) =
+        omega (
+          arith,
+          is.below k l,
+          few k,
+          kept-few most (get_or erased k false) (sample_at bytes k) level,
+        )
+    go (inr le) = omega (arith, is.behind k le, few k)
 
 -- a line that is cut to as long as it is
 pub added_whole : (cut bytes : List ℕ) (marks erased : List Bool) (most level : ℕ) (costs new : List ℕ) (i n : ℕ)

@@ -57,7 +57,7 @@ offset-up system rate j k le =
     )
 
 -- there are 302 starts at most
-few-starts : (system : System) (rate : ℕ) → 98 ≤ rate → width_of system + 1 ≤ stretched_length system rate + 302
+pub few-starts : (system : System) (rate : ℕ) → 98 ≤ rate → width_of system + 1 ≤ stretched_length system rate + 302
 few-starts Ntsc rate le = omega arith
 few-starts Pal rate le = omega arith
 

@@ -5,6 +5,33 @@ use Rattle.vbi_near.specs.Leads.{digit_cost, IsDigitCost}
 use Rattle.vbi_near.proofs.CellsAt.{set-more}
 use Rattle.vbi_near.proofs.codes.digit_costs.Goals as goal
 
+pub overflow_add-digits : goal.overflow_add-digits
+overflow_add-digits c =
+    omega (
+      arith,
+      c.bit_cost.ensures.range c.cell_at-first.ensures.range,
+      c.bit_cost-in-loop-value.ensures.range c.cell_at-second.ensures.range,
+    )
+
+pub overflow_add-digits-in-loop-value : goal.overflow_add-digits-in-loop-value
+overflow_add-digits-in-loop-value c =
+    omega (
+      arith,
+      c.bit_cost.ensures.range c.cell_at-first.ensures.range,
+      c.bit_cost-in-loop-value.ensures.range c.cell_at-second.ensures.range,
+      c.bit_cost-in-loop-value-2.ensures.range c.cell_at-third.ensures.range,
+    )
+
+pub overflow_add-digits-in-loop-value-2 : goal.overflow_add-digits-in-loop-value-2
+overflow_add-digits-in-loop-value-2 c =
+    omega (
+      arith,
+      c.bit_cost.ensures.range c.cell_at-first.ensures.range,
+      c.bit_cost-in-loop-value.ensures.range c.cell_at-second.ensures.range,
+      c.bit_cost-in-loop-value-2.ensures.range c.cell_at-third.ensures.range,
+      c.bit_cost-in-loop-value-3.ensures.range c.cell_at-last.ensures.range,
+    )
+
 pub loop-value-preserved : goal.loop-value-preserved
 loop-value-preserved c =
     let cost : ℕ → Bool → ℕ = cell_cost (shades c.args.dark.now c.args.light.now) c.args.system c.args.start in
@@ -36,3 +63,6 @@ loop-value-preserved c =
             ),
           ) k (omega (arith, l));
     }
+
+pub returns-clause-costs : goal.returns-clause-costs
+returns-clause-costs c i l = c.loop-value.invariant.below i (omega (arith, l, c.loop-value-test.false))

@@ -3,8 +3,12 @@ use Rattle.vbi_near.specs.Pictures.{starts}
 use Rattle.vbi_near.specs.Distances.{Shades, shades}
 use Rattle.vbi_near.specs.LineCodes.{codes_of}
 use Rattle.vbi_near.specs.Leads.{IsSeen, looks_before, code_cost, IsLead}
+use Rattle.vbi_near.proofs.Columns.{word-fits}
 use Rattle.vbi_near.proofs.Looks.{none-lead, all-looks}
 use Rattle.vbi_near.proofs.codes.nearest_code.Goals as goal
+
+pub with_start-best-requires-clause-start : goal.with_start-best-requires-clause-start
+with_start-best-requires-clause-start c = omega (arith, c.requires.first, word-fits c.args.system)
 
 pub loop-start-init : goal.loop-start-init
 loop-start-init c =
@@ -14,6 +18,14 @@ loop-start-init c =
           (none-lead sums c.args.system c.args.blank c.requires.blank c.requires.few);
       close = c.with_start-best.ensures.close (omega (arith, c.requires.few), c.requires.few, inr refl);
     }
+
+pub with_start_by-best-requires-clause-start : goal.with_start_by-best-requires-clause-start
+with_start_by-best-requires-clause-start c =
+    omega (arith, c.loop-start-test.true, c.requires.bounds, word-fits c.args.system)
+
+pub with_start_by-best-requires-clause-bound : goal.with_start_by-best-requires-clause-bound
+with_start_by-best-requires-clause-bound c word is =
+    c.requires.far c.loop-start.start word (omega (arith, c.loop-start-test.true, c.requires.bounds)) is
 
 pub loop-start-preserved : goal.loop-start-preserved
 loop-start-preserved c =

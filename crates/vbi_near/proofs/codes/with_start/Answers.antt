@@ -4,8 +4,34 @@ use Rattle.vbi_near.specs.Pictures.{word_length}
 use Rattle.vbi_near.specs.Distances.{Shades, shades}
 use Rattle.vbi_near.specs.Sums.{span}
 use Rattle.vbi_near.specs.Leads.{code_cost}
+use Rattle.vbi_near.proofs.Founds.{around-few}
 use Rattle.vbi_near.proofs.Priced.{priced}
 use Rattle.vbi_near.proofs.codes.with_start.Goals as goal
+
+pub between-requires-2-clause-order : goal.between-requires-2-clause-order
+between-requires-2-clause-order c = omega (arith, c.column-end.ensures.range, c.width.ensures, c.requires.start)
+
+pub overflow_add-base : goal.overflow_add-base
+overflow_add-base c =
+    omega (
+      arith,
+      around-few c.args.system c.args.start c.column-end.result c.between.result c.between-2.result c.width.result
+          c.requires.start c.column-end.ensures.value c.width.ensures c.between.ensures.range
+          c.between-2.ensures.range,
+    )
+
+pub with_codes-requires-clause-few : goal.with_codes-requires-clause-few
+with_codes-requires-clause-few c i l =
+    (c.loop-place.invariant.below i (omega (arith, l, c.loop-place-test.false))).1
+
+pub with_codes-requires-clause-base : goal.with_codes-requires-clause-base
+with_codes-requires-clause-base c =
+    omega (
+      arith,
+      around-few c.args.system c.args.start c.column-end.result c.between.result c.between-2.result c.width.result
+          c.requires.start c.column-end.ensures.value c.width.ensures c.between.ensures.range
+          c.between-2.ensures.range,
+    )
 
 pub returns-clause-lead : goal.returns-clause-lead
 returns-clause-lead c looks is =

@@ -1,11 +1,12 @@
-use Rattle.std.proofs.Common.{◌≡◌, ℕ, suc, ◌+◌, ◌-◌, List, Bool, false, get_or, ap, sym, ◌∙◌, arith, Bor}
+use Rattle.std.proofs.Common.{◌≡◌, ℕ, suc, ◌+◌, ◌-◌, List, Bool, false, get_or, ap, sym, ◌∙◌, arith, Bor, subst}
 use Rattle.vbi_words.specs.Geometry.{width_of}
 use Rattle.vbi_near.specs.Pictures.{column_of}
 use Rattle.vbi_near.specs.Distances.{Shades, shades, shade}
 use Rattle.vbi_near.specs.Sums.{span, total_in}
 use Rattle.vbi_near.specs.Costs.{half_cost}
 use Rattle.vbi_near.specs.Halved.{half_of}
-use Rattle.vbi_near.proofs.Columns.{column-first, column-next}
+use Rattle.vbi_near.specs.Sums.{IsRising}
+use Rattle.vbi_near.proofs.Columns.{column-first, column-next, column-rises, column-last, width-few}
 use Rattle.vbi_near.proofs.HalvedRows.{half-long, half-costs, all-costs}
 use Rattle.vbi_near.proofs.Stretches.{none-yet, cost-more}
 use Rattle.vbi_near.proofs.halved.half_distance.Goals.{then-is_high, else-is_high}
@@ -24,6 +25,51 @@ loop-half-init c =
       );
       few = omega (arith, c.between-sum.ensures.range, column-first c.args.system c.args.start);
     }
+
+pub between-sum-requires-in-loop-half-clause-rising : goal.between-sum-requires-in-loop-half-clause-rising
+between-sum-requires-in-loop-half-clause-rising c = elim c.if-is_high.branch [
+  | then-is_high w ↦ subst (λ (b : Bor (List ℕ)). IsRising b.now) (sym w.sums-is) c.requires.sums.light_rises
+  | else-is_high w ↦ subst (λ (b : Bor (List ℕ)). IsRising b.now) (sym w.sums-is) c.requires.sums.dark_rises
+]
+
+pub between-sum-requires-in-loop-half-clause-order : goal.between-sum-requires-in-loop-half-clause-order
+between-sum-requires-in-loop-half-clause-order c =
+    omega (
+      arith,
+      c.column-begin.ensures.value,
+      c.column.ensures.value,
+      column-rises c.args.system c.args.start c.loop-half.half (c.loop-half.half + 1) (omega arith),
+    )
+
+pub overflow_add-sum : goal.overflow_add-sum
+overflow_add-sum c =
+    omega (
+      arith,
+      c.loop-half.invariant.few,
+      c.between-sum-in-loop-half.ensures.range,
+      c.column-begin.ensures.value,
+      c.column.ensures.range,
+      width-few c.args.system,
+      c.requires.start,
+    )
+
+pub between-requires-clause-order : goal.between-requires-clause-order
+between-requires-clause-order c = omega (arith, c.column-end.ensures.range, c.width.ensures, c.requires.start)
+
+pub overflow_add-result : goal.overflow_add-result
+overflow_add-result c =
+    omega (
+      arith,
+      c.loop-half-test.false,
+      c.loop-half.auto.half-end,
+      c.loop-half.invariant.few,
+      c.between.ensures.range,
+      c.column-end.ensures.range,
+      c.width.ensures,
+      width-few c.args.system,
+      column-last c.args.system c.args.start c.loop-half.half c.loop-half.auto.half-end,
+      c.requires.start,
+    )
 
 pub loop-half-preserved : goal.loop-half-preserved
 loop-half-preserved c =

@@ -13,6 +13,34 @@ use Rattle.vbi_near.proofs.Piles.{nearest-same, first-same, longer-same}
 use Rattle.vbi_near.proofs.ShorterRows.{shorter_is, shorter-same}
 use Rattle.vbi_near.proofs.near.nearest.Goals as goal
 
+pub between-blank-requires-clause-rising : goal.between-blank-requires-clause-rising
+between-blank-requires-clause-rising c =
+    let rows = row_sums c.args.system c.args.darks.now c.args.lights.now c.sum_up.new.sums c.sum_up-2.new.sums c.requires.few.0
+    c.requires.few.1 c.sum_up.ensures.sums c.sum_up-2.ensures.sums c.requires.dark c.requires.light
+    c.sum_up.ensures.length c.sum_up-2.ensures.length in
+    rows.dark_rises
+
+pub nearest_word-found-requires-clause-sums : goal.nearest_word-found-requires-clause-sums
+nearest_word-found-requires-clause-sums c =
+    row_sums c.args.system c.args.darks.now c.args.lights.now c.sum_up.new.sums c.sum_up-2.new.sums c.requires.few.0
+    c.requires.few.1 c.sum_up.ensures.sums c.sum_up-2.ensures.sums c.requires.dark c.requires.light
+    c.sum_up.ensures.length c.sum_up-2.ensures.length
+
+pub longer_distance-longer-requires-clause-start : goal.longer_distance-longer-requires-clause-start
+longer_distance-longer-requires-clause-start c = c.nearest_word-found.ensures.found.before
+
+pub longer_distance-longer-requires-clause-exact : goal.longer_distance-longer-requires-clause-exact
+longer_distance-longer-requires-clause-exact c = c.nearest_word-found.ensures.found.exact
+
+pub shorter_distance-shorter-requires-clause-start : goal.shorter_distance-shorter-requires-clause-start
+shorter_distance-shorter-requires-clause-start c = c.nearest_word-found.ensures.found.before
+
+pub shorter_distance-shorter-requires-clause-exact : goal.shorter_distance-shorter-requires-clause-exact
+shorter_distance-shorter-requires-clause-exact c = c.nearest_word-found.ensures.found.exact
+
+pub or_none-requires : goal.or_none-requires
+or_none-requires c = c.nearest_word-found.ensures.found.word
+
 pub longer_distance-longer-requires-clause-sums : goal.longer_distance-longer-requires-clause-sums
 longer_distance-longer-requires-clause-sums c =
     row_sums c.args.system c.args.darks.now c.args.lights.now c.sum_up.new.sums c.sum_up-2.new.sums c.requires.few.0

@@ -11,12 +11,89 @@ use Rattle.vbi_near.proofs.Distances.{AreBoth, both_are}
 use Rattle.vbi_near.proofs.Rising.{row_sums}
 use Rattle.vbi_near.proofs.Chosen.{nearest_is, first_is}
 use Rattle.vbi_near.proofs.ChosenCode.{code-place, code-chosen, code-first, code-longer, code-shorter, lead-is_word}
+use Rattle.vbi_near.proofs.ChosenCode.{lead-start, lead-exact}
+use Rattle.vbi_near.proofs.Columns.{width-few}
 use Rattle.vbi_near.proofs.OneCellMore.{longer_is}
 use Rattle.vbi_near.proofs.Costs.{blank-cost}
 use Rattle.vbi_near.proofs.Piles.{nearest-same, first-same, nearest-there, first-there, longer-same, far-same}
 use Rattle.vbi_near.proofs.ShorterRows.{shorter_is, shorter-same}
 use Rattle.vbi_near.proofs.HalvedRows.{halved-by}
 use Rattle.vbi_near.proofs.near_code.nears.Goals as goal
+
+pub between-blank-requires-clause-rising : goal.between-blank-requires-clause-rising
+between-blank-requires-clause-rising c =
+    let rows = row_sums c.args.system c.args.darks.now c.args.lights.now c.sum_up.new.sums c.sum_up-2.new.sums c.requires.few.0
+    c.requires.few.1 c.sum_up.ensures.sums c.sum_up-2.ensures.sums c.requires.dark c.requires.light
+    c.sum_up.ensures.length c.sum_up-2.ensures.length in
+    rows.dark_rises
+
+pub nearest_word-found-requires-clause-sums : goal.nearest_word-found-requires-clause-sums
+nearest_word-found-requires-clause-sums c =
+    row_sums c.args.system c.args.darks.now c.args.lights.now c.sum_up.new.sums c.sum_up-2.new.sums c.requires.few.0
+    c.requires.few.1 c.sum_up.ensures.sums c.sum_up-2.ensures.sums c.requires.dark c.requires.light
+    c.sum_up.ensures.length c.sum_up-2.ensures.length
+
+pub longer_distance-longer-requires-clause-start : goal.longer_distance-longer-requires-clause-start
+longer_distance-longer-requires-clause-start c = c.nearest_word-found.ensures.found.before
+
+pub longer_distance-longer-requires-clause-exact : goal.longer_distance-longer-requires-clause-exact
+longer_distance-longer-requires-clause-exact c = c.nearest_word-found.ensures.found.exact
+
+pub shorter_distance-shorter-requires-clause-start : goal.shorter_distance-shorter-requires-clause-start
+shorter_distance-shorter-requires-clause-start c = c.nearest_word-found.ensures.found.before
+
+pub shorter_distance-shorter-requires-clause-exact : goal.shorter_distance-shorter-requires-clause-exact
+shorter_distance-shorter-requires-clause-exact c = c.nearest_word-found.ensures.found.exact
+
+pub nearest_code-lead-requires-clause-first : goal.nearest_code-lead-requires-clause-first
+nearest_code-lead-requires-clause-first c = c.nearest_word-found.ensures.found.before
+
+pub nearest_code-lead-requires-clause-far : goal.nearest_code-lead-requires-clause-far
+nearest_code-lead-requires-clause-far c = c.nearest_word-found.ensures.bounds
+
+pub nearest_code-lead-requires-clause-few : goal.nearest_code-lead-requires-clause-few
+nearest_code-lead-requires-clause-few c = omega (arith, c.between-blank.ensures.range, c.width.ensures, width-few c.args.system)
+
+pub code_longer-lead_longer-requires-clause-start : goal.code_longer-lead_longer-requires-clause-start
+code_longer-lead_longer-requires-clause-start c =
+    lead-start (shades c.args.darks.now c.args.lights.now) (shades c.sum_up.new.sums c.sum_up-2.new.sums) c.args.system
+    (both_are c.args.darks.now c.args.lights.now c.sum_up.new.sums c.sum_up-2.new.sums (width_of c.args.system)
+    c.sum_up.ensures.sums c.sum_up-2.ensures.sums c.requires.dark c.requires.light)
+    (codes_of c.args.system c.args.line) c.nearest_code-lead.result c.nearest_code-lead.ensures.lead
+    c.nearest_code-lead.ensures.close 0 0
+
+pub code_longer-lead_longer-requires-clause-exact : goal.code_longer-lead_longer-requires-clause-exact
+code_longer-lead_longer-requires-clause-exact c =
+    lead-exact (shades c.args.darks.now c.args.lights.now) (shades c.sum_up.new.sums c.sum_up-2.new.sums) c.args.system
+    (both_are c.args.darks.now c.args.lights.now c.sum_up.new.sums c.sum_up-2.new.sums (width_of c.args.system)
+    c.sum_up.ensures.sums c.sum_up-2.ensures.sums c.requires.dark c.requires.light)
+    (codes_of c.args.system c.args.line) c.nearest_code-lead.result c.nearest_code-lead.ensures.lead
+    c.nearest_code-lead.ensures.close 0 0
+
+pub code_longer-lead_longer-requires-clause-few : goal.code_longer-lead_longer-requires-clause-few
+code_longer-lead_longer-requires-clause-few c = c.nearest_code-lead.ensures.close.1
+
+pub code_shorter-lead_shorter-requires-clause-start : goal.code_shorter-lead_shorter-requires-clause-start
+code_shorter-lead_shorter-requires-clause-start c =
+    lead-start (shades c.args.darks.now c.args.lights.now) (shades c.sum_up.new.sums c.sum_up-2.new.sums) c.args.system
+    (both_are c.args.darks.now c.args.lights.now c.sum_up.new.sums c.sum_up-2.new.sums (width_of c.args.system)
+    c.sum_up.ensures.sums c.sum_up-2.ensures.sums c.requires.dark c.requires.light)
+    (codes_of c.args.system c.args.line) c.nearest_code-lead.result c.nearest_code-lead.ensures.lead
+    c.nearest_code-lead.ensures.close 0 0
+
+pub code_shorter-lead_shorter-requires-clause-exact : goal.code_shorter-lead_shorter-requires-clause-exact
+code_shorter-lead_shorter-requires-clause-exact c =
+    lead-exact (shades c.args.darks.now c.args.lights.now) (shades c.sum_up.new.sums c.sum_up-2.new.sums) c.args.system
+    (both_are c.args.darks.now c.args.lights.now c.sum_up.new.sums c.sum_up-2.new.sums (width_of c.args.system)
+    c.sum_up.ensures.sums c.sum_up-2.ensures.sums c.requires.dark c.requires.light)
+    (codes_of c.args.system c.args.line) c.nearest_code-lead.result c.nearest_code-lead.ensures.lead
+    c.nearest_code-lead.ensures.close 0 0
+
+pub code_shorter-lead_shorter-requires-clause-few : goal.code_shorter-lead_shorter-requires-clause-few
+code_shorter-lead_shorter-requires-clause-few c = c.nearest_code-lead.ensures.close.1
+
+pub or_none-word-requires : goal.or_none-word-requires
+or_none-word-requires c = c.nearest_word-found.ensures.found.word
 
 pub longer_distance-longer-requires-clause-sums : goal.longer_distance-longer-requires-clause-sums
 longer_distance-longer-requires-clause-sums c =

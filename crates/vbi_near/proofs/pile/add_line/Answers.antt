@@ -1,8 +1,24 @@
-use Rattle.std.proofs.Common.{◌≡◌, ℕ, ◌*◌, length, take, arith}
+use Rattle.std.proofs.Common.{◌≡◌, ℕ, ◌*◌, ◌≤◌, length, take, arith}
 use Rattle.std.proofs.lemmas.List.{take_all}
 use Rattle.vbi_near.specs.Distances.{unit_of}
-use Rattle.vbi_near.proofs.Counting.{IsAdded, added_whole, pile-added}
+use Rattle.vbi_near.proofs.Counting.{added-few, added_whole, pile-added}
 use Rattle.vbi_near.proofs.pile.add_line.Goals as goal
+
+pub overflow_add-darks : goal.overflow_add-darks
+overflow_add-darks c =
+    omega (
+      arith,
+      c.loop-column.invariant.dark.behind c.loop-column.column (omega arith),
+      c.requires.dark c.loop-column.column,
+    )
+
+pub overflow_add-lights : goal.overflow_add-lights
+overflow_add-lights c =
+    omega (
+      arith,
+      c.loop-column.invariant.light.behind c.loop-column.column (omega arith),
+      c.requires.light c.loop-column.column,
+    )
 
 pub returns-clause-pile : goal.returns-clause-pile
 returns-clause-pile c system lines wide is =
@@ -20,3 +36,12 @@ returns-clause-pile c system lines wide is =
     (added_whole (take (2 * n) c.args.line.now) c.args.line.now (take n c.args.erased.now) c.args.erased.now
     (unit_of c.args.levels) c.args.levels.white c.args.lights.now c.loop-column.lights c.loop-column.column n line
     erased e c.loop-column.invariant.light) is
+
+pub returns-clause-few : goal.returns-clause-few
+returns-clause-few c lines few =
+    let low : unit_of c.args.levels ≤ 65535 = omega (arith, c.white.ensures, c.white.type_inv) in (
+      added-few _ _ (unit_of c.args.levels) c.args.levels.black c.args.darks.now
+          c.loop-column.darks c.loop-column.column low lines few.0 c.loop-column.invariant.dark,
+      added-few _ _ (unit_of c.args.levels) c.args.levels.white c.args.lights.now
+          c.loop-column.lights c.loop-column.column low lines few.1 c.loop-column.invariant.light,
+    )

@@ -1,9 +1,73 @@
 use Rattle.std.proofs.Common.{ℕ, ◌+◌, get_or, arith, ap, subst, sym}
 use Rattle.vbi_near.specs.Distances.{Shades, shades}
 use Rattle.vbi_near.specs.Stretched.{stretched_row_cost, IsLeastAt, IsStartBefore}
+use Rattle.vbi_near.proofs.Columns.{width-few}
 use Rattle.vbi_near.proofs.LeastAt.{start-more, all-starts}
-use Rattle.vbi_near.proofs.Stretches.{row-read, starts-long}
+use Rattle.vbi_near.proofs.Stretches.{few-starts, row-read, starts-long}
 use Rattle.vbi_near.proofs.stretched.distance_by.Goals as goal
+
+pub word_costs-requires-clause-room : goal.word_costs-requires-clause-room
+word_costs-requires-clause-room c =
+    omega (
+      arith,
+      starts-long c.args.system c.args.rate c.width.result c.stretched_offset-length.result c.requires.rate.0
+          c.width.ensures c.stretched_offset-length.ensures.value,
+      c.width.ensures,
+      c.stretched_offset-length.ensures.value,
+      c.stretched_offset-length.ensures.range,
+    )
+
+pub slice_bounds-all_costs-end : goal.slice_bounds-all_costs-end
+slice_bounds-all_costs-end c =
+    omega (
+      arith,
+      few-starts c.args.system c.args.rate c.requires.rate.0,
+      c.width.ensures,
+      c.stretched_offset-length.ensures.value,
+    )
+
+pub between-requires-clause-order : goal.between-requires-clause-order
+between-requires-clause-order c = omega (arith, c.width-2.ensures, c.stretched_offset-length.ensures.range)
+
+pub overflow_add-least : goal.overflow_add-least
+overflow_add-least c =
+    let long = starts-long c.args.system c.args.rate c.width.result c.stretched_offset-length.result c.requires.rate.0
+    c.width.ensures c.stretched_offset-length.ensures.value in
+    omega (
+      arith,
+      c.word_costs.ensures.few 0 (omega (arith, long)),
+      c.between.ensures.range,
+      c.width-2.ensures,
+      c.stretched_offset-length.ensures.value,
+      c.stretched_offset-length.ensures.range,
+      width-few c.args.system,
+    )
+
+pub between-requires-in-loop-start-clause-order : goal.between-requires-in-loop-start-clause-order
+between-requires-in-loop-start-clause-order c =
+    omega (
+      arith,
+      c.loop-start-test.true,
+      c.width.ensures,
+      c.width-in-loop-start.ensures,
+      c.stretched_offset-length.ensures.range,
+    )
+
+pub overflow_add-costs : goal.overflow_add-costs
+overflow_add-costs c =
+    let long = starts-long c.args.system c.args.rate c.width.result c.stretched_offset-length.result c.requires.rate.0
+    c.width.ensures c.stretched_offset-length.ensures.value in
+    omega (
+      arith,
+      c.word_costs.ensures.few c.loop-start.start (omega (arith, long, c.loop-start-test.true)),
+      c.between-in-loop-start.ensures.range,
+      c.loop-start-test.true,
+      c.width.ensures,
+      c.width-in-loop-start.ensures,
+      c.stretched_offset-length.ensures.value,
+      c.stretched_offset-length.ensures.range,
+      width-few c.args.system,
+    )
 
 pub loop-start-preserved : goal.loop-start-preserved
 loop-start-preserved c =

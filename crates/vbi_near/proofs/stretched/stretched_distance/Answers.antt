@@ -3,8 +3,21 @@ use Rattle.vbi_words.specs.Geometry.{width_of}
 use Rattle.vbi_near.specs.Distances.{Shades, shades}
 use Rattle.vbi_near.specs.Stretched.{stretched_row_cost, IsLeastAt, IsRateBefore}
 use Rattle.vbi_near.proofs.Distances.{both_are}
+use Rattle.vbi_near.proofs.Rising.{row_sums}
 use Rattle.vbi_near.proofs.LeastAt.{rate-more, stretched-same}
 use Rattle.vbi_near.proofs.stretched.stretched_distance.Goals as goal
+
+pub distance_by-least-requires-clause-sums : goal.distance_by-least-requires-clause-sums
+distance_by-least-requires-clause-sums c =
+    row_sums c.args.system c.args.darks.now c.args.lights.now c.sum_up.new.sums c.sum_up-2.new.sums c.requires.few.0
+    c.requires.few.1 c.sum_up.ensures.sums c.sum_up-2.ensures.sums c.requires.dark c.requires.light
+    c.sum_up.ensures.length c.sum_up-2.ensures.length
+
+pub distance_by-requires-clause-sums : goal.distance_by-requires-clause-sums
+distance_by-requires-clause-sums c =
+    row_sums c.args.system c.args.darks.now c.args.lights.now c.sum_up.new.sums c.sum_up-2.new.sums c.requires.few.0
+    c.requires.few.1 c.sum_up.ensures.sums c.sum_up-2.ensures.sums c.requires.dark c.requires.light
+    c.sum_up.ensures.length c.sum_up-2.ensures.length
 
 pub loop-rate-preserved : goal.loop-rate-preserved
 loop-rate-preserved c =

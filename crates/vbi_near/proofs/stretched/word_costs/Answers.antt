@@ -1,10 +1,11 @@
-use Rattle.std.proofs.Common.{◌≡◌, ℕ, ◌+◌, ◌-◌, List, Bool, false, get_or, ap, sym, ◌∙◌, arith, Bor}
+use Rattle.std.proofs.Common.{◌≡◌, ℕ, ◌+◌, ◌-◌, List, Bool, false, get_or, ap, sym, ◌∙◌, arith, Bor, subst, length}
+use Rattle.vbi_words.specs.Geometry.{width_of}
 use Rattle.vbi_words.specs.Words.{halves_of}
 use Rattle.vbi_near.specs.Distances.{Shades, shades, shade}
-use Rattle.vbi_near.specs.Sums.{total_in}
+use Rattle.vbi_near.specs.Sums.{IsRising, total_in}
 use Rattle.vbi_near.specs.Stretched.{stretched_cost}
 use Rattle.vbi_near.proofs.CutShort.{many-halves}
-use Rattle.vbi_near.proofs.Stretches.{none-yet, cost-more, half-read, all-halves}
+use Rattle.vbi_near.proofs.Stretches.{none-yet, offset-more, offset-up, cost-more, half-read, all-halves}
 use Rattle.vbi_near.proofs.stretched.word_costs.Goals.{then-half, else-half}
 use Rattle.vbi_near.proofs.stretched.word_costs.Goals as goal
 
@@ -22,6 +23,35 @@ loop-half-init c =
       );
       few = λ k l. omega (arith, c.lead_costs.ensures.few k (omega arith));
     }
+
+pub add_half-requires-clause-rising : goal.add_half-requires-clause-rising
+add_half-requires-clause-rising c = elim c.if-half.branch [
+  | then-half w ↦ subst (λ (b : Bor (List ℕ)). IsRising b.now) (sym w.sums-is) c.requires.sums.light_rises
+  | else-half w ↦ subst (λ (b : Bor (List ℕ)). IsRising b.now) (sym w.sums-is) c.requires.sums.dark_rises
+]
+
+pub add_half-requires-clause-order : goal.add_half-requires-clause-order
+add_half-requires-clause-order c =
+    omega (
+      arith,
+      c.stretched_offset-begin.ensures.value,
+      c.stretched_offset.ensures.value,
+      offset-more c.args.system c.args.rate c.loop-half.half,
+    )
+
+pub add_half-requires-clause-inside : goal.add_half-requires-clause-inside
+add_half-requires-clause-inside c =
+    let long : length c.if-half.sums.now ≡ width_of c.args.system + 1 = elim c.if-half.branch [
+      | then-half w ↦ ap (λ (b : Bor (List ℕ)). length b.now) w.sums-is ∙ omega (arith, c.requires.sums.light_whole)
+      | else-half w ↦ ap (λ (b : Bor (List ℕ)). length b.now) w.sums-is ∙ omega (arith, c.requires.sums.dark_whole)
+    ] in
+    omega (
+      arith,
+      long,
+      c.stretched_offset.ensures.value,
+      offset-up c.args.system c.args.rate (c.loop-half.half + 1) 48 (omega (arith, c.loop-half-test.true)),
+      c.requires.room,
+    )
 
 pub loop-half-preserved : goal.loop-half-preserved
 loop-half-preserved c =
