@@ -7,7 +7,11 @@ use Rattle.vbi_near.proofs.Counting.{line-samples}
 use Rattle.vbi_near.specs.Levelled.{window_of, swing_of, levelled_sample, levelled_at, levelled}
 use Rattle.vbi_near.proofs.Levelling.{WrittenTo, written_more, written_all}
 use Rattle.vbi_near.proofs.Swings.{short_bytes, scale_fits}
+use Rattle.vbi_near.proofs.Columns.{width-few}
 use Rattle.vbi_near.proofs.levelled.level.Goals as goal
+
+pub slice_bounds-buffer-end : goal.slice_bounds-buffer-end
+slice_bounds-buffer-end c = omega (arith, width-few c.args.system, c.width.ensures)
 
 pub levelled_sample-sample-requires-clause-range : goal.levelled_sample-sample-requires-clause-range
 levelled_sample-sample-requires-clause-range c =

@@ -1,8 +1,36 @@
 use Rattle.std.proofs.Common.{◌≡◌, ℕ, ◌+◌, ◌-◌, ◌*◌, ◌/◌, ◌≤◌, min, ap, ◌∙◌, arith}
+use Rattle.std.proofs.Math.Nat.{mul-le-mul_left, mul-le-mul_right}
 use Rattle.vbi_near.specs.Distances.{unit_of}
 use Rattle.vbi_near.specs.Levelled.{middle_of}
 use Rattle.vbi_near.proofs.Levelling.{one_quotient}
 use Rattle.vbi_near.proofs.levelled.levelled_sample.Goals as goal
+
+pub overflow_mul-high : goal.overflow_mul-high
+overflow_mul-high c =
+    let few : c.from.result ≤ 65535 = omega (arith, c.from.ensures, c.middle.type_inv) in
+    omega (arith, mul-le-mul_right c.args.scale few, c.requires.range)
+
+pub overflow_mul-high-2 : goal.overflow_mul-high-2
+overflow_mul-high-2 c =
+    let few : c.from-unit.result ≤ 65535 = omega (arith, c.from-unit.ensures, c.white.type_inv) in
+    omega (arith, mul-le-mul_left c.from-2.result few, c.from-2.ensures)
+
+pub overflow_add-high : goal.overflow_add-high
+overflow_add-high c =
+    let few : c.from.result ≤ 65535 = omega (arith, c.from.ensures, c.middle.type_inv) in
+    let fewer : c.from-unit.result ≤ 65535 = omega (arith, c.from-unit.ensures, c.white.type_inv) in
+    omega (
+      arith,
+      mul-le-mul_right c.args.scale few,
+      mul-le-mul_left c.from-2.result fewer,
+      c.requires.range,
+      c.from-2.ensures,
+    )
+
+pub overflow_mul-from : goal.overflow_mul-from
+overflow_mul-from c =
+    let few : c.from-unit.result ≤ 65535 = omega (arith, c.from-unit.ensures, c.white.type_inv) in
+    omega (arith, mul-le-mul_left c.from-3.result few, c.from-3.ensures)
 
 pub returns : goal.returns
 returns c =

@@ -10,6 +10,17 @@ overflow_mul-near c =
     = ap (λ (n : ℕ). c.min-cut.result * n) c.requires.inverse in
     omega (arith, fits, same)
 
+pub overflow_mul-near-2 : goal.overflow_mul-near-2
+overflow_mul-near-2 c =
+    let k : ℕ = 2 ^ 48 in
+    let s = c.args.divisor in
+    let x = c.min-cut.result in
+    let q = x * c.args.inverse / k in
+    let both = nearly k s x (omega arith) c.requires.some (omega (arith, c.min-cut.ensures, c.requires.divisor)) in
+    let same : q ≡ x * (k / s) / k = ap (λ (n : ℕ). x * n / k) c.requires.inverse in
+    let low : q * s ≤ x = subst (λ (n : ℕ). n * s ≤ x) (sym same) both.0 in
+    omega (arith, low, c.min-cut.ensures, c.requires.divisor)
+
 pub returns-then-near-divisor : goal.returns-then-near-divisor
 returns-then-near-divisor c =
     let k : ℕ = 2 ^ 48 in

@@ -3,7 +3,18 @@ use Rattle.vbi_words.specs.Geometry.{width_of}
 use Rattle.vbi_words.specs.Levels.{samples_of}
 use Rattle.vbi_near.specs.Levelled.{window_of, first_of, columns_of, off_mean, off_in, swing_of}
 use Rattle.vbi_near.proofs.Levelling.{off_more, ordered, inside}
+use Rattle.vbi_near.proofs.Columns.{width-few}
 use Rattle.vbi_near.proofs.levelled.swing.Goals as goal
+
+pub slice_bounds-buffer-end : goal.slice_bounds-buffer-end
+slice_bounds-buffer-end c = omega (arith, width-few c.args.system, c.width.ensures)
+
+pub own-requires-clause-column : goal.own-requires-clause-column
+own-requires-clause-column c =
+    omega (arith, c.loop-column-test.true, c.end-column-end.ensures, inside c.args.system)
+
+pub overflow_sub-columns : goal.overflow_sub-columns
+overflow_sub-columns c = omega (arith, c.end.ensures, c.first.ensures, ordered c.args.system)
 
 pub loop-column-preserved : goal.loop-column-preserved
 loop-column-preserved c =
