@@ -103,6 +103,10 @@ window_amid Ntsc column more less = omega (arith, more, less)
 window_amid Pal column more less = omega (arith, more, less)
 
 -- the columns whose windows begin before them lie within the line
+pub wide-fits : (system : System) → window_of system ≤ end_of system
+wide-fits Ntsc = omega arith
+wide-fits Pal = omega arith
+
 pub ordered_windows : (system : System)
     → (first_of system + window_of system / 2 ≤ width_of system)
     × (end_of system - window_of system + window_of system / 2 ≤ width_of system)

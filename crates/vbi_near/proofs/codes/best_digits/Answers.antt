@@ -1,9 +1,9 @@
-use Rattle.std.proofs.Common.{◌≡◌, ℕ, ◌*◌, ◌≤◌, arith, sym, ◌∙◌, subst, add-one}
+use Rattle.std.proofs.Common.{◌≡◌, ℕ, ◌+◌, ◌*◌, ◌≤◌, arith, sym, ◌∙◌, subst, add-one}
 use Rattle.vbi_near.specs.LineCodes.{digit_at}
 use Rattle.vbi_near.specs.Leads.{AreBest}
 use Rattle.vbi_near.proofs.BestDigits.{first-digits}
 use Rattle.vbi_near.proofs.Places.{at-place, few-digits, next-power}
-use Rattle.vbi_near.proofs.CellsAt.{cut-read}
+use Rattle.vbi_near.proofs.CellsAt.{cut-read, length-cut}
 use Rattle.vbi_near.proofs.codes.best_digits.Goals as goal
 
 pub loop-place-init : goal.loop-place-init
@@ -21,6 +21,18 @@ with_digit-best-requires-clause-order c =
       c.place_of-to.ensures.value,
       at-place (λ (k : ℕ). digit_at c.args.least k ≤ digit_at c.args.greatest k) c.requires.order.1 c.loop-place.place
           c.loop-place-test.true,
+    )
+
+pub with_digit-best-requires-clause-costs : goal.with_digit-best-requires-clause-costs
+with_digit-best-requires-clause-costs c =
+    length-cut c.args.digits.now (16 * c.loop-place.place) 16 (omega (arith, c.requires.digits, c.loop-place-test.true))
+
+pub with_digit-best-requires-clause-few : goal.with_digit-best-requires-clause-few
+with_digit-best-requires-clause-few c value l =
+    omega (
+      arith,
+      cut-read c.args.digits.now (16 * c.loop-place.place) 16 value l,
+      c.requires.few (16 * c.loop-place.place + value) (omega (arith, l, c.loop-place-test.true)),
     )
 
 pub with_digit-best-requires-clause-word : goal.with_digit-best-requires-clause-word

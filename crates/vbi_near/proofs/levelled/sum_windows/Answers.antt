@@ -2,8 +2,35 @@ use Rattle.std.proofs.Common.{◌≡◌, ℕ, ◌+◌, ◌-◌, ◌/◌, ◌≤�
 use Rattle.vbi_words.specs.Levels.{samples_of}
 use Rattle.vbi_near.specs.Levelled.{window_of, first_of, end_of, sum_from, window_sum}
 use Rattle.vbi_near.proofs.Counting.{line-samples}
-use Rattle.vbi_near.proofs.Levelling.{windows_more, window_before, window_behind, amid_by_sums, ordered_windows}
+use Rattle.vbi_near.proofs.Levelling.{windows_more, window_before, window_behind, amid_by_sums, ordered_windows, wide-fits}
 use Rattle.vbi_near.proofs.levelled.sum_windows.Goals as goal
+
+pub overflow_sub-to : goal.overflow_sub-to
+overflow_sub-to c = omega (arith, wide-fits c.args.system, c.end.ensures, c.window-wide.ensures)
+
+pub bounds-windows-column : goal.bounds-windows-column
+bounds-windows-column c =
+    omega (
+      arith,
+      c.loop-column-test.true,
+      c.loop-column.auto.windows,
+      c.first.ensures,
+      c.window-wide.ensures,
+      ordered_windows c.args.system,
+      c.requires.room,
+    )
+
+pub bounds-windows-column-in-loop-column-2 : goal.bounds-windows-column-in-loop-column-2
+bounds-windows-column-in-loop-column-2 c =
+    omega (
+      arith,
+      c.loop-column-2-test.true,
+      c.loop-column-2.auto.windows,
+      c.end.ensures,
+      c.window-wide.ensures,
+      ordered_windows c.args.system,
+      c.requires.room,
+    )
 
 pub loop-column-preserved : goal.loop-column-preserved
 loop-column-preserved c =
