@@ -1,6 +1,6 @@
 -- Lines one by one: the next of them, and the swing of each where all may be levelled together.
 use Rattle.std.proofs.Common.{◌≡◌, ℕ, suc, zero, ◌+◌, ◌<◌, List, [], ◌∷◌, ◌++◌, length, map, get_or, Bool, true}
-use Rattle.std.proofs.Common.{false, ap, sym, ◌∙◌, refl, subst, arith, zero-add}
+use Rattle.std.proofs.Common.{false, ap, ◌∙◌, refl, subst, arith, zero-add}
 use Rattle.std.proofs.Common.{◌≤◌, take, replicate}
 use Rattle.std.specs.Prelude.{◌&&◌, ◌*◌, nat_le, Option, Some}
 use Rattle.std.proofs.lemmas.List.{length-take-le, length-replicate}

@@ -1,4 +1,4 @@
-use Rattle.std.proofs.Common.{◌≡◌, ℕ, ◌<◌, get_or, length, ap, arith}
+use Rattle.std.proofs.Common.{ℕ, ◌<◌, length, ap, arith}
 use Rattle.vbi_near.specs.declared.bits.Bits.{Bits}
 use Rattle.vbi_near.proofs.bits.with_cells.Goals as goal
 

@@ -1,4 +1,4 @@
-use Rattle.std.proofs.Common.{arith, ◌∙◌, ap, ℕ, true, false}
+use Rattle.std.proofs.Common.{true, false}
 use Rattle.vbi_near.specs.Distances.{shades}
 use Rattle.vbi_near.proofs.Columns.{cell-columns}
 use Rattle.vbi_near.proofs.Costs.{cell-read}

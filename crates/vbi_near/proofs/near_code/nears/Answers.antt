@@ -12,13 +12,38 @@ use Rattle.vbi_near.proofs.Rising.{row_sums}
 use Rattle.vbi_near.proofs.Chosen.{nearest_is, first_is}
 use Rattle.vbi_near.proofs.ChosenCode.{code-place, code-chosen, code-first, code-longer, code-shorter, lead-is_word}
 use Rattle.vbi_near.proofs.ChosenCode.{lead-start, lead-exact}
-use Rattle.vbi_near.proofs.Columns.{width-few}
+use Rattle.vbi_near.proofs.Columns.{width-few, starts-few}
 use Rattle.vbi_near.proofs.OneCellMore.{longer_is}
 use Rattle.vbi_near.proofs.Costs.{blank-cost}
 use Rattle.vbi_near.proofs.Piles.{nearest-same, first-same, nearest-there, first-there, longer-same, far-same}
 use Rattle.vbi_near.proofs.ShorterRows.{shorter_is, shorter-same}
 use Rattle.vbi_near.proofs.HalvedRows.{halved-by}
 use Rattle.vbi_near.proofs.near_code.nears.Goals as goal
+
+pub slice_bounds-dark_sums-end : goal.slice_bounds-dark_sums-end
+slice_bounds-dark_sums-end c = omega (arith, c.requires.dark, width-few c.args.system)
+
+pub slice_bounds-light_sums-end : goal.slice_bounds-light_sums-end
+slice_bounds-light_sums-end c = omega (arith, c.requires.light, width-few c.args.system)
+
+pub sum_up-requires-clause-few : goal.sum_up-requires-clause-few
+sum_up-requires-clause-few c = omega (arith, c.requires.dark, width-few c.args.system)
+
+pub sum_up-requires-2-clause-few : goal.sum_up-requires-2-clause-few
+sum_up-requires-2-clause-few c = omega (arith, c.requires.light, width-few c.args.system)
+
+pub between-blank-requires-clause-inside : goal.between-blank-requires-clause-inside
+between-blank-requires-clause-inside c =
+    omega (arith, c.width.ensures, c.sum_up.ensures.length, c.requires.dark)
+
+pub slice_bounds-all_bounds-end : goal.slice_bounds-all_bounds-end
+slice_bounds-all_bounds-end c = omega (arith, c.start_count.ensures, starts-few c.args.system)
+
+pub longer_distance-longer-requires-clause-few : goal.longer_distance-longer-requires-clause-few
+longer_distance-longer-requires-clause-few c = c.nearest_word-found.ensures.range
+
+pub shorter_distance-shorter-requires-clause-few : goal.shorter_distance-shorter-requires-clause-few
+shorter_distance-shorter-requires-clause-few c = c.nearest_word-found.ensures.range
 
 pub between-blank-requires-clause-rising : goal.between-blank-requires-clause-rising
 between-blank-requires-clause-rising c =

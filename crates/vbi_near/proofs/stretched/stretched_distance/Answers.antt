@@ -5,7 +5,20 @@ use Rattle.vbi_near.specs.Stretched.{stretched_row_cost, IsLeastAt, IsRateBefore
 use Rattle.vbi_near.proofs.Distances.{both_are}
 use Rattle.vbi_near.proofs.Rising.{row_sums}
 use Rattle.vbi_near.proofs.LeastAt.{rate-more, stretched-same}
+use Rattle.vbi_near.proofs.Columns.{width-few}
 use Rattle.vbi_near.proofs.stretched.stretched_distance.Goals as goal
+
+pub slice_bounds-dark_sums-end : goal.slice_bounds-dark_sums-end
+slice_bounds-dark_sums-end c = omega (arith, c.requires.dark, width-few c.args.system)
+
+pub slice_bounds-light_sums-end : goal.slice_bounds-light_sums-end
+slice_bounds-light_sums-end c = omega (arith, c.requires.light, width-few c.args.system)
+
+pub sum_up-requires-clause-few : goal.sum_up-requires-clause-few
+sum_up-requires-clause-few c = omega (arith, c.requires.dark, width-few c.args.system)
+
+pub sum_up-requires-2-clause-few : goal.sum_up-requires-2-clause-few
+sum_up-requires-2-clause-few c = omega (arith, c.requires.light, width-few c.args.system)
 
 pub distance_by-least-requires-clause-sums : goal.distance_by-least-requires-clause-sums
 distance_by-least-requires-clause-sums c =
