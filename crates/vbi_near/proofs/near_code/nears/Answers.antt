@@ -1,4 +1,4 @@
-use Rattle.std.proofs.Common.{◌≡◌, ℕ, List, false, ◌-◌, ◌∙◌, ap, arith, refl, subst, sym}
+use Rattle.std.proofs.Common.{length, ◌≡◌, ℕ, List, false, ◌-◌, ◌∙◌, ap, arith, refl, subst, sym}
 use Rattle.std.specs.Prelude.{None}
 use Rattle.vbi_words.specs.Geometry.{width_of}
 use Rattle.vbi_words.specs.Levels.{Slicing}
@@ -18,7 +18,23 @@ use Rattle.vbi_near.proofs.Costs.{blank-cost}
 use Rattle.vbi_near.proofs.Piles.{nearest-same, first-same, nearest-there, first-there, longer-same, far-same}
 use Rattle.vbi_near.proofs.ShorterRows.{shorter_is, shorter-same}
 use Rattle.vbi_near.proofs.HalvedRows.{halved-by}
+use Rattle.vbi_near.proofs.Rising.{sums-long, bounds-long}
 use Rattle.vbi_near.proofs.near_code.nears.Goals as goal
+
+pub sum_up-requires-clause-room : goal.sum_up-requires-clause-room
+sum_up-requires-clause-room c =
+    sums-long c.args.system (length c.args.darks.now) c.requires.dark
+
+pub sum_up-requires-2-clause-room : goal.sum_up-requires-2-clause-room
+sum_up-requires-2-clause-room c =
+    sums-long c.args.system (length c.args.lights.now) c.requires.light
+
+pub nearest_word-found-requires-clause-bounds : goal.nearest_word-found-requires-clause-bounds
+nearest_word-found-requires-clause-bounds c =
+    bounds-long c.args.system c.start_count.result c.start_count.ensures
+
+pub nearest_code-lead-requires-clause-bounds : goal.nearest_code-lead-requires-clause-bounds
+nearest_code-lead-requires-clause-bounds c = c.nearest_word-found.ensures.room
 
 pub slice_bounds-dark_sums-end : goal.slice_bounds-dark_sums-end
 slice_bounds-dark_sums-end c = omega (arith, c.requires.dark, width-few c.args.system)

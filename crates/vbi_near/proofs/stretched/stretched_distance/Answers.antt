@@ -1,4 +1,4 @@
-use Rattle.std.proofs.Common.{◌≡◌, ℕ, ◌+◌, arith, subst, sym}
+use Rattle.std.proofs.Common.{length, ◌≡◌, ℕ, ◌+◌, arith, subst, sym}
 use Rattle.vbi_words.specs.Geometry.{width_of}
 use Rattle.vbi_near.specs.Distances.{Shades, shades}
 use Rattle.vbi_near.specs.Stretched.{stretched_row_cost, IsLeastAt, IsRateBefore}
@@ -6,7 +6,16 @@ use Rattle.vbi_near.proofs.Distances.{both_are}
 use Rattle.vbi_near.proofs.Rising.{row_sums}
 use Rattle.vbi_near.proofs.LeastAt.{rate-more, stretched-same}
 use Rattle.vbi_near.proofs.Columns.{width-few}
+use Rattle.vbi_near.proofs.Rising.{sums-long}
 use Rattle.vbi_near.proofs.stretched.stretched_distance.Goals as goal
+
+pub sum_up-requires-clause-room : goal.sum_up-requires-clause-room
+sum_up-requires-clause-room c =
+    sums-long c.args.system (length c.args.darks.now) c.requires.dark
+
+pub sum_up-requires-2-clause-room : goal.sum_up-requires-2-clause-room
+sum_up-requires-2-clause-room c =
+    sums-long c.args.system (length c.args.lights.now) c.requires.light
 
 pub slice_bounds-dark_sums-end : goal.slice_bounds-dark_sums-end
 slice_bounds-dark_sums-end c = omega (arith, c.requires.dark, width-few c.args.system)
