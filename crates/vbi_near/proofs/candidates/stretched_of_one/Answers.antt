@@ -2,14 +2,7 @@ use Rattle.std.proofs.Common.{[], ◌∷◌, arith}
 use Rattle.vbi_near.specs.Distances.{known_but}
 use Rattle.vbi_words.specs.Levels.{samples_of}
 use Rattle.vbi_near.proofs.Counting.{zeros-long, pile-empty, few-empty}
-use Rattle.vbi_near.proofs.Columns.{width-few}
 use Rattle.vbi_near.proofs.candidates.stretched_of_one.Goals as goal
-
-pub slice_bounds-all_darks-end : goal.slice_bounds-all_darks-end
-slice_bounds-all_darks-end c = omega (arith, width-few c.args.system, c.width.ensures)
-
-pub slice_bounds-all_lights-end : goal.slice_bounds-all_lights-end
-slice_bounds-all_lights-end c = omega (arith, width-few c.args.system, c.width-2.ensures)
 
 pub add_line-requires-clause-dark : goal.add_line-requires-clause-dark
 add_line-requires-clause-dark c k = omega (arith, few-empty c.width.result 1135 k)

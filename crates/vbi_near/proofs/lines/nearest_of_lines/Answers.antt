@@ -5,17 +5,7 @@ use Rattle.vbi_words.specs.Geometry.{width_of, line_at}
 use Rattle.vbi_words.specs.Levels.{samples_of}
 use Rattle.vbi_near.specs.Distances.{Samples, known, known_but, lines_of, IsPile, shades}
 use Rattle.vbi_near.proofs.Counting.{zeros-long, nothing-erased, line-samples, known_but-none, pile-empty, few-empty}
-use Rattle.vbi_near.proofs.Columns.{width-few}
 use Rattle.vbi_near.proofs.lines.nearest_of_lines.Goals as goal
-
-pub slice_bounds-none_erased-end : goal.slice_bounds-none_erased-end
-slice_bounds-none_erased-end c = omega (arith, width-few c.args.system, c.width.ensures)
-
-pub slice_bounds-all_darks-end : goal.slice_bounds-all_darks-end
-slice_bounds-all_darks-end c = omega (arith, width-few c.args.system, c.width-2.ensures)
-
-pub slice_bounds-all_lights-end : goal.slice_bounds-all_lights-end
-slice_bounds-all_lights-end c = omega (arith, width-few c.args.system, c.width-3.ensures)
 
 pub loop-line-init : goal.loop-line-init
 loop-line-init c = record {

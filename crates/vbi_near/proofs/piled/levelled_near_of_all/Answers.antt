@@ -1,4 +1,4 @@
-use Rattle.std.proofs.Common.{◌≡◌, ℕ, ◌<◌, ◌∷◌, [], ◌++◌, List, Bool, true, map, take, subst, ap, sym, ◌∙◌, arith}
+use Rattle.std.proofs.Common.{◌≡◌, ℕ, ◌+◌, ◌<◌, ◌∷◌, [], ◌++◌, List, Bool, true, map, take, subst, ap, sym, ◌∙◌, arith}
 use Rattle.std.proofs.Common.{refl}
 use Rattle.std.proofs.lemmas.List.{take_more_set, length-set}
 use Rattle.vbi_words.specs.Levels.{samples_of}
@@ -7,18 +7,7 @@ use Rattle.vbi_near.specs.Candidates.{Row, row_of, levelled_samples, swing_in, h
 use Rattle.vbi_near.specs.Piled.{row_in, rows_in, are_all_alike, swing_alike}
 use Rattle.vbi_near.proofs.Counting.{zeros-long, pile-empty, few-empty}
 use Rattle.vbi_near.proofs.PiledRows.{rows-next, each-swings, bytes-long}
-use Rattle.vbi_words.proofs.Sizes.{line_bytes-le}
-use Rattle.vbi_near.proofs.Columns.{width-few}
 use Rattle.vbi_near.proofs.piled.levelled_near_of_all.Goals as goal
-
-pub slice_bounds-buffer-end : goal.slice_bounds-buffer-end
-slice_bounds-buffer-end c = omega (arith, line_bytes-le c.args.system, c.line_bytes.ensures)
-
-pub slice_bounds-all_darks-end : goal.slice_bounds-all_darks-end
-slice_bounds-all_darks-end c = omega (arith, width-few c.args.system, c.width.ensures)
-
-pub slice_bounds-all_lights-end : goal.slice_bounds-all_lights-end
-slice_bounds-all_lights-end c = omega (arith, width-few c.args.system, c.width-2.ensures)
 
 pub loop-line-preserved : goal.loop-line-preserved
 loop-line-preserved c =

@@ -5,14 +5,7 @@ use Rattle.vbi_near.specs.Candidates.{given_samples, HasNear}
 use Rattle.vbi_near.specs.Piled.{row_in, rows_in}
 use Rattle.vbi_near.proofs.Counting.{zeros-long, pile-empty, few-empty}
 use Rattle.vbi_near.proofs.PiledRows.{rows-next}
-use Rattle.vbi_near.proofs.Columns.{width-few}
 use Rattle.vbi_near.proofs.piled.near_of_all.Goals as goal
-
-pub slice_bounds-all_darks-end : goal.slice_bounds-all_darks-end
-slice_bounds-all_darks-end c = omega (arith, width-few c.args.system, c.width.ensures)
-
-pub slice_bounds-all_lights-end : goal.slice_bounds-all_lights-end
-slice_bounds-all_lights-end c = omega (arith, width-few c.args.system, c.width-2.ensures)
 
 pub loop-line-init : goal.loop-line-init
 loop-line-init c = record {
