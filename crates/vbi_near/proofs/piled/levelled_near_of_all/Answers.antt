@@ -1,4 +1,4 @@
-use Rattle.std.proofs.Common.{◌≡◌, ℕ, ◌+◌, ◌<◌, ◌∷◌, [], ◌++◌, List, Bool, true, map, take, subst, ap, sym, ◌∙◌, arith}
+use Rattle.std.proofs.Common.{◌≡◌, ℕ, ◌<◌, ◌∷◌, [], ◌++◌, List, Bool, true, map, take, subst, ap, sym, ◌∙◌, arith}
 use Rattle.std.proofs.Common.{refl}
 use Rattle.std.proofs.lemmas.List.{take_more_set, length-set}
 use Rattle.vbi_words.specs.Levels.{samples_of}
