@@ -2,7 +2,8 @@ use Rattle.std.proofs.Common.{◌≡◌, ℕ, ◌+◌, ◌-◌, ◌/◌, ◌≤�
 use Rattle.vbi_words.specs.Levels.{samples_of}
 use Rattle.vbi_near.specs.Levelled.{window_of, first_of, end_of, sum_from, window_sum}
 use Rattle.vbi_near.proofs.Counting.{line-samples}
-use Rattle.vbi_near.proofs.Levelling.{windows_more, window_before, window_behind, amid_by_sums, ordered_windows, wide-fits}
+use Rattle.vbi_near.proofs.Levelling.{windows_more, window_before, window_behind, amid_by_sums, ordered_windows}
+use Rattle.vbi_near.proofs.Levelling.{wide-fits}
 use Rattle.vbi_near.proofs.levelled.sum_windows.Goals as goal
 
 pub overflow_sub-to : goal.overflow_sub-to

@@ -54,8 +54,8 @@ shorter_distance-shorter-requires-clause-few c = c.nearest_word-found.ensures.ra
 
 pub between-blank-requires-clause-rising : goal.between-blank-requires-clause-rising
 between-blank-requires-clause-rising c =
-    let rows = row_sums c.args.system c.args.darks.now c.args.lights.now c.sum_up.new.sums c.sum_up-2.new.sums c.requires.few.0
-    c.requires.few.1 c.sum_up.ensures.sums c.sum_up-2.ensures.sums c.requires.dark c.requires.light
+    let rows = row_sums c.args.system c.args.darks.now c.args.lights.now c.sum_up.new.sums c.sum_up-2.new.sums
+    c.requires.few.0 c.requires.few.1 c.sum_up.ensures.sums c.sum_up-2.ensures.sums c.requires.dark c.requires.light
     c.sum_up.ensures.length c.sum_up-2.ensures.length in
     rows.dark_rises
 
