@@ -184,7 +184,7 @@ class Edit:
             return {it.simple_name for it in inside if stays != [True]} if inside else None
         texts = [text for begin, text in blocks(path) if begin < at + len(old) and at < begin + len(text)]
         if all(USE.match(text.lstrip()) for text in texts):
-            return {*words(old)} ^ {*words(new)}
+            return {*words(old)} ^ {*words(new)} | {name for pair in RENAMED.findall(old + new) for name in pair}
         return {"".join(names) for text in texts for names in STATES[0].findall(text)} or None
 
     def judged_by(self, folder):
