@@ -1,5 +1,5 @@
 /* Times ldvbi_judge over half an hour of NTSC, 108,000 fields, beside a plain way to do the same, in turn: the two have
-   to agree. Each picture's number is on both lines of its first field, and a chapter in the field behind it; of 100
+   to agree. Each picture's number is on both lines of its first field, and a chapter in the field after it; of 100
    lines 10 show nothing, 4 were read in pass 2 and 1 was misread. The pace is given; for film it is found, too.
    usage: judge */
 #define _GNU_SOURCE

@@ -93,7 +93,7 @@ def compared(name, ours, theirs, size):
 
 
 def write_metadata(path, size):
-    """Writes metadata of about this size, as ld-decode has it: what is wanted stands behind the records of fields."""
+    """Writes metadata of about this size, as ld-decode has it: what is wanted stands after the records of fields."""
     record = ('{"audioSamples":735,"diskLoc":%d.1,"isFirstField":true,"medianBurstIRE":19.7,"seqNo":%d,"syncConf":100,'
               '"vitsMetrics":{"bPSNR":38.1,"wSNR":36.2}}')
     count = size // len(record)

@@ -30,7 +30,7 @@ static int wrong;
         }                                                                \
     } while (0)
 
-/* This many bytes, all 0xAA, with no page behind the last. */
+/* This many bytes, all 0xAA, with no page after the last. */
 static uint8_t *guarded(size_t size)
 {
     size_t pages = (size + 4095) / 4096 * 4096;
@@ -176,7 +176,7 @@ static void draw_word(const Television *tv, uint32_t word, size_t start, int mov
     hold(tv, (double)begin, (double)tv->samples, 0, line);
 }
 
-/* Lets through what is below 3.5 MHz, so that edges are slow, and ring by some 9 % before and behind. */
+/* Lets through what is below 3.5 MHz, so that edges are slow, and ring by some 9 % before and after. */
 static void limit_band(const Television *tv, double *line)
 {
     double sharp[WIDEST + 2 * TAPS] = {0}, taps[2 * TAPS + 1], sum = 0;

@@ -13,7 +13,7 @@ NTSC_RATE = 315 / 22
 @functools.lru_cache(maxsize=None)
 def columns_of(rate):
     """The columns of a line of this rate in MHz at which a line of 13.5 MHz has its pixels: the first one 122 pixels
-    behind the line's start, as in ITU-R BT.601."""
+    after the line's start, as in ITU-R BT.601."""
     return [(pixel + 122) * rate / 13.5 for pixel in range(WIDTH)]
 
 

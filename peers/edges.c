@@ -4,7 +4,7 @@
  *
  * A sample above the middle of black and white is high. The level has changed once four samples in a row differ from it
  * (the debounce). The first rise within the active picture is the first bit, a one. From there on each bit is the first
- * change that comes 1.5 microseconds or more behind the one before: a rise is a one, a fall a zero.
+ * change that comes 1.5 microseconds or more after the one before: a rise is a one, a fall a zero.
  *
  * usage: edges BLACK WHITE [PAL] < LINES
  */

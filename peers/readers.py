@@ -24,7 +24,7 @@ def answers_of(command, lines):
 
 
 def words_and_passes(answers):
-    """Words, and their passes, of answers that have a pass behind each word."""
+    """Words, and their passes, of answers that have a pass after each word."""
     pairs = [(answer + " 0").split() for answer in answers]
     return [int(pair[0], 16) for pair in pairs], [int(pair[1]) for pair in pairs]
 
@@ -76,7 +76,7 @@ def disc_of_mame(folder, lines, rate=avi.NTSC_RATE):
 
 
 def by_mame(lines, rate=avi.NTSC_RATE):
-    """The words in the AVLD metadata that chdman writes: 16 bytes a field, with the words of lines 16, 17 and 18 behind
+    """The words in the AVLD metadata that chdman writes: 16 bytes a field, with the words of lines 16, 17 and 18 after
     the field's number and its white flag."""
     with tempfile.TemporaryDirectory() as folder:
         disc, metadata = disc_of_mame(folder, lines, rate), os.path.join(folder, "side.meta")

@@ -12,7 +12,7 @@ enum { WIDTH = 910, RATE = 14318182, HALF_CELLS = 1000000, CELLS = 500000, BITS 
 
 int main(void)
 {
-    /* one sample more, since the slicer looks at the one behind */
+    /* one sample more, since the slicer looks at the one after */
     static uint8_t line[WIDTH + 1];
     while (fread(line, 1, WIDTH, stdin) == WIDTH) {
         uint8_t bits[4] = {0};

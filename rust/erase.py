@@ -91,7 +91,7 @@ class Source:
         raise SystemExit(f"erase.py: {self.path}:{line}: {why}")
 
     def end_of(self, at, what, ends, depth=0):
-        """The place behind the first of these characters that is outside of all brackets."""
+        """The place after the first of these characters that is outside of all brackets."""
         for place in range(at, len(self.code)):
             depth += (self.code[place] in "{([") - (self.code[place] in "})]")
             if depth == 0 and self.code[place] in ends:

@@ -12,7 +12,7 @@
 set -eu
 
 # The minutes that README says it takes
-minutes='35 to 80'
+minutes='40 to 80'
 # Memory in kB with which the proofs and all else can run side by side
 memory_of_both=16000000
 

@@ -155,7 +155,7 @@ judge() {
 }
 
 # judge_rows: runs the program with the words of each row of a table, and judges that. A row is
-# NAME|WORDS|STATUS|OUT|ERR, whose ERR stands behind `ldvbi: `.
+# NAME|WORDS|STATUS|OUT|ERR, whose ERR stands after `ldvbi: `.
 judge_rows() {
     while IFS='|' read -r row_name words ended wanted_out said; do
         run $words

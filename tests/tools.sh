@@ -19,7 +19,7 @@ done
 [ ! -e "${0%/*}/../libldvbi.so.1" ] || gate=yes
 
 missing=
-# A command, and behind a colon the packages that have it, where these have another name
+# A command, and after a colon the packages that have it, where these have another name
 for pair in "${CC:-cc}:gcc libc6-dev" "${CXX:-c++}:g++" nm:binutils make python3 jq prove:perl git chromium ffmpeg \
     mandoc mypy pv zsh ${rust:+cargo} ${gate:+cmake pkg-config rustc rustfmt cargo-clippy:rust-clippy}; do
     command -v "${pair%%:*}" > /dev/null || missing="$missing ${pair#*:}"

@@ -53,7 +53,7 @@ HELP_OF_COMMANDS = """        help)
 
 
 def bash_case(pattern: str, command: Command) -> str:
-    """What is offered behind a command: its options, and behind an option with a value what that may be."""
+    """What is offered after a command: its options, and after an option with a value what that may be."""
     lines = textwrap.wrap(" ".join(long_names(command.options)), WIDTH - 26, break_on_hyphens=False)
     names = "'\n            options=\"$options \"'".join(lines)
     text = "        %s)\n            options='%s'\n" % (pattern, names)

@@ -154,7 +154,7 @@ def rests_on(key: Key) -> List[Key]:
 
 
 def ordered(items: Iterable, before: Callable[..., Iterable]) -> List:
-    """Returns these items and all that stands before one of them, each behind what stands before it."""
+    """Returns these items and all that stands before one of them, each after what stands before it."""
     order: Dict = {}
     asked = set()
 
@@ -180,12 +180,12 @@ def named_by(mark: str) -> Iterator[Key]:
 
 @functools.lru_cache(maxsize=None)
 def all_of(mark: str) -> List[Key]:
-    """Returns all definitions on which the contracts of a section rest, each behind those on which it rests."""
+    """Returns all definitions on which the contracts of a section rest, each after those on which it rests."""
     return ordered(named_by(mark), rests_on)
 
 
 def by_file(keys: List[Key]) -> Iterator[Tuple[Module, List[str]]]:
-    """Yields the files of these definitions, each behind those on which it rests, with their names in its order."""
+    """Yields the files of these definitions, each after those on which it rests, with their names in its order."""
     def below(path: str) -> List[str]:
         return [module_of(other).path for key in keys if module_of(key).path == path for other in rests_on(key)
                 if other in keys]

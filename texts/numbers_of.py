@@ -1,4 +1,4 @@
-"""The numbers that documents have in their sentences. Such a number stands behind a comment with its name, as in
+"""The numbers that documents have in their sentences. Such a number stands after a comment with its name, as in
 `<!--=width_of.ntsc-->910`, and is written as the one that stands there is: with commas, or up to ten as a word. A name
 may also stand for a word."""
 

@@ -7,7 +7,7 @@ from typing import Iterable, List
 from program import NOTHING, Command, Option, Program, by_options
 
 WIDTH = 80
-# A word of a text that is an option, or stands in backquotes, with what stands behind it
+# A word of a text that is an option, or stands in backquotes, with what stands after it
 OPTION = re.compile(r"--([a-z-]+)([.,;:)]*)$")
 CODE = re.compile(r"`([^`]+)`([.,;:)]*)$")
 

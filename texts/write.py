@@ -1,7 +1,7 @@
 #!/usr/bin/env python3
 """Writes what people read of commands, options, statuses, members and sizes from the source that has them: the
 completions whole; of the manual pages and documents what stands between a comment `from SOURCE: PART` and `to here`,
-and the numbers of documents that stand behind their name."""
+and the numbers of documents that stand after their name."""
 
 import argparse
 import functools

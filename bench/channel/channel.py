@@ -82,7 +82,7 @@ def demodulated(system, carrier):
 
 
 def response(system, channel, count, chance):
-    """The response of what stands behind the demodulator."""
+    """The response of what stands after the demodulator."""
     whole = system.de_emphasis * system.video_filter
     if channel.ghost is not None:
         delays = chance.uniform(*GHOST_DELAYS, (count, 1))

@@ -8,7 +8,7 @@ from systems import GRID_SAMPLES, TIMES
 
 RAMP = .06  # microseconds that the carrier takes to fall, and to rise
 LEAST, MOST = 0, .1  # what a dropout leaves of the carrier
-# A dropout is listed from so many microseconds before the carrier is at half of its height, and as much behind
+# A dropout is listed from so many microseconds before the carrier is at half of its height, and as much after
 MARGIN = .2
 # Of the list a fifth is missing, and ends are off by so many microseconds at most
 MISSING, END_ERROR = .2, .3
@@ -55,7 +55,7 @@ def damaged_columns(system, heights, samples):
 
 
 def runs_of(columns):
-    """Where runs of a line begin, and the columns behind them."""
+    """Where runs of a line begin, and the columns after them."""
     edges = numpy.flatnonzero(numpy.diff(numpy.pad(columns.astype(numpy.int8), 1)))
     return zip(edges[0::2], edges[1::2])
 

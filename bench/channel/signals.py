@@ -18,7 +18,7 @@ def blank(_system, count, _chance):
 
 
 def sine(start, end, frequency, phase, low=0, high=100):
-    """A sine from a time to another, and 0 before and behind it."""
+    """A sine from a time to another, and 0 before and after it."""
     middle, height = (low + high) / 2, (high - low) / 2
     values = middle + height * numpy.sin(2 * numpy.pi * frequency * (TIMES - start) + phase)
     return numpy.where((TIMES >= start) & (TIMES < end), values, 0).astype(numpy.float32)
@@ -91,7 +91,7 @@ def time_code(system, count, chance):
 
 
 def caption(system, count, chance):
-    """Closed captions: seven cycles of a clock, then 16 bits behind 0, 0 and 1."""
+    """Closed captions: seven cycles of a clock, then 16 bits after 0, 0 and 1."""
     rate = .503496 if system.name == "NTSC" else .5
     start = 10.5 + chance.uniform(-.5, .5, (count, 1))
     clock = sine(start, start + 7 / rate, rate, -numpy.pi / 2, 0, 50)

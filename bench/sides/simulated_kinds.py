@@ -78,7 +78,7 @@ def speeds(rng, layout, count):
 
 
 def joined(rng, layouts, count):
-    """Two discs one behind the other. Where one is CAV and the other one CLV, one has many more codes of its format."""
+    """Two discs one after the other. Where one is CAV and the other one CLV, one has many more codes of its format."""
     first, second = layouts
     counts = [count or rng.randrange(200, 900) for _ in layouts]
     if first[:3] != second[:3]:

@@ -43,7 +43,7 @@ def searched(rng, layout, count):
 
 
 def sides(rng, layout, count):
-    """Two whole sides one behind the other, each from lead-in to lead-out."""
+    """Two whole sides one after the other, each from lead-in to lead-out."""
     ones = []
     for _ in range(2):
         begin, end = ([(None, [0, code, code], parity) for _ in range(rng.randrange(3, 20)) for parity in (True, False)]

@@ -70,7 +70,7 @@ class Sound:
         return codes, misplaced
 
     def around(self, field):
-        """The believed fields before and behind a field."""
+        """The believed fields before and after a field."""
         before, after = bisect.bisect_left(self.numbered, field), bisect.bisect(self.numbered, field)
         return self.numbered[max(before - 1, 0):before] + self.numbered[after:after + 1]
 
@@ -151,7 +151,7 @@ class Sound:
         return 1 in passes or len(passes) == 2
 
     def _look_at_places(self):
-        """Nothing is lost behind the last number, or between two sides, but that minute 0 may lack fields after
+        """Nothing is lost after the last number, or between two sides, but that minute 0 may lack fields after
         lead-in. Before the first number no more is than the disc has there. A still has no other number in between. No
         number is due where both lines say another one in pass 1."""
         for one in self.answer["lost"]:
@@ -162,9 +162,9 @@ class Sound:
                     self.faults.append("%(fields)d fields are lost before field %(before)d" % one)
             elif not self.numbered or not is_minute and self.numbered[0] > one["after"] or not (
                     one["after"] < one["before"] <= self.numbered[-1]):
-                self.faults.append("lost beside the numbers, behind field %d" % one["after"])
+                self.faults.append("lost beside the numbers, after field %d" % one["after"])
             if any(one["after"] < field < one["before"] for field in self.ends):
-                self.faults.append("lost between two sides, behind field %d" % one["after"])
+                self.faults.append("lost between two sides, after field %d" % one["after"])
         for one in self.answer["stills"]:
             shown = {self.believed.get(field) for field in range(one["first"], one["last"] + 1)}
             if shown - {None, self.number_of(one["number"])}:

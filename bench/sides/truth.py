@@ -33,9 +33,9 @@ class Truth:
     `right_chapters` are the lines whose word says a number or a chapter rightly, `wrong` and `wrong_chapters` those
     that say one wrongly; `missing` the numbers of the disc that can't be read, each with why (`unread` where a field
     has it, else `lost`), `left_out` those that the disc hasn't; `due` are pairs of a number and the field that has it
-    where it can't be read, between two fields whose numbers can; `lost` how many fields are lost behind which field,
+    where it can't be read, between two fields whose numbers can; `lost` how many fields are lost after which field,
     `hidden` the numbers that the disc hasn't inside such a loss, where no field shows that, by its field;
-    `backs` the fields behind which the disc's order is broken, `searches` how many fields too many (or, negative, too
+    `backs` the fields after which the disc's order is broken, `searches` how many fields too many (or, negative, too
     few) each search in the dark has for the numbers that it passes over, `swaps` and `speeds` as far as numbers show
     them."""
 

@@ -24,7 +24,7 @@ draws_sides() {
     done < sides
 }
 
-# plays SAID COMMAND..: what a player finds, which says this behind the field
+# plays SAID COMMAND..: what a player finds, which says this after the field
 plays() {
     wanted="s/^[a-z]*: \(field [0-9]*\)$1\$/\1/p"
     shift

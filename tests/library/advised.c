@@ -1,6 +1,6 @@
 /* Loaded before a program's libraries (LD_PRELOAD), it says to the file that ADVISED names of how many bytes of a
  * mapped file, from its first on, the system shall read none ahead, and which bytes the program asks for ahead (their
- * first byte and the byte behind the last). It passes all calls on. */
+ * first byte and the byte after the last). It passes all calls on. */
 #define _GNU_SOURCE
 #include <dlfcn.h>
 #include <stdio.h>

@@ -1,5 +1,5 @@
 """What the tests share that call the library from Python: calls, structs and numbers of include/ldvbi.h; memory that
-ends where a page begins that can't be touched, so that a look behind it ends Python by a signal; and what was wrong."""
+ends where a page begins that can't be touched, so that a look past it ends Python by a signal; and what was wrong."""
 
 import ctypes
 import functools
@@ -93,7 +93,7 @@ def protect(address, size, protection=0):
 
 
 class Guarded:
-    """Room for so many bytes, behind which no page follows."""
+    """Room for so many bytes, after which no page follows."""
 
     def __init__(self, size):
         self.pages = -(-size // mmap.PAGESIZE) * mmap.PAGESIZE

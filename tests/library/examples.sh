@@ -26,7 +26,7 @@ for name in stops.cpp player.cpp whole.c; do
 done
 check 'a player has at most 60 lines' [ -z "$(awk 'FNR == 61 { print FILENAME }' "$top"/examples/player.*)" ]
 # answers_so NAME STATUS OUT SAID COMMAND: whether a line for the shell ends with this status, and writes these lines,
-# which ; parts. It says nothing, or this line behind the example's name, for which % stands in it, or one line of its
+# which ; parts. It says nothing, or this line after the example's name, for which % stands in it, or one line of its
 # own where that is *.
 answers_so() {
     said_line "${4:+$1: $(echo "$4" | sed "s/%/$1/")}"
@@ -168,7 +168,7 @@ check 'seek finds the last field so' prints 0 'field 129' \
     env ADVISED=advice LD_PRELOAD="$work/advised.so" ./seek long.tbc $on_cav 65
 check 'seek asks for the pages ahead' cmp advice wanted_advice
 # The others that map a side have nothing read ahead. Of a file on standard input few bytes are read, and of a pipe all;
-# it may begin behind the file's first field.
+# it may begin after the file's first field.
 for asked in 'player play' 'player_cpp play' 'whole cut' 'whole_cpp cut'; do
     name=${asked% *}
     does env ADVISED=$name.advice LD_PRELOAD="$work/advised.so" ./$name long.tbc $on_cav ${asked#* }

@@ -131,7 +131,7 @@ def test_chapters(setting, text, wanted):
 
 
 def lines_of(text, cause=0, column=0):
-    """The readings of words, of which - is none, behind which their passes may stand."""
+    """The readings of words, of which - is none, after which their passes may stand."""
     words = [word.partition("/") for word in text.replace("-", "0/0").split()]
     return b"".join(line(word, int(of_pass or 1), cause, column) for word, _, of_pass in words)
 
@@ -148,7 +148,7 @@ def test_shown(setting, text, wanted):
 
 
 def test_alone(setting, text, wanted):
-    """Of a call that judges each field by itself: the field, and it again behind one without words."""
+    """Of a call that judges each field by itself: the field, and it again after one without words."""
     fields, state = [lines_of(text), 3 * BLANK, lines_of(text)], tuple(named(wanted))
     found, _ = answered("judge_" + setting, (), fields, STATE)
     expect(found == [state, (0, ), state], setting, text, found)
@@ -181,7 +181,7 @@ def test_completed(setting, text):
 
 
 def test_first(_, number, text, first):
-    """Of none nothing is read. Where one is found, nothing is read behind it, however many are said to follow."""
+    """Of none nothing is read. Where one is found, nothing is read after it, however many are said to follow."""
     numbers = [NUMBER.pack(*map(int, one.split("*"))) for one in text.split()]
     at_end, is_found = FOUND.put(b"".join(numbers)), int(first) < len(numbers)
     for count, at in ((len(numbers), at_end), (0, FOUND.end), (0, None), *[(2 ** 64 - 1, at_end)] * is_found):

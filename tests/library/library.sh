@@ -1,7 +1,7 @@
 #!/bin/sh
 # What the library needs and gives. What includes ldvbi.h: by each standard, twice, in two parts of a program, which
 # prints its texts; the quick start at its head; and what the compiler has to warn of. Then tests over the border, from
-# Python, in memory behind which no page follows.
+# Python, in memory after which no page follows.
 # Needs libldvbi.a and libldvbi.so.1 beside the program, or at the top of the repository (`make lib`).
 # usage: sh tests/library/library.sh PROGRAM
 # runs: library rust

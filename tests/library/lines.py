@@ -24,7 +24,7 @@ TELEVISIONS = NTSC, PAL = (Television(1, 16384, 51200, 910, 263, 22, 22 * 150, 3
 
 
 def edges_of(tv, off=0):
-    """The columns between which the 48 half cells lie, those behind the first up to so many early or late."""
+    """The columns between which the 48 half cells lie, those after the first up to so many early or late."""
     return [(tv.start + half * tv.rate) // tv.over + (chance.randint(-off, off) if half else 0) for half in range(49)]
 
 
@@ -93,7 +93,7 @@ RATES = ((WHOLE, 0, 0, WORDS, WORDS), ((10400, 18600), 0, 0, 0, 0), (JITTERED, 0
 
 
 def at_rate(kilohertz):
-    """Lines of 8-bit samples, times 257, behind which there is black. Their words begin at 10.5 microseconds."""
+    """Lines of 8-bit samples, times 257, after which there is black. Their words begin at 10.5 microseconds."""
     return Television(1, 257 * 60, 257 * 200, 4000, 263, 10 ** 6, 10500 * kilohertz, 1000 * kilohertz)
 
 
@@ -119,7 +119,7 @@ def test_rates():
 
 # Of 48 half cells of NTSC 15 have 15 columns and the others 14, the first two 14 each; of those of PAL 13 have 17, the
 # first of all among them, and the others 18. No cell has two of the rarer ones. So many columns may be a word's first;
-# and so many has the shortest cell behind the first, each half cell of the first, and the words with the fewest and the
+# and so many has the shortest cell after the first, each half cell of the first, and the words with the fewest and the
 # most high columns.
 NEARS = ((NTSC, 224, 28, 14, 14, 24 * 14, 15 * 15 + 9 * 14), (PAL, 285, 35, 17, 18, 12 * 17 + 12 * 18, 24 * 18))
 

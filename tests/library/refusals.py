@@ -53,7 +53,7 @@ BAD = {
 
 
 def answered(name, words, is_open, is_listed=True):
-    """The status of a call. Arrays are as long as the numbers behind them say, and end where no page follows; null
+    """The status of a call. Arrays are as long as the numbers after them say, and end where no page follows; null
     stands for those of no bytes."""
     arguments, taken = [], parameters(name)
     for (key, kind, is_pointer), (behind, behind_kind, _) in zip(taken, [*taken[1:], ("", "", False)]):
@@ -157,7 +157,7 @@ def test_words():
 
 
 def test_attributes():
-    """Calls with a status have it looked at. A pointer with no count behind it is what is written, and never null; any
+    """Calls with a status have it looked at. A pointer with no count after it is what is written, and never null; any
     other is an array, which may be null if it has nothing."""
     for attributes, name in re.findall(r"^(.*)\buint32_t ldvbi_(\w+)\([^)]*\*", HEADER, re.M):
         taken = parameters(name)

@@ -120,7 +120,7 @@ def test_worn(tv):
 
 # ---- Words that are cut short, and that go on
 
-# Columns of a word's first high half cell that are black, and columns that are high where a one behind the word would
+# Columns of a word's first high half cell that are black, and columns that are high where a one after the word would
 # have its half cell: up to so many the signal is that of the word. Of a half cell of 14 columns 9 are 4 more than those
 # that are left, and with half of another 5 more; of one of 18 that are 11.
 ENDS = {NTSC: (14, 9), PAL: (18, 11)}

@@ -1,4 +1,4 @@
-# What bash offers behind each command line of standard input, by a file of completions for one command: `files` where
+# What bash offers after each command line of standard input, by a file of completions for one command: `files` where
 # it is file names.
 # usage: bash tests/program/complete.bash FILE
 compopt() { printf 'files\n'; }
@@ -6,7 +6,7 @@ compopt() { printf 'files\n'; }
 . "$1"
 function=$(complete -p | sed 's/.*-F \([a-z_]*\) .*/\1/')
 while IFS= read -r words; do
-    # the words as bash cuts them, with = a word of its own, and an empty one behind a space or =
+    # the words as bash cuts them, with = a word of its own, and an empty one after a space or =
     read -ra COMP_WORDS <<< "${words//=/ = }"
     [[ $words == *[[:space:]] ]] && COMP_WORDS+=('')
     COMP_CWORD=$((${#COMP_WORDS[@]} - 1))

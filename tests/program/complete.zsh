@@ -1,4 +1,4 @@
-# What zsh offers behind each command line of standard input, by the completions in a folder.
+# What zsh offers after each command line of standard input, by the completions in a folder.
 # usage: zsh -f tests/program/complete.zsh FOLDER
 # A second shell runs at a terminal of its own. There each match is written between < and > as it is added.
 zmodload zsh/zpty

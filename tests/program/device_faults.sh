@@ -28,7 +28,7 @@ printf '{"videoParameters":{"system":"NTSC","black16bIre":8224,"white16bIre":164
 # written (FILE:BYTES, the file up to so many bytes), what is said, and how often the two were asked. An input or
 # metadata that is a file has the first free descriptor: 3, where that is closed.
 #
-# Fields are asked for line by line, and the head, each record and the tail are written one by one: behind a byte that
+# Fields are asked for line by line, and the head, each record and the tail are written one by one: after a byte that
 # comes alone the rest is asked for. 17 interruptions in a row are one too many. `line` asks for its one line and no
 # more. `draw` asks for one byte after the other, and writes a field line by line. Metadata may come byte by byte: 10
 # bytes, 1,000 interruptions, 66 bytes, the end.

@@ -100,7 +100,7 @@ static void mark(void) {
     errno = ENOMEM;
 }
 
-/* The function of this name behind this one, with these arguments; or NULL, which is marked, where that is refused. */
+/* The function of this name after this one, with these arguments; or NULL, which is marked, where that is refused. */
 #define REFUSABLE(name, arguments, ...)                                     \
     static void *(*real)arguments;                                          \
     if (real == NULL)                                                       \

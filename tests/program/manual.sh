@@ -21,8 +21,8 @@ options() {
 for command in $commands; do options $command.options "$program" $command; done
 for command in '' join scan; do options ${command:-side}.options "$top/python/ldvbi-side" $command; done
 
-# offered COMMAND: checks what is offered behind each of these command lines: those of the file `offers`, and what
-# differs between the shells. bash offers all at once, zsh options behind a dash alone; the file names of zsh are those
+# offered COMMAND: checks what is offered after each of these command lines: those of the file `offers`, and what
+# differs between the shells. bash offers all at once, zsh options after a dash alone; the file names of zsh are those
 # of this folder.
 mkdir folder
 touch page.txt page.one
@@ -30,9 +30,9 @@ offered() {
     sed 's/^ldvbi |.*/ldvbi |--help --version draw extract help line show/' offers >> bash.offers
     cat offers >> zsh.offers
     sed 's/|.*//' bash.offers | bounded bash "$here/complete.bash" "$completions/$1.bash" > out 2> err
-    check "what bash offers behind $1" cmp out bash.offers
+    check "what bash offers after $1" cmp out bash.offers
     sed 's/|.*//' zsh.offers | bounded zsh -f "$here/complete.zsh" "$completions" > out 2> err
-    check "what zsh offers behind $1" cmp out zsh.offers
+    check "what zsh offers after $1" cmp out zsh.offers
 }
 cat > offers << END
 ldvbi |draw extract help line show

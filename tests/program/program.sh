@@ -55,7 +55,7 @@ END
 # How near lines are that are read as different words, as docs/FORMATS.md has it. The last two cells of 800000 are as
 # wide as they may be, and with the change between them later they are those of 800001: four columns (NTSC) or six (PAL)
 # where both words are of pass 1, one or two where the second is of pass 2, and one where both are. So many columns
-# turned over behind the change leave no four equal ones before 517 (NTSC), or 658 (PAL).
+# turned over after the change leave no four equal ones before 517 (NTSC), or 658 (PAL).
 while IFS='|' read -r system options cells turned answer; do
     echo "$cells $turned|-|-" | signal $system 1 > near.tbc
     output_of extract $options near.tbc | jq -r '.fields[0] | "\(.vbi.vbiData[0] - 8388608) pass \(.vbiPass[0])"' > out

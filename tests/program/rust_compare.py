@@ -215,7 +215,7 @@ CALLS = {name: (returned, re.findall(r"(const )?(\w+) (\*?)(\w+)", parameters)) 
          re.findall(r"^(?:LDVBI_[^ ]+ )*(uint32_t|size_t) (ldvbi_\w+)\(([^()]*)\);",
                     (TOP / "include/ldvbi.h").read_text(encoding="utf-8"), re.M)}
 ITEMS = {"void": 1, "uint32_t": 4, "LdvbiNumber": 8, "LdvbiErased": 16, "LdvbiSightings": 20, "LdvbiFieldReadings": 24}
-# What there is behind each pointer to something that is written
+# What there is after each pointer to something that is written
 PATTERN = b"\xa5" * 2 ** 13
 
 

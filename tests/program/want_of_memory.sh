@@ -67,7 +67,7 @@ diff wanted out | head -n 20 >> err
 [ ! -e mark ] || echo 'an allocation was refused' >> err
 check 'what is said of a text of each length' [ ! -s err ]
 
-# Metadata of 10 MB, as ld-decode writes it; here what is wanted stands behind the records of fields. Want of memory is
+# Metadata of 10 MB, as ld-decode writes it; here what is wanted stands after the records of fields. Want of memory is
 # said exactly where an allocation was refused, with so many times its bytes of memory at most.
 field='"audioSamples":735,"diskLoc":1.1,"isFirstField":true,"medianBurstIRE":19.7,"seqNo":1,"syncConf":100'
 {

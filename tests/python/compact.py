@@ -9,9 +9,9 @@ A side is a text of parts, from left to right. These add fields:
     m9  n9                    a field with this minute on line 18 beside a mark, or on lines 17 and 18
     L O B ? C                 lead-in, lead-out, a blank field, `- ? ?`, chapter 0
     -/#17/#7                  a row of discs.py, with / for its spaces: #17 is picture 17, c7 chapter 7, @1:09 a minute,
-                              s7.12 a picture of a second, S a stop, M the mark of CLV; * or ^ stands behind them
+                              s7.12 a picture of a second, S a stop, M the mark of CLV; * or ^ stands after them
 
-and x9 behind one of these has each nine times. The others change the fields that are there by then, counted from 1;
+and x9 after one of these has each nine times. The others change the fields that are there by then, counted from 1;
 <1..9/2 2N-1=N+40 B> has these parts for each N:
 
     13=-/#17/#7   61:73/2=?   another row in field 13, or in each second one from 61 to 73
@@ -19,7 +19,7 @@ and x9 behind one of these has each nine times. The others change the fields tha
     -41  -41:43  +41=Bx10     these fields are gone; others before field 41
     ~11                       fields 11 and 12 in each other's place
 
-Its system may stand before it, and behind a / whether its parity is known: by turns with NTSC/0; with PAL/40 field 40
+Its system may stand before it, and after a / whether its parity is known: by turns with NTSC/0; with PAL/40 field 40
 is a first field or a second one as field 39 is; with PAL/1 a side begins with a second field.
 
 An answer is a text of members, each with what it is (`of_member`): nothing where it is empty, or x6 where it has six;
@@ -194,7 +194,7 @@ def cells_of(table):
 
 
 def table_in(path):
-    """The rows of a file, with what is known or asked besides, which lines in brackets have for those behind them. A
+    """The rows of a file, with what is known or asked besides, which lines in brackets have for those after them. A
     line with # is a comment, and one with = a name, whose text {NAME} stands for."""
     with open(path, encoding="ascii") as file:
         lines = re.sub(r"\n {5,}", " ", file.read()).split("\n")

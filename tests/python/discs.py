@@ -1,5 +1,5 @@
 """Sides by hand, for the tests. A row has the items of lines 16, 17 and 18, as `ldvbi draw` reads them: six hexadecimal
-digits (with * behind them for a word of pass 2, with ^ for one that was recovered from a line that is `change 170`), or
+digits (with * after them for a word of pass 2, with ^ for one that was recovered from a line that is `change 170`), or
 a line without a word: - (blank), ~ (unfinished), ? (change 170), ! (hold 200)."""
 
 import functools

@@ -42,7 +42,7 @@ def worn_line(word, setup, *cells):
 
 def write_stream(path, setup, fields, rest=0):
     """Makes a TBC file of fields, each of which is a list of lines 16, 17 and 18: words, 0 for a blank line, or
-    samples. `rest` bytes of one more field come behind them."""
+    samples. `rest` bytes of one more field come after them."""
     with open(path, "wb") as file:
         write_fields(file, setup, fields)
         file.truncate(len(fields) * ldvbi.field_bytes(setup[0]) + rest)

@@ -10,7 +10,7 @@ VIDEO = Pace("video")
 PACES = {"video": VIDEO, "both": Pace("both"), "film": Pace("film"), "minutes": MinutePace("PAL"),
          "chapters": ChapterPace()}
 # Of a pace: fields, a number, the step to the next one and their variants, and how many fields are too many or too few.
-# A video picture has 2 fields; of both fields the second one is one behind; minutes fit within one minute; one chapter
+# A video picture has 2 fields; of both fields the second one is one after; minutes fit within one minute; one chapter
 # may be passed over in 18 fields, and at a break of the pictures' numbers, which 100 stands for, any may follow.
 OFF = {"video": "10 7 5: 0, 12 7 5: 2, 9 7 5: -1, 4 7 0: None", "both": "1 7 0 0 1: 0, 1 7 1 1 0: 0, 3 7 1 0 1: 0, "
        "2 7 0 0 0: None", "minutes": "10 4 0: 0, 2999 4 0: 0, 1 4 1: 0, 5999 4 1: 0, 6001 4 1: 3001, 1 4 3: -8999, "
@@ -73,7 +73,7 @@ TWO = [Reading(1, 5, 2, (17,)), Reading(1, 6, 2, (18,))]
 
 # Of two of a field the one that fits, of two that fit equally well none; pass 1 counts for more than 2. A jump that
 # many follow, and a wild number at the end; a number that stays costs nothing; one fits the still before it, but the
-# number behind it goes back.
+# number after it goes back.
 @pytest.mark.parametrize("ones, wanted", (
     ([], []), (readings(5, 6, 70000, 8, 9), [5, 6, 8, 9]), (TWO, []), ([TWO[0], Reading(1, 6, 1, (18,))], [5]),
     (sorted(readings(5, 6, 7) + [Reading(3, 80, 2, (18,))]), [5, 6, 7]), (readings(*ON, *WILD), ON + WILD),
@@ -107,7 +107,7 @@ def test_a_long_row_of_wrong_numbers():
 
 def test_a_chain_that_went_astray():
     """The first of the wrong numbers, one field too late, weighs more than its break, so that the chain which ends
-    there is the best one so far; the jump back behind it costs more than it brings. The right chain is found by its
+    there is the best one so far; the jump back after it costs more than it brings. The right chain is found by its
     numbers, which go on."""
     for count in (3, 39, 41):
         wrong = [Reading(40, 21, 3, (17,)), *(Reading(41 + place, (place * 7919 + 30000) % 79999, 1, (18,))

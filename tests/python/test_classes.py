@@ -65,7 +65,7 @@ def test_no_words():
 
 def test_words_beside_the_library():
     """All that begin with 8 or F, as those of each class do, and of the others those whose digits are at the edges of
-    classes. The greatest numbers of each kind are those that include/ldvbi.h has behind `0 to`."""
+    classes. The greatest numbers of each kind are those that include/ldvbi.h has after `0 to`."""
     call = ctypes.CDLL(os.environ["LDVBI_LIBRARY"]).ldvbi_classify
     call.argtypes = ctypes.c_uint32, ctypes.c_void_p
     edges = [int("".join(digits), 16) for digits in itertools.product("0789ACDEF", repeat=5)]

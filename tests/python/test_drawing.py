@@ -120,8 +120,8 @@ def place_of(part):
 
 
 # Sides, and what the drawing has of some classes, in this order and no more of it: the words, or with @ the places;
-# with + one that has these words, with - none, behind # how many, and behind = a limit. In the first side pictures 7
-# and 8 are skipped, 11 comes three times, 14 has no codes, three are read wrong, and 24 to 27 come behind 26. In the
+# with + one that has these words, with - none, after # how many, and after = a limit. In the first side pictures 7
+# and 8 are skipped, 11 comes three times, 14 has no codes, three are read wrong, and 24 to 27 come after 26. In the
 # second one times begin at 0:59:59.15; the minutes of two fields are wrong, no clock shows those of a third, nor the
 # picture of a fourth. Of the third one 20 fields share a pixel, and where there are too many boxes twice as many do.
 DRAWN = """

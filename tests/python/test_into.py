@@ -26,7 +26,7 @@ from streams import NTSC, pictures, worn_line, write_stream
 WORDS, SAID = (8572927, 0, 15803205), "as read"
 # Fields, and what becomes of them, or why they are refused, with escapes as Python has them. WORDS is a list of the
 # words, and WORDS, has spaces in it. The numbers alone are others, where there are three items; any other value gives
-# way to a list. A field without them gets them behind all else, written as its first member is, and so does a member
+# way to a list. A field without them gets them after all else, written as its first member is, and so does a member
 # vbi. Names are what they mean, others are no matter, and what stands twice is no matter where nothing looks at it.
 FORMS = r"""
     {"vbi": {"vbiData": [ 1 , 2.5,\n-1e3 ]}} | {"vbi": {"vbiData": [ 8572927 , 0,\n15803205 ]}}
@@ -200,7 +200,7 @@ def test_what_was_written_last_is_copied_too(room):
     *(("its trigger one of the table %s may write something else" % table, FORM, 0, [TRIGGER % table])
       for table in ("vbi", "drop_outs"))))
 def test_refused_databases(room, text, form, count, more):
-    """By their form, their fields, or statements behind these."""
+    """By their form, their fields, or statements after these."""
     make(room, *more, count=count, form=form)
     refused(room, text)
 

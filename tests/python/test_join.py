@@ -206,7 +206,7 @@ def test_bars_and_page():
         "51 to 70: in fields 101 to 140 of b, and a otherwise",
         "151 to 170: in fields 101 to 140 of a, and b otherwise"]
     page = page_of_joined(found, joined_text(found))
-    # each has lost what comes behind the picture, and perhaps a field of that
+    # each has lost what comes after it the picture, and perhaps a field of that
     for text in (*("<p>%s</p>" % text for text in joined_text(found)), bars_of(found),
                  '<details id="missing"><summary>numbers that no capture has: 1</summary>',
                  "<tr><td>22</td><td>22</td><td>1</td><td>lost</td></tr>",
@@ -253,7 +253,7 @@ def test_sides_are_read_as_the_options_say(drawn):
 def check_random_set(seed):
     """Each number is taken from a field that has it on the disc. None that can be read in a capture is missing. What is
     lost is in no capture, and what one lacks another has. No two disagree. The fields of a stretch follow each other on
-    the disc up to that of its last number, behind which there may be another one's. Returns the count of numbers."""
+    the disc up to that of its last number, after which there may be another one's. Returns the count of numbers."""
     ones = captures(seed, 2 + seed % 3)
     joined = as_json(join([capture_of(side_of_document(json.dumps(one.document).encode()), str(place))
                            for place, one in enumerate(ones)]))

@@ -150,8 +150,8 @@ def test_a_name_stands_once():
 
 
 SIDES = ("whole.tbc", "lost.tbc", "dark.tbc", "cut.tbc")
-# Of each option, as it stands behind the name of a side, its statuses for these sides. Picture 12 is lost in lost.tbc,
-# nothing is in dark.tbc, and behind all pictures of cut.tbc a part of one more field.
+# Of each option, as it stands after the name of a side, its statuses for these sides. Picture 12 is lost in lost.tbc,
+# nothing is in dark.tbc, and after all pictures of cut.tbc a part of one more field.
 OPTIONS = {"": (0, 1, 4, 1), "--summary": (0, 1, 4, 1), "--seek 12": (0, 1, 1, 0), **dict.fromkeys((
     "--csv", "--json", "--bad-lines", "--document", "--svg side.svg", "--html side.html", "--map side.map",
     "--chapters side.txt", "--into copy.json", "--plot-line 1 17"), (0, 0, 0, 3))}

@@ -137,7 +137,7 @@ def test_what_the_loader_finds(room):
 
 
 def test_places(room, monkeypatch):
-    """Each place before those behind it, where the variable is empty or unset. Without a file the loader is asked."""
+    """Each place before those after it, where the variable is empty or unset. Without a file the loader is asked."""
     os.makedirs(room.named("share/ldvbi/python/ldvbi"))
     monkeypatch.setattr(library, "__file__", room.named("share/ldvbi/python/ldvbi/library.py"))
     monkeypatch.setenv("LDVBI_LIBRARY", "")
@@ -159,7 +159,7 @@ COUNTED = "neither pictures nor times are counted"
 PACE = "pace is neither that of video nor of film, nor to be found"
 BOTH = "numbers are on one field of a picture or on both, or that is to be found"
 READINGS = made("0..48", side).readings
-# Calls with dropouts behind them
+# Calls with dropouts after them
 PILE, THREE = (recover_pile, LINE, *NTSC, 17), (read_rows, LINE * 3, *NTSC, True)
 ONE, TWO = (read_field, FIELD, *NTSC, True), (Stream, FIELD * 2, *NTSC, True)
 LINES = "1 to 28 lines have %d bytes each, and these are %d"

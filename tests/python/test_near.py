@@ -116,7 +116,7 @@ def test_each_call(room, setup):
 def test_erased_columns_cost_nothing(room):
     """Of 13 and 16 columns, in hundredths. A row of another word differs in 28 columns of a line, one with a cell more
     in 14. Of cell 5 half of the 28 columns are turned, 297 among them: another word is as near. A signal goes on for
-    one more cell behind the word: this row is nearer by 14 columns."""
+    one more cell after the word: this row is nearer by 14 columns."""
     write_stream(room.path, NTSC, [[0, worn(NTSC), worn(NTSC)], [0, worn(NTSC), 0]])
     with ldvbi.Stream(room.path, *NTSC, True, [(0, 17, 411, 414), (0, 17, 413, 417), (0, 18, 838, 2000)]) as side:
         assert [measured(side, *place) for place in ((1, 17), (1, 18), (2, 17))] == [

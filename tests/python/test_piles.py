@@ -56,7 +56,7 @@ def test_each_is_worn_elsewhere(room, setup):
 
 
 def test_more_than_a_pile_has(room):
-    """The first 28 lines are asked, and not those that say another number behind them."""
+    """The first 28 lines are asked, and not those that say another number after them."""
     ones, others = ([capture(room, "%d.%d" % (number, cell), NTSC, {5: [half_worn(number, NTSC, cell), worn_line(
         picture(number), NTSC, 1, 1, cell, 15)]}) for cell in range(5, 19)] for number in (5, 8))
     assert how(*ones, *others) == {5: "together"}

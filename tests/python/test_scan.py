@@ -21,7 +21,7 @@ from room import in_database, IN_PLACE
 from streams import TOP
 
 HEAD = "side whole lost unread format from to last lead-in lead-out fields try why".split()
-# A side of every kind, in the order of the table: its name, its fields, and its row behind the name, of which the last
+# A side of every kind, in the order of the table: its name, its fields, and its row after the name, of which the last
 # cell begins so; - is nothing. The metadata has NTSC and white 51200.
 SIDES = """
     a/cut.tbc | 1..30 O | no | 0 | 0 | cav | 1 | 30 | 30 | 0 | 1 | 61 | - | field 62 is cut
@@ -205,7 +205,7 @@ PAGES = (
 
 
 def make(names):
-    """Files, and links, behind which it is said where to."""
+    """Files, and links, after which it is said where to."""
     for name, _, target in (name.partition(">") for name in names.split()):
         os.makedirs(os.path.dirname(name) or ".", exist_ok=True)
         if target:

@@ -215,7 +215,7 @@ def test_at_most_26_lines():
 
 
 def test_sides():
-    """What their methods answer. Codes are judged by nothing. The collector runs behind an analysis as before it."""
+    """What their methods answer. Codes are judged by nothing. The collector runs after an analysis as before it."""
     cav, clv = made("5..24 11..40 5=S/-/#7", side), made("t0..19", side)
     assert [cav.pictures()[5], cav.pictures()[11], cav.pictures()[40]] == [1, 13, 99]
     assert [cav.times(), cav.chapters(), cav.stops(), cav.format()] == [{}, {0: 2}, [5], "cav"]

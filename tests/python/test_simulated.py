@@ -91,7 +91,7 @@ LESS = {"wrong found": "doubtful.clear()", "first fields": "showings.pop()", "ch
 FAULTY = {"doubtful.clear()": "believed and set aside, or neither", "doubtful.append(doubtful[0])": "set aside twice",
           "unread.append(dict(number=1, read=None, field=chapters[0]['field']))": "which has another code",
           "unread.append(dict(number=1, read=None, field=showings[0][1]))": "a number was read in field",
-          "lost.append(dict(after=1, before=2, fields=9, by='parity'))": "lost beside the numbers, behind field 1",
+          "lost.append(dict(after=1, before=2, fields=9, by='parity'))": "lost beside the numbers, after field 1",
           "stills.append(dict(number=1, first=1, last=99))": "another number in the still from field 1 on",
           "swapped.append({})": "something is lacking, and whole is: yes", "whole = 'no'": "whole is no, and the",
           "missing.append(dict(why='undecided', first=1, last=1))": "a number is undecided, and the side is whole",

@@ -204,7 +204,7 @@ def ignores(task, tell):
 
 
 def tidies(task, tell):
-    """A job that signals reach while its process ends, behind a first one, or by itself, as it took much memory."""
+    """A job that signals reach while its process ends, after a first one, or by itself, as it took much memory."""
     processes._peak = lambda: 1 << 60
     for end in (lambda: tell([]), lambda: os.kill(os.getpid(), signal.SIGHUP),
                 lambda: os.kill(os.getpid(), signal.SIGTERM)):  # the last one comes first

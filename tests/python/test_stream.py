@@ -127,7 +127,7 @@ def test_a_file_that_becomes_shorter(room, kept):
 
 @pytest.mark.parametrize("setup", (NTSC, PAL))
 def test_lines_are_fetched_ahead(room, monkeypatch, setup):
-    """In a loop those of the block that is read now, and of the one behind it; of one field its own, and no more. Where
+    """In a loop those of the block that is read now, and of the one after it; of one field its own, and no more. Where
     the system takes no advice all is read as well."""
     notes, size, line = [], ldvbi.field_bytes(setup[0]), ldvbi.line_bytes(setup[0])
     monkeypatch.setattr(ldvbi.rows, "_ADVISE", lambda file, *note: notes.append(note))

@@ -118,7 +118,7 @@ fn metadata(rt: &(impl Files + AllocGlobal), path: &str) -> Result<Vec<u8>, Main
     metadata_in(rt, file)
 }
 
-/// The bytes of the metadata of this input, which has its name and `.json` behind it, if there is such a file.
+/// The bytes of the metadata of this input, which has its name and `.json` after it, if there is such a file.
 fn metadata_beside(
     rt: &(impl Files + AllocGlobal),
     input: &str,

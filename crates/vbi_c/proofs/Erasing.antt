@@ -43,7 +43,7 @@ are_sorted-last (x ∷ list) i long =
       | inr less ↦ ap are_sorted (drop_all (i - 1) (x ∷ list) (omega (arith, less)))
     ]
 
--- what is left behind the first entry is sorted
+-- what is left after the first entry is sorted
 are_sorted-tail : (x : LdvbiErased) (list : List LdvbiErased) → are_sorted (x ∷ list) ≡ true → are_sorted list ≡ true
 are_sorted-tail x [] sorted = refl
 are_sorted-tail x (y ∷ list) sorted = (and_both (may_follow x y) (are_sorted (y ∷ list)) sorted).1
@@ -54,11 +54,11 @@ are_sorted-drop zero list sorted = sorted
 are_sorted-drop (suc i) [] sorted = sorted
 are_sorted-drop (suc i) (x ∷ list) sorted = are_sorted-drop i list (are_sorted-tail x list sorted)
 
--- an entry that may stand behind another is of no earlier field
+-- an entry that may stand after another is of no earlier field
 field_order : (before entry : LdvbiErased) → may_follow before entry ≡ true → before.field ≤ entry.field
 field_order before entry follows = grind (arith, nat_tests)
 
--- behind an entry of a later field all are of later fields
+-- after an entry of a later field all are of later fields
 pub are_later : (field : ℕ) (x : LdvbiErased) (list : List LdvbiErased) → are_sorted (x ∷ list) ≡ true
     → field < x.field → All (λ entry. field < entry.field) (x ∷ list)
 are_later field x [] sorted later =
@@ -95,7 +95,7 @@ taken-line count list i d taken inside =
     line_of_entry count (get_or list i d) (each_of_all (is_entry count) list i d
     (and_both (list_all (is_entry count) list) (are_sorted list) taken).0 inside)
 
--- where the entry at a place is of a later field, so are those behind it
+-- where the entry at a place is of a later field, so are those after it
 pub taken-later : (count : ℕ) (list : List LdvbiErased) (i field : ℕ) (d : LdvbiErased)
     → IsTrue (is_taken count list) → i < length list → field < (get_or list i d).field
     → All (λ entry. field < entry.field) (drop i list)

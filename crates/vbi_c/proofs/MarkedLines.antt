@@ -1,4 +1,4 @@
--- The marks of lines that lie one behind the other: of one line more, and of the rows that they make.
+-- The marks of lines that lie one after the other: of one line more, and of the rows that they make.
 use Rattle.std.proofs.Common.{◌≡◌, ℕ, ◌+◌, ◌-◌, ◌*◌, ◌<◌, ◌≤◌, List, [], ◌∷◌, ◌++◌, Bool, map, take, drop, length}
 use Rattle.std.proofs.Common.{ap, sym, ◌∙◌, refl, subst, arith, inl, inr, zero-add, suc, zero}
 use Rattle.std.specs.Prelude.{Option}

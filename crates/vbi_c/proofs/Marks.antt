@@ -26,7 +26,7 @@ wide Pal = omega arith
 
 -- ---- three lists of one length
 
--- the items of three lists, one behind the other
+-- the items of three lists, one after the other
 three-get : (a b c : List Bool) (w k : ℕ) (d : Bool) → length a ≡ w → length b ≡ w → length c ≡ w → k < w
     → (get_or (a ++ b ++ c) k d ≡ get_or a k d) × (get_or (a ++ b ++ c) (w + k) d ≡ get_or b k d)
     × (get_or (a ++ b ++ c) (2 * w + k) d ≡ get_or c k d)
@@ -177,7 +177,7 @@ marked_before : (w q row column end come last : ℕ) → w * q ≡ w * row → c
 marked_before w q row column end come last at inside in_last whole done =
     elim whole [ inl wide ↦ omega (arith, wide) | inr is ↦ omega (arith, is) ]
 
--- a column from the entry's first one on that it hasn't lies behind that place
+-- a column from the entry's first one on that it hasn't lies after that place
 outside : (w q row column end come first last : ℕ) → column < w → end ≤ w → end ≤ last + 1
     → (first ≤ end → come ≤ end) → (end ≤ first → come ≤ first) → w * q + first ≤ w * row + column
     → (q ≡ row → first ≤ column → last < column) → w * q + come ≤ w * row + column
@@ -275,7 +275,7 @@ erased_of-none list system field others =
     get_or-replicate (3 * w) (w * row + column) false false (omega arith)
     ∙ sym (none_of_others list field (16 + row) column others))
 
--- entries of other fields behind a list change nothing
+-- entries of other fields after a list change nothing
 pub erased_of-others : (list rest : List LdvbiErased) (system : System) (field : ℕ)
     → All (λ entry. entry.field ≢ field) rest
     → erased_of list system field ≡ erased_of (list ++ rest) system field

@@ -21,12 +21,12 @@ is_code_line line = nat_le 16 line && nat_le line 18
 abbrev pub is_entry : ℕ → LdvbiErased → Bool
 is_entry count entry = nat_lt entry.field count && is_code_line entry.line && nat_le entry.first entry.last
 
--- an entry may stand behind another: by field, line and first column it is not less
+-- an entry may stand after another: by field, line and first column it is not less
 abbrev pub may_follow : LdvbiErased → LdvbiErased → Bool
 may_follow before entry = nat_lt before.field entry.field || before.field == entry.field
     && (nat_lt before.line entry.line || before.line == entry.line && nat_le before.first entry.first)
 
--- each entry may stand behind the one before it
+-- each entry may stand after the one before it
 abbrev pub are_sorted : List LdvbiErased → Bool
 are_sorted [] = true
 are_sorted (first ∷ []) = true
@@ -52,7 +52,7 @@ abbrev pub line_marks : List LdvbiErased → words.System → ℕ → ℕ → Li
 line_marks list system field line =
     map (λ column. list_any (erases field line column) list) (range_with_len 0 (width_of system))
 
--- the marks of the columns of lines 16, 17 and 18 of a field, one line behind the other
+-- the marks of the columns of lines 16, 17 and 18 of a field, one line after the other
 unfoldable pub erased_of : List LdvbiErased → words.System → ℕ → List Bool
 erased_of list system field =
     line_marks list system field 16 ++ line_marks list system field 17 ++ line_marks list system field 18

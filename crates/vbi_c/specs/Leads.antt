@@ -30,7 +30,7 @@ pub record Leads (seek : Seek) (bytes : List ℕ) (count number t a b : ℕ) : T
   pub lower : (f k n : ℕ) → Tells seek bytes count f k n → n < number → told_at f k ≤ t
   pub higher : (f k n : ℕ) → Tells seek bytes count f k n → number ≤ n → t < f + k
 
--- the fields between which the number is sought have field t among them, or a little behind them; an end at which a
+-- the fields between which the number is sought have field t among them, or a little after them; an end at which a
 -- number was told is among those from a to b
 pub record IsWithin (t a b : ℕ) (between : Between) : Type 0 where
   pub from : between.low ≤ t
@@ -53,7 +53,7 @@ pub record IsNarrower (t a b : ℕ) (old new : Between) : Type 0 where
   pub told : IsToldAt new
   pub narrower : 4 * (new.high - new.low) ≤ 3 * (old.high - old.low)
 
--- they lead to a place: field t is from its first field on, and no further behind its last one than is looked at
+-- they lead to a place: field t is from its first field on, and no further after its last one than is looked at
 pub record IsPlaced (t : ℕ) (place : Between) : Type 0 where
   pub from : place.low ≤ t
   pub to : t < place.high + probe_most

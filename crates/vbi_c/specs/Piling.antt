@@ -62,7 +62,7 @@ IsWordOf setup line known bytes list answer = (said : Option ℕ)
 
 -- ---- as it is found
 
--- the marks of the first lines lie one line behind the other
+-- the marks of the first lines lie one line after the other
 abbrev pub HasMarks : words.System → ℕ → List LdvbiErased → ℕ → List Bool → Type 0
 HasMarks system line list count marks = (place : ℕ) → place < count
     → take (width_of system) (drop (width_of system * place) marks) ≡ line_marks list system place line

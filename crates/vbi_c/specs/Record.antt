@@ -10,7 +10,7 @@ abbrev pub record_text_of : Setup → ℕ → List ℕ → List Bool → List �
 record_text_of setup number rows marks = recovered_record_of setup.levels number
     (recovered_without setup.system setup.levels (rows_in setup.system rows) marks)
 
--- a record has this text, and zeros behind it
+-- a record has this text, and zeros after it
 pub record HasText (text : List ℕ) (record_for_c : LdvbiRecord) : Type 0 where
   pub long : record_for_c.length ≡ length text
   pub bytes : record_for_c.text ≡ text ++ replicate (448 - length text) 0

@@ -45,7 +45,7 @@ fn is_entry(count: usize, entry: &LdvbiErased) -> bool
         && entry.first <= entry.last
 }
 
-/// Whether an entry may stand behind another.
+/// Whether an entry may stand after another.
 fn may_follow(before: &LdvbiErased, entry: &LdvbiErased) -> bool
     ensures { result ≡ may_follow before.now entry.now }
 {
@@ -58,7 +58,7 @@ fn may_follow(before: &LdvbiErased, entry: &LdvbiErased) -> bool
     }
 }
 
-/// Whether each entry may stand behind the one before it.
+/// Whether each entry may stand after the one before it.
 fn are_sorted(list: &[LdvbiErased]) -> bool
     ensures { result ≡ are_sorted list.now }
 {

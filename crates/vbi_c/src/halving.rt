@@ -1,7 +1,7 @@
 //! The place of a number in a side, by few of its fields.
 //!
 //! Numbers rise along a side, so the place of one is found by halving: some fields in the middle are read, until enough
-//! of their lines show one number together, which tells the half. Before the first number of a side and behind its last
+//! of their lines show one number together, which tells the half. Before the first number of a side and after its last
 //! one no field tells any, so the middles of ever smaller parts are asked until one tells a number. From then on
 //! silence tells the half, too, as long as only one end has told a number: the number is on the side of that end. A
 //! side whose player went back or stood still can lead astray, so what is found here is no more than a place to look
@@ -102,7 +102,7 @@ fn begin(
 }
 
 /// Narrows the fields between which the number is sought where the middle is silent, and only the last end has told a
-/// number: by what is told a little before the middle, or else to the fields behind it.
+/// number: by what is told a little before the middle, or else to the fields after it.
 fn narrow_before(
     seek: &Seek,
     bytes: &[u8],
@@ -137,7 +137,7 @@ fn narrow_before(
     between.low = from;
 }
 
-/// The same, where only the first end has told a number, or none has: by what is told a little behind the middle, or
+/// The same, where only the first end has told a number, or none has: by what is told a little after the middle, or
 /// else to the fields before it.
 fn narrow_behind(
     seek: &Seek,

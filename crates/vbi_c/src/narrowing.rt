@@ -80,7 +80,7 @@ fn one_between(seen: &[Sightings], lower: u32, higher: u32) -> Option<(usize, u3
     None
 }
 
-/// Whether the number is rather behind this field than before it, where nothing is told there: by where it stands
+/// Whether the number is more likely after this field than before it, where nothing is told there: by where it stands
 /// between the numbers that were told at both ends.
 fn is_behind(number: u32, field: usize, between: &Between, lower: u32, higher: u32) -> bool
     requires before { between.now.low ≤ field }

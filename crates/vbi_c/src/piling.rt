@@ -115,7 +115,7 @@ fn line_in(system: System, line: u32, all: &[bool]) -> &[bool]
     &all[row..row + width]
 }
 
-/// Marks the erased columns of so many lines of this number, one line behind the other.
+/// Marks the erased columns of so many lines of this number, one line after the other.
 fn mark_lines(system: System, line: u32, list: &[LdvbiErased], count: usize, marks: &mut [bool])
     requires few { count ≤ 28 }
     requires long { length marks.old ≡ count * width_of system }

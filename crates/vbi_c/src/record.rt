@@ -23,7 +23,7 @@ const MOST_TEXT: usize = 448;
 pub struct LdvbiRecord {
     /// How many bytes it has.
     pub length: u32,
-    /// They stand first here, and are ASCII; those behind them are 0.
+    /// They stand first here, and are ASCII; those after them are 0.
     pub text: [u8; MOST_TEXT],
 }
 

@@ -42,7 +42,7 @@ pub struct LdvbiSought {
 // As include/ldvbi.h has it.
 const _: () = prove!(size_of::<LdvbiSought>() == 24);
 
-/// The number is looked for in so many fields more than it is sought between, before and behind them.
+/// The number is looked for in so many fields more than it is sought between, before and after them.
 const BESIDE: usize = 24;
 
 /// The fields that are judged: those in which the number is looked for, and all on which their answers depend.
@@ -138,7 +138,7 @@ struct Around {
     end: usize,
 }
 
-/// The fields around a place: so many in which the number is looked for, and as many before and behind them as their
+/// The fields around a place: so many in which the number is looked for, and as many before and after them as their
 /// answers depend on.
 fn fields_around(place: Between, count: usize) -> Around
     requires order { place.low ≤ place.high }

@@ -24,14 +24,14 @@ module _ (c : ConfigView) (input : Option (List ℕ)) (z text : List ℕ) where
     pub outcome_of : outcome ≡ (reading_of c.system (row_levels c.levels z)).outcome
     pub answer : text ≡ line_text outcome
 
-  -- `Short`: the reader ended behind this many bytes, fewer than a line's, and nothing was written
+  -- `Short`: the reader ended after this many bytes, fewer than a line's, and nothing was written
   pub record WasShort (bytes : ℕ) : Type 0 where
     pub count : bytes ≡ length z
     pub short : bytes < line_bytes c.system
     pub at_end : IsAtEnd input
     pub none : text ≡ []
 
-  -- `Read`: the reader failed behind this many bytes, fewer than a line's, and nothing was written
+  -- `Read`: the reader failed after this many bytes, fewer than a line's, and nothing was written
   pub record StopsAtRead (offset : ℕ) : Type 0 where
     pub count : offset ≡ length z
     pub short : offset < line_bytes c.system

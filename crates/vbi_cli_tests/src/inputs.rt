@@ -6,7 +6,7 @@ use vbi_cli::Input;
 use vbi_test_devices::{Tape, same};
 
 /// What a reader of `abcdefgh` answers that gives two bytes in a read, is interrupted once before the first and fails
-/// once behind `f`: the bytes, or the error.
+/// once after `f`: the bytes, or the error.
 static ANSWERS: [Result<&[u8], ErrorKind>; 8] = [
     Err(ErrorKind::Interrupted),
     Ok(b"ab"),

@@ -9,7 +9,7 @@ pub(crate) fn front(bytes: &[u8], count: usize) -> &[u8] {
     front
 }
 
-/// Some texts, one behind another.
+/// Some texts, one after another.
 pub(crate) fn joined(alloc: Global, texts: &[&str]) -> Result<Vec<u8>, AllocError> {
     let mut bytes = Vec::new(alloc);
     for text in texts {

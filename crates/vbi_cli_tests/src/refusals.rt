@@ -25,7 +25,7 @@ fn refused(
     }
 }
 
-/// Fails where words aren't refused, or these texts, one behind another, aren't all that is said.
+/// Fails where words aren't refused, or these texts, one after another, aren't all that is said.
 fn is_said(
     alloc: Global,
     outcome: Result<Job, WordsFault>,
@@ -38,10 +38,10 @@ fn is_said(
     holds(is_same, (words, text))
 }
 
-/// What stands behind each refusal.
+/// What stands after each refusal.
 const MORE: &str = "\n\nFor more information, try '--help'.\n";
 
-/// Words behind a command that are refused, why, and whether the command's usage is shown. One option of each kind
+/// Words after a command that are refused, why, and whether the command's usage is shown. One option of each kind
 /// stands for those that are read alike.
 static REFUSALS: [(&[&str], &str, bool); 17] = [
     (
@@ -155,7 +155,7 @@ fn each_command_says_why_it_refuses(rt: HostRuntime) -> Result<(), Fail> {
     Ok(())
 }
 
-/// More words behind a command that are refused.
+/// More words after a command that are refused.
 static REFUSED: [&[&str]; 16] = [
     // An option without its value.
     &["--black", "--white", "5"],
@@ -281,7 +281,7 @@ static NO_COMMAND: [(&[&str], &str); 5] = [
         "unrecognized subcommand 'lines'\n\n  tip: a similar subcommand exists: 'line'",
     ),
     (&["ldvbi", "disc.tbc"], "unrecognized subcommand 'disc.tbc'"),
-    // Options stand behind the command.
+    // Options stand after the command.
     (
         &["ldvbi", "--black", "1", "line"],
         "unexpected argument '--black' found\n\n  tip: 'line --black' exists",

@@ -14,7 +14,7 @@ pub(crate) fn read(alloc: Global, texts: &[&str]) -> Result<Job, WordsFault> {
     read_words(alloc, words.as_slice())
 }
 
-/// The same of the program's name, a command, and the words behind it.
+/// The same of the program's name, a command, and the words after it.
 pub(crate) fn read_behind(
     alloc: Global,
     command: &str,
@@ -76,7 +76,7 @@ static OPTIONS: [(&[&str], &[&str]); 5] = [
 ];
 
 /// The words for the options that are given, in their order, and the input: before the options where these have their
-/// values joined, else behind them.
+/// values joined, else after them.
 fn said(
     alloc: Global,
     given: [bool; 5],
@@ -152,7 +152,7 @@ fn recovered_words_are_asked_for_before_or_behind_the_input(rt: HostRuntime) -> 
     Ok(())
 }
 
-/// Words behind `extract`, and whether metadata beside the input is looked for.
+/// Words after `extract`, and whether metadata beside the input is looked for.
 static BESIDE: [(&[&str], bool); 7] = [
     (&["disc.tbc"], true),
     (&["--recover", "--max-fields", "5", "disc.tbc"], true),
@@ -177,7 +177,7 @@ fn metadata_is_looked_for_beside_a_file(rt: HostRuntime) -> Result<(), Fail> {
     Ok(())
 }
 
-/// The words behind the command, the path of the metadata and that of the input.
+/// The words after the command, the path of the metadata and that of the input.
 static PATHS: [(&[&str], Option<&str>, Option<&str>); 17] = [
     (&[], None, None),
     (&["disc.tbc"], None, Some("disc.tbc")),

@@ -1,5 +1,5 @@
 -- How a run of drawing ends where no field is written any more: the reader's end, its fault, a malformed row, or a byte
--- behind the last row that is allowed.
+-- after the last row that is allowed.
 use Rattle.std.proofs.Common.{◌≡◌, ℕ, ◌+◌, ◌≤◌, ◌<◌, ◌⊎◌, inl, inr, List, [], ◌∷◌, ◌++◌}
 use Rattle.std.proofs.Common.{length, refl, ap, subst, ◌∙◌, arith}
 use Rattle.std.specs.Prelude.{Option, None, Result, Ok, Err}

@@ -1,7 +1,6 @@
-use Rattle.std.proofs.Common.{arith}
 -- How a stream that is pushed begins and ends.
-use Rattle.std.proofs.Common.{◌≡◌, ℕ, ◌+◌, ◌*◌, ◌<◌, List, length, sym, ap, subst, ◌∙◌}
-use Rattle.std.specs.Prelude.{Option, Result, Ok, Err, OnOk, OnErr, IfOk, IfErr}
+use Rattle.std.proofs.Common.{◌≡◌, ℕ, ◌+◌, ◌*◌, ◌<◌, List, length, arith, sym, ap, subst, ◌∙◌}
+use Rattle.std.specs.Prelude.{Option, Result, Ok, Err}
 use Rattle.vbi_field.specs.ConfigView.{line_bytes, ConfigView}
 use Rattle.vbi_line.specs.Line.{Line}
 use Rattle.vbi_field.specs.Texts.{document}
@@ -9,7 +8,8 @@ use Rattle.vbi_field.specs.Feed.{IsAt, IsFinished, IsFeederState, position_in}
 use Rattle.vbi_field.specs.Outlet.{written_of, Puts, WrotePart, Outlet}
 use Rattle.vbi_field.specs.Stream.{fields_of, rest_of, cut_of, looks_of}
 use Rattle.vbi_field.specs.declared.progress.Progress.{Progress}
-use Rattle.vbi_field.specs.Ran.{RunFault, Write, Summary}
+use Rattle.vbi_field.specs.Extracts.{PutsTail}
+use Rattle.vbi_field.specs.Ran.{RunFault, Summary}
 use Rattle.vbi_field.proofs.Positions.{Split, split_of, split_fields, split_rest}
 use Rattle.vbi_field.proofs.Devices.{wrote_whole, put_in_part}
 
@@ -42,19 +42,16 @@ module _ {W : Type 0} (contents : W → Option (List ℕ)) (c : ConfigView) (l :
 
   -- the tail was put, or the first of it
   pub finished : (looked : ℕ) (r : Result Summary RunFault) → looked ≡ l.looked
-      → Puts contents o o' (document.tail p.fields rest)
-      → OnOk r (written_of o' ≡ written_of o + length (document.tail p.fields rest))
-      → IfOk r (λ s. s ≡ record { fields = p.fields; cut = cut_of rest; looked = looked })
-      → OnErr r (written_of o' < written_of o + length (document.tail p.fields rest))
-      → IfErr r (λ e. e ≡ Write (written_of o')) → IsFinished contents c o o' z r
-  finished looked (Ok s) ls puts whole says less fails =
+      → PutsTail document contents o o' p.fields rest looked r → IsFinished contents c o o' z r
+  finished looked (Ok s) ls put =
+      let says = put.ok in
       let same : s.looked ≡ l.looked = ap (λ s. s.looked) says ∙ ls in (
-        rw (← tail) (wrote_whole contents o o' (document.tail p.fields rest) puts whole),
+        rw (← tail) (wrote_whole contents o o' (document.tail p.fields rest) put.puts put.written),
         ap (λ s. s.fields) says ∙ fields,
         ap (λ s. s.cut) says ∙ ap cut_of past,
         same ∙ looks,
       )
-  finished looked (Err e) ls puts whole says less fails =
-      rw fails
-      (in_part contents o o' (document.tail p.fields rest) (document.tail (fields_of c z) (rest_of c z)) tail puts
-      less)
+  finished looked (Err e) ls put =
+      rw put.fault
+      (in_part contents o o' (document.tail p.fields rest) (document.tail (fields_of c z) (rest_of c z)) tail put.puts
+      put.short)

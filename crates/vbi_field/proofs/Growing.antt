@@ -24,7 +24,7 @@ line_at-more s z b i r le =
     ap (take (line_bytes s)) (drop-append-le p z b (omega arith))
     ∙ take-append-le (line_bytes s) (drop p z) b (omega arith)
 
--- the row behind the stream so far
+-- the row after the stream so far
 pub line_at-new : (s : System) (z b : List ℕ) (i r : ℕ) → length z ≡ (i * height_of s + r) * line_bytes s
     → length b ≡ line_bytes s → line_at s (z ++ b) i r ≡ b
 line_at-new s z b i r long whole =

@@ -141,7 +141,7 @@ module _ (s : System) (held b : List ℕ) (r : ℕ) (small : r ≤ 2) (room : 3 
     third = held_at row 2 is;
   }
 
--- ---- three rows one behind the other
+-- ---- three rows one after the other
 
 -- three rows that are taken apart and joined are what they were
 pub joined_in : (s : System) (rows : List ℕ) → length rows ≡ 3 * line_bytes s → joined_rows (rows_in s rows) ≡ rows

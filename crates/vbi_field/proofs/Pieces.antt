@@ -27,7 +27,7 @@ allowed-grows z b m =
     ]
 
 module _ {W : Type 0} (contents : W → Option (List ℕ)) where
-  -- what comes behind a piece that failed changes nothing
+  -- what comes after it a piece that failed changes nothing
   fault_stays : (c : ConfigView) (o o' : Outlet W) (z piece more : List ℕ) (now : Position) (fault : RunFault)
       → IsFed contents c o o' z piece now (Err fault) → IsFed contents c o o' z (piece ++ more) now (Err fault)
   fault_stays c o o' z piece more now (Read field offset) fed = fed
@@ -66,7 +66,7 @@ module _ {W : Type 0} (contents : W → Option (List ℕ)) where
   then_fed c o0 o o' z first bytes was now (Err fault) before after =
       fed_fault contents c o0 o o' z first bytes was now before fault after
 
-  -- a feeder whose call was Ok stands behind the piece
+  -- a feeder whose call was Ok stands after the piece
   stands_next : (f f' : Feeding) (o o' : Outlet W) (z piece : List ℕ) → Feeds contents f f' o o' piece (Ok tt)
       → StandsAt f z → StandsAt f' (z ++ piece)
   stands_next f f' o o' z piece fed stands = grind arith
@@ -89,7 +89,7 @@ module _ {W : Type 0} (contents : W → Option (List ℕ)) where
       let after = subst P fed.config (pieces_join next f' outlet o' (z ++ piece) pieces result stood rest) in
       then_fed f.config o outlet o' z piece (concat pieces) next.position f'.position result (fed.fed z stands) after
 
-  -- a feeder that took all pieces has kept its config, and stands behind them
+  -- a feeder that took all pieces has kept its config, and stands after them
   stands_behind : (f f' : Feeding) (o o' : Outlet W) (z : List ℕ) (pieces : List (List ℕ)) → StandsAt f z
       → FeedsAll contents f f' o o' pieces (Ok tt)
       → (f'.config ≡ f.config) × StandsAt f' (z ++ concat pieces)

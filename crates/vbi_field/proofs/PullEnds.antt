@@ -1,18 +1,19 @@
 -- How a run ends that fetched less than a row: its reader ended or failed, or too many bytes came.
-use Rattle.std.proofs.Common.{◌≡◌, ℕ, ◌+◌, ◌*◌, ◌≤◌, ◌<◌, inl, inr, List, ◌++◌, length, take, refl, sym, ap, ◌∙◌, arith, subst}
-use Rattle.std.specs.Prelude.{Option, Result, Ok, Err, OnOk, IfOk, OnErr, IfErr, IsErrAnd}
+use Rattle.std.proofs.Common.{◌≡◌, ℕ, ◌+◌, ◌*◌, ◌≤◌, ◌<◌, inl, inr, List, ◌++◌, length, take}
+use Rattle.std.proofs.Common.{refl, sym, ap, ◌∙◌, arith, subst}
+use Rattle.std.specs.Prelude.{Option, Result, Ok, Err, IfErr, IsErrAnd}
 use Rattle.std.proofs.KnownBytes.{Appends-trans, Consumes-trans}
 use Rattle.std.proofs.lemmas.List.{length-append, take_at}
 use Rattle.std.proofs.Math.Nat.{le_of_eq, le_trans, zero-mul}
 use Rattle.vbi_field.specs.ConfigView.{width_of, height_of, line_bytes, ConfigView, allowed_bytes}
-use Rattle.vbi_field.specs.Outlet.{NoError, HasCause, Outlet}
+use Rattle.vbi_field.specs.Outlet.{NoError, Outlet}
 use Rattle.vbi_line.specs.Intake as intakes
 use Rattle.vbi_line.specs.declared.intake.Filled.{Filled}
 use Rattle.vbi_line.specs.declared.intake.Filled.TheVariants.{Full, Ended}
 use Rattle.vbi_line.specs.declared.intake.Intake.{Intake}
-use Rattle.vbi_field.specs.Extracts.{Runs, TakesLine, AnswersAtLimit, EndsAtLimit}
+use Rattle.vbi_field.specs.Extracts.{Runs, TakesLine, PutsTail, AnswersAtLimit, EndsAtLimit}
 use Rattle.vbi_field.specs.Outlet as outlets
-use Rattle.vbi_field.specs.Ran.{EndsInside, RunFault, Summary, Read, Write, TooManyFields}
+use Rattle.vbi_field.specs.Ran.{EndsInside, RunFault, Summary, Read, TooManyFields}
 use Rattle.vbi_field.specs.Stream.{fields_of, rest_of, cut_of, looks_of}
 use Rattle.vbi_field.specs.Feed.{selected}
 use Rattle.vbi_field.specs.Texts.{text_before_tail, whole_text, Kind}
@@ -28,7 +29,7 @@ use Rattle.vbi_field.proofs.Pulled.{Pulled}
 module _ {t : Kind} {R W : Type 0} {remaining : R → Option (List ℕ)} {contents : W → Option (List ℕ)} {c : ConfigView}
     {i0 : Intake R} {o0 : Outlet W} {k : ℕ} {i : Intake R} {o : Outlet W} {p : Progress}
     (g : Pulled t remaining contents c i0 o0 k i o p) where
-  -- these bytes b were fetched behind z, less than a row
+  -- these bytes b were fetched after z, less than a row
   module _ (b : List ℕ) (short : length b < line_bytes c.system) where
     long : length (g.z ++ b) ≡ (p.fields * height_of c.system + p.row) * line_bytes c.system + length b
     long = let at = g.at in length-append g.z b ∙ ap (λ n. n + length b) at.whole
@@ -62,15 +63,9 @@ module _ {t : Kind} {R W : Type 0} {remaining : R → Option (List ℕ)} {conten
   pub ended : {i' : Intake R} {o' : Outlet W} (n : ℕ) (row : TakesLine remaining i i' (Ok (Ended n)))
       {fields rest looked : ℕ} → fields ≡ p.fields
       → rest ≡ p.row * line_bytes c.system + n → k * line_bytes c.system + n ≤ allowed_bytes c
-      → looked ≡ i'.line.looked → outlets.Puts contents o o' (t.tail fields rest)
-      → (r : Result Summary RunFault) → OnOk r (o'.written ≡ o.written + length (t.tail fields rest))
-      → OnOk r (NoError (outlets.counted_of o) (outlets.counted_of o'))
-      → IfOk r (λ s. s ≡ record { fields = fields; cut = cut_of rest; looked = looked })
-      → OnErr r (HasCause (outlets.counted_of o) (outlets.counted_of o'))
-      → OnErr r (outlets.written_of o' < outlets.written_of o + length (t.tail fields rest))
-      → IfErr r (λ e. e ≡ Write o'.written) → Runs t remaining contents c i0 i' o0 o' r
-  ended {i'} {o'} n row {fields} {rest} {looked} fs rs within ls puts r whole calm says cause less fails =
-      by r whole calm says cause less fails
+      → looked ≡ i'.line.looked → (r : Result Summary RunFault) → PutsTail t contents o o' fields rest looked r
+      → Runs t remaining contents c i0 i' o0 o' r
+  ended {i'} {o'} n row {fields} {rest} {looked} fs rs within ls r tail = by r tail
     where
       b : List ℕ
       b = row.bytes
@@ -100,15 +95,12 @@ module _ {t : Kind} {R W : Type 0} {remaining : R → Option (List ℕ)} {conten
           ∙ ap (λ n. text_before_tail t c (g.z ++ b) ++ t.tail n rest) is_fields
           ∙ ap (λ n. text_before_tail t c (g.z ++ b) ++ t.tail (fields_of c (g.z ++ b)) n) is_rest
 
-      by : (r : Result Summary RunFault) → OnOk r (o'.written ≡ o.written + length (t.tail fields rest))
-          → OnOk r (NoError (outlets.counted_of o) (outlets.counted_of o'))
-          → IfOk r (λ s. s ≡ record { fields = fields; cut = cut_of rest; looked = looked })
-          → OnErr r (HasCause (outlets.counted_of o) (outlets.counted_of o'))
-          → OnErr r (outlets.written_of o' < outlets.written_of o + length (t.tail fields rest))
-          → IfErr r (λ e. e ≡ Write o'.written) → Runs t remaining contents c i0 i' o0 o' r
-      by (Ok s) whole calm says cause less fails =
+      by : (r : Result Summary RunFault) → PutsTail t contents o o' fields rest looked r
+          → Runs t remaining contents c i0 i' o0 o' r
+      by (Ok s) tail =
           let got = row.got in
-          let wrote = wrote_whole contents o o' (t.tail fields rest) puts whole in
+          let says = tail.ok in
+          let wrote = wrote_whole contents o o' (t.tail fields rest) tail.puts tail.written in
           record {
             z = g.z ++ b;
             text = text_before_tail t c g.z ++ t.tail fields rest;
@@ -118,7 +110,7 @@ module _ {t : Kind} {R W : Type 0} {remaining : R → Option (List ℕ)} {conten
             written = omega (arith, g.written, length-append (text_before_tail t c g.z) (t.tail fields rest));
             says = record {
               looks = looks;
-              devices = (got.no_error ∙ g.calm_reads, calm ∙ g.calm_writes);
+              devices = (got.no_error ∙ g.calm_reads, tail.no_error ∙ g.calm_writes);
               came =
                   record {
                     document = document_is;
@@ -132,18 +124,18 @@ module _ {t : Kind} {R W : Type 0} {remaining : R → Option (List ℕ)} {conten
                   };
             };
           }
-      by (Err e) whole calm says cause less fails =
+      by (Err e) tail =
           let got = row.got in
-          let tail : List ℕ = t.tail fields rest in
-          let w = put_in_part contents o o' tail puts less in
+          let text : List ℕ = t.tail fields rest in
+          let w = put_in_part contents o o' text tail.puts tail.short in
           let P : List ℕ
           → Type 0 = λ x. EndsInside x (whole_text t c (g.z ++ b)) (text_before_tail t c g.z ++ w.part) in
           let inside =
-          inside_of contents o o' (text_before_tail t c g.z) tail (whole_text t c (g.z ++ b)) w document_is in
+          inside_of contents o o' (text_before_tail t c g.z) text (whole_text t c (g.z ++ b)) w document_is in
           write_fault t remaining contents c i0 o0 i' o o' (g.z ++ b) (text_before_tail t c g.z) w.part e
           (Consumes-trans _ _ _ g.z b g.consumed row.fetches.consumed)
           (omega (arith, row.fetches.fetched, g.fetched, length-append g.z b)) g.appended g.written
-          (got.no_error ∙ g.calm_reads) g.calm_writes w.wrote cause fails few looks
+          (got.no_error ∙ g.calm_reads) g.calm_writes w.wrote tail.failed tail.fault few looks
           (inr (inr (got.at_end, subst P (begun_is b short) inside)))
 
   -- the reader failed
@@ -212,7 +204,7 @@ module _ {t : Kind} {R W : Type 0} {remaining : R → Option (List ℕ)} {conten
         };
       }
 
-  -- the answer behind all fields that are allowed
+  -- the answer after all fields that are allowed
   pub at_limit : {i' : Intake R} {o' : Outlet W} (r : Result Summary RunFault) → k ≡ c.max_fields * height_of c.system
       → EndsAtLimit t remaining contents p.fields (p.row * line_bytes c.system) i i' o o' r
       → Runs t remaining contents c i0 i' o0 o' r
@@ -226,7 +218,7 @@ module _ {t : Kind} {R W : Type 0} {remaining : R → Option (List ℕ)} {conten
           let all = all_fields c.system p.fields p.row c.max_fields at.inside (g.rows ∙ last) in
           let rows = rows_fit c.system k c.max_fields (le_of_eq last) in
           ended n row refl (rw all.1 (omega (arith, zero-mul (line_bytes c.system), none))) (omega (arith, none, rows))
-          refl tail.puts r tail.written tail.no_error tail.ok tail.failed tail.short tail.fault
+          refl r tail
       by (Ok (Ended n)) row fault (inr (some, same, is)) =
           let got = row.got in
           rw (same, is) (too_many row last (omega (arith, got.count_of)) (omega (arith, got.short)) got.no_error)

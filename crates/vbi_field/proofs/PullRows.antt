@@ -45,7 +45,7 @@ record LastField (t : Kind) (c : ConfigView) (z b : List ℕ) : Type 0 where
   pub field : length last ≡ field_bytes c.system
   pub begun : text_before_tail t c before ≡ text_before_tail t c z
 
--- where a row b behind z ends a field
+-- where a row b after z ends a field
 last_field : (t : Kind) (c : ConfigView) (z b : List ℕ) (p p' : Progress) → IsProgress c z p → IsProgress c (z ++ b) p'
     → p'.fields ≡ p.fields + 1 → p'.row ≡ 0 → LastField t c z b
 last_field t c z b p p' at next fields row =

@@ -11,7 +11,7 @@ abbrev pub value_of : Outcome → ℕ
 value_of (Word w) = w
 value_of _ = 0
 
--- the rest of the first line, behind the version: the system, and the levels
+-- the rest of the first line, after the version: the system, and the levels
 unfoldable pub parameters_of : ConfigView → List ℕ
 parameters_of c = codes ",\"videoParameters\":{\"system\":\"" ++ name_of c.system
     ++ codes "\",\"fieldWidth\":" ++ decimal (width_of c.system)
@@ -23,7 +23,7 @@ parameters_of c = codes ",\"videoParameters\":{\"system\":\"" ++ name_of c.syste
 abbrev pub head_of : ConfigView → List ℕ
 head_of c = codes "{\"version\":2" ++ parameters_of c
 
--- a text for each of a field's three lines, with commas between, behind what opens them and before what closes them
+-- a text for each of a field's three lines, with commas between, after what opens them and before what closes them
 unfoldable pub lines_of : List ℕ → (Reading → List ℕ) → List ℕ → FieldReadings → List ℕ
 lines_of opening text_of closing readings = opening ++ text_of readings.first
     ++ codes "," ++ text_of readings.second ++ codes "," ++ text_of readings.third ++ closing

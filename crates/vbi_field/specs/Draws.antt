@@ -65,7 +65,7 @@ abbrev pub EndsRow : List ℕ → Type 0
 EndsRow text = (text ≡ []) ⊎ ((front : List ℕ) × (text ≡ front ++ newline ∷ []))
 
 module _ (c : ConfigView) (input : Option (List ℕ)) (z text : List ℕ) where
-  -- Ok: the reader ended behind this many rows, each of them well formed, and their fields were written
+  -- Ok: the reader ended after this many rows, each of them well formed, and their fields were written
   pub record DrawsAll (count : ℕ) : Type 0 where
     pub rows : List WordRow
     pub well_formed : AreRows z rows

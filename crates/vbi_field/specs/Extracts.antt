@@ -118,7 +118,7 @@ module _ {R : Type 0} (remaining : R → Option (List ℕ)) (old new : Intake R)
 -- ---- what a run does at its end
 
 module _ (t : Kind) {W : Type 0} (contents : W → Option (List ℕ)) (old new : Outlet W) where
-  -- the tail behind these fields and bytes was put, and the answer says so; or the writer failed inside it
+  -- the tail after these fields and bytes was put, and the answer says so; or the writer failed inside it
   pub record PutsTail (fields rest looked : ℕ) (result : Result Summary RunFault) : Type 0 where
     pub puts : outlets.Puts contents old new (t.tail fields rest)
     pub written : OnOk result (outlets.written_of new ≡ outlets.written_of old + length (t.tail fields rest))
@@ -128,14 +128,14 @@ module _ (t : Kind) {W : Type 0} (contents : W → Option (List ℕ)) (old new :
     pub short : OnErr result (outlets.written_of new < outlets.written_of old + length (t.tail fields rest))
     pub fault : IfErr result (λ e. e ≡ Write (outlets.written_of new))
 
-  -- the answer to what was got behind all fields that are allowed: nothing may come any more
+  -- the answer to what was got after all fields that are allowed: nothing may come any more
   abbrev pub AnswersAtLimit : ℕ → ℕ → Result Filled RunFault → Result Summary RunFault → Type 0
   AnswersAtLimit fields looked (Ok (Ended count)) result =
       ((count ≡ 0) × PutsTail fields 0 looked result) ⊎ ((0 < count) × (new ≡ old) × (result ≡ Err TooManyFields))
   AnswersAtLimit fields looked (Ok Full) result = (new ≡ old) × (result ≡ Err TooManyFields)
   AnswersAtLimit fields looked (Err fault) result = (new ≡ old) × (result ≡ Err fault)
 
--- one line more was asked for behind all fields that are allowed, and this is the answer
+-- one line more was asked for after all fields that are allowed, and this is the answer
 pub record EndsAtLimit (t : Kind) {R W : Type 0} (remaining : R → Option (List ℕ)) (contents : W → Option (List ℕ))
     (fields offset : ℕ) (i i' : Intake R) (o o' : Outlet W) (result : Result Summary RunFault) : Type 0 where
   pub got : Result Filled RunFault

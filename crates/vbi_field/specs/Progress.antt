@@ -27,7 +27,7 @@ pub record IsLineOf (c : ConfigView) (b : List ℕ) (row : ℕ) (reading : Optio
   pub whole : length b ≡ line_bytes c.system
   pub shows : 15 ≤ row → row ≤ 17 → reading ≡ Some (reading_of c.system (row_levels c.levels b))
 
--- one row b more behind z: inside a field, or at its end with the field's readings
+-- one row b more after z: inside a field, or at its end with the field's readings
 abbrev pub AdvancesOver : ConfigView → List ℕ → List ℕ → Progress → Option FieldReadings → Progress → Type 0
 AdvancesOver c z b old None new = IsProgress c (z ++ b) new × (new.fields ≡ old.fields)
 AdvancesOver c z b old (Some readings) new =
@@ -80,7 +80,7 @@ MovesOneRow c old new =
     ((new.fields ≡ old.fields) × (new.row ≡ old.row + 1))
     ⊎ ((new.fields ≡ old.fields + 1) × (new.row ≡ 0) × (old.row + 1 ≡ height_of c.system))
 
--- what a whole row b behind z leads to, for a kind t of text and by the answer: the text that is due with the row was
+-- what a whole row b after z leads to, for a kind t of text and by the answer: the text that is due with the row was
 -- written, or only the first of it
 abbrev pub AddsRow : Kind → {W : Type 0} → (W → Option (List ℕ)) → ConfigView → Outlet W → Outlet W → List ℕ → List ℕ
     → Progress → Result (Unit {0}) RunFault → Type 0

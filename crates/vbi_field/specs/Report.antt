@@ -25,12 +25,12 @@ format_text_of Clv = codes "clv"
 format_text_of Both = codes "both"
 format_text_of Neither = codes "neither"
 
--- the text behind the number of a line: its word and what it says, or why it has none
+-- the text after the number of a line: its word and what it says, or why it has none
 unfoldable pub shown_of : Outcome → List ℕ
 shown_of (Word word) = hex_text_of word ++ codes " " ++ code_text_of (code_of word)
 shown_of outcome = codes "none " ++ cause_text_of outcome
 
--- the four lines of a whole field: its number, the format of its words, and the texts behind the numbers of its lines
+-- the four lines of a whole field: its number, the format of its words, and the texts after the numbers of its lines
 unfoldable pub field_lines_of : ℕ → FieldReadings → List ℕ → List ℕ → List ℕ → List ℕ
 field_lines_of number readings first second third =
     let words =
@@ -43,7 +43,7 @@ abbrev pub report_entry_of : ℕ → FieldReadings → List ℕ
 report_entry_of number readings = field_lines_of number readings (shown_of readings.first.outcome)
     (shown_of readings.second.outcome) (shown_of readings.third.outcome)
 
--- the text behind the number of a line, with a mark behind a word of pass 3
+-- the text after the number of a line, with a mark after a word of pass 3
 unfoldable pub marked_of : Reading → List ℕ
 marked_of line = shown_of line.outcome ++ (if line.pass == 3 then codes " (recovered)" else [])
 

@@ -17,7 +17,7 @@ use Rattle.vbi_field.specs.Stream.{Reading, FieldReadings, FieldRows}
 
 -- ---- the nearest word of a row
 
--- the marks of the erased columns of a row of three, counted from 0, of which the marks lie one row behind the other
+-- the marks of the erased columns of a row of three, counted from 0, of which the marks lie one row after the other
 abbrev pub marks_at : System → List Bool → ℕ → List Bool
 marks_at system marks i = take (width_of system) (drop (width_of system * i) marks)
 
@@ -36,7 +36,7 @@ near_of system slicing row = (some_near system slicing (given_samples row ∷ []
 
 -- ---- what a field shows
 
--- three rows one behind the other
+-- three rows one after the other
 abbrev pub joined_rows : FieldRows → List ℕ
 joined_rows rows = rows.first ++ (rows.second ++ rows.third)
 

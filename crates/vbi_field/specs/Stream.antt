@@ -44,7 +44,7 @@ rows_at c z i = record {
   third = line_at c.system z i 17;
 }
 
--- the rows that lie one behind the other in these bytes
+-- the rows that lie one after the other in these bytes
 abbrev pub rows_in : System → List ℕ → FieldRows
 rows_in system bytes = record {
   first = line_at system bytes 0 0;

@@ -101,7 +101,7 @@ whole_text t c z = text_before_tail t c z ++ t.tail (fields_of c z) (rest_of c z
 abbrev pub IsTextBetween : Kind → ConfigView → List ℕ → List ℕ → List ℕ → Type 0
 IsTextBetween t c z longer text = text_before_tail t c z ++ text ≡ text_before_tail t c longer
 
--- what is written for a field when it is whole, behind this number of fields: the joint, if there is an entry
+-- what is written for a field when it is whole, after this number of fields: the joint, if there is an entry
 -- before, and the entry
 abbrev pub joined_entry_of : Kind → ConfigView → ℕ → FieldRows → List ℕ
 joined_entry_of t c before rows = (if before == 0 then [] else t.joint) ++ t.entry c (before + 1) rows

@@ -7,7 +7,7 @@ use Rattle.std.specs.Str.Parse.{AllDigits, digits_value}
 use Rattle.vbi_words.specs.Words.{IsWord}
 pub use Rattle.vbi_field.specs.declared.word_row.WordRow.{WordRow}
 
--- the code of the newline behind a row
+-- the code of the newline after a row
 abbrev pub newline : ℕ
 newline = 10
 

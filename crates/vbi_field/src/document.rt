@@ -67,7 +67,7 @@ fn value(outcome: Outcome) -> u32
     }
 }
 
-/// The rest of the first line, behind the version: the system, and the levels.
+/// The rest of the first line, after the version: the system, and the levels.
 #[tactic(auto, unfolding(crate::specs::Document::parameters_of))]
 fn parameters_text(config: &Config) -> ArrayString<160>
     ensures { result.bytes ≡ parameters_of config.now }
@@ -164,7 +164,7 @@ pub(crate) fn passes_text(readings: &FieldReadings) -> ArrayString<24>
     text
 }
 
-/// The record of the field that this many fields come before, behind the joint unless it is the first.
+/// The record of the field after this many others, with the joint before it unless it is the first.
 #[tactic(auto, unfolding(crate::specs::Document::record_of))]
 fn record_text(before: u32, readings: &FieldReadings) -> ArrayString<TEXT_SIZE>
     requires { before < 2 ^ 32 - 1 }

@@ -14,7 +14,7 @@
 //!
 //! The outlet is lent to each call, and the feeder doesn't own it: a caller may keep both in one struct. No contract
 //! can ask for the same outlet in each call, so that is left to the caller. A fault may have cut a record off in the
-//! middle, so `has_failed` keeps the feeder from writing behind it.
+//! middle, so `has_failed` keeps the feeder from writing after it.
 //!
 //! A new field of `Feeder` has to be seen in `feeding_of` (`specs/Feed.antt`), and what always holds of it said in
 //! `IsFeederState`. What is written is changed in document.rt, and when it is written in progress.rt.

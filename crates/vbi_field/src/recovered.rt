@@ -153,7 +153,7 @@ fn nears_text(
     text
 }
 
-/// The record of a field of these lines, causes and nearest words, behind the joint unless it is the first.
+/// The record of a field of these lines, causes and nearest words, with the joint before it unless it is the first.
 #[tactic(auto, unfolding(crate::specs::Recovered::record_with))]
 fn record_with(
     is_first: bool,
@@ -180,8 +180,8 @@ fn record_with(
     text
 }
 
-/// The record of a field of this number, behind the joint unless it is the first: by the readings of its rows, their
-/// bytes and the marks of their erased columns.
+/// The record of a field of this number, with the joint before it unless it is the first: by the readings of its rows,
+/// their bytes and the marks of their erased columns.
 fn record_text(
     config: &Config,
     is_first: bool,
@@ -218,7 +218,7 @@ fn readings_of_rows(config: &Config, rows: &[u8]) -> FieldReadings
 }
 
 /// The record that the document of `extract --recover` has of a field with this number, by the bytes of its rows 15, 16
-/// and 17, one behind the other, and by the marks of their erased columns, a row's behind those of the one before:
+/// and 17, one after the other, and by the marks of their erased columns, a row's after those of the one before:
 /// those columns count for no nearest word. The document's own records are those of rows without such columns. It
 /// numbers fields from 1; any number is written. A comma and a newline stand between two of its records.
 pub fn recovered_record(

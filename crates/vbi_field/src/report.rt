@@ -108,7 +108,7 @@ fn format_name(format: Format) -> &'static str
     }
 }
 
-/// The text behind the number of a line.
+/// The text after the number of a line.
 #[tactic(auto, unfolding(crate::specs::Report::shown_of))]
 fn shown_text(outcome: Outcome) -> ArrayString<31>
     ensures { result.bytes ≡ shown_of outcome }
@@ -128,7 +128,7 @@ fn shown_text(outcome: Outcome) -> ArrayString<31>
     text
 }
 
-/// The text behind the number of a line, with a mark behind a word of pass 3.
+/// The text after the number of a line, with a mark after a word of pass 3.
 #[tactic(auto, unfolding(crate::specs::Report::marked_of))]
 fn marked_text(line: &Reading) -> ArrayString<43>
     ensures { result.bytes ≡ marked_of line.now }
@@ -141,7 +141,7 @@ fn marked_text(line: &Reading) -> ArrayString<43>
     text
 }
 
-/// The four lines of the whole field of this number, counted from 1, by its readings and the texts behind the numbers
+/// The four lines of the whole field of this number, counted from 1, by its readings and the texts after the numbers
 /// of its lines.
 #[tactic(auto, unfolding(crate::specs::Report::field_lines_of))]
 fn field_lines(

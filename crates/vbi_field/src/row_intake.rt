@@ -93,7 +93,7 @@ impl<'a, R: Read> RowIntake<'a, R> {
         requires failures { (failures_of (counted_of self.old)).all ≤ 2 ^ 62 }
         ensures { TakesByte R.remaining self.old self.new result }
     {
-        // One byte in a read, since none behind a row may be fetched before the row's field is written.
+        // One byte in a read, since none after a row may be fetched before the row's field is written.
         let mut byte = [0u8; 1];
         match self.device.read_some(&mut byte) {
             Ok(0) => NextByte::AtEnd,

@@ -4,8 +4,9 @@ ghost use Rattle.vbi_words.specs.Geometry.{line_bytes};
 ghost use Rattle.vbi_line.specs.Counted.{failures_of, NoError, HasCause, IsSameDevice};
 ghost use Rattle.vbi_field.specs.Texts as kinds;
 ghost use Rattle.vbi_field.specs.ConfigView.{most_fields};
+ghost use Rattle.vbi_field.specs.Extracts.{PutsTail};
 ghost use Rattle.vbi_field.specs.Outlet.{counted_of, written_of, Puts};
-ghost use Rattle.vbi_field.specs.Stream.{cut_of, readings_of, rows_in, FieldRows};
+ghost use Rattle.vbi_field.specs.Stream.{readings_of, rows_in, FieldRows};
 ghost use Rattle.vbi_field.specs.Texts.{joined_entry_of};
 
 use crate::config::Config;
@@ -36,8 +37,8 @@ pub(crate) trait Kind {
     fn head(config: &Config) -> ArrayString<TEXT_SIZE>
         ensures { result.bytes ≡ kind.head config.now };
 
-    /// The entry of a field behind `before` others, after the joint where there are any: by its readings and, where
-    /// they are kept, the bytes of its rows.
+    /// The entry of a field after `before` others, with the joint before it if there are any: by its readings and the
+    /// bytes of its rows, where these are kept.
     fn entry(
         config: &Config,
         before: u32,
@@ -50,7 +51,7 @@ pub(crate) trait Kind {
             → (IsTrue KEEPS → rows_in config.now.system held.now ≡ rows)
             → result.bytes ≡ joined_entry_of kind config.now before rows };
 
-    /// The tail, behind this number of whole fields and this number of bytes past them.
+    /// The tail after this number of whole fields and this number of bytes past them.
     fn tail(fields: u32, rest: u32) -> ArrayString<TEXT_SIZE>
         requires { fields < 2 ^ 32 - 1 }
         ensures { result.bytes ≡ kind.tail fields rest };
@@ -88,13 +89,7 @@ pub(crate) fn end<K: Kind, W: Write>(
     requires failures { (failures_of (counted_of outlet.old)).all ≤ 2 ^ 62 }
     requires fields { fields ≤ most_fields }
     ensures same { IsSameDevice (counted_of outlet.old) (counted_of outlet.new) }
-    ensures puts { Puts W.contents outlet.old outlet.new (K.kind.tail fields rest) }
-    ensures written { OnOk result (written_of outlet.new ≡ written_of outlet.old + length (K.kind.tail fields rest)) }
-    ensures no_error { OnOk result (NoError (counted_of outlet.old) (counted_of outlet.new)) }
-    ensures ok { IfOk result (λ s. s ≡ record { fields = fields; cut = cut_of rest; looked = looked }) }
-    ensures failed { OnErr result (HasCause (counted_of outlet.old) (counted_of outlet.new)) }
-    ensures short { OnErr result (written_of outlet.new < written_of outlet.old + length (K.kind.tail fields rest)) }
-    ensures fault { IfErr result (λ e. e ≡ RunFault.Write (written_of outlet.new)) }
+    ensures tail { PutsTail K.kind W.contents outlet.old outlet.new fields rest looked result }
 {
     put(outlet, K::tail(fields, rest).as_str())?;
     let cut = if rest == 0 { None } else { Some(rest) };

@@ -24,7 +24,7 @@ enum End {
     Whole(u32),
     /// Whole, after the first byte of the first field.
     Cut,
-    /// By an error, in this field behind so many of its bytes.
+    /// By an error, in this field after so many of its bytes.
     Read(u32, u32),
     /// By a byte past the last field allowed.
     TooMany(u32),
@@ -56,7 +56,7 @@ static READERS: [(System, u32, usize, Option<usize>, End, u64); 22] = [
     (Ntsc, 1, TWO, Some(478_665), Read(2, 5), 478_666),
     (Ntsc, 1, 478_665, None, TooMany(1), 478_666),
     (Ntsc, 2, 957_321, None, TooMany(2), 957_322),
-    // A whole line past the last field, behind which nothing is asked for.
+    // A whole line past the last field, after which nothing is asked for.
     (Ntsc, 1, TWO, None, TooMany(1), 480_480),
     (Pal, 5, 1, None, Cut, 2),
     (Pal, 1, PAL_FIELD, None, Whole(1), 710_511),
@@ -65,7 +65,7 @@ static READERS: [(System, u32, usize, Option<usize>, End, u64); 22] = [
     (Pal, 1, 1_421_020, None, TooMany(1), 712_780),
 ];
 
-/// What stands behind the head of a document or a report of one byte.
+/// What stands after the head of a document or a report of one byte.
 static CUTS: [&str; 2] = [
     "\n],\"cutField\":{\"seqNo\":1,\"bytes\":1}}\n",
     "fields 0 cut field 1 bytes 1\n",

@@ -161,7 +161,7 @@ const WRITE: RunFault = RunFault::Write { written: 150 };
 static FAULTS: [(usize, Option<usize>, RunFault, Failures, u64, u64); 3] = [
     (0, Some(150), WRITE, ONE_ERROR, 150, 151),
     (1, None, RunFault::TooManyFields, NO_FAILURE, 227, 227),
-    // Too many fields as well, behind the record that isn't written.
+    // Too many fields as well, after the record that isn't written.
     (1, Some(150), WRITE, ONE_ERROR, 150, 151),
 ];
 

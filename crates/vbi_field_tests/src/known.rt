@@ -40,7 +40,7 @@ pub(crate) const PAL_WORDS: &str = "{\"seqNo\":1,\"vbi\":{\"vbiData\":[9101330,8
 /// The end of a document where no field was cut: 20 bytes.
 pub(crate) const TAIL: &str = "\n],\"cutField\":null}\n";
 
-/// What stands before the number of bytes of a cut first field, and behind it.
+/// What stands before the number of bytes of a cut first field, and after it.
 pub(crate) const CUT: &str = "\n],\"cutField\":{\"seqNo\":1,\"bytes\":";
 
 pub(crate) const CUT_END: &str = "}}\n";

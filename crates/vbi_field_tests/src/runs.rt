@@ -123,7 +123,7 @@ pub(crate) fn whole(fields: u32, cut: Option<u32>, looked: u64) -> Ended {
     })
 }
 
-/// Whether a writer took so many bytes, and they begin these texts, one behind another.
+/// Whether a writer took so many bytes, and they begin these texts, one after another.
 fn took(paper: &Paper, count: u64, texts: &[&str]) -> bool {
     let mut rest = paper.taken.as_slice();
     for text in texts {

@@ -10,7 +10,7 @@ use Rattle.vbi_line.specs.Packing.{level_of_bit, EqualBits}
 use Rattle.vbi_line.specs.Straight.{IsBitRun, IsHalf, IsOneRun, IsTwoRuns, ReachesMiddle}
 use Rattle.vbi_line.proofs.Packs.{bit_behind, low_bit}
 
--- a bit of it is set where the word's level changes behind that bit
+-- a bit of it is set where the word's level changes after that bit
 abbrev pub changes_of : ℕ → ℕ
 changes_of word = bit_xor word (word / 2 ^ 1)
 
@@ -70,7 +70,7 @@ run_found word place zeros bits inside =
     run_of_bits word place (1 + zeros) (omega arith) (λ i l. bits.each i (omega arith))
     (λ e. bits.ends inside (ap (λ (n : ℕ). level_of_bit (changes_of word) (place + n)) (sym count) ∙ e))
 
--- what was found of the changes of a word: none from its first bit on, nor from that behind a half cell, nor from the
+-- what was found of the changes of a word: none from its first bit on, nor from that after a half cell, nor from the
 -- cell's end on, for so many
 pub record Found (system : System) (word first far end rest : ℕ) : Type 0 where
   pub near : EqualBits (changes_of word) 0 false first

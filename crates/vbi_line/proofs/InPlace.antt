@@ -13,7 +13,7 @@ use Rattle.vbi_line.specs.Packing.{level_of_bit, levels_in, TellsAbove}
 use Rattle.vbi_line.proofs.Packs.{bit_behind, joined, joined_below, joined_inside}
 use Rattle.vbi_line.proofs.Slicing.{Sliced, above, sliced_more}
 
--- ---- more bits behind those of the first samples
+-- ---- more bits after those of the first samples
 
 module _ (word bits place count : ℕ) (fits : place + count ≤ 64) (small : word < 2 ^ place)
     (few : bits < 2 ^ count) where
@@ -73,7 +73,7 @@ last-lt count bits few small =
     let product : 2 ^ count * 2 ^ skipped ≡ 2 ^ 16 = sym (pow-add 2 count skipped) ∙ ap (λ (n : ℕ). 2 ^ n) whole in
     (div-lt_iff_lt-mul (pow_pos skipped)).1 (omega (arith, product))
 
--- ---- levels of a word behind those of the samples before a column
+-- ---- levels of a word after those of the samples before a column
 
 module _ (levels : List Bool) (column count word : ℕ) (here : length levels ≡ column) where
   pub length_with_word : length (levels ++ levels_in count word) ≡ column + count

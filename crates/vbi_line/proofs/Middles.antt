@@ -94,7 +94,7 @@ module _ (system : System) where
 
   module _ {levels : List Bool} {n : ℕ} (run : IsRun levels 0 false n) (long : half_min system ≤ n)
       (inside : n < length levels) where
-    -- the column behind the lows
+    -- the column after the lows
     behind_lows : 0 + n ≡ n
     behind_lows = omega arith
 
@@ -120,11 +120,11 @@ module _ (system : System) where
   -- ---- from one middle to the next
 
   module _ {levels : List Bool} {column : ℕ} {bits : List Bool} (middle : IsMiddle system levels column bits) where
-    -- the level behind the middle
+    -- the level after the middle
     abbrev level : Bool
     level = level_at levels column
 
-    -- the state behind the run that begins at the middle
+    -- the state after the run that begins at the middle
     after_middle : {n : ℕ} → IsRun levels column level n → (m : ℕ) → limit_of system (second level 1 bits) ≡ Some m
         → n ≤ m → state_at system levels (column + n) ≡ second level n bits
     after_middle {n} run m limit l =
@@ -175,7 +175,7 @@ module _ (system : System) where
               ≡ second x 1 (bits ++ x ∷ [])) (sym next) turned;
         }
 
-    -- ---- behind the last cell
+    -- ---- after the last cell
 
     module _ (full : length bits ≡ 24) where
       low_end : {n : ℕ} → level ≡ false → IsRun levels column level n → column + n ≡ length levels

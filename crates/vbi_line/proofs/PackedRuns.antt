@@ -98,7 +98,7 @@ module _ {words : List ℕ} {width column end : ℕ} {level : Bool} {equal : ℕ
   abbrev word : ℕ
   word = slice_index words (end / 64)
 
-  -- the level of a column behind the end, in its word
+  -- the level of a column after the end, in its word
   at : (i : ℕ) → end % 64 + i < 64 → packed_level words (end + i) ≡ level_of_bit word (end % 64 + i)
   at i l = grind arith
 

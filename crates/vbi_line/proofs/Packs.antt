@@ -134,7 +134,7 @@ module _ {words : List ℕ} {width bits count : ℕ} (has : HasRoom words width 
   abbrev word : ℕ
   word = slice_index words (width / 64)
 
-  -- the place behind its levels
+  -- the place after its levels
   abbrev place : ℕ
   place = width % 64
 

@@ -10,7 +10,7 @@ use Rattle.vbi_line.specs.declared.decoder.Decoder.{Decoder}
 use Rattle.vbi_line.specs.Decoder.{state_of, DiesAfter}
 use Rattle.vbi_line.proofs.Ending.{alive}
 
--- a run of v, behind whose first level the decoder is `begun`
+-- a run of v, after whose first level the decoder is `begun`
 module _ (system : System) (state : State) (v : Bool) (begun : Decoder)
     (is : state_of begun ≡ next_of system state v) where
   pub free : (count : ℕ) → 0 < count → None ≡ limit_of system (state_of begun)

@@ -20,7 +20,7 @@ use Rattle.vbi_line.specs.Decoder.{DiesAfter}
 
 -- ---- a run in the window
 
--- a run of x begins behind these levels: the last of them is another, or all of them are x
+-- a run of x begins after these levels: the last of them is another, or all of them are x
 abbrev pub Turns : Bool → Bool → Bool → Bool → Bool → Type 0
 Turns out a b c x = (c ≡ not x) ⊎ ((out ≡ x) × (a ≡ x) × (b ≡ x) × (c ≡ x))
 
@@ -47,7 +47,7 @@ long_run out a b c x (suc (suc (suc (suc k)))) s (inr (e, f, g, h)) l =
     rw (e, f, g, h) (steady_same x (suc (suc (suc (suc k)))) s
     ∙ ap (λ (m : ℕ). x ∷ x ∷ x ∷ (replicate m x ++ steady x s)) n)
 
--- behind a short run the window still gives the level before it, and x is the last of its levels
+-- after a short run the window still gives the level before it, and x is the last of its levels
 abbrev pub ShortRun : Bool → Bool → Bool → Bool → Bool → ℕ → List Bool → Type 0
 ShortRun out a b c x k s =
     (a' : Bool) × (b' : Bool) × (window out a b c (replicate k x ++ s) ≡ replicate k out ++ window out a' b' x s)
@@ -113,7 +113,7 @@ begins system levels = record {
     first true = inl refl
     first false = inr (refl, refl, refl, refl)
 
--- the state behind a run of n levels v
+-- the state after a run of n levels v
 state_on : (system : System) (front : List Bool) (v : Bool) (n : ℕ) (state new : State)
     → state ≡ state_after system front → new ≡ after_of system state (replicate n v)
     → new ≡ state_after system (front ++ replicate n v)
@@ -138,7 +138,7 @@ run_dies system s front rest v n state e is lived within dies w shows =
 
 module _ {system : System} {levels : List Bool} {column : ℕ} {out : Bool} {state : State}
     (h : Halfway system levels column out state) {x : Bool} {count : ℕ} (run : IsRun levels column x count) where
-  -- the levels behind the run
+  -- the levels after the run
   abbrev rest : List Bool
   rest = drop (column + count) levels
 

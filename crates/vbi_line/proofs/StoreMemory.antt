@@ -34,7 +34,7 @@ use Rattle.vbi_line.specs.StoreLends.{with_part}
 abbrev pub part_of : List ℕ → ℕ → ℕ → List ℕ
 part_of xs from to = take (to - from) (drop from xs)
 
--- a list is the elements before a part, the part, and those behind it
+-- a list is the elements before a part, the part, and those after it
 pub in_parts : (xs : List ℕ) (from to : ℕ) → from ≤ to → take from xs ++ (part_of xs from to ++ drop to xs) ≡ xs
 in_parts xs from to le =
     let ends : from + (to - from) ≡ to = omega arith in

@@ -39,7 +39,7 @@ bit_moved_high n k i l within =
     bit_cut (n * 2 ^ k) i within ∙ ap (λ (x : ℕ). bit_at x i) (sym (add-zero (n * 2 ^ k)))
     ∙ bit_at_cat_high n k 0 i (pow_pos k) l
 
--- the bits of one word from a place on, and those of the next behind them
+-- the bits of one word from a place on, and those of the next after them
 abbrev pub two_words : ℕ → ℕ → ℕ → ℕ
 two_words here next place = bit_or (here / 2 ^ place) (next * 2 ^ (64 - place) % 2 ^ 64)
 

@@ -36,7 +36,7 @@ module _ {R : Type 0} where
     pub fetched : fetched_of i ≡ 0
     pub failures : (failures_of (counted_of i)).all ≡ 0
 
-  -- the reader's next bytes are now held behind the others, and the passes are as they were
+  -- the reader's next bytes are now held after the others, and the passes are as they were
   pub record FetchesBytes (remaining : R → Option (List ℕ)) (old new : Intake R) (bytes : List ℕ) : Type 0 where
     pub held : held_of new ≡ held_of old ++ bytes
     pub consumed : Consumes (remaining (device_of (counted_of old))) (remaining (device_of (counted_of new))) bytes

@@ -29,7 +29,7 @@ IsTwoRuns system word first columns =
     IsBitRun word 0 first × IsHalf system first
     × IsBitRun word first (columns - first) × IsHalf system (columns - first)
 
--- the word's first bit is the first behind the middle of a cell, and after so many comes the middle of the next
+-- the word's first bit is the first after the middle of a cell, and after so many comes the middle of the next
 abbrev pub ReachesMiddle : System → ℕ → ℕ → Type 0
 ReachesMiddle system word columns =
     IsOneRun system word columns ⊎ ((first : ℕ) × (first < columns) × IsTwoRuns system word first columns)

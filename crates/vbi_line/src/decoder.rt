@@ -15,11 +15,11 @@
 //! How long a run will be isn't known while it lasts. One that begins in the middle of a cell (`Second`) may end with
 //! that cell or, as a double run, in the middle of the next: `turn_second` decides it by the length, once the level has
 //! changed. One that begins with a cell (`First`) ends in its middle. The first half cell of a word is low, so it can't
-//! be told from the lows before it, and `Lead` counts both. The lows behind a word may be any number too: they are the
+//! be told from the lows before it, and `Lead` counts both. The lows after a word may be any number too: they are the
 //! `Tail` or, where the last bit is 0, belong to the last cell's `Second`, which has no greatest length then.
 //!
 //! A run that is too short, or neither one half cell nor two, shows when the level changes (the cause `change`), and
-//! so does a high behind the word; one that is too long shows at the first column past its limit (`hold`). `None` and
+//! so does a high after the word; one that is too long shows at the first column past its limit (`hold`). `None` and
 //! `Err` mean that no continuation shows a word, so that column is the first hopeless one.
 //!
 //! `read_runs` (outcome.rt) decodes a line this way where straight.rt finds no word, and `smoothed_word` (reading.rt)

@@ -89,7 +89,7 @@ impl LineBuf {
         self.store.part_mut(held, end)
     }
 
-    /// Holds the first `n` bytes of the room, behind those held before.
+    /// Holds the first `n` bytes of the room, after those held before.
     pub fn commit(&mut self, n: usize)
         requires { n ≤ length self.old.room }
         ensures held { self.new.held ≡ self.old.held ++ take n self.old.room }

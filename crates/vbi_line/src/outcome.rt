@@ -52,7 +52,7 @@ pub(crate) fn find_outcome(packed: &Packed, system: System) -> Outcome
     }
 }
 
-/// The cause at the first hopeless column, which is this number of columns behind the first column of its run.
+/// The cause at the first hopeless column, which is this number of columns after the first column of its run.
 fn cause(begin: usize, behind: usize) -> Outcome
     requires { begin + behind < 2 ^ 16 }
     ensures change { behind ≡ 0 → result ≡ Outcome.Change (begin + behind) }

@@ -106,7 +106,7 @@ impl Packed {
         (level, (self.run_end(column, level) - column) as u16)
     }
 
-    /// The column behind the run of a level that a column is in.
+    /// The column after the run of a level that a column is in.
     pub(crate) fn run_end(&self, column: usize, level: bool) -> usize
         requires inside { column < length self.now }
         requires level { level ≡ level_at self.now column }

@@ -1,7 +1,7 @@
 //! The straight way to a line's word, cell by cell, without a branch on whether a run is one half cell or two, which no
 //! processor foresees. It finds the word of most lines that show one, and no cause.
 //!
-//! The middles of the cells are enough. In the middle of every cell the level changes, and the level behind that change
+//! The middles of the cells are enough. In the middle of every cell the level changes, and the level after that change
 //! is the cell's bit; where one cell ends and the next begins, the level may change or not:
 //!
 //! ```text
@@ -12,7 +12,7 @@
 //!
 //! Twice `half_min` is more than `half_max`. So the next middle is the first change that is more than `half_max`
 //! columns away, in either case, and a change before that can only be the cell's end. `next_middle` looks for both in
-//! the 64 columns behind a middle, which is enough as two half cells have 44 at most, and then asks whether the lengths
+//! the 64 columns after a middle, which is enough as two half cells have 44 at most, and then asks whether the lengths
 //! are right. Where there is one run, its two halves are the half cells. A glitch makes changes of its own, with which
 //! the lengths come out wrong, and the answer is `None`.
 //!
@@ -50,7 +50,7 @@ fn first_level(word: u64) -> bool
     word & 1 == 1
 }
 
-/// Where a cell ends whose middle is before the first column: behind the first change of level where that is near, and
+/// Where a cell ends whose middle is before the first column: after the first change of level where that is near, and
 /// else in the middle of the columns up to the next.
 fn cell_end(first: usize, columns: usize, most: usize) -> usize
     ensures { ((first ≤ most) × (result ≡ first)) ⊎ ((most < first) × (result ≡ columns / 2)) }
@@ -58,14 +58,14 @@ fn cell_end(first: usize, columns: usize, most: usize) -> usize
     if first <= most { first } else { columns / 2 }
 }
 
-/// How many columns there are from the middle of a cell to that of the next, by the levels of the columns behind it.
+/// How many columns there are from the middle of a cell to that of the next, by the levels of the columns after it.
 /// `None`: the runs up to there aren't one half cell and another, or both in one run.
 fn next_middle(window: u64, system: System) -> Option<usize>
     ensures { IfSome result (λ columns. ReachesMiddle system window columns) }
 {
     let least = system.half_min();
     let most = system.half_max();
-    // The bit of a column is set where the level changes behind it. The next middle is the first change that is more
+    // The bit of a column is set where the level changes after it. The next middle is the first change that is more
     // than the longest half cell away; a change before that is the cell's end.
     let changes = window ^ (window >> 1);
     let columns = most + 1 + equal_bits(changes, most, false);
@@ -79,7 +79,7 @@ fn next_middle(window: u64, system: System) -> Option<usize>
     }
 }
 
-/// The middle of the first cell, behind the lows before the word.
+/// The middle of the first cell, after the lows before the word.
 fn first_middle(packed: &Packed, system: System) -> Option<usize>
     ensures { IfSome result (λ column. IsMiddle system packed.now column (true ∷ [])
         × (level_at packed.now column ≡ true)) }

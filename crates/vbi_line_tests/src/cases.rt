@@ -25,7 +25,7 @@ pub(crate) enum Shape {
     Runs(usize, usize, usize),
     /// The drawn row of a word.
     Drawn(u32),
-    /// A word in half cells of the least length, behind so many lows.
+    /// A word in half cells of the least length, after so many lows.
     Least(u32, usize),
 }
 
@@ -51,7 +51,7 @@ fn runs(levels: Levels, low: usize, length: usize, count: usize) -> [u16; 1135] 
     samples
 }
 
-/// A word in half cells of the least length, behind so many lows.
+/// A word in half cells of the least length, after so many lows.
 fn least(system: System, levels: Levels, value: u32, lows: usize) -> [u16; 1135] {
     let mut samples = [levels.black(); 1135];
     if let Ok(word) = Word24::new(value) {

@@ -59,7 +59,7 @@ static OTHERS: [&[u32]; 17] = [
     &[0x92CFFF, 0x81CFFF, 0x83CFFF, 0x82BFFF, 0x82CEFF],
     &[0x82CFEF, 0x82CFFE, 0x97FFFF, 0x86FFFF, 0x87EFFF],
     &[0x87FEFF, 0x87FFEF, 0x87FFFE],
-    // Pictures are F00000 to FF9999, without the digits A to F behind the second.
+    // Pictures are F00000 to FF9999, without the digits A to F after the second.
     &[0xE00000, 0xEF9999, 0xF0A000, 0xFFA999, 0xF00A00, 0xFF9A99],
     &[0xF000A0, 0xFF99A9, 0xF0000A, 0xFF999A, 0xF12A45],
     // Chapters are 800DDD to 8F9DDD, without the digits A to F as the third.

@@ -8,19 +8,19 @@ use crate::cases::{Clear, Glitch, are_clear, are_read};
 use std::test::Fail;
 use vbi_words::System::{Ntsc, Pal};
 
-/// The word of 24 ones, whose 47 runs behind the first low one are single half cells.
+/// The word of 24 ones, whose 47 runs after the first low one are single half cells.
 const ONES: u32 = 0xFFFFFF;
 
-/// The word of ones and zeros in turn, whose 23 runs behind the first low one are double half cells.
+/// The word of ones and zeros in turn, whose 23 runs after the first low one are double half cells.
 const TURNS: u32 = 0xAAAAAA;
 
 /// The word of 23 ones, which ends with a low half cell.
 const EVEN: u32 = 0xFFFFFE;
 
-/// A picture stop. Drawn in NTSC its first high run has columns 164 to 191, the low one behind it 192 to 206.
+/// A picture stop. Drawn in NTSC its first high run has columns 164 to 191, the low one after it 192 to 206.
 const STOP: u32 = 0x82CFFF;
 
-/// A picture of a CLV disc. Drawn in PAL its first high run has columns 207 to 242, the low one behind it 243 to 259,
+/// A picture of a CLV disc. Drawn in PAL its first high run has columns 207 to 242, the low one after it 243 to 259,
 /// and it ends with a low half cell before column 1041.
 const CLV: u32 = 0x8AE012;
 
@@ -52,7 +52,7 @@ fn half_cells_have_their_least_and_greatest_length() -> Result<(), Fail> {
     are_clear(&LENGTHS)
 }
 
-/// The low run behind a single high one begins a cell and can't be double; that behind a double one can.
+/// The low run after a single high one begins a cell and can't be double; that after a double one can.
 static CAUSES: [Clear; 54] = [
     (Ntsc, Run(0, 0), Blank),
     (Ntsc, Run(0, 1), Change(0)),
@@ -173,7 +173,7 @@ static GLITCHES: [Glitch; 22] = [
     (Ntsc, Drawn(STOP), High(0, 1), Change(0), STOP),
     (Ntsc, Drawn(STOP), High(50, 53), Change(53), STOP),
     (Ntsc, Drawn(STOP), High(50, 54), Change(54), 0),
-    // A column behind the word, whose last high one is column 836.
+    // A column after the word, whose last high one is column 836.
     (Ntsc, Drawn(ONES), High(850, 851), Change(850), ONES),
     (Pal, Drawn(CLV), Nothing, Word(CLV), 0),
     (Pal, Drawn(CLV), Low(215, 216), Change(215), CLV),

@@ -57,7 +57,7 @@ fn the_comparison_does_not_wrap() -> Result<(), Fail> {
     Ok(())
 }
 
-/// A system, the whole blocks of its line, and the column behind these.
+/// A system, the whole blocks of its line, and the column after these.
 static BLOCKS: [(System, usize, usize); 2] = [(System::Ntsc, 56, 896), (System::Pal, 70, 1120)];
 
 #[test]

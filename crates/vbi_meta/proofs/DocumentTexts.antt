@@ -130,7 +130,7 @@ eleven : (t0 n t1 w t2 h t3 b t4 x t5 r : List ℕ) → (t0 ++ n ++ t1 ++ w ++ t
     ≡ t0 ++ (n ++ (t1 ++ (w ++ (t2 ++ (h ++ (t3 ++ (b ++ (t4 ++ (x ++ (t5 ++ r))))))))))
 eleven t0 n t1 w t2 h t3 b t4 x t5 r = simp append_assoc
 
--- what stands behind the system's name, up to the records
+-- what stands after the system's name, up to the records
 abbrev sizes_then : ConfigView → List ℕ → List ℕ
 sizes_then c r =
     codes ",\"fieldWidth\":" ++ (decimal (width_of c.system)
@@ -138,7 +138,7 @@ sizes_then c r =
     ++ (codes ",\"black16bIre\":" ++ (decimal c.levels.black ++ (codes ",\"white16bIre\":" ++ (decimal c.levels.white
     ++ (codes "},\"fields\":[" ++ r))))))))
 
--- the head behind its line feed
+-- the head after its line feed
 head_prints : (c : ConfigView) (qs : Pieces) (r : List ℕ) → print_spaced false qs ≡ 10 ∷ r
     → print_spaced false (plain (head_tokens c) ++ qs) ≡ head_of c ++ r
 unfolding print_spaced escape_byte parameters_of
@@ -186,7 +186,7 @@ tail_prints false true n bytes = refl
 tail_prints true false n bytes = cut_ends n bytes
 tail_prints false false n bytes = cut_ends n bytes
 
--- the same behind one more line feed
+-- the same after one more line feed
 one_more : (ts : List Token)
     → print_spaced false (gapped (10 ∷ 10 ∷ []) (end_array ∷ ts))
     ≡ 10 ∷ print_spaced false (gapped (10 ∷ []) (end_array ∷ ts))
@@ -205,7 +205,7 @@ module _ (c : ConfigView) (readings : ℕ → FieldReadings) (fields rest : ℕ)
       (json.member (codes "videoParameters") (parameters_json c)
       (json.member (codes "fields") (json.array (entries_json readings is)) cut)))
 
-  -- the bracket behind the records, and the cut field: where there is no record, both line feeds are before it
+  -- the bracket after the records, and the cut field: where there is no record, both line feeds are before it
   abbrev last_gap : List ℕ → List ℕ
   last_gap [] = 10 ∷ 10 ∷ []
   last_gap (i ∷ is) = 10 ∷ []

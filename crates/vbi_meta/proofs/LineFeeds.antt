@@ -1,4 +1,4 @@
--- A line feed behind a text adds no token to it (JSON of RFC 8259, by the rules of the library `json`).
+-- A line feed after a text adds no token to it (JSON of RFC 8259, by the rules of the library `json`).
 use Rattle.std.proofs.Common.{◌≡◌, ℕ, ◌+◌, ◌-◌, Bool, true, false, cond, ◌&&◌, ◌||◌, ◌==◌, not, nat_lt, nat_eq, List}
 use Rattle.std.proofs.Common.{[], ◌∷◌, ◌++◌, length, take, drop, Option, Some, None, option_map, option_and_then, refl}
 use Rattle.std.proofs.Common.{ap, ap₂, ◌∙◌, arith}
@@ -17,7 +17,7 @@ use Rattle.json.specs.Word.{ends_word, after_digits, after_minus, after_sign, af
 use Rattle.json.specs.Word.{after_exponent, after_number, number_before, literal, word}
 use Rattle.json.specs.Ascii.{true_text, false_text, null_text}
 
--- the text, and a line feed behind it
+-- the text, and a line feed after it
 abbrev fed : List ℕ → List ℕ
 fed text = text ++ 10 ∷ []
 
@@ -41,7 +41,7 @@ after_digits-fed t =
     go false = ap Some (drop-append-le (prefix_len is_ascii_digit t) t (10 ∷ [])
         (prefix_len-le-length is_ascii_digit t))
 
--- the text behind its first byte, or the whole
+-- the text after its first byte, or the whole
 past : (b : Bool) (x : ℕ) (t : List ℕ) → cond b (fed t) (fed (x ∷ t)) ≡ fed (cond b t (x ∷ t))
 past true x t = refl
 past false x t = refl
@@ -154,7 +154,7 @@ no_unit : (a b c : ℕ) → code_unit a b c 10 ≡ None
 unfolding code_unit
 no_unit a b c = no_digit ((is_digit a 16 && is_digit b 16) && is_digit c 16) _
 
--- what stands behind a code unit, where there is one
+-- what stands after a code unit, where there is one
 abbrev after_unit : List ℕ → Option ℕ → Option (List ℕ)
 after_unit t unit =
     option_and_then (λ u. cond (is_high_surrogate u) (content (after_high u) t)

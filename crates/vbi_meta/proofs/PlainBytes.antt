@@ -18,7 +18,7 @@ append : (a b : List ℕ) → AllByRecursion IsPlain a → AllByRecursion IsPlai
 append [] b h k = k
 append (x ∷ a) b h k = (h.0, append a b h.1 k)
 
--- one text behind the other
+-- one text after the other
 pub then : {a b : List ℕ} → Plain a → Plain b → Plain (a ++ b)
 then {a} {b} h k = record { all = append a b h.all k.all }
 

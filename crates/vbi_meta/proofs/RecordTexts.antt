@@ -55,7 +55,7 @@ record_json n readings =
 pub quoted_then : (s r : List ℕ) → escape s ≡ s → quoted s ++ r ≡ 34 ∷ (s ++ (34 ∷ r))
 quoted_then s r e = ap (λ l. 34 ∷ ((l ++ 34 ∷ []) ++ r)) e ∙ ap (λ l. 34 ∷ l) (append_assoc s (34 ∷ []) r)
 
--- seven parts, and six, one behind the other
+-- seven parts, and six, one after the other
 seven : (t0 v0 t1 v1 t2 v2 t3 r : List ℕ)
     → (t0 ++ v0 ++ t1 ++ v1 ++ t2 ++ v2 ++ t3) ++ r ≡ t0 ++ (v0 ++ (t1 ++ (v1 ++ (t2 ++ (v2 ++ (t3 ++ r))))))
 seven t0 v0 t1 v1 t2 v2 t3 r = simp append_assoc
@@ -156,7 +156,7 @@ record_text n readings r shown =
     ∙ sym (six (codes "{\"seqNo\":") (decimal n) (list_of words readings) (list_of causes readings)
     (list_of passes readings) (codes "}") r)
 
--- behind a line feed, and a comma where another record is before it
+-- after a line feed, and a comma where another record is before it
 pub record_prints : (before : Bool) (n : ℕ) (readings : FieldReadings) (qs : Pieces) → AreShown readings
     → print_spaced before (gapped (10 ∷ []) (json_tokens (record_json n readings)) ++ qs)
     ≡ cond before (44 ∷ []) [] ++ (10 ∷ (record_of n readings ++ print_spaced true qs))

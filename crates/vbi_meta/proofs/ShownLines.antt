@@ -50,7 +50,7 @@ decimal_utf8 n h = IsUtf8-from_ascii (decimal n) (IsAscii-decimal n h)
 
 -- ---- a reading
 
--- the causes with a column: a name, and the column behind it
+-- the causes with a column: a name, and the column after it
 column_free : (name : List ℕ) (column : ℕ) → escape (name ++ decimal column) ≡ name ++ escape (decimal column)
     → column < 2 ^ 64
     → escape (name ++ decimal column) ≡ name ++ decimal column

@@ -76,7 +76,7 @@ pub record ReadsWord (c : ConfigView) (z text : List ℕ) (i k word : ℕ) : Typ
 -- What is found in the text is how the lines of the stream are read, by the relation between a row's levels and its
 -- reading. Fields are counted from 0 here; line 16 + k is row 15 + k.
 pub record HasReadings (c : ConfigView) (z text : List ℕ) : Type 0 where
-  -- each whole field has its number from 1, and nothing stands behind the last
+  -- each whole field has its number from 1, and nothing stands after the last
   pub numbers : (i : ℕ) → i < fields_of c z → number_of (field_in text i) ≡ Some (i + 1)
   pub nothing : (i : ℕ) → fields_of c z ≤ i → field_in text i ≡ None
   -- each line has a reading that is found, and what is a line's reading is found

@@ -67,7 +67,7 @@ fn is_unknown(alloc: Global, members: &str) -> Result<(), Fail> {
     refuses(alloc, members.as_str(), &NONE, UnknownSystem)
 }
 
-/// The same of a member before another one, and behind it.
+/// The same of a member before another one, and after it.
 fn is_unknown_beside(alloc: Global, member: &str, other: &str) -> Result<(), Fail> {
     let members = format!(in alloc; "{member},{other}")?;
     is_unknown(alloc, members.as_str())?;
@@ -84,7 +84,7 @@ fn gives_way(alloc: Global, member: &str, system: System) -> Result<(), Fail> {
     names(alloc, member, &given, system)
 }
 
-/// Fails where a member doesn't make the system unknown, alone, with levels that are in order, and before or behind the
+/// Fails where a member doesn't make the system unknown, alone, with levels that are in order, and before or after the
 /// other member, whatever that says; and where an option doesn't stand in for it.
 fn makes_it_unknown(alloc: Global, member: &str, others: &[&str]) -> Result<(), Fail> {
     refuses(alloc, member, &NONE, UnknownSystem)?;

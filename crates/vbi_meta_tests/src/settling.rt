@@ -164,7 +164,7 @@ static REFUSED: [(&str, MetaFault); 29] = [
     ),
 ];
 
-/// Fails where one of these rows, behind such members, isn't refused for its fault.
+/// Fails where one of these rows, after such members, isn't refused for its fault.
 fn refuses_each(
     alloc: Global,
     before: &str,

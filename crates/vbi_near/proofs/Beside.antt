@@ -32,7 +32,7 @@ pub offset-column : (system : System) (begin offset half : ℕ) → start_of sys
     → begin + offset ≡ column_of system begin half
 offset-column system begin offset half e = omega arith
 
--- where there is no room before a word, there is behind it
+-- where there is no room before a word, there is after it
 pub room-behind : (system : System) (start : ℕ) → start < cell_length system
     → start + word_length system + cell_length system ≤ width_of system
 room-behind Ntsc start l = omega arith

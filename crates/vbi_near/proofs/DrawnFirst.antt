@@ -39,7 +39,7 @@ module _ (system : System) where
       (i : ℕ) × (i < length halves) × (boundary system (j + i) ≤ column) × (column < boundary system (j + i + 1))
       × (get_or halves i false ≡ true)
 
-  -- the levels of these half cells, and low columns behind them
+  -- the levels of these half cells, and low columns after them
   abbrev pub levels_from : List Bool → ℕ → ℕ → List Bool
   levels_from halves j after = drawn_halves system j halves ++ replicate after false
 
@@ -134,7 +134,7 @@ length-halves w = length-cells (lowest_bits 24 w) ∙ ap (λ (n : ℕ). 2 * n) (
 -- ---- a word's picture
 
 module _ (system : System) (start w : ℕ) where
-  -- the columns behind a word
+  -- the columns after a word
   abbrev pub after : ℕ
   after = width_of system - (start + word_length system)
 

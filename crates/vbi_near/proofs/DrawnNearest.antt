@@ -69,7 +69,7 @@ half-some Ntsc = omega arith
 half-some Pal = omega arith
 
 module _ (system : System) (w : ℕ) (is : IsWord w) where
-  -- the half cells behind the first two
+  -- the half cells after the first two
   rest : List Bool
   rest = flat_map cell_of (word_bits w is).1.0
 

@@ -101,7 +101,7 @@ module _ (at columns : ℕ → ℕ) (next : (j : ℕ) → at j + columns j ≡ a
           halves-far (suc j) halves all,
         )
 
-    -- a row of these half cells, low before and behind them
+    -- a row of these half cells, low before and after them
     pub row-far : (start end : ℕ) (halves : List Bool) → start ≡ at 0 → end ≡ at (length halves) → end ≤ width
         → distance_from costs 0
         (replicate start false ++ (halves_with columns 0 halves ++ replicate (width - end) false))

@@ -141,7 +141,7 @@ bits-high system (bit ∷ bits) some =
       first-high system,
     )
 
--- ---- a cell behind another word
+-- ---- a cell after another word
 
 -- where the one levels end low for more than a cell, the last cell of the others lies there, and differs in its high
 -- half cell

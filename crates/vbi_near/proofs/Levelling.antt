@@ -102,11 +102,12 @@ pub window_amid : (system : System) (column : ℕ) → first_of system + window_
 window_amid Ntsc column more less = omega (arith, more, less)
 window_amid Pal column more less = omega (arith, more, less)
 
--- the columns whose windows begin before them lie within the line
+-- a window is no wider than the columns before its end
 pub wide-fits : (system : System) → window_of system ≤ end_of system
 wide-fits Ntsc = omega arith
 wide-fits Pal = omega arith
 
+-- the columns whose windows begin before them lie within the line
 pub ordered_windows : (system : System)
     → (first_of system + window_of system / 2 ≤ width_of system)
     × (end_of system - window_of system + window_of system / 2 ≤ width_of system)

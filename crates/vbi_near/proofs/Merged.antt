@@ -39,7 +39,7 @@ module _ (cost : ℕ → ℕ → ℕ) (seen more : Places) (near far : Found) (i
       go (inl less) = omega arith
       go (inr (e, before)) = omega (arith, e)
 
-  -- what the other knows and is as near comes behind
+  -- what the other knows and is as near comes after it
   earliest : (s w : ℕ) → more s w → cost s w ≡ near.distance → IsBefore near.start near.word s w
   earliest s w there same = go leads
     where

@@ -19,7 +19,7 @@ use Rattle.vbi_near.specs.Piled.{row_in, rows_in, are_all_alike, pile_margins, s
 
 -- ---- the next line
 
--- what a function makes of one more row stands behind what it makes of the others
+-- what a function makes of one more row stands after what it makes of the others
 map-next : {X : Type 0} (f : Row → X) (rows : List Row) (row : Row)
     → map f (rows ++ row ∷ []) ≡ map f rows ++ f row ∷ []
 map-next f [] row = refl

@@ -122,7 +122,7 @@ floor-far system (suc most) all late l =
 -- ---- words
 
 module _ (system : System) (late room : ℕ) (fits : (j : ℕ) → late ≤ cell_columns system j) where
-  -- the one word's levels from half cell j on, and the other's behind some levels
+  -- the one word's levels from half cell j on, and the other's after some levels
   ones : ℕ → List Bool → List Bool
   ones j bits = bits_levels system j bits ++ replicate (late + room) false
 

@@ -133,7 +133,7 @@ pub all-halves : (cost : ℕ → Bool → ℕ) (w n : ℕ) → n ≡ 48
 all-halves cost w n e =
     ap (halves_cost cost 0) (take_all n (halves_of w) (omega (arith, many-halves w, e)))
 
--- what a word costs, and what is low behind it
+-- what a word costs, and what is low after it
 pub row-read : (sums : Shades) (system : System) (w rate start cost begin width tail : ℕ)
     → cost ≡ stretched_word_cost sums system w rate start → begin ≡ start + stretched_length system rate
     → width ≡ width_of system → tail ≡ span sums false begin (width - begin)

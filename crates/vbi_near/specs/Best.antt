@@ -8,7 +8,7 @@ use Rattle.vbi_near.specs.declared.near.Near.{Near}
 use Rattle.vbi_near.specs.Costs.{bits_cost}
 use Rattle.vbi_near.specs.Nearest.{IsBefore}
 
--- a number of n bits behind a one
+-- a number of n bits after a one
 abbrev pub IsBits : ℕ → ℕ → Type 0
 IsBits n v = (2 ^ n ≤ v) × (v < 2 ^ (n + 1))
 
@@ -17,7 +17,7 @@ abbrev pub HasOther : (ℕ → Bool → ℕ) → ℕ → Bits → Type 0
 HasOther cost n best = (best.margin < 2 ^ 26) × ((v : ℕ) × IsBits n v × (v ≢ best.word)
     × (bits_cost cost (suc n) v ≡ best.distance + best.margin))
 
--- of all numbers of n bits behind a one this has the least cost, and any other costs the margin more at least; of those
+-- of all numbers of n bits after a one this has the least cost, and any other costs the margin more at least; of those
 -- that cost as little it is the least
 pub record IsBest (cost : ℕ → Bool → ℕ) (n : ℕ) (best : Bits) : Type 0 where
   pub word : IsBits n best.word

@@ -43,7 +43,7 @@ known_but (true ∷ erased) (sample ∷ samples) = None ∷ known_but erased sam
 known_but (false ∷ erased) (sample ∷ samples) = Some sample ∷ known_but erased samples
 known_but erased samples = []
 
--- the samples of so many lines, whose bytes lie one line behind the other
+-- the samples of so many lines, whose bytes lie one line after the other
 abbrev pub lines_of : System → List ℕ → ℕ → List Samples
 lines_of system bytes count = map (λ i. known (samples_of (line_at system bytes 0 i))) (range_with_len 0 count)
 

@@ -30,7 +30,7 @@ IsHalved system slicing lines near halved = halved
 
 -- ---- by sums
 
--- what a row costs on which 48 half cells are drawn from `start` on, low before and behind them
+-- what a row costs on which 48 half cells are drawn from `start` on, low before and after them
 abbrev pub row_cost : Shades → System → ℕ → List Bool → ℕ
 row_cost sums system start halves =
     span sums false 0 start + halves_cost (half_cost sums system start) 0 halves

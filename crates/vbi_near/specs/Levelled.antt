@@ -23,7 +23,7 @@ abbrev pub first_of : System → ℕ
 first_of Ntsc = 143
 first_of Pal = 180
 
--- the column behind the last of them
+-- the column after the last of them
 abbrev pub end_of : System → ℕ
 end_of Ntsc = 844
 end_of Pal = 1049
@@ -33,7 +33,7 @@ abbrev pub columns_of : System → ℕ
 columns_of system = end_of system - first_of system
 
 -- the first column of the window of a column: half a window before it, but no window begins before those columns or
--- ends behind them
+-- ends after them
 abbrev pub window_start : System → ℕ → ℕ
 window_start system column =
     min (max (column - window_of system / 2) (first_of system)) (end_of system - window_of system)

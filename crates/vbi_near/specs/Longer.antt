@@ -1,4 +1,4 @@
--- Signals that go on beyond a word: by one cell more, before its 24 or behind them.
+-- Signals that go on beyond a word: by one cell more, before its 24 or after them.
 use Rattle.std.specs.Prelude.{◌≡◌, ◌≤◌, ◌⊎◌, ℕ, ◌+◌, ◌-◌, Bool, false, List, ◌++◌, replicate, Option, Some, None}
 use Rattle.vbi_words.specs.declared.system.System.{System}
 use Rattle.vbi_words.specs.Geometry.{width_of}
@@ -22,7 +22,7 @@ begun_earlier system word start bit =
     ++ (drawn_halves system 0 (cell_of bit)
     ++ (drawn_halves system 0 (halves_of word) ++ replicate (width_of system - (start + word_length system)) false))
 
--- the levels of the row of a word that begins at `start`, and of one cell behind it
+-- the levels of the row of a word that begins at `start`, and of one cell after it
 unfoldable pub ended_later : System → ℕ → ℕ → Bool → List Bool
 ended_later system word start bit =
     replicate start false

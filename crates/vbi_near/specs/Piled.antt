@@ -48,7 +48,7 @@ IsSaidTogether system number slicing known rows said = (near : Candidates)
 
 -- ---- from bytes
 
--- a line of some that lie one behind the other, as do the marks of their erased columns, counted from 0
+-- a line of some that lie one after the other, as do the marks of their erased columns, counted from 0
 abbrev pub row_in : System → List ℕ → List Bool → ℕ → Row
 row_in system lines erased i =
     row_of (line_at system lines 0 i) (take (width_of system) (drop (width_of system * i) erased))

@@ -19,7 +19,7 @@ begun_later word n = replicate n false ++ drop n (halves_of word)
 abbrev pub ended_earlier : ℕ → ℕ → List Bool
 ended_earlier word n = take (48 - n) (halves_of word) ++ replicate n false
 
--- the levels of a row on which 48 half cells are drawn from `start` on, low before and behind them
+-- the levels of a row on which 48 half cells are drawn from `start` on, low before and after them
 unfoldable pub row_of_halves : System → ℕ → List Bool → List Bool
 row_of_halves system start halves =
     replicate start false

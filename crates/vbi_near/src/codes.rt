@@ -98,7 +98,7 @@ fn digit_costs(
     }
 }
 
-/// The cheaper of what was chosen and of the value behind it.
+/// The cheaper of what was chosen and of the value after it.
 fn with_value(choice: Choice, value: usize, cost: u32) -> Choice
     ensures { (costs : ℕ → ℕ) (low : ℕ) → costs value ≡ cost → IsChoice costs low value choice
         → IsChoice costs low (value + 1) result }

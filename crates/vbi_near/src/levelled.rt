@@ -34,7 +34,7 @@ fn first(system: System) -> usize
     }
 }
 
-/// The column behind the last of them.
+/// The column after the last of them.
 fn end(system: System) -> usize
     ensures { result ≡ end_of system }
 {

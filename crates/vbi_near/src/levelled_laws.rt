@@ -9,7 +9,7 @@ ghost use Rattle.vbi_near.specs.Levelled.{window_of, first_of, end_of, window_st
 ghost use Rattle.vbi_near.specs.Levelled.{levelled_sample, levelled, filled};
 ghost use Rattle.vbi_near.specs.WorkedLevels.{slicing_at, wave, raised, climbing};
 
-/// The columns of windows. No window begins before the columns of words, or ends behind them.
+/// The columns of windows. No window begins before the columns of words, or ends after them.
 pub fn worked_windows()
     ensures columns { map window_of (Ntsc ∷ Pal ∷ []) ≡ 172 ∷ 213 ∷ [] }
     ensures first { map first_of (Ntsc ∷ Pal ∷ []) ≡ 143 ∷ 180 ∷ [] }

@@ -1,4 +1,4 @@
-//! The nearest word of lines that lie one behind the other.
+//! The nearest word of lines that lie one after the other.
 
 ghost use Rattle.std.specs.Prelude.{◌≡◌, ◌+◌, ◌*◌, ◌≤◌, ◌<◌, length, List};
 ghost use Rattle.vbi_words.specs.Geometry.{line_bytes, line_at, width_of};

@@ -57,7 +57,7 @@ pub struct Near {
     pub distance: u32,
     /// The least distance of a drawn row of another word, or of none.
     pub rival: u32,
-    /// The least distance of a drawn row that has one cell more before or behind those of the word; the distance where
+    /// The least distance of a drawn row that has one cell more before or after those of the word; the distance where
     /// there is none.
     pub longer: u32,
     /// The least distance of a drawn row that has fewer cells: the row of the word with its first one, its first two,

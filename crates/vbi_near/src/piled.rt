@@ -115,7 +115,7 @@ fn levelled_near_of_all(
 }
 
 /// The word that so many lines of this number say together, which all have one word, or none. Their samples lie one
-/// line behind the other, as do the marks of their erased columns. Where these are known, a code may be less far ahead.
+/// line after the other, as do the marks of their erased columns. Where these are known, a code may be less far ahead.
 pub fn recover_pile(
     system: System,
     number: u32,

@@ -304,7 +304,7 @@ fn shown_first(system: System, levels: Levels, rows: &[u8], erased: &[bool]) -> 
     shown_alone(system, 16, levels, row, row_erased, &line, own)
 }
 
-/// What lines 16, 17 and 18 of a field show, by the bytes of their rows, which lie one behind the other, as do the
+/// What lines 16, 17 and 18 of a field show, by the bytes of their rows, which lie one after the other, as do the
 /// marks of their erased columns: those count for no nearest word.
 pub fn recover_rows(system: System, levels: Levels, rows: &[u8], erased: &[bool]) -> [Recovered; 3]
     requires rows { length rows.now ≡ 3 * line_bytes system }

@@ -42,7 +42,7 @@ fn lead_costs(dark: &[u32], costs: &mut [u32])
     }
 }
 
-/// Adds what half cells cost that begin and end so many columns behind each start.
+/// Adds what half cells cost that begin and end so many columns after each start.
 fn add_half(sums: &[u32], begin: usize, end: usize, costs: &mut [u32])
     requires rising { IsRising sums.now }
     requires short { length sums.now ≤ 1136 }

@@ -79,7 +79,7 @@ nearest_on numbers pace i j m k l b x n leaves is = go (leb_tells j b) (leb_tell
         let same : m ≡ x = one_marked numbers b m x (subst (λ f. IsMarked numbers f m) here leaves.first) is.has in
         (le, subst (λ f. Count pace f x i n) here (subst (λ p. Count pace j p i n) same leaves.on))
 
--- and so does the nearest one behind
+-- and so does the nearest later one
 nearest_back : (numbers : List Number) (pace : Pace) (i j m k l c y n : ℕ)
     → Leaves (IsMarked numbers) pace j m k l i n → IsBehind (IsMarked numbers) pace i c y
     → (c ≤ k) × Count pace i n c y

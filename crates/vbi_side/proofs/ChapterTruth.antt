@@ -62,7 +62,7 @@ near recorded fields i n b few =
           | inr is ↦ inr (and_from (m == n) (is_recorded (recorded j) m) e is)
         ])
 
--- a lower chapter is opposed by what stands before, a higher one by what stands behind
+-- a lower chapter is opposed by what stands before it, a higher one by what stands after it
 pub within : (fields : List Sightings) (i n m : ℕ) → BelievedChapter fields i n → IsWithin fields i m → n ≡ m
 within fields i n m b (before, behind) = go (eqb_tells n m) (cases_lt n m)
   where

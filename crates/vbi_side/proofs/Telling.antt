@@ -29,7 +29,7 @@ use Rattle.vbi_side.specs.Gaps.{capped, one_if, fields_if, lost_of, undecided_of
 pub some_is : {A : Type 0} (a b : A) → Some a ≡ Some b → a ≡ b
 some_is a b e = ap (λ o. unwrap_or o a) e
 
--- what stands in a list with one more behind it
+-- what stands in a list with one more after it
 pub pushed : {A : Type 0} (xs : List A) (y x : A) (j : ℕ) → slice_get (xs ++ y ∷ []) j ≡ Some x
     → ((j < length xs) × (slice_get xs j ≡ Some x)) ⊎ ((j ≡ length xs) × (y ≡ x))
 pushed xs y x j at = go (leb_tells (length xs) j)
@@ -104,7 +104,7 @@ written_full gaps old new gap before full = record {
 capped_more : (a b : ℕ) → capped (capped a + b) ≡ capped (a + b)
 capped_more a b = omega arith
 
--- a capped sum with one more behind it
+-- a capped sum with one more after it
 summed : (f : Gap → ℕ) (gaps : List Gap) (gap : Gap)
     → capped (capped (sum_by f gaps) + f gap) ≡ capped (sum_by f (gaps ++ gap ∷ []))
 summed f gaps gap = capped_more (sum_by f gaps) (f gap) ∙ ap capped (sym (sum_by_push f gaps gap))

@@ -66,7 +66,7 @@ first_none test fields (suc k) fails =
       field_none (test k) (slice_get fields k) (λ n. fails k n (omega arith)),
     )
 
--- and so do those behind field k
+-- and so do those after field k
 behind_by : (test : ℕ → ℕ → Bool) (fields : List Sightings) (k more : ℕ)
     → ((j n : ℕ) → k ≤ j → test j n ≡ true → ⊥)
     → weight_of_first test fields (k + more) ≡ weight_of_first test fields k
@@ -206,7 +206,7 @@ votes_near minute i part j n e =
 pub votes_by_near : (minute i part key j n : ℕ) → votes_by minute i part key j n ≡ true → IsVoter i j
 votes_by_near minute i part key j n e = votes_near minute i part j n (and_parts _ _ e).0
 
--- the first fields' weight before reach, and behind it
+-- the first fields' weight before reach, and after it
 pub none_before : (test : ℕ → ℕ → Bool) (fields : List Sightings) (i : ℕ)
     → ((j n : ℕ) → test j n ≡ true → IsVoter i j) → weight_of_first test fields (i - vote_reach) ≡ 0
 none_before test fields i near =

@@ -1,5 +1,5 @@
 -- Whether a disc has its numbers on both fields of a picture. That is found by the numbers that are believed: where the
--- next number follows on a disc with a number on one field of each picture, it stands an even count of fields behind
+-- next number follows on a disc with a number on one field of each picture, it stands an even count of fields after
 -- the one before, but for a loss of one field. A number that stays says nothing, as a field may have been frozen.
 use Rattle.std.specs.Prelude.{ℕ, zero, suc, ◌+◌, ◌*◌, ◌%◌, ◌==◌, nat_lt, nat_le, not, ◌&&◌, Bool, false}
 use Rattle.std.specs.Prelude.{if◌then◌else◌, List, length, slice_get, Option, Some, None}
@@ -23,7 +23,7 @@ is_turn None answer = false
 is_turn (Some place) None = false
 is_turn (Some place) (Some answer) = (answer.state == 1) && not (answer.number == place.number)
 
--- field k stands an odd count of fields behind this place
+-- field k stands an odd count of fields after this place
 abbrev pub is_odd : Option Place → ℕ → Bool
 is_odd None k = false
 is_odd (Some place) k = ((place.field + k) % 2) == 1
@@ -34,7 +34,7 @@ turns answers zero = 0
 turns answers (suc k) =
     if is_turn (last_known answers k) (slice_get answers k) then suc (turns answers k) else turns answers k
 
--- and so many of these stand an odd count of fields behind that one
+-- and so many of these stand an odd count of fields after that one
 unfoldable pub odd_turns : List Number → ℕ → ℕ
 odd_turns answers zero = 0
 odd_turns answers (suc k) =

@@ -36,7 +36,7 @@ abbrev pub says : ℕ → ℕ → ℕ → ℕ → Bool
 says i n j k = k == n
 
 -- chapter k in field j speaks against chapter n in field i: a later one that stands there or before, or an earlier one
--- that stands there or behind
+-- that stands there or after
 abbrev pub opposes : ℕ → ℕ → ℕ → ℕ → Bool
 opposes i n j k = (nat_le j i && nat_lt n k) || (nat_le i j && nat_lt k n)
 
@@ -92,19 +92,19 @@ abbrev pub NeverFalls : (ℕ → Option ℕ) → ℕ → Type 0
 NeverFalls recorded i = (j k m n : ℕ) → IsNear i j → IsNear i k → j ≤ k
     → recorded j ≡ Some m → recorded k ≡ Some n → m ≤ n
 
--- the weight of the codes before field i, within reach, that say chapter m, and of those behind it
+-- the weight of the codes before field i, within reach, that say chapter m, and of those after it
 abbrev pub weight_before : List Sightings → ℕ → ℕ → ℕ
 weight_before fields i m = window_weight (λ j k. nat_lt j i && (k == m)) fields i
 
 abbrev pub weight_behind : List Sightings → ℕ → ℕ → ℕ
 weight_behind fields i m = window_weight (λ j k. nat_lt i j && (k == m)) fields i
 
--- enough codes say chapter m both before field i and behind it
+-- enough codes say chapter m both before field i and after it
 abbrev pub IsWithin : List Sightings → ℕ → ℕ → Type 0
 IsWithin fields i m = (enough ≤ weight_before fields i m) × (enough ≤ weight_behind fields i m)
 
 -- what holds of a believed chapter n of field i: it is on the disc near there, if the misread codes weigh less than
--- enough; and where enough codes before the field and behind it say one chapter, it is that one
+-- enough; and where enough codes before the field and after it say one chapter, it is that one
 pub record IsSoundChapter (recorded : ℕ → Option ℕ) (fields : List Sightings) (i n : ℕ) : Type 0 where
   pub near : wrong_weight recorded fields i < enough → HasNear recorded i n
   pub within : (m : ℕ) → IsWithin fields i m → n ≡ m

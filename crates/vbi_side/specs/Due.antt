@@ -10,7 +10,7 @@ use Rattle.vbi_side.specs.Beliefs.{reach, Believed}
 abbrev pub slack_of : ℕ → ℕ → ℕ
 slack_of j k = if nat_le k (j + 8) then 1 else 0
 
--- numbers m in field j before field i and l in field k behind it, both within reach, count to number n in field i, from
+-- numbers m in field j before field i and l in field k after it, both within reach, count to number n in field i, from
 -- which no number between them is off
 pub record Leaves (HasNumber : ℕ → ℕ → Type 0) (pace : Pace) (j m k l i n : ℕ) : Type 0 where
   pub before : j < i
@@ -23,7 +23,7 @@ pub record Leaves (HasNumber : ℕ → ℕ → Type 0) (pace : Pace) (j m k l i 
   pub back : Count pace i n k l
   pub between : (h x : ℕ) → j < h → h < k → HasNumber h x → nearly pace (slack_of j k) i n h x ≡ true
 
--- the numbers before and behind field i leave number n for it
+-- the numbers before and after field i leave number n for it
 abbrev pub IsLeft : (ℕ → ℕ → Type 0) → Pace → ℕ → ℕ → Type 0
 IsLeft HasNumber pace i n = (j m k l : ℕ) × Leaves HasNumber pace j m k l i n
 

@@ -143,12 +143,12 @@ is_end None = false
 abbrev pub shows_end : List ℕ → ℕ → Bool
 shows_end ends k = is_end (slice_get ends k)
 
--- so many fields stand before field k and behind the last one that shows lead-in or lead-out, or from the beginning
+-- so many fields stand before field k and after the last one that shows lead-in or lead-out, or from the beginning
 unfoldable pub since_end : List ℕ → ℕ → ℕ
 since_end ends zero = 0
 since_end ends (suc k) = if shows_end ends k then 0 else suc (since_end ends k)
 
--- a field behind field i and before field k shows lead-in or lead-out
+-- a field after field i and before field k shows lead-in or lead-out
 abbrev pub ended_between : List ℕ → ℕ → ℕ → Bool
 ended_between ends i k = nat_lt (i + since_end ends k + 1) k
 
@@ -228,7 +228,7 @@ undecided_of gap =
     if gap.kind == lost then min (skipped gap.from gap.to) (shown_most gap)
     else (if gap.kind == open_gap then skipped gap.from gap.to else 0)
 
--- the field behind the last still, if that was field `end` before this gap
+-- the field after the last still, if that was field `end` before this gap
 abbrev pub still_end_of : ℕ → Gap → ℕ
 still_end_of end gap = if gap.kind == still then gap.before + 1 else end
 
@@ -236,7 +236,7 @@ still_end_of end gap = if gap.kind == still then gap.before + 1 else end
 abbrev pub begins_still : ℕ → Gap → ℕ
 begins_still end gap = if gap.kind == still && not (end == (gap.after + 1)) then 1 else 0
 
--- the field behind the last still of the gaps
+-- the field after the last still of the gaps
 unfoldable pub last_still : ℕ → List Gap → ℕ
 last_still end [] = end
 last_still end (gap ∷ gaps) = last_still (still_end_of end gap) gaps

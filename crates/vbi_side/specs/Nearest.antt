@@ -18,7 +18,7 @@ pub record IsBefore (HasNumber : ℕ → ℕ → Type 0) (pace : Pace) (i j m : 
   pub has : HasNumber j m
   pub nearest : (k n : ℕ) → j < k → k < i → are_whole pace (i - k) ≡ true → HasNumber k n → ⊥
 
--- field j, with number m, is the nearest field behind field i, within reach and whole pictures away, that has a number
+-- field j, with number m, is the nearest field after field i, within reach and whole pictures away, that has a number
 pub record IsBehind (HasNumber : ℕ → ℕ → Type 0) (pace : Pace) (i j m : ℕ) : Type 0 where
   pub behind : i < j
   pub near : j ≤ i + reach
@@ -31,7 +31,7 @@ abbrev pub NoneBefore : (ℕ → ℕ → Type 0) → Pace → ℕ → Type 0
 NoneBefore HasNumber pace i =
     (k n : ℕ) → i ≤ k + reach → k < i → are_whole pace (i - k) ≡ true → HasNumber k n → ⊥
 
--- no field behind field i, within reach and whole pictures away, has a number
+-- no field after field i, within reach and whole pictures away, has a number
 abbrev pub NoneBehind : (ℕ → ℕ → Type 0) → Pace → ℕ → Type 0
 NoneBehind HasNumber pace i =
     (k n : ℕ) → i < k → k ≤ i + reach → are_whole pace (k - i) ≡ true → HasNumber k n → ⊥

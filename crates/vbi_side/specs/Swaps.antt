@@ -11,7 +11,7 @@ use Rattle.vbi_side.specs.Paces.{fits}
 use Rattle.vbi_side.specs.Gaps.{AreNeighbours}
 use Rattle.vbi_side.specs.declared.sighting.Sighting.{Sighting}
 
--- number p in field k stands one field before or behind the place that number m in field i leaves for it
+-- number p in field k stands one field before or after the place that number m in field i leaves for it
 abbrev pub stands_off : ℕ → ℕ → ℕ → ℕ → Bool
 stands_off i m k p = ((k + 2 * m) == (i + 2 * p + 1)) || ((k + 2 * m + 1) == (i + 2 * p))
 
@@ -55,7 +55,7 @@ IsSwapTold pace slack seen answers field true = (pace ≡ Video) × (slack ≡ 0
 IsSwapTold pace slack seen answers field false =
     (field ≡ 0) × (pace ≡ Video → slack ≡ 0 → (k : ℕ) → IsSwap seen answers k → ⊥)
 
--- of the fields behind the last number and before this one, the one that was found stands off, or none does
+-- of the fields after the last number and before this one, the one that was found stands off, or none does
 abbrev pub AreStrays : List Sightings → List Number → Option Place → ℕ → Option ℕ → Type 0
 AreStrays seen answers None field None = Unit {0}
 AreStrays seen answers None field (Some k) = ⊥

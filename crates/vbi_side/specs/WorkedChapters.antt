@@ -21,14 +21,14 @@ abbrev pub blanks : ℕ → List Sightings
 blanks zero = []
 blanks (suc n) = blank ∷ blanks n
 
--- field 0 shows chapter 7, and so do four behind it: together they weigh 10, or 9 where the last is of pass 2
+-- field 0 shows chapter 7, and so do four after it: together they weigh 10, or 9 where the last is of pass 2
 abbrev pub said_by_10 : List Sightings
 said_by_10 = fields_of 5 7
 
 abbrev pub said_by_9 : List Sightings
 said_by_9 = fields_of 4 7 ++ field_of 7 1 0 0 ∷ []
 
--- the same weight of 10, with the last field 24 fields behind field 0, or 25
+-- the same weight of 10, with the last field 24 fields after field 0, or 25
 abbrev pub said_to_24 : List Sightings
 said_to_24 = fields_of 4 7 ++ blanks 20 ++ one 7 ∷ []
 
@@ -42,7 +42,7 @@ said_from_24 = one 7 ∷ blanks 20 ++ fields_of 4 7
 abbrev pub said_from_25 : List Sightings
 said_from_25 = one 7 ∷ blanks 21 ++ fields_of 4 7
 
--- five fields show chapter 7, and what stands behind them says an earlier chapter, with weight 9
+-- five fields show chapter 7, and what stands after them says an earlier chapter, with weight 9
 abbrev pub opposed_by_9 : List Sightings
 opposed_by_9 = fields_of 5 7 ++ fields_of 4 3 ++ field_of 3 1 0 0 ∷ []
 
@@ -50,7 +50,7 @@ opposed_by_9 = fields_of 5 7 ++ fields_of 4 3 ++ field_of 3 1 0 0 ∷ []
 abbrev pub opposed_before_by_9 : List Sightings
 opposed_before_by_9 = fields_of 4 7 ++ field_of 7 1 0 0 ∷ fields_of 5 3
 
--- five fields of chapter 7, and behind them five of an earlier one: each opposes the other with weight 10
+-- five fields of chapter 7, and after them five of an earlier one: each opposes the other with weight 10
 abbrev pub falling : List Sightings
 falling = fields_of 5 7 ++ fields_of 5 3
 

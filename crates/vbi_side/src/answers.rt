@@ -12,7 +12,7 @@ use crate::number::{NOTHING, Number};
 use crate::pace::Pace;
 use crate::sighting::Sightings;
 
-/// The most fields on which the answer of one depends: itself, and those within twice the reach before and behind.
+/// The most fields on which the answer of one depends: itself, and those within twice the reach before and after.
 pub const PART: usize = 4 * REACH + 1;
 
 /// The believed number of a field, or what it shows in doubt.

@@ -2,7 +2,7 @@
 //!
 //! The code has no check digit: a misread word is a number like any other. What tells them apart is the disc, whose
 //! numbers go on at a known pace. So each sighting of a number in the 49 fields around one (24 before it, itself, 24
-//! behind) is asked whether it **fits**: whether the two numbers are as far apart as their fields. What fits is
+//! after) is asked whether it **fits**: whether the two numbers are as far apart as their fields. What fits is
 //! weighed, 2 for a word of pass 1 and 1 for a word of pass 2, and from 10 on the number is believed: that is five
 //! lines in pass 1. Where the field's two lines show two numbers, the one with more support is believed, and none if
 //! both have as much.
@@ -59,7 +59,7 @@ pub(crate) enum Fit {
     Stays,
     /// It says the same chapter.
     Says,
-    /// It speaks against the chapter: a later one that stands before, or an earlier one that stands behind.
+    /// It speaks against the chapter: a later one that stands before it, or an earlier one that stands after it.
     Opposes,
 }
 
@@ -98,7 +98,7 @@ fn weight_where_it_fits(fit: Fit, number: u32, offset: usize, sighting: &Sightin
     }
 }
 
-/// The weight of what fits a number of this field in the one that is `offset - REACH` fields behind it.
+/// The weight of what fits a number of this field in the one that is `offset - REACH` fields after it.
 fn weight_of_other(fields: &[Sightings], fit: Fit, field: usize, number: u32, offset: usize) -> u32
     requires inside { field < length fields.now }
     requires near { offset ≤ 2 * reach }

@@ -32,7 +32,7 @@ fn is_turn(last: Option<Place>, answer: Number) -> bool
     }
 }
 
-/// Whether the field stands an odd count of fields behind the last one with a number, if there is one.
+/// Whether the field stands an odd count of fields after the last one with a number, if there is one.
 fn is_odd(last: Option<Place>, field: usize) -> bool
     requires far { field < 2 ^ 60 }
     requires before { IfSome last (λ place. place.field < field) }
@@ -44,7 +44,7 @@ fn is_odd(last: Option<Place>, field: usize) -> bool
     }
 }
 
-/// Whether the number is believed, and another than the one before, an odd count of fields behind it.
+/// Whether the number is believed, and another than the one before, an odd count of fields after it.
 fn is_odd_turn(last: Option<Place>, field: usize, answer: Number) -> bool
     requires far { field < 2 ^ 60 }
     requires before { IfSome last (λ place. place.field < field) }
@@ -69,7 +69,7 @@ struct Steps {
     last: Option<Place>,
     /// How many are others than the one before them.
     all: usize,
-    /// How many of these stand an odd count of fields behind it.
+    /// How many of these stand an odd count of fields after it.
     odd: usize,
 }
 
@@ -114,7 +114,7 @@ fn turns(numbers: &[Number]) -> Steps
 }
 
 /// Whether numbers stand on both fields of a picture: a quarter or more of those that follow another one stand an odd
-/// count of fields behind it.
+/// count of fields after it.
 pub fn is_on_both(numbers: &[Number]) -> bool
     ensures { result ≡ is_on_both numbers.now }
 {

@@ -15,7 +15,7 @@ ghost use Rattle.vbi_side.specs.WorkedChapters.{opposed_in_its_field, rising_at_
 ghost use Rattle.vbi_side.specs.WorkedChapters.{line_of, said};
 
 /// Where the chapters misread around a field weigh less than enough, a believed one stands on the disc near the field;
-/// and where enough codes before a field and behind it say one chapter, no other is believed.
+/// and where enough codes before a field and after it say one chapter, no other is believed.
 pub fn chapters_sound()
     ensures { (recorded : ℕ → Option ℕ) (fields : List Sightings) (i n : ℕ)
         → BelievedChapter fields i n → IsSoundChapter recorded fields i n }

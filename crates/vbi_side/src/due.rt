@@ -1,6 +1,6 @@
 //! The number that is due in a field, by the believed ones around it.
 //!
-//! Only what leaves no choice is due. The nearest believed numbers before and behind that lie whole pictures away have
+//! Only what leaves no choice is due. The nearest believed numbers before and after that lie whole pictures away have
 //! to count to one number: on video the second field of a picture has no number of its own on most discs, and on film
 //! one cannot say which field of five begins a picture. No believed number between the two may be off from it, so that
 //! nothing was lost there. Where a field shows a chapter or the lead-in, the disc has no number, and none is due. Nor
@@ -53,7 +53,7 @@ fn before(numbers: &[Number], pace: Pace, field: usize) -> Option<Place>
     None
 }
 
-/// The nearest field behind this one, within reach and whole pictures away, of which a number is believed.
+/// The nearest field after this one, within reach and whole pictures away, of which a number is believed.
 fn behind(numbers: &[Number], pace: Pace, field: usize) -> Option<Place>
     requires { field < length numbers.now }
     ensures some { IfSome result (λ place. (place.field < length numbers.now)

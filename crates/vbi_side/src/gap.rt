@@ -16,7 +16,7 @@ pub const LOST: u32 = 1;
 pub const HELD: u32 = 2;
 /// The numbers go back.
 pub const BACK: u32 = 3;
-/// The player stood still: the same number, an even count of fields behind.
+/// The player stood still: the same number, an even count of fields later.
 pub const STILL: u32 = 4;
 /// A lead-in or a lead-out stands between: another side begins.
 pub const JOINED: u32 = 5;
@@ -30,7 +30,7 @@ pub const OPEN: u32 = 6;
 pub struct Gap {
     /// The field before it that has a number, counted from 0.
     pub after: usize,
-    /// The field behind it that has one.
+    /// The field after it that has one.
     pub before: usize,
     /// By how many fields: those lost or too many, at least; those of the still; else 0. Where it is open, how many
     /// more or less there are than the numbers count to.
@@ -39,7 +39,7 @@ pub struct Gap {
     pub shown: u64,
     /// The number of the field before it.
     pub from: u32,
-    /// The number of the field behind it.
+    /// The number of the field after it.
     pub to: u32,
     /// `LOST`, `HELD`, `BACK`, `STILL`, `JOINED` or `OPEN`.
     pub kind: u32,
@@ -59,7 +59,7 @@ pub struct Tally {
     pub stood: u64,
     /// The stills: one counts once, however long it is.
     pub stills: u64,
-    /// The field behind the last still, counted from 0; 0 if there is none.
+    /// The field after the last still, counted from 0; 0 if there is none.
     pub still_end: usize,
     /// How often the numbers go back.
     pub back: u64,

@@ -68,7 +68,7 @@ pub fn gap_is_so()
 {}
 
 /// Around a gap of video the capture isn't one run of the disc: if less than enough was misread around the numbers at
-/// both of its ends, not every field from 24 before the one to 24 behind the other is followed by the disc's next one.
+/// both of its ends, not every field from 24 before the one to 24 after the other is followed by the disc's next one.
 pub fn cut_found()
     ensures { (disc : ℕ → Option ℕ) (place : ℕ → ℕ) (fields : List Sightings) (numbering : Numbering)
         (seen : List Sightings) (answers : List Number) (ends : List ℕ) (gap : Gap) → DiscRuns Video disc
@@ -79,7 +79,7 @@ pub fn cut_found()
 {}
 
 /// Where a capture of video is said to be whole, its fields stand in the disc's order, and less than enough was misread
-/// around its first and its last number, no field of the disc is lost from 24 fields behind the first to 24 before the
+/// around its first and its last number, no field of the disc is lost from 24 fields after the first to 24 before the
 /// last. Of what was read between the two nothing is assumed.
 pub fn whole_yes()
     ensures { (disc : ℕ → Option ℕ) (place : ℕ → ℕ) (fields : List Sightings) (answers : List Number)

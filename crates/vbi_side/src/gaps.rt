@@ -39,7 +39,7 @@ impl Tally {
         }
     }
 
-    /// The field behind the last still, with one gap more.
+    /// The field after the last still, with one gap more.
     fn still_end_of(&self, gap: Gap) -> usize
         requires { gap.before < 2 ^ 60 }
         ensures { result ≡ still_end_of self.now.still_end gap }
@@ -223,7 +223,7 @@ fn is_end(answer: u32) -> bool
     answer == LEAD_OUT || answer == LEAD_IN
 }
 
-/// How many fields stand before the next one and behind the last end of a side.
+/// How many fields stand before the next one and after the last end of a side.
 pub(crate) fn since_at(ends: &[u32], field: usize, since: usize) -> usize
     requires inside { field < length ends.now }
     requires since { since ≡ since_end ends.now field }

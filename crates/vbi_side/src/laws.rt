@@ -168,7 +168,7 @@ pub fn only_near()
 {}
 
 /// What is answered of a field is the same from a part of its capture that has the 48 fields before it and the 48
-/// behind it, or all that the capture has there.
+/// after it, or all that the capture has there.
 pub fn same_in_part()
     ensures { (pace : Pace) (whole part : List Sightings) (first i : ℕ) (answer : Number)
         → IsPart Sightings whole part first i → IsAnswer pace part i answer ↔ IsAnswer pace whole (first + i) answer }

@@ -12,7 +12,7 @@ pub const NOTHING: u32 = 0;
 pub const BELIEVED: u32 = 1;
 /// The number was read, and too little supports it.
 pub const DOUBTFUL: u32 = 2;
-/// The number wasn't read there, or too little supports it: the believed ones before and behind leave no other.
+/// The number wasn't read there, or too little supports it: the believed ones before and after leave no other.
 pub const DUE: u32 = 3;
 
 /// The number that is answered of a field, with what it is worth.

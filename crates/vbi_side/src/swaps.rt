@@ -14,7 +14,7 @@ use crate::number::Number;
 use crate::pace::Pace;
 use crate::sighting::{Sighting, Sightings};
 
-/// Whether a number stands one field before or behind the place that another one leaves for it.
+/// Whether a number stands one field before or after the place that another one leaves for it.
 fn stands_off(here: Place, there: Place) -> bool
     requires here { here.field < 2 ^ 60 }
     requires there { there.field < 2 ^ 60 }
@@ -72,7 +72,7 @@ fn is_stray(seen: &[Sightings], numbers: &[Number], here: Place, field: usize) -
 struct Search {
     /// The last field with a believed number.
     last: Option<Place>,
-    /// A field behind it whose number stands a field off.
+    /// A field after it whose number stands a field off.
     stray: Option<usize>,
 }
 

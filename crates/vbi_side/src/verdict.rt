@@ -44,7 +44,7 @@ pub const IS_SWAPPED: u32 = 32;
 pub const IS_OFF: u32 = 64;
 /// No number is believed.
 pub const NO_NUMBERS: u32 = 128;
-/// No lead-out is seen behind the last number.
+/// No lead-out is seen after the last number.
 pub const END_UNSEEN: u32 = 256;
 /// Numbers before the first one may be there, unread.
 pub const BEGIN_UNSEEN: u32 = 512;
@@ -95,7 +95,7 @@ fn reason(bit: u32, holds: bool) -> u32
     if holds { bit } else { 0 }
 }
 
-/// How many fields stand before this one and behind the last end of a side.
+/// How many fields stand before this one and after the last end of a side.
 fn since_end(ends: &[u32], field: usize) -> usize
     requires { field ≤ length ends.now }
     ensures value { result ≡ since_end ends.now field }
@@ -108,7 +108,7 @@ fn since_end(ends: &[u32], field: usize) -> usize
     since
 }
 
-/// Whether a field behind this one is of lead-out.
+/// Whether a field after this one is of lead-out.
 fn is_ended_behind(ends: &[u32], field: usize) -> bool
     requires { field < length ends.now }
     ensures { result ≡ is_ended_behind ends.now field }

@@ -243,7 +243,7 @@ module _ {sizes : Sizes} (ok : AreApart sizes) (d : ℕ) (gap : d + sizes.greate
         is_second = e2;
       }
 
-  -- behind that place both are in runs of the other level, and the two runs that ended are about as long
+  -- after that place both are in runs of the other level, and the two runs that ended are about as long
   record Turned (v : Bool) (n1 n2 : ℕ) (P Q : List Bool → Type 0) : Type 0 where
     pub near : Near (not v) P Q
     pub close : n1 < n2 + d

@@ -66,7 +66,7 @@ lowest-push n a b = rw add-one (go n)
 
 -- ---- the number of a list of bits
 
--- the number of these bits behind those of a
+-- the number of these bits after those of a
 value_behind : ℕ → List Bool → ℕ
 value_behind a [] = a
 value_behind a (b ∷ bits) = value_behind (2 * a + bit_of b) bits

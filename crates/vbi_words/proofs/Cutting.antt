@@ -1,4 +1,4 @@
--- A word's levels, read cell by cell: a list of bits in place of a number, and the lows behind the last half cell.
+-- A word's levels, read cell by cell: a list of bits in place of a number, and the lows after the last half cell.
 use Rattle.std.proofs.Common.{◌≡◌, ℕ, suc, zero, ◌≤◌, ◌<◌, ◌+◌, ◌-◌, max, Bool, true, false, List, []}
 use Rattle.std.proofs.Common.{◌∷◌, ◌++◌, ◌⊎◌, inl, inr, refl, ap, sym, ◌∙◌, subst, arith, append_assoc}
 use Rattle.std.proofs.Math.ListN.{replicate}
@@ -64,7 +64,7 @@ module _ (sizes : Sizes) where
   cells_from_spelled (false ∷ bits) levels after s =
       halves_spelled true false bits levels after (λ rest t. cells_from_spelled bits rest after t) s
 
-  -- the levels of these half cells, without the lows behind them
+  -- the levels of these half cells, without the lows after them
   abbrev DrawnHalves : List Bool → List Bool → Type 0
   DrawnHalves halves levels =
       (drawn : List Bool) × (after : ℕ) × Spells least greatest halves drawn × (levels ≡ drawn ++ replicate after false)

@@ -134,7 +134,7 @@ module _ (system : System) (slicing : Slicing) (word : ℕ) (order : slicing.bla
       (λ (i, m, below, above, t). let same : i ≡ j = one_half i j c below above low high in
       let bad : true ≡ false = sym t ∙ ap half same ∙ e in cc)
 
-  -- no half cell is before the first boundary, or behind the last
+  -- no half cell is before the first boundary, or after the last
   outside : (c : ℕ) → c < width_of system → (c < edge 0) ⊎ (edge 48 ≤ c) → get_or levels c false ≡ false
   outside c l (inl before) =
       low_there c l (λ (j, m, below, above, t). omega (arith, ordered system 0 j (omega arith)))
@@ -151,11 +151,11 @@ module _ (system : System) (slicing : Slicing) (word : ℕ) (order : slicing.bla
       ap (λ (i : ℕ). get_or levels i false) e ∙ outside k (omega arith) (inl l))
       ∙ ap (λ (i : ℕ). replicate (edge 0) false ++ drop i levels) none
 
-  -- how many columns are left behind the word
+  -- how many columns are left after the word
   abbrev left : ℕ
   left = width_of system - edge 48
 
-  -- the lows behind it
+  -- the lows after it
   back : drop (edge 48) levels ≡ replicate left false
   back =
       let fits : edge 48 ≤ width_of system = ends_inside system 48 (omega arith) in

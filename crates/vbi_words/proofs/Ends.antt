@@ -47,7 +47,7 @@ module _ {sizes : Sizes} (ok : AreApart sizes) where
     then = typical_half b bits (typical_cells bits);
   }
 
-  -- the second half of a cell of b, and the typical cells behind it
+  -- the second half of a cell of b, and the typical cells after it
   half_then : (b : Bool) (bits : List Bool) → Half sizes b bits (replicate greatest b ++ typical sizes bits)
   half_then b bits = typical_half b bits (typical_cells bits)
 

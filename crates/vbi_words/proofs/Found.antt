@@ -90,7 +90,7 @@ module _ (system : System) (levels : List Bool) where
   abbrev SomeOutcome : Type 0
   SomeOutcome = (o : Outcome) × IsOutcome system levels o
 
-  -- the machine dies at one of the first n levels, or is alive behind them
+  -- the machine dies at one of the first n levels, or is alive after them
   abbrev Watched : ℕ → Type 0
   Watched n = ((c : ℕ) × DiesAt system levels c) ⊎ (state_at system levels n ≡ dead → ⊥)
 

@@ -50,7 +50,7 @@ module _ (d l : List Bool) (blurred : IsBlurred d l) where
     core c low high = away h (c - 1) c (c + 1) refl refl (run (c - 1) (omega arith) (omega arith))
         (run c (omega arith) (omega arith)) (run (c + 1) (omega arith) (omega arith))
 
-    -- the last column of the run, and the one behind it
+    -- the last column of the run, and the one after it
     abbrev last : ℕ
     last = p + n - 1
 

@@ -1,4 +1,4 @@
--- The half cells of a row that is blurred at its changes of level, one behind the other: they are smoothed as those of
+-- The half cells of a row that is blurred at its changes of level, one after the other: they are smoothed as those of
 -- a row that shows the word.
 use Rattle.std.proofs.Common.{◌≡◌, ℕ, ◌≤◌, ◌<◌, ◌+◌, ◌-◌, Bool, true, false, List, [], ◌∷◌, ◌++◌, ◌⊎◌, inl, suc, inr}
 use Rattle.std.proofs.Common.{length, get_or, drop, refl, sym, ap, ◌∙◌, arith, append_assoc}
@@ -24,7 +24,7 @@ unfolding window
 spike_gone true s = refl
 spike_gone false s = refl
 
--- the level that halves begin with; lows are behind them
+-- the level that halves begin with; lows are after them
 abbrev pub first : List Bool → Bool
 first [] = false
 first (h ∷ halves) = h
@@ -112,7 +112,7 @@ module _ (d l : List Bool) (blurred : IsBlurred d l) where
           );
         }
 
-    -- the same where its last two columns are turned over, behind m others
+    -- the same where its last two columns are turned over, after m others
     one_spiked : (h : Bool) (halves : List Bool) (e m q : ℕ)
         → drop e l ≡ replicate m h ++ (not h ∷ h ∷ drop q l) → 4 ≤ m → least ≤ m + 2 → m + 2 ≤ greatest
         → first halves ≡ not h → (NoneAlone l → ⊥) → Goes halves q → Goes (h ∷ halves) e

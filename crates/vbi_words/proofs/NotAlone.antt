@@ -46,7 +46,7 @@ run_beside n h s two begun rest c = go (cases_order (c + 1) n)
     go (inr (inl inside)) = inr (in_run n h s c (omega arith) ∙ sym (in_run n h s (c + 1) inside))
     go (inr (inr past)) = behind (c - n) (omega arith) (rest (c - n))
 
--- half cells of two columns or more, and lows behind them
+-- half cells of two columns or more, and lows after them
 halves_beside : (lo hi : ℕ) → 2 ≤ lo → (halves drawn : List Bool) (after : ℕ) → Spells lo hi halves drawn → (c : ℕ)
     → Beside (drawn ++ replicate after false) c
 halves_beside lo hi two [] drawn after e c =

@@ -55,7 +55,7 @@ module _ (system : System) (levels : List Bool) (c : ℕ) (there : DiesAt system
   gone : state_after system levels ≡ dead
   gone = dead_later system levels (c + 1) there.dies
 
-  -- behind the first column, the machine's last run has the level of the column before
+  -- after the first column, the machine's last run has the level of the column before
   run_level : (k : ℕ) → k + 1 ≡ c → level_of (state_at system levels c) ≡ level_at levels (c - 1)
   run_level k e =
       let inside = there.within in

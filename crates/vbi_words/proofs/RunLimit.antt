@@ -38,14 +38,14 @@ module _ (sizes : Sizes) where
   fresh_length state m e f = grind arith
 
 module _ (system : System) (levels : List Bool) (v : Bool) where
-  -- the state behind the run's first level
+  -- the state after the run's first level
   abbrev begun : State
   begun = state_after system (levels ++ v ∷ [])
 
   begun_is : begun ≡ next_of system (state_after system levels) v
   begun_is = after_append system levels (v ∷ [])
 
-  -- the state behind the whole run
+  -- the state after the whole run
   more : (k : ℕ) → state_after system (levels ++ replicate (suc k) v) ≡ after_of system begun (replicate k v)
   more k = ap (state_after system) (sym (append_assoc levels (v ∷ []) (replicate k v)))
       ∙ after_append system (levels ++ v ∷ []) (replicate k v)

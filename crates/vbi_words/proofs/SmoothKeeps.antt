@@ -9,7 +9,7 @@ use Rattle.vbi_words.specs.Shows.{Spells}
 use Rattle.vbi_words.proofs.Runs.{run_joined}
 use Rattle.vbi_words.proofs.Smoothing.{window, smooth_window}
 
--- the window behind four equal levels
+-- the window after four equal levels
 abbrev pub steady : Bool → List Bool → List Bool
 steady v s = window v v v v s
 
@@ -57,12 +57,12 @@ glitch true (suc (suc (suc zero))) s l = refl
 glitch false (suc (suc (suc zero))) s l = refl
 glitch v (suc (suc (suc (suc m)))) s l = absurd (omega arith)
 
--- the window makes some front of p and four levels v, and is steady behind them
+-- the window makes some front of p and four levels v, and is steady after them
 abbrev Steadies : Bool → Bool → Bool → Bool → Bool → List Bool → Type 0
 Steadies o a b c v p =
     (front : List Bool) × ((s : List Bool) → window o a b c (p ++ (replicate 4 v ++ s)) ≡ front ++ steady v s)
 
--- behind four equal levels nothing is left of what was before
+-- after four equal levels nothing is left of what was before
 from_any : (o a b c v : Bool) → Steadies o a b c v []
 unfolding window
 from_any o a b c v =
@@ -104,7 +104,7 @@ same_smooth front back v m l =
 
 -- ---- a word's half cells
 
--- behind four levels v, these come out three columns later, the last three of them not yet
+-- after four levels v, these come out three columns later, the last three of them not yet
 pub record ComesLater (v : Bool) (drawn : List Bool) : Type 0 where
   pub out : List Bool
   pub end : Bool
@@ -138,7 +138,7 @@ halves_later least greatest four v (h ∷ halves) drawn (n, rest, low, high, e, 
           ∙ sym (append_assoc (replicate 3 v) inner (steady r.end s));
     }
 
--- lows behind a level
+-- lows after a level
 pub lows_after : (v : Bool) (b : ℕ) → 3 ≤ b → steady v (lows b) ≡ replicate 3 v ++ lows (b - 3)
 unfolding window
 lows_after v zero l = absurd (omega arith)
@@ -186,14 +186,14 @@ lows_kept v (suc (suc (suc b))) =
 
 module _ (least greatest : ℕ) (four : 4 ≤ least) (halves drawn : List Bool)
     (spelled : Spells least greatest halves drawn) (a b : ℕ) where
-  -- the word and the lows behind it
+  -- the word and the lows after it
   abbrev behind : List Bool
   behind = drawn ++ lows b
 
   whole : smooth_of (lows a ++ behind) ≡ lows a ++ steady false behind
   whole = smooth_window (lows a ++ behind) ∙ steady_same false a behind
 
-  -- with three lows behind it, it is moved by three columns
+  -- with three lows after it, it is moved by three columns
   pub moved : 3 ≤ b → smooth_of (lows a ++ behind) ≡ lows (a + 3) ++ (drawn ++ lows (b - 3))
   moved l =
       let r = halves_later least greatest four false halves drawn spelled in

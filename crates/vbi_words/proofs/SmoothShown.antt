@@ -110,7 +110,7 @@ module _ (levels turned : List Bool) (x : Glitch levels turned) where
       get_or-take (g - 4) turned i false within ∙ x.others i (inl (omega arith))
       ∙ sym (get_or-take (g - 4) levels i false within))
 
-  -- the column behind the glitch and the four equal columns behind it
+  -- the column after the glitch and the four equal columns after it
   abbrev end : ℕ
   end = g + m + 4
 
@@ -140,7 +140,7 @@ module _ (levels turned : List Bool) (x : Glitch levels turned) where
       ∙ ap (λ (t : List Bool). take (g - 4) levels ++ between v (replicate m (not v)) t) same_back in
       ap smooth_of here ∙ same_smooth (take (g - 4) levels) (drop end levels) v m x.few ∙ ap smooth_of (sym there)
 
-  -- the smoothed level three columns behind the glitch's first column is that of the columns around it
+  -- the smoothed level three columns after the glitch's first column is that of the columns around it
   smooth_there : level_at (smooth_of levels) (g + 3) ≡ v
   smooth_there =
       let place : g + 3 - 2 ≡ suc g = omega arith in

@@ -11,25 +11,25 @@ use Rattle.vbi_words.specs.Shows.{Shows, Spells}
 use Rattle.vbi_words.specs.Smooth.{Glitch}
 use Rattle.vbi_words.specs.Readings.{IsReading}
 
--- the levels show the word with two columns to spare in each half cell, and have five lows behind it
+-- the levels show the word with two columns to spare in each half cell, and have five lows after it
 pub record ShowsAmply (system : System) (levels : List Bool) (word : ℕ) : Type 0 where
   pub cut : Shows system levels word
   pub lows : 5 ≤ cut.after
   pub spelled : Spells (half_min system + 2) (half_max system - 2) (halves_of word) cut.drawn
 
 -- the levels are those of the row drawn, but perhaps in the two columns beside each change of its level: the last
--- before it and the first behind it
+-- before it and the first after it
 pub record IsBlurred (drawn levels : List Bool) : Type 0 where
   pub same_length : length levels ≡ length drawn
   pub others : (c : ℕ) → level_at drawn (c - 1) ≡ level_at drawn c → level_at drawn (c + 1) ≡ level_at drawn c
       → level_at levels c ≡ level_at drawn c
 
--- no column stands alone: each has the level of the one before it or of the one behind it
+-- no column stands alone: each has the level of the one before it or of the one after it
 abbrev pub NoneAlone : List Bool → Type 0
 NoneAlone levels =
     (c : ℕ) → (level_at levels c ≡ level_at levels (c - 1)) ⊎ (level_at levels c ≡ level_at levels (c + 1))
 
--- each change of the row drawn lies where it was, or one column before or behind, and there is no other
+-- each change of the row drawn lies where it was, or one column before or after, and there is no other
 abbrev pub IsJittered : List Bool → List Bool → Type 0
 IsJittered drawn levels = IsBlurred drawn levels × NoneAlone levels
 

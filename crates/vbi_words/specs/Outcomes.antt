@@ -43,7 +43,7 @@ word_of _ = None
 abbrev pub EndsOtherwise : List Bool → Bool → Type 0
 EndsOtherwise levels v = (levels ≡ []) ⊎ ((front : List Bool) × (levels ≡ front ++ not v ∷ []))
 
--- behind these levels every run of v is viable, or every one up to the greatest length of a half cell, or of two
+-- after these levels every run of v is viable, or every one up to the greatest length of a half cell, or of two
 abbrev pub HasRunLimit : System → List Bool → Bool → Type 0
 HasRunLimit system levels v =
     ((k : ℕ) → 0 < k → Viable system (levels ++ replicate k v))

@@ -42,7 +42,7 @@ smooth_of levels = map (λ c. latest levels (c - 2)) (range_with_len 0 (length l
 -- ---- a glitch
 
 -- columns g to g + m - 1 of levels are turned over: one to three columns, which had the level of the four before them
--- and of the four behind them
+-- and of the four after them
 pub record Glitch (levels turned : List Bool) : Type 0 where
   pub g : ℕ
   pub m : ℕ

@@ -64,7 +64,7 @@ pub fn drawn_shows()
         → IsReading system (row_levels slicing (drawn_line_of system slicing word)) (drawn_reading word) }
 {}
 
-/// A list whose changes of level lie in their columns, or one before or behind, still shows its word: this holds of
+/// A list whose changes of level lie in their columns, or one before or after, still shows its word: this holds of
 /// every list that shows a word with two columns to spare in each half cell, and the row drawn for a word is one.
 pub fn jitter_shown()
     ensures any { (system : System) (drawn levels : List Bool) (word : ℕ)
@@ -74,7 +74,7 @@ pub fn jitter_shown()
         → IsJittered (levels_of slicing (drawn_row_of system slicing (Some word))) levels → Shows system levels word }
 {}
 
-/// Where the two columns beside each change of level in such a list, the last before it and the first behind it, have
+/// Where the two columns beside each change of level in such a list, the last before it and the first after it, have
 /// any levels, and all others are as they were, the reading is still its word: in the first pass exactly where no
 /// column stands alone, else in the second.
 pub fn blur_read()
@@ -118,7 +118,7 @@ pub fn one_smooth()
     ensures only { (levels smoothed : List Bool) → IsSmooth levels smoothed → smoothed ≡ smooth_of levels }
 {}
 
-/// A word that the levels show, with three lows or more behind it, is also shown by the smoothed levels, three columns
+/// A word that the levels show, with three lows or more after it, is also shown by the smoothed levels, three columns
 /// later.
 pub fn smooth_keeps()
     ensures { (system : System) (levels : List Bool) (word : ℕ) (cut : Shows system levels word) → 3 ≤ cut.after
@@ -150,13 +150,13 @@ pub fn one_format()
 
 /// The outcomes of five lines, computed from the definitions alone.
 pub fn worked_lines()
-    // 20 high columns are more than one half cell and fewer than two, so the change behind them is hopeless.
+    // 20 high columns are more than one half cell and fewer than two, so the change after them is hopeless.
     ensures change { IsOutcome Ntsc (low 14 ++ (high 20 ++ low 876)) (Change 34) }
 
-    // The low run behind the first cell is one half cell, of 18 columns at most: the 19th is hopeless.
+    // The low run after the first cell is one half cell, of 18 columns at most: the 19th is hopeless.
     ensures hold { IsOutcome Ntsc (low 14 ++ (high 14 ++ low 882)) (Hold 46) }
 
-    // The high run is two half cells, and so may be the low run behind it, of 36 columns at most: the 37th is hopeless.
+    // The high run is two half cells, and so may be the low run after it, of 36 columns at most: the 37th is hopeless.
     ensures long { IsOutcome Ntsc (low 14 ++ (high 22 ++ low 874)) (Hold 72) }
 
     // The last 10 columns are high, and a longer line could still show a word.

@@ -57,7 +57,7 @@ def print_joined(options: argparse.Namespace, captures: List[Capture]) -> None:
 
 
 def parser_of_join(program: str) -> argparse.ArgumentParser:
-    """What reads the words behind `join`."""
+    """What reads the words after `join`."""
     parser = Parser(prog=program + " join", description=DESCRIPTION)
     parser.add_argument("sides", nargs="+", metavar="SIDE", action=_TwoOrMore,
                         help="a document, or a TBC file with its metadata beside it or with the options below; two or "

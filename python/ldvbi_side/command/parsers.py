@@ -79,7 +79,7 @@ def parser_of_side(program: str) -> argparse.ArgumentParser:
 
 
 def parser_of_scan(program: str) -> argparse.ArgumentParser:
-    """What reads the words behind `scan`."""
+    """What reads the words after `scan`."""
     parser = Parser(prog=program + " scan", description=SCAN)
     parser.add_argument("paths", nargs="+", metavar="PATH", help="a TBC file, a document, or a folder")
     parser.add_argument("-j", "--jobs", metavar="N", type=_ordinal, default=min(os.cpu_count() or 1, MOST_JOBS),
@@ -101,6 +101,6 @@ def parser_of_scan(program: str) -> argparse.ArgumentParser:
 
 
 def parsers(program: str) -> Dict[str, argparse.ArgumentParser]:
-    """What reads the words behind each command, and behind none; the manual page and the completions are made of it."""
+    """What reads the words after each command, and after none; the manual page and the completions are made of it."""
     from .join import parser_of_join  # which loads much that no other command needs
     return {"": parser_of_side(program), "join": parser_of_join(program), "scan": parser_of_scan(program)}

@@ -266,7 +266,7 @@ fn seeks_by_halving_and_on_the_whole_side() {
 #[test]
 fn seeks_the_first_field_where_that_is_worn() {
     // Numbers on both fields of a picture, and a jump. Worn are the first fields of the side and of what follows it:
-    // there no number is due by those before and behind.
+    // there no number is due by those before and after.
     let rows: Vec<_> = (0..20).chain(100..120).flat_map(|number| [[0, picture(number), picture(number)]; 2]).collect();
     for (system, line, field, start, _) in SYSTEMS {
         let mut bytes = draw(system, &rows);

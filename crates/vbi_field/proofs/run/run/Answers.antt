@@ -90,10 +90,7 @@ returns-in-Ended-clause-run g c =
     let short : c.in-Ended.bytes < line_bytes c.args.config.now.system = rw (got.count_of, ← v.system) got.short in
     let within = row_fits c.args.config.now.system c.loop-row.row c.args.config.now.max_fields c.in-Ended.bytes before
     (le_of_lt short) in
-    let e = c.end.ensures in
-    ended v c.in-Ended.bytes t refl c.rest-rest.ensures within
-    c.looked.ensures e.puts _
-    e.written e.no_error e.ok e.failed e.short e.fault
+    ended v c.in-Ended.bytes t refl c.rest-rest.ensures within c.looked.ensures _ c.end.ensures.tail
 
 pub returns-clause-run : goal.returns-clause-run
 returns-clause-run g c =

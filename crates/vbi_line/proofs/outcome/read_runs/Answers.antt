@@ -20,7 +20,7 @@ pub read_run-requires-clause-fit : goal.read_run-requires-clause-fit
 read_run-requires-clause-fit c = subst (IsFit c.args.system) (sym c.loop-column.invariant.state)
     (fit_after c.args.system (take c.loop-column.column c.args.packed.now))
 
--- the column behind a run
+-- the column after a run
 behind : (levels : List Bool) (column end : ℕ) (level : Bool) → IsRun levels column level (end - column)
     → column + (end - column) ≡ end
 behind levels column end level run = omega (arith, run.some)

@@ -5,7 +5,7 @@ use Rattle.vbi_side.specs.declared.gap.Place.{Place}
 use Rattle.vbi_side.specs.Numbers.{IsMarked}
 use Rattle.vbi_side.proofs.verdict.judge_whole.Goals as goal
 
--- a number is believed of it, and of no field behind it
+-- a number is believed of it, and of no field after it
 abbrev IsEnd : List Number → Place → Type 0
 IsEnd answers last = IsMarked answers last.field last.number
     × ((i k : ℕ) → last.field < i → IsMarked answers i k → ⊥)

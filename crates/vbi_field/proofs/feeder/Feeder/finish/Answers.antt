@@ -10,5 +10,4 @@ returns-clause-finishes g c =
     → Type 0 = λ f. Finishes g.W.Write.contents f c.args.outlet.now c.end.new.outlet c.end.result in
     subst P c.self.view_is (λ z s.
     finished g.W.Write.contents f.config f.line f.progress c.self.invariant _ _ z s.at c.held.result c.rest-rest.result
-    c.held.ensures.count c.rest-rest.ensures c.looked.result c.end.result c.looked.ensures c.end.ensures.puts
-    c.end.ensures.written c.end.ensures.ok c.end.ensures.short c.end.ensures.fault)
+    c.held.ensures.count c.rest-rest.ensures c.looked.result c.end.result c.looked.ensures c.end.ensures.tail)

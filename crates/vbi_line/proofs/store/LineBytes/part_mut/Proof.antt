@@ -66,7 +66,7 @@ module _ {M : Type 1} {𝓤 : Ura M} (𝓛 : Logic 𝓤) (κ : Lft) (q : Share) 
   abbrev part : List ℕ
   part = part_of xs from to
 
-  -- those behind it
+  -- those after it
   abbrev back : List ℕ
   back = drop to xs
 
@@ -147,7 +147,7 @@ module _ {M : Type 1} {𝓤 : Ura M} (𝓛 : Logic 𝓤) (κ : Lft) (q : Share) 
       use1 𝓛 (‵ (cells (mem u8) part b place) ⊛ ‵ (cells (mem u8) back b (past (length part))))
       (cut_app 𝓛 (mem u8) part back b place) $
       split ! $
-      -- [the part; what is behind it; what is before it; the rest of the struct; the open borrow, in three entries]
+      -- [the part; what is after it; what is before it; the rest of the struct; the open borrow, in three entries]
       move ! (1 ∷ 3 ∷ []) $ join ! $ move ! (2 ∷ 0 ∷ []) $ join ! $ move ! (2 ∷ 3 ∷ 4 ∷ 1 ∷ 0 ∷ []) $ group ! 5 $
       use1 𝓛 (later (some (lent (length part))))
       (lends_Elements 𝓛 S u8 after (named 0) κ q b o b place γ part (omega arith, omega arith) Rest (put le inside long)
