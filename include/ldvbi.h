@@ -93,7 +93,7 @@ enum LdvbiStatus {
     LDVBI_BAD_SYSTEM = 1, /* the system is neither LDVBI_NTSC nor LDVBI_PAL */
     LDVBI_BAD_LEVELS = 2, /* black is not below white, or one of them is above 65535 */
     LDVBI_BAD_LENGTH = 3, /* not the length of the call's lines or fields in this system, or arrays differ in length */
-    LDVBI_BAD_WORD = 4,   /* a word is not from 0x800000 to 0xFFFFFF (0 is allowed where it stands for no word) */
+    LDVBI_BAD_WORD = 4,   /* a word is not from 0x800000 to 0xFFFFFF (0 is allowed if it stands for no word) */
     LDVBI_BAD_COUNTED = 5, /* `counted` is neither LDVBI_PICTURES nor LDVBI_TIMES */
     LDVBI_BAD_PACE = 6,    /* `pace` is none of LDVBI_VIDEO, LDVBI_FILM and LDVBI_FIND_PACE */
     LDVBI_BAD_ERASED = 7,  /* a list of LdvbiErased isn't sorted, or an entry isn't as that struct says */

@@ -73,7 +73,7 @@ if [ "$(awk '/^MemAvailable/ { print $2 }' /proc/meminfo)" -lt "$memory_of_both"
 fi
 (cd "$work/tried" && exec setsid python3 tests/wrong_bodies.py > "$work/wrong") &
 tried=$!
-make JOBS=1 rust ldvbi lib || fails 'not all is built'
+make JOBS=1 ldvbi lib rust || fails 'not all is built'
 python3 tests/wrong_bodies_trials.py || fails 'a wrong body may pass for a refused one'
 part 'programs and libraries'
 compared sh tests/scripts.sh ./ldvbi || fails 'of the scripts one failed'

@@ -16,7 +16,7 @@ from .stream import BLOCK, Stream, cut_of
 
 MAX_FIELDS = 1000000  # the program has the same limit
 
-# What a document begins with, also where it was written anew by another program
+# What a document begins with, also if it was written anew by another program
 _BEGIN = re.compile(rb'\s*\{\s*"version"')
 _CAUSE = re.compile(r"(word|blank|unfinished)|(change|hold) (0|[1-9][0-9]{0,3})")
 
@@ -219,7 +219,7 @@ def _as_written(data: bytes) -> Optional[Document]:
 
 
 def _packed_pieces(body, known):
-    """Yields the packed readings of the records, piece by piece; a ValueError where one has a fault."""
+    """Yields the packed readings of the records, piece by piece; a ValueError if one has a fault."""
     number, end = 1, -2
     while end != len(body):
         begin = end + 2

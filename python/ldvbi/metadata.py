@@ -74,7 +74,7 @@ def read_metadata(path: str, on_field: Optional[OnField] = None, waits: bool = T
 
 
 class _Found(NamedTuple):
-    """The videoParameters, and of each field its `isFirstField`, each None where it isn't there; and the dropouts."""
+    """The videoParameters, and of each field its `isFirstField`, each None if it isn't there; and the dropouts."""
     parameters: Optional[Dict[str, Any]]
     first: List[Any]
     dropouts: List[Dropout]

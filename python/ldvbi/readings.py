@@ -109,7 +109,7 @@ def read_field(samples: Any, system: AnySystem, black: int, white: int, recover:
 
 
 def _recovering(name: str, dropouts: FieldDropouts, *more: int) -> Callable[..., int]:
-    """The call of the library with this name, or, where a field has dropouts, its sibling that leaves these out;
+    """The call of the library with this name, or, if a field has dropouts, its sibling that leaves these out;
     `more` comes after its other arguments."""
     erased = dropouts_of_field(dropouts)
     call = later_call(name + "_without" if erased else name)

@@ -82,8 +82,8 @@ class Scanner:
             yield [self.value()]
 
     def _several(self) -> List[Any]:
-        """Goes past items that come next, and past a comma after each. They are the answer: none where the last of
-        what may be an item is part of another, or where one might be nested too deep."""
+        """Goes past items that come next, and past a comma after each. They are the answer: none if the last of
+        what may be an item is part of another, or if one might be nested too deep."""
         found = _SEVERAL.match(self._held, self._at, self._at + _TOGETHER)
         if not found:
             return []

@@ -67,7 +67,7 @@ def _read(rows: List[bytes], setup: Setup) -> int:
 
 
 def _levels_in(rows: List[bytes], system: System) -> Optional[Levels]:
-    """The low and the high level of lines 17 and 18, where some of them have two: those of the lines in which the two
+    """The low and the high level of lines 17 and 18, if some of them have two: those of the lines in which the two
     are far from each other, as a code's are."""
     import statistics  # which takes long, and few sides need it
     spans = [_span(field, system, line) for field in rows for line in (1, 2)]

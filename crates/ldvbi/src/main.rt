@@ -50,7 +50,7 @@ fn arguments(rt: &(impl Env + AllocGlobal)) -> Result<Vec<String>, MainFault> {
 
 /// Prints why there is no job, and answers the status.
 fn refuse(rt: &HostRuntime, fault: &WordsFault) -> u8 {
-    // Where a refusal can't be printed, nothing is left to say so with.
+    // If a refusal can't be printed, nothing is left to say so with.
     let _ = match fault {
         WordsFault::Help(text) => return help(rt, text.as_str()),
         WordsFault::Refused(text) => eprint!(rt; "{text}"),

@@ -18,7 +18,7 @@ abbrev pub chapters_in : LdvbiFieldReadings → Sightings
 chapters_in readings = let lines = lines_in readings in chapters_of lines.line_17 lines.line_18
 
 -- the answers are those of these fields, and of a believed chapter holds what the crate `vbi_side` says of it, whatever
--- the disc has: it is on the disc nearby, where little was misread, and no other one than the codes around it say
+-- the disc has: it is on the disc nearby, if little was misread, and no other one than the codes around it say
 pub record AreJudgedChapters (seen : List Sightings) (chapters : List Number) : Type 0 where
   pub answers : AreChapters seen chapters
   pub sound : (recorded : ℕ → Option ℕ) (i n : ℕ) → slice_get chapters i ≡ Some (believed n)

@@ -47,7 +47,7 @@ TellsTime system m after =
     (numbers_in system Times (lines_in after)).line_17
     ≡ record { number = m; weight = pass_weight (lines_in after).line_16.pass }
 
--- each field is completed, or as it was; where the votes are sound it gets no time but the one on the disc, and where
+-- each field is completed, or as it was; if the votes are sound it gets no time but the one on the disc, and if
 -- they are right a field that shows none gets that, if it has an hour of one digit
 pub record AreCompleted (system : words.System) (readings : List LdvbiFieldReadings) (seen : List Sightings)
     (completed : List LdvbiFieldReadings) : Type 0 where

@@ -37,7 +37,7 @@ asked_of number =
     if number == 1 then Some (Given Video)
     else (if number == 2 then Some (Given Film) else (if number == 3 then Some Found else None))
 
--- a system, where the lengths fit
+-- a system, if the lengths fit
 abbrev pub with_lengths : Option words.System → Bool → Result words.System Refusal
 with_lengths system fit = in_turn (ok_or system System) (λ system. if fit then Ok system else Err Length)
 
@@ -92,8 +92,8 @@ pace_for_c Video = 1
 pace_for_c Film = 2
 
 -- the numbers are the answers of these fields at the pace that is asked for; a believed one is the number on the disc,
--- where the disc ran on around its field, and the words misread there weigh less than enough, or where it stood still,
--- and little was misread; and a due one is, where the disc is regular there and the believed numbers are right
+-- if the disc ran on around its field, and the words misread there weigh less than enough, or if it stood still,
+-- and little was misread; and a due one is, if the disc is regular there and the believed numbers are right
 pub record AreJudged (judging : Judging) (readings : List LdvbiFieldReadings) (seen : List Sightings)
     (numbers : List Number) (pace : paces.Pace) : Type 0 where
   pub pace_is : IsAskedPace judging seen pace

@@ -20,7 +20,7 @@ use Rattle.vbi_c.specs.Statuses.{in_turn}
 abbrev pub count_in : words.System → ℕ → ℕ
 count_in system bytes = bytes / line_bytes system
 
--- a list is taken where so many lines of one number are handed over: its entries are of these
+-- a list is taken if so many lines of one number are handed over: its entries are of these
 abbrev pub is_list_of : ℕ → ℕ → List LdvbiErased → Bool
 is_list_of line count list = is_taken count list && list_all (λ entry. entry.line == line) list
 

@@ -8,7 +8,7 @@ use Rattle.vbi_line.specs.OneReading.{reading_of}
 use Rattle.vbi_c.specs.declared.setup.Setup.{Setup}
 use Rattle.vbi_c.specs.declared.reading.LdvbiReading.{LdvbiReading}
 
--- an outcome with the pass of its reading; the word and the column are 0 where there is none
+-- an outcome with the pass of its reading; the word and the column are 0 if there is none
 abbrev pub outcome_for_c : Outcome → ℕ → LdvbiReading
 outcome_for_c (Word word) pass = record { cause = 0; pass = pass; column = 0; word = word }
 outcome_for_c Blank pass = record { cause = 1; pass = pass; column = 0; word = 0 }

@@ -25,7 +25,7 @@ AreRecovered setup rows marks readings = (lines : List Recovered)
 abbrev pub code_bytes : System → List ℕ → List ℕ
 code_bytes system field = take (3 * line_bytes system) (drop (15 * line_bytes system) field)
 
--- what lines 16, 17 and 18 of a field show, where no column is erased; it is the only answer there is
+-- what lines 16, 17 and 18 of a field show, if no column is erased; it is the only answer there is
 -- (`laws::one_recovery`)
 abbrev pub recovered_reading : Setup → List ℕ → LdvbiFieldReadings
 recovered_reading setup field = record {

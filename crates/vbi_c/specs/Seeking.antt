@@ -17,7 +17,7 @@ use Rattle.vbi_c.specs.Recovering.{recovered_reading}
 use Rattle.vbi_c.specs.Setups.{setup_of}
 use Rattle.vbi_c.specs.Statuses.{in_turn}
 
--- the fields that tell a number at one place, those that are read there where many were worn, those that are read while
+-- the fields that tell a number at one place, those that are read there if many were worn, those that are read while
 -- the place is sought, and those that are judged, at most
 abbrev pub probe_most : ℕ
 probe_most = 12
@@ -66,7 +66,7 @@ pub record IsJudgedIn (seek : Seek) (bytes : List ℕ) (count field first many :
   pub asked : IsAskedPace seek.judging (map (shown_at seek bytes) (range_with_len first many)) pace
 
 -- the number is found: it is what is answered of its field, by what all fields of the side show at this pace, which is
--- the one that is found by the fields that were read around it, where none is given; and the field before it is
+-- the one that is found by the fields that were read around it, if none is given; and the field before it is
 -- answered another
 pub record IsFoundIn (seek : Seek) (bytes : List ℕ) (count number : ℕ) (sought : LdvbiSought) (pace : paces.Pace)
     : Type 0 where

@@ -46,7 +46,7 @@ lines_setup number black white length = of_length (λ system.
     length % line_bytes system == 0 && nat_lt 0 length && nat_le length (28 * line_bytes system))
     (setup_of number black white)
 
--- a number of a system's geometry, or 0 where there is no system
+-- a number of a system's geometry, or 0 if there is no system
 abbrev pub of_system : (words.System → ℕ) → Option words.System → ℕ
 of_system number None = 0
 of_system number (Some system) = number system

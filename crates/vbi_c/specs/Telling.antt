@@ -48,7 +48,7 @@ abbrev pub IsSilent : Seek → List ℕ → ℕ → ℕ → Type 0
 IsSilent seek bytes count field =
     (k n : ℕ) → k ≤ probe_most → field + k ≤ count → TellsFrom seek bytes field k n → ⊥
 
--- where some fields from this one on tell a number, the place at which it is told: the first of them, or the first of
+-- if some fields from this one on tell a number, the place at which it is told: the first of them, or the first of
 -- the last 12
 abbrev pub told_at : ℕ → ℕ → ℕ
 told_at field read = field + (read - probe_most)
@@ -60,7 +60,7 @@ IsNarrowed n field told old new =
     ((told < n) × (new ≡ record old { low = field; lower = Some told }))
     ⊎ ((n ≤ told) × (new ≡ record old { high = field; higher = Some told }))
 
--- so it is by what some fields from this one on tell, so many more than 12 at most, where fewer tell none
+-- so it is by what some fields from this one on tell, so many more than 12 at most, if fewer tell none
 pub record IsNarrowedAt (seek : Seek) (bytes : List ℕ) (count n field more : ℕ) (old new : Between) : Type 0 where
   pub read : ℕ
   pub number : ℕ

@@ -97,7 +97,7 @@ fn complete_all(
 }
 
 /// Completes the times of fields of which line 16 was read, and neither line 17 nor 18: each gets the minute that most
-/// of the times around it say. What is read of each field goes to `seen`, its readings, with the word on line 17 where
+/// of the times around it say. What is read of each field goes to `seen`, its readings, with the word on line 17 if
 /// one is found, to `completed`, both as long as `readings`.
 #[unsafe(no_mangle)]
 pub extern "C" fn ldvbi_complete_times(

@@ -40,9 +40,9 @@ fn format_of_words(words: &[Option<Word24>; 3]) -> u32
     format_for_c(format_of(words))
 }
 
-/// The format of a field whose lines 16, 17 and 18 have these words, each 0 where there is none: 1 where some are codes
-/// that CAV discs alone have and none are codes that CLV discs alone have, 2 the other way round, 3 where there are
-/// both, 0 where there is neither.
+/// The format of a field whose lines 16, 17 and 18 have these words, each 0 if there is none: 1 if some are codes
+/// that CAV discs alone have and none are codes that CLV discs alone have, 2 the other way round, 3 if there are
+/// both, 0 if there is neither.
 #[unsafe(no_mangle)]
 pub extern "C" fn ldvbi_format(first: u32, second: u32, third: u32, format: &mut u32) -> u32
     ensures status { result ≡ status_of (three_words first second third) }

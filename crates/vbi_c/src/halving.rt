@@ -16,7 +16,7 @@ ghost use Rattle.vbi_c.specs.Telling.{IsSilent, IsNarrowedAt, middle_of};
 use crate::narrowing::{Between, narrow, narrow_between, narrow_either};
 use crate::probing::{LONGEST, Looked, NOTHING_SEEN, PROBE, Seek};
 
-/// Halving ends where no more fields than these are left.
+/// Halving ends when no more fields than these are left.
 pub(crate) const LEFT: usize = 32;
 
 /// So many fields at most are read while the place is sought.
@@ -101,7 +101,7 @@ fn begin(
         || sweep(seek, bytes, count, number, 16, between, looked)
 }
 
-/// Narrows the fields between which the number is sought where the middle is silent, and only the last end has told a
+/// Narrows the fields between which the number is sought if the middle is silent, and only the last end has told a
 /// number: by what is told a little before the middle, or else to the fields after it.
 fn narrow_before(
     seek: &Seek,
@@ -137,7 +137,7 @@ fn narrow_before(
     between.low = from;
 }
 
-/// The same, where only the first end has told a number, or none has: by what is told a little after the middle, or
+/// The same, if only the first end has told a number, or none has: by what is told a little after the middle, or
 /// else to the fields before it.
 fn narrow_behind(
     seek: &Seek,
@@ -174,7 +174,7 @@ fn narrow_behind(
 }
 
 /// Narrows the fields between which the number is sought, by what is told in the middle. Silence there says that the
-/// number is on the side of the end that has told one, where only one has.
+/// number is on the side of the end that has told one, if only one has.
 fn halve(
     seek: &Seek,
     bytes: &[u8],
@@ -240,7 +240,7 @@ fn steps_of(count: usize) -> u32
     STEPS
 }
 
-/// A place that is near the first field with this number, where the numbers rise along the side.
+/// A place that is near the first field with this number, if the numbers rise along the side.
 pub(crate) fn place_of(
     seek: &Seek,
     bytes: &[u8],

@@ -152,7 +152,7 @@ pub extern "C" fn ldvbi_judge(
     }
 }
 
-/// The first of these numbers, counted from 0, that is believed or due and is this one; as many as there are where none
+/// The first of these numbers, counted from 0, that is believed or due and is this one; as many as there are if none
 /// is.
 #[unsafe(no_mangle)]
 pub extern "C" fn ldvbi_first_of(numbers: &[Number], number: u32) -> usize

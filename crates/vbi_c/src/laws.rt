@@ -84,7 +84,7 @@ pub fn worked_codes()
         ≡ code_as 5 0x123 0 ∷ code_as 6 0x456 0 ∷ code_as 7 7 0x89A ∷ code_as 8 0 0 ∷ code_as 9 0 0 ∷ [] }
 {}
 
-/// How many fields a search looks at, and what it answers where it finds none.
+/// How many fields a search looks at, and what it answers if it finds none.
 pub fn worked_searches()
     ensures reads { (probe_most ≡ 12) × (probe_longest ≡ 144) × (probed_most ≡ 812) × (around_most ≡ 188) }
     ensures looked { (seek : Seek) (bytes : List ℕ) (number : ℕ) (sought : LdvbiSought)
@@ -122,7 +122,7 @@ pub fn worked_calls()
     ensures none_on_18 { (answer : ℕ) → IsStopOf (lines_read_as 0 0 0x82CFFF) answer → answer ≡ 0 }
 {}
 
-/// Where no column is erased, a field shows one thing with the nearest words of worn lines. So what a search says of
+/// If no column is erased, a field shows one thing with the nearest words of worn lines. So what a search says of
 /// the fields of a side it says of the readings that `ldvbi_recover_fields` makes of them.
 pub fn one_recovery()
     ensures field { (setup : Setup) (field : List ℕ) (readings : LdvbiFieldReadings)

@@ -80,7 +80,7 @@ fn one_between(seen: &[Sightings], lower: u32, higher: u32) -> Option<(usize, u3
     None
 }
 
-/// Whether the number is more likely after this field than before it, where nothing is told there: by where it stands
+/// Whether the number is more likely after this field than before it, if nothing is told there: by where it stands
 /// between the numbers that were told at both ends.
 fn is_behind(number: u32, field: usize, between: &Between, lower: u32, higher: u32) -> bool
     requires before { between.now.low ≤ field }
@@ -93,7 +93,7 @@ fn is_behind(number: u32, field: usize, between: &Between, lower: u32, higher: u
     part as u128 * u128::from(number_whole) < whole as u128 * u128::from(number_part)
 }
 
-/// As `narrow`, where so many fields may be read besides.
+/// As `narrow`, if so many fields may be read besides.
 fn narrow_by_spare(
     seek: &Seek,
     bytes: &[u8],
@@ -154,7 +154,7 @@ fn narrow_by_one(
     true
 }
 
-/// Narrows the fields between which the number is sought, by what is told from this field on, where so many fields may
+/// Narrows the fields between which the number is sought, by what is told from this field on, if so many fields may
 /// be read besides, or by a single line.
 fn narrow_near(
     seek: &Seek,
@@ -186,7 +186,7 @@ fn narrow_near(
     ) || narrow_by_one(number, field, lower, higher, seen, between)
 }
 
-/// Narrows the fields between which the number is sought where both ends have told a number, and the middle none: by a
+/// Narrows the fields between which the number is sought if both ends have told a number, and the middle none: by a
 /// single line there that shows a number between those two, by what is shown at three quarters or at one quarter of the
 /// fields, or else by where the number stands between those two.
 pub(crate) fn narrow_between(

@@ -14,15 +14,15 @@ use vbi_near::{Near, nearest_of_lines};
 #[derive(Clone, Copy)]
 #[repr(C)]
 pub struct LdvbiNear {
-    /// The word, from 0x800000 to 0xFFFFFF, or 0 where the row of none is nearest.
+    /// The word, from 0x800000 to 0xFFFFFF, or 0 if the row of none is nearest.
     pub word: u32,
-    /// The column, counted from 0, at which the word begins; 0 where there is none.
+    /// The column, counted from 0, at which the word begins; 0 if there is none.
     pub start: u32,
     /// How far the samples are from those of the word's drawn row, in sum.
     pub distance: u64,
     /// The same of the nearest drawn row of another word, or of none.
     pub rival: u64,
-    /// The same of the nearest drawn row on which the word goes on by one cell; the distance where there is no word.
+    /// The same of the nearest drawn row on which the word goes on by one cell; the distance if there is no word.
     pub longer: u64,
 }
 

@@ -68,7 +68,7 @@ fn answer_of(judging: &Judging, readings: &[LdvbiFieldReadings], field: usize) -
 
 /// Judges which number of its disc one field shows, counted from 0, by the readings of at most 97 that follow each
 /// other. What is answered is what `ldvbi_judge` answers of it, of these fields at this pace, and also of a whole
-/// capture of which they are a part: where they have 48 fields before this one, or all that the capture has, and so
+/// capture of which they are a part: if they have 48 fields before this one, or all that the capture has, and so
 /// after it. The pace is 1 or 2: a few fields have none of their own.
 #[unsafe(no_mangle)]
 pub extern "C" fn ldvbi_judge_field(

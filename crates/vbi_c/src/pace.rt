@@ -23,7 +23,7 @@ pub(crate) fn pace_for_c(pace: Pace) -> u32
     }
 }
 
-/// The pace that `ldvbi_judge` takes where it is to find one, 1 or 2. What is read of each field goes to `seen`, which
+/// The pace that `ldvbi_judge` takes if it is to find one, 1 or 2. What is read of each field goes to `seen`, which
 /// is as long as `readings`.
 #[unsafe(no_mangle)]
 pub extern "C" fn ldvbi_find_pace(

@@ -23,7 +23,7 @@ fn are_of_line(line: u32, list: &[LdvbiErased]) -> bool
     list.iter().all(|entry| entry.line == line)
 }
 
-/// Whether a list is taken where so many lines of one number are handed over.
+/// Whether a list is taken if so many lines of one number are handed over.
 fn is_list_of(line: u32, count: usize, list: &[LdvbiErased]) -> bool
     ensures { result ≡ is_list_of line count list.now }
 {
@@ -153,7 +153,7 @@ fn word_of(setup: &Setup, line: u32, known: u32, bytes: &[u8], erased: &[LdvbiEr
     }
 }
 
-/// The word that 1 to 28 lines of one number say together, which all have one word, or none; 0 where they say none. In
+/// The word that 1 to 28 lines of one number say together, which all have one word, or none; 0 if they say none. In
 /// the list `field` is the place of the line among them.
 #[unsafe(no_mangle)]
 pub extern "C" fn ldvbi_recover_pile(

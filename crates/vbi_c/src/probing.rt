@@ -22,7 +22,7 @@ pub(crate) struct Seek {
     pub(crate) judging: Judging,
 }
 
-/// How many fields were read, and how many more than `PROBE` may be where few lines show a number.
+/// How many fields were read, and how many more than `PROBE` may be if few lines show a number.
 #[derive(Clone, Copy)]
 pub(crate) struct Looked {
     pub(crate) fields: u32,
@@ -35,7 +35,7 @@ pub(crate) const PROBE: usize = 12;
 /// So many at most are read there.
 pub(crate) const LONGEST: usize = 144;
 
-/// What is shown together weighs so much. No field alone does, even where both its lines were misread alike.
+/// What is shown together weighs so much. No field alone does, even if both its lines were misread alike.
 const TOGETHER: u32 = 6;
 
 /// What a field without a number shows.
@@ -85,7 +85,7 @@ pub(crate) fn see_from(
     }
 }
 
-/// The weight of a sighting of field `other`, where its number lies two fields a picture from this one in this field.
+/// The weight of a sighting of field `other`, if its number lies two fields a picture from this one in this field.
 fn weight_of_run(field: usize, number: u32, other: usize, sighting: &Sighting) -> u32
     requires few { (field < probe_longest) × (other < probe_longest) }
     ensures value { result ≡ sighting_weight (fits Video field number other) sighting.now }
@@ -99,7 +99,7 @@ fn weight_of_run(field: usize, number: u32, other: usize, sighting: &Sighting) -
     }
 }
 
-/// The weight of the sightings of field `other`, where their numbers do.
+/// The weight of the sightings of field `other`, if their numbers do.
 fn weight_of_other(seen: &[Sightings], field: usize, number: u32, other: usize) -> u32
     requires few { (field < probe_longest) × (other < probe_longest) }
     ensures value { result ≡ field_weight (fits Video field number other) (slice_get seen.now other) }

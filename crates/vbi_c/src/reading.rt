@@ -13,14 +13,14 @@ use vbi_words::Outcome;
 #[derive(Clone, Copy)]
 #[repr(C)]
 pub struct LdvbiReading {
-    /// 0 for a word, 1 for a blank line, 2 for an unfinished one, 3 where the level changes at the first hopeless
-    /// column, 4 where it holds there.
+    /// 0 for a word, 1 for a blank line, 2 for an unfinished one, 3 if the level changes at the first hopeless
+    /// column, 4 if it holds there.
     pub cause: u8,
     /// 1 for a word of the line's own levels, 2 for one of the smoothed levels, 0 for no word.
     pub pass: u8,
     /// The first hopeless column, counted from 0, of causes 3 and 4; else 0.
     pub column: u16,
-    /// The word, from 0x800000 to 0xFFFFFF, or 0 where there is none.
+    /// The word, from 0x800000 to 0xFFFFFF, or 0 if there is none.
     pub word: u32,
 }
 

@@ -64,7 +64,7 @@ fn code_bytes(system: System, field: &[u8]) -> &[u8]
     &field[FIRST_ROW * line..FIRST_ROW * line + 3 * line]
 }
 
-/// What lines 16, 17 and 18 of a field show, where no column is erased.
+/// What lines 16, 17 and 18 of a field show, if no column is erased.
 pub(crate) fn recover_whole(setup: &Setup, field: &[u8]) -> LdvbiFieldReadings
     requires { length field.now ≡ field_bytes setup.now.system }
     ensures { result ≡ recovered_reading setup.now field.now }

@@ -29,11 +29,11 @@ use vbi_side::{NOTHING, Number, PART, Pace, REACH, first_of, judge};
 #[derive(Clone, Copy)]
 #[repr(C)]
 pub struct LdvbiSought {
-    /// The field, counted from 0; as many as the side has where none was found.
+    /// The field, counted from 0; as many as the side has if none was found.
     pub field: usize,
     /// What is answered of this field: the number, believed or due.
     pub number: Number,
-    /// The pace at which it is answered, 1 or 2; 0 where none was found.
+    /// The pace at which it is answered, 1 or 2; 0 if none was found.
     pub pace: u32,
     /// How many fields were read.
     pub looked: u32,
@@ -100,7 +100,7 @@ fn judge_from(
     pace
 }
 
-/// The first of these numbers from one to before another that is this one, counted from there. None where it is the
+/// The first of these numbers from one to before another that is this one, counted from there. None if it is the
 /// very first of these, unless the side begins there: of the field before it it isn't known that it has another number.
 fn first_between(
     numbers: &[Number],

@@ -6,7 +6,7 @@ ghost use Rattle.vbi_c.specs.Setups.{system_of, of_system};
 
 use crate::setup::system_of;
 
-/// The samples of a line, or 0 where there is no system of that number.
+/// The samples of a line, or 0 if there is no system of that number.
 #[unsafe(no_mangle)]
 pub extern "C" fn ldvbi_line_samples(system: u32) -> usize
     ensures { result ≡ of_system width_of (system_of system) }
@@ -17,7 +17,7 @@ pub extern "C" fn ldvbi_line_samples(system: u32) -> usize
     }
 }
 
-/// The bytes of a line, or 0 where there is no system of that number.
+/// The bytes of a line, or 0 if there is no system of that number.
 #[unsafe(no_mangle)]
 pub extern "C" fn ldvbi_line_bytes(system: u32) -> usize
     ensures { result ≡ of_system line_bytes (system_of system) }
@@ -28,7 +28,7 @@ pub extern "C" fn ldvbi_line_bytes(system: u32) -> usize
     }
 }
 
-/// The lines of a field, or 0 where there is no system of that number.
+/// The lines of a field, or 0 if there is no system of that number.
 #[unsafe(no_mangle)]
 pub extern "C" fn ldvbi_lines(system: u32) -> usize
     ensures { result ≡ of_system height_of (system_of system) }
@@ -39,7 +39,7 @@ pub extern "C" fn ldvbi_lines(system: u32) -> usize
     }
 }
 
-/// The bytes of a field, or 0 where there is no system of that number.
+/// The bytes of a field, or 0 if there is no system of that number.
 #[unsafe(no_mangle)]
 pub extern "C" fn ldvbi_field_bytes(system: u32) -> usize
     ensures { result ≡ of_system field_bytes (system_of system) }

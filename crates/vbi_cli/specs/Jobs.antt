@@ -38,13 +38,13 @@ use Rattle.vbi_cli.specs.declared.command_line.WordsFault.TheVariants.{Refused, 
 
 -- ---- the settings
 
--- metadata, where it is given, is a JSON document, and it and the options settle this config
+-- metadata, if it is given, is a JSON document, and it and the options settle this config
 abbrev pub Settles : Option (List ℕ) → Overrides → ConfigView → Type 0
 Settles None given config = IsSettled None given config
 Settles (Some bytes) given config =
     (value : Data) × IsMetadata bytes value × IsSettled (Some value) given config
 
--- metadata, where it is given, isn't read for this reason; or it is a JSON document, and it and the options are refused
+-- metadata, if it is given, isn't read for this reason; or it is a JSON document, and it and the options are refused
 -- for this reason
 abbrev pub Refuses : Option (List ℕ) → Overrides → MetaFault → Type 0
 Refuses None given fault = IsRefused None given fault
@@ -93,7 +93,7 @@ pub record DidRun {A : Type 0} (input0 input output0 output : Option (List ℕ))
   pub ran : Ran input0 input output0 output n (Says n result)
   pub answered : IsFor result answer
 
--- what `extract` says of its result; and where that is Ok, what is found in the text by a reader of JSON are the words
+-- what `extract` says of its result; and if that is Ok, what is found in the text by a reader of JSON are the words
 -- that the lines in the bytes fetched show
 pub record ExtractsWords (c : ConfigView) (input : Option (List ℕ)) (n : Counts) (result : Result Summary RunFault)
     (z text : List ℕ) : Type 0 where
@@ -114,7 +114,7 @@ module _ (c : ConfigView) (input0 input output0 output : Option (List ℕ)) (n :
 
 -- ---- the job
 
--- where the answer is a fault of metadata or settings, P holds of it
+-- if the answer is a fault of metadata or settings, P holds of it
 abbrev pub IfMeta : Result Ended AppFault → (MetaFault → Type 0) → Type 0
 IfMeta (Err (app.Meta fault)) P = P fault
 IfMeta _ P = ⊤
@@ -163,7 +163,7 @@ Does remaining contents c s0 s o0 o answer =
     (contents (outlets.device_of (outlets.counted_of o0))) (contents (outlets.device_of (outlets.counted_of o)))
     (counts_of s o) (verb_of s0) answer
 
--- the bytes that the program's input has yet to give, where they are told: those of the file or of standard input
+-- the bytes that the program's input has yet to give, if they are told: those of the file or of standard input
 abbrev pub input_remaining : {F S : Type 0} → (F → Option (List ℕ)) → (S → Option (List ℕ)) → Input F S
     → Option (List ℕ)
 input_remaining file standard (File f) = file f
@@ -192,13 +192,13 @@ looks_beside job =
     is_some job.input && not (is_some job.meta)
     && not (is_some given.system && is_some given.black && is_some given.white)
 
--- where the command line gives no job: 2 where it is refused, 0 where help is asked for, 1 where memory runs out
+-- if the command line gives no job: 2 if it is refused, 0 if help is asked for, 1 if memory runs out
 abbrev pub words_status : WordsFault → ℕ
 words_status (Refused text) = 2
 words_status (Help text) = 0
 words_status OutOfMemory = 1
 
--- of a job: 0 where it is done, 3 where it is done and the last field was cut, 1 for every fault
+-- of a job: 0 if it is done, 3 if it is done and the last field was cut, 1 for every fault
 abbrev pub app_status : Result Ended AppFault → ℕ
 app_status (Ok Whole) = 0
 app_status (Ok CutField) = 3

@@ -39,7 +39,7 @@ pub struct Job {
     pub verb: Verb,
     /// The options that stand in place of metadata.
     pub overrides: Overrides,
-    /// The path of the metadata file, where one is given.
+    /// The path of the metadata file, if one is given.
     pub meta: Option<String>,
     /// The path of the input; None for standard input.
     pub input: Option<String>,
@@ -153,7 +153,7 @@ fn verb_named(name: &str, recover: bool) -> Verb
     }
 }
 
-/// Whether recovered words are asked for. Rust's own `clap` panics where a command is asked for a flag that it hasn't.
+/// Whether recovered words are asked for. Rust's own `clap` panics if a command is asked for a flag that it hasn't.
 fn asks_recovery(name: &str, options: &ArgMatches<'_>) -> bool {
     can_recover(name) && options.get_flag(RECOVER)
 }

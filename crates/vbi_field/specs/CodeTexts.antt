@@ -21,7 +21,7 @@ hex_at number place = hex_digit (digit_of number place)
 abbrev pub hex_text_of : ℕ → List ℕ
 hex_text_of word = hex_at word 1 ∷ hex_at word 2 ∷ hex_at word 3 ∷ hex_at word 4 ∷ hex_at word 5 ∷ hex_at word 6 ∷ []
 
--- a number of 16 bits in three hexadecimal digits, or in four where it has more
+-- a number of 16 bits in three hexadecimal digits, or in four if it has more
 abbrev pub hex_number : ℕ → List ℕ
 hex_number number =
     (if nat_lt number 4096 then [] else hex_at number 3 ∷ [])
@@ -47,7 +47,7 @@ code_text_of (CxOff number) = codes "cx off " ++ hex_number number
 code_text_of (Users digit number) = codes "users " ++ decimal digit ++ codes " " ++ hex_number number
 code_text_of Other = codes "other"
 
--- the name of an outcome, and its column where it has one
+-- the name of an outcome, and its column if it has one
 abbrev pub cause_text_of : Outcome → List ℕ
 cause_text_of (Word word) = codes "word"
 cause_text_of Blank = codes "blank"

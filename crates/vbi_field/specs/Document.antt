@@ -6,7 +6,7 @@ use Rattle.vbi_field.specs.ConfigView.{width_of, height_of, name_of, ConfigView}
 use Rattle.vbi_field.specs.CodeTexts.{Outcome, Word, cause_text_of}
 use Rattle.vbi_field.specs.Stream.{Reading, FieldReadings}
 
--- the number of the word, or 0 where there is none
+-- the number of the word, or 0 if there is none
 abbrev pub value_of : Outcome → ℕ
 value_of (Word w) = w
 value_of _ = 0
@@ -36,7 +36,7 @@ record_of number readings = codes "{\"seqNo\":" ++ decimal number
     readings
     ++ lines_of (codes ",\"vbiPass\":[") (λ line. decimal line.pass) (codes "]") readings ++ codes "}"
 
--- the end: a cut last field's number and bytes, or null where none was cut
+-- the end: a cut last field's number and bytes, or null if none was cut
 unfoldable pub tail_of : ℕ → ℕ → List ℕ
 tail_of fields rest = if rest == 0 then codes "\n],\"cutField\":null}\n"
     else codes "\n],\"cutField\":{\"seqNo\":" ++ decimal (fields + 1)

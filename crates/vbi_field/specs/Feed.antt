@@ -29,7 +29,7 @@ pub record StandsAt (f : Feeding) (z : List ℕ) : Type 0 where
   pub at : IsAt f.config z f.position
 
 module _ {W : Type 0} (contents : W → Option (List ℕ)) (c : ConfigView) (o o' : Outlet W) (z : List ℕ) where
-  -- what a piece did, where the feeder was at z before, and its position now
+  -- what a piece did, if the feeder was at z before, and its position now
   abbrev pub IsFed : List ℕ → Position → Result (Unit {0}) RunFault → Type 0
   IsFed piece now (Ok u) = IsAt c (z ++ piece) now × Extends document contents c o o' z (z ++ piece)
   IsFed piece now (Err (Write written)) =
@@ -38,7 +38,7 @@ module _ {W : Type 0} (contents : W → Option (List ℕ)) (c : ConfigView) (o o
       × Extends document contents c o o' z (take (allowed_bytes c) (z ++ piece))
   IsFed piece now (Err _) = ⊥
 
-  -- what the end did, where the feeder was at z before
+  -- what the end did, if the feeder was at z before
   abbrev pub IsFinished : Result Summary RunFault → Type 0
   IsFinished (Ok s) =
       Wrote contents o o' (document.tail (fields_of c z) (rest_of c z))
@@ -85,7 +85,7 @@ module _ {W : Type 0} (contents : W → Option (List ℕ)) where
     pub finishes : Finishes last fed o' (Ok s)
 
 module _ {W : Type 0} (o o' : Outlet W) where
-  -- a piece answers `Write` where the writer failed, and never `Read`
+  -- a piece answers `Write` if the writer failed, and never `Read`
   abbrev pub IsFeedFault : RunFault → Type 0
   IsFeedFault (Write written) = (written ≡ written_of o') × HasCause (counted_of o) (counted_of o')
   IsFeedFault TooManyFields = NoError (counted_of o) (counted_of o')
@@ -125,7 +125,7 @@ pub record IsFeederState (c : ConfigView) (l : Line) (p : Progress) : Type 0 whe
   pub most : p.fields ≤ most_fields
   pub looked : l.looked ≡ width_of c.system * selected p.fields p.row
 
--- what the first bytes of a piece did, where the line and the progress were those of z before
+-- what the first bytes of a piece did, if the line and the progress were those of z before
 abbrev pub IsStep : {W : Type 0} → (W → Option (List ℕ)) → ConfigView → Outlet W → Outlet W → List ℕ → List ℕ → Position
     → Result ℕ RunFault → Type 0
 IsStep contents c o o' z bytes now (Ok n) = IsFed contents c o o' z (take n bytes) now (Ok tt)

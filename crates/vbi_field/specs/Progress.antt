@@ -69,7 +69,7 @@ pub record HoldsOn (system : System) (row : ℕ) (b was now : List ℕ) : Type 0
   pub second : IsHeld system 16 1 row b was now
   pub third : IsHeld system 17 2 row b was now
 
--- where rows are kept and this one is the last of its field, those of the field are held
+-- if rows are kept and this one is the last of its field, those of the field are held
 abbrev pub HoldsField : Bool → ConfigView → List ℕ → ℕ → ℕ → List ℕ → Type 0
 HoldsField keeps c z i row held =
     IsTrue keeps → row + 1 ≡ height_of c.system → rows_in c.system held ≡ rows_at c z i

@@ -1,6 +1,6 @@
 -- What a run did, for any command: some bytes were fetched, some text was written, and its answer says how the two
 -- belong together. The reader is seen by the bytes that it has yet to give and the writer by those that it has taken,
--- where they tell them.
+-- if they tell them.
 use Rattle.std.specs.Prelude.{◌≡◌, ℕ, ◌<◌, ◌≤◌, ◌⊎◌, List, ◌++◌, length, take, Option}
 pub use Rattle.std.specs.Io.KnownBytes.{Consumes, Appends, IsAtEnd}
 use Rattle.vbi_line.specs.Counted.{tries}

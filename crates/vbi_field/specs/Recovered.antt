@@ -49,7 +49,7 @@ recovered_of c rows = recovered_without c.system c.levels rows (none_erased c.sy
 
 -- ---- causes
 
--- the line whose cause is written: where its word was recovered, it as it was read
+-- the line whose cause is written: if its word was recovered, it as it was read
 abbrev pub cause_line : Reading → Reading → Reading
 cause_line shown reading = if shown.pass == 3 then reading else shown
 
@@ -63,7 +63,7 @@ cause_lines shown readings = record {
 
 -- ---- nearest words
 
--- the number of the word, or 0 where there is none
+-- the number of the word, or 0 if there is none
 abbrev pub word_or_zero : Option ℕ → ℕ
 word_or_zero (Some word) = word
 word_or_zero None = 0
@@ -72,7 +72,7 @@ word_or_zero None = 0
 abbrev pub hundredths : Slicing → ℕ → ℕ
 hundredths slicing distance = distance * 100 / (slicing.white - slicing.black)
 
--- how near a line's nearest word is, where its word was recovered
+-- how near a line's nearest word is, if its word was recovered
 unfoldable pub near_text_of : Slicing → Reading → Near → List ℕ
 near_text_of slicing line near = if line.pass == 3
     then codes "{\"word\":" ++ decimal (word_or_zero near.word)

@@ -52,7 +52,7 @@ abbrev pub recovered_entry_of : ℕ → FieldReadings → List ℕ
 recovered_entry_of number lines =
     field_lines_of number lines (marked_of lines.first) (marked_of lines.second) (marked_of lines.third)
 
--- the last line, from the number of whole fields and the bytes of a field that was cut; 0 where none was
+-- the last line, from the number of whole fields and the bytes of a field that was cut; 0 if none was
 unfoldable pub report_tail_of : ℕ → ℕ → List ℕ
 report_tail_of fields cut =
     codes "fields " ++ decimal fields ++ (if cut == 0 then codes " cut none\n"

@@ -41,7 +41,7 @@ module _ {R : Type 0} where
     pub least : (failures_of (counted_of old)).all ≤ (failures_of (counted_of new)).all
     pub same : IsSameDevice (counted_of old) (counted_of new)
 
-  -- no error was given, or else the answer is a fault, which has its cause; the reader is at its end where it says so
+  -- no error was given, or else the answer is a fault, which has its cause; the reader is at its end if it says so
   abbrev pub GotByte : (R → Option (List ℕ)) → RowIntake R → RowIntake R → NextByte → Type 0
   GotByte remaining old new (bytes.Byte byte) = NoError (counted_of old) (counted_of new)
   GotByte remaining old new bytes.AtEnd =

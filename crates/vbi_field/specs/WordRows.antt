@@ -50,7 +50,7 @@ is_hex_item text = length text == 6 && list_all (λ c. is_digit c 16) text
 abbrev pub is_word : ℕ → Bool
 is_word value = nat_le (2 ^ 23) value && nat_lt value (2 ^ 24)
 
--- what the text of an item stands for, a word or none; `None` where it is no item
+-- what the text of an item stands for, a word or none; `None` if it is no item
 unfoldable pub item_of : List ℕ → Option (Option ℕ)
 item_of text =
     if is_none_item text then Some None
@@ -70,7 +70,7 @@ row_of_parts _ = None
 abbrev pub parts_of : List ℕ → List (List ℕ)
 parts_of row = slice_split (λ c. c == space) row
 
--- the words that a row without its newline stands for; `None` where it is malformed
+-- the words that a row without its newline stands for; `None` if it is malformed
 unfoldable pub word_row_of : List ℕ → Option WordRow
 word_row_of row = row_of_parts (parts_of row)
 

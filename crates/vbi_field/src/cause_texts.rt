@@ -7,7 +7,7 @@ use crate::numbers::push_number;
 use arrayvec::ArrayString;
 use vbi_words::Outcome;
 
-/// Why a line has no word, with the column where the cause has one; `word` where it has a word.
+/// Why a line has no word, with the column if the cause has one; `word` if it has a word.
 pub fn cause_text(outcome: Outcome) -> ArrayString<16>
     ensures { result.bytes ≡ cause_text_of outcome }
 {

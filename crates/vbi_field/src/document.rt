@@ -15,7 +15,7 @@
 //!
 //! Who changes the document changes its definition, the proof of `document_words` in `vbi_meta` (a JSON reader finds
 //! the words in it), share/schema/ldvbi.schema.json, docs/FORMATS.md, and the two modules of the Python package that
-//! write and read it. `version` is raised where those who read the document so far can't any more.
+//! write and read it. `version` is raised if those who read the document so far can't any more.
 ghost use Rattle.std.specs.Prelude.{false, ◌≡◌, ◌-◌, ◌^◌, ◌<◌, ◌≤◌, ◌++◌, codes, decimal, length};
 ghost use Rattle.vbi_field.specs.CodeTexts.{cause_text_of};
 ghost use Rattle.vbi_field.specs.Document.{value_of, lines_of, parameters_of, tail_of};
@@ -57,7 +57,7 @@ impl Kind for Document {
     }
 }
 
-/// The number of the word, or 0 where there is none.
+/// The number of the word, or 0 if there is none.
 fn value(outcome: Outcome) -> u32
     ensures { result ≡ value_of outcome }
 {

@@ -122,7 +122,7 @@ impl Model for Feeder {
 impl Feeder {
     ghost use Rattle.vbi_field.specs.Feed.{IsEndFault, Begins, Feeds, Finishes};
 
-    /// Writes the head, and begins a stream of which nothing has come. Where the writer fails there is no feeder.
+    /// Writes the head, and begins a stream of which nothing has come. If the writer fails there is no feeder.
     pub fn begin<W: Write>(config: Config, outlet: &mut Outlet<W>) -> Result<Feeder, RunFault>
         requires { IsFresh outlet.old }
         ensures same { IsSameDevice (counted_of outlet.old) (counted_of outlet.new) }
@@ -143,7 +143,7 @@ impl Feeder {
     }
 
     /// Takes the next piece of the stream, of any length, and writes the record of each field that is whole now.
-    /// `Write` comes where the writer fails, and `TooManyFields` where a byte follows the last field that is allowed,
+    /// `Write` comes if the writer fails, and `TooManyFields` if a byte follows the last field that is allowed,
     /// whose records are written first. After a fault the feeder answers `Failed` to every call and writes nothing
     /// more.
     ///

@@ -67,12 +67,12 @@ pub fn one_field()
         → (RowsRecover system slicing rows marks field ↔ (field ≡ recovered_without system slicing rows marks)) }
 {}
 
-/// A row stands for these words exactly where it is their three items with one space between two of them.
+/// A row stands for these words exactly if it is their three items with one space between two of them.
 pub fn one_word_row()
     ensures { (row : List ℕ) (words : WordRow) → (word_row_of row ≡ Some words) ↔ IsWordRow row words }
 {}
 
-/// Field i of a drawn stream, counted from 0, is read as the words of its row in the first pass, and as blank where
+/// Field i of a drawn stream, counted from 0, is read as the words of its row in the first pass, and as blank if
 /// there is none.
 pub fn drawn_field()
     ensures { (c : ConfigView) (rows : List WordRow) (i : ℕ) (words : WordRow) → c.levels.black < c.levels.white
@@ -92,14 +92,14 @@ pub fn drawn_length()
 {}
 
 /// The document or the report of the stream that is drawn of a text's rows has an entry for each row, with its words in
-/// the first pass and blank where it has none, and no cut field.
+/// the first pass and blank if it has none, and no cut field.
 #[tactic(auto, using(crate::proofs::DrawnDocument::drawn_document))]
 pub fn drawn_document()
     ensures { (t : ReadingKind) (c : ConfigView) (text : List ℕ) (rows : List WordRow) → c.levels.black < c.levels.white
         → AreRows text rows → whole_text (by t) c (draw_out c rows) ≡ drawn_text t c rows }
 {}
 
-/// The bytes fetched are the first of those that the reader had, and all of them where it is at its end.
+/// The bytes fetched are the first of those that the reader had, and all of them if it is at its end.
 #[tactic(auto, using(crate::proofs::RunLaws::first, crate::proofs::RunLaws::whole))]
 pub fn whole_stream()
     ensures first { (all z : List ℕ) (input : Option (List ℕ)) → Consumes (Some all) input z
@@ -114,7 +114,7 @@ pub fn few_looks()
 {}
 
 /// A text that a failed writer cut inside the head, an entry or the tail is a first part of the text of the whole
-/// fields, or, where the reader ended, of the whole text.
+/// fields, or, if the reader ended, of the whole text.
 #[tactic(auto, using(crate::proofs::RunLaws::first_of_text))]
 pub fn first_of_text()
     ensures { (t : Kind) (c : ConfigView) (input : Option (List ℕ)) (z text : List ℕ) → EndsWithin t c input z text
@@ -138,7 +138,7 @@ pub fn pieces_join<W: Write>()
 {}
 
 /// A stream that is pushed in pieces, however cut, has the document of the joined stream: `begin`, a `feed` of each
-/// piece and `finish`, where none fails, append its whole text and no more. An `extract` of the same bytes that is Ok
+/// piece and `finish`, if none fails, append its whole text and no more. An `extract` of the same bytes that is Ok
 /// writes this text, and answers the same summary.
 pub fn pushed_document<W: Write>()
     ensures text { (c : ConfigView) (o o' : Outlet W) (pieces : List (List ℕ)) (s : Summary)

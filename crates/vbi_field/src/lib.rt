@@ -1,6 +1,6 @@
 //! The fields of a TBC stream: the document and the report that are written for it, pulled from a reader or pushed in
 //! pieces, and test fields drawn from a text of words. Stands on `vbi_words`, `vbi_line`, `itoa` and `arrayvec`. What
-//! is written is exactly the text of `specs/` for the bytes fetched, however they were cut; a fault comes only where
+//! is written is exactly the text of `specs/` for the bytes fetched, however they were cut; a fault comes only if
 //! a device failed or the input is at fault, and says what was written. One line is held at a time, each byte is
 //! fetched once, and nothing allocates. A file of `specs/` passes on by `pub use` what its readers need, but no type of
 //! this crate to another crate.

@@ -58,7 +58,7 @@ pub(crate) fn push_hex<const N: usize>(text: &mut ArrayString<N>, value: u8)
     }));
 }
 
-/// Appends a number in three hexadecimal digits, or in four where it has more.
+/// Appends a number in three hexadecimal digits, or in four if it has more.
 pub(crate) fn push_hex_number<const N: usize>(text: &mut ArrayString<N>, number: u16)
     requires { array_string_len text.old + 4 ≤ N }
     ensures { text.new.bytes ≡ text.old.bytes ++ hex_number number }

@@ -52,7 +52,7 @@ impl PartialReadings {
         }
     }
 
-    /// All three, or `None` where one of the rows isn't whole.
+    /// All three, or `None` if one of the rows isn't whole.
     fn all(&self) -> Option<FieldReadings>
         ensures { result ≡ all_of self.now.first self.now.second self.now.third }
     {

@@ -50,7 +50,7 @@ impl Kind for RecoveredDocument {
     }
 }
 
-/// The line whose cause is written: where its word was recovered, it as it was read.
+/// The line whose cause is written: if its word was recovered, it as it was read.
 fn cause_line(shown: &Reading, reading: &Reading) -> Reading
     ensures { result ≡ cause_line shown.now reading.now }
 {
@@ -68,7 +68,7 @@ fn cause_lines(shown: &FieldReadings, readings: &FieldReadings) -> FieldReadings
     }
 }
 
-/// The number of the word, or 0 where there is none.
+/// The number of the word, or 0 if there is none.
 fn word_or_zero(word: Option<Word24>) -> u32
     ensures { result ≡ word_or_zero word }
 {
@@ -86,7 +86,7 @@ fn hundredths(config: &Config, distance: u32) -> u64
     u64::from(distance) * 100 / u64::from(levels.white() - levels.black())
 }
 
-/// How near a line's nearest word is, where its word was recovered, by the bytes of its row and the marks of its erased
+/// How near a line's nearest word is, if its word was recovered, by the bytes of its row and the marks of its erased
 /// columns.
 #[tactic(auto, unfolding(crate::specs::Recovered::near_text_of))]
 fn near_text(config: &Config, line: &Reading, row: &[u8], erased: &[bool]) -> ArrayString<80>

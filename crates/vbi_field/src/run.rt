@@ -144,7 +144,7 @@ fn run<K: Kind, R: Read, W: Write>(
 
 /// Writes the document of the stream that the intake reads: the head before the first read, the record of each field as
 /// soon as it is whole, and the tail at the end. The bytes fetched, the text and the answer belong together as
-/// `Extracts` says; where the reader tells its bytes, those fetched are the first of them, and after Ok all of them. It
+/// `Extracts` says; if the reader tells its bytes, those fetched are the first of them, and after Ok all of them. It
 /// doesn't flush.
 pub fn extract<R: Read, W: Write>(
     config: &Config,

@@ -60,7 +60,7 @@ fn recovered_lines(system: System, levels: Levels, rows: &[u8], erased: &[bool])
     }
 }
 
-/// What a field's rows show, by their readings, their bytes and the marks of their erased columns. Where each of them
+/// What a field's rows show, by their readings, their bytes and the marks of their erased columns. If each of them
 /// is sure, nothing is searched.
 pub(crate) fn shown_lines(
     config: &Config,

@@ -38,7 +38,7 @@ pub(crate) trait Kind {
         ensures { result.bytes ≡ kind.head config.now };
 
     /// The entry of a field after `before` others, with the joint before it if there are any: by its readings and the
-    /// bytes of its rows, where these are kept.
+    /// bytes of its rows, if these are kept.
     fn entry(
         config: &Config,
         before: u32,

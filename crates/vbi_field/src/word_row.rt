@@ -34,7 +34,7 @@ fn hex_value(text: &[u8]) -> Option<u32>
     Some(value)
 }
 
-/// What the text of an item stands for, or `None` where it is no item.
+/// What the text of an item stands for, or `None` if it is no item.
 #[tactic(auto, unfolding(crate::specs::WordRows::item_of))]
 fn read_item(text: &[u8]) -> Option<Option<Word24>>
     ensures { result ≡ item_of text.now }
@@ -83,7 +83,7 @@ fn join_items(
     }
 }
 
-/// The words that a row without its newline stands for, or `None` where it is malformed.
+/// The words that a row without its newline stands for, or `None` if it is malformed.
 pub(crate) fn read_word_row(row: &[u8]) -> Option<WordRow>
     ensures { result ≡ word_row_of row.now }
 {

@@ -68,7 +68,7 @@ pub record LooksAtBlock (old : Line) (cursor : ℕ) (before : List ℕ) (block :
   pub looked : new.looked ≡ old.looked + 16
   pub bytes : KeepsBytes old new
 
--- what the latest pass gives where a block is asked for: none where fewer than sixteen samples are left
+-- what the latest pass gives when a block is asked for: none if fewer than sixteen samples are left
 abbrev pub IsNextBlock : Line → Option (List ℕ) → Line → Type 0
 IsNextBlock old result new = (cursor : ℕ) (before : List ℕ) → old.cursors ≡ cursor ∷ before
     → MatchOption result ((width_of old.system < cursor + 16) × (new ≡ old))

@@ -31,7 +31,7 @@ pub(crate) fn greatest_low(slicing: Levels) -> u16
     ((u32::from(slicing.black()) + u32::from(slicing.white())) / 2) as u16
 }
 
-/// One bit for each of sixteen samples, the lowest for the first: set where the sample is above `low`.
+/// One bit for each of sixteen samples, the lowest for the first: set if the sample is above `low`.
 pub(crate) fn bits_above(samples: [u16; 16], low: u16) -> u64
     ensures levels { levels_in 16 result ≡ map (λ sample. nat_lt low sample) samples }
     ensures range { result < 2 ^ 16 }

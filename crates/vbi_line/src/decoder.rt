@@ -16,13 +16,13 @@
 //! that cell or, as a double run, in the middle of the next: `turn_second` decides it by the length, once the level has
 //! changed. One that begins with a cell (`First`) ends in its middle. The first half cell of a word is low, so it can't
 //! be told from the lows before it, and `Lead` counts both. The lows after a word may be any number too: they are the
-//! `Tail` or, where the last bit is 0, belong to the last cell's `Second`, which has no greatest length then.
+//! `Tail` or, if the last bit is 0, belong to the last cell's `Second`, which has no greatest length then.
 //!
 //! A run that is too short, or neither one half cell nor two, shows when the level changes (the cause `change`), and
 //! so does a high after the word; one that is too long shows at the first column past its limit (`hold`). `None` and
 //! `Err` mean that no continuation shows a word, so that column is the first hopeless one.
 //!
-//! `read_runs` (outcome.rt) decodes a line this way where straight.rt finds no word, and `smoothed_word` (reading.rt)
+//! `read_runs` (outcome.rt) decodes a line this way if straight.rt finds no word, and `smoothed_word` (reading.rt)
 //! decodes the smoothed levels. The contracts here speak of a machine, `vbi_words/proofs/Machine.antt`, for which it is
 //! proved once what its states mean for the definition `Shows`; `specs/Decoder.antt` says which of its states a value
 //! here is. So a change of the states changes both files, and the proofs about the machine. How long a half cell may be
@@ -101,7 +101,7 @@ pub(crate) fn word_of(bits: u32) -> Word24
     Word24::new(bits).unwrap()
 }
 
-/// The decoder after a change of level that ends a run from the middle of a cell, or `None` where no word can be shown
+/// The decoder after a change of level that ends a run from the middle of a cell, or `None` if no word can be shown
 /// any more. The run was the cell's second half, or both that and the first half of the next cell.
 #[tactic(auto, using(crate::proofs::Steps::steps))]
 fn turn_second(system: System, level: bool, run: usize, cells: u32, bits: u32) -> Option<Decoder>
@@ -143,7 +143,7 @@ impl Decoder {
         }
     }
 
-    /// The decoder after one more column of the same level, or `None` where no word can be shown any more.
+    /// The decoder after one more column of the same level, or `None` if no word can be shown any more.
     // A column at a time, as the machine of the proofs goes. `read_run` takes one such step, and then the rest at once.
     #[tactic(auto, using(crate::proofs::Steps::steps))]
     fn stay(self, system: System) -> Option<Decoder>
@@ -165,7 +165,7 @@ impl Decoder {
         }
     }
 
-    /// The decoder after a change of level, or `None` where no word can be shown any more.
+    /// The decoder after a change of level, or `None` if no word can be shown any more.
     #[tactic(auto, using(crate::proofs::Steps::steps))]
     fn turn(self, system: System) -> Option<Decoder>
         requires sound { IsSound self }
@@ -203,7 +203,7 @@ impl Decoder {
         }
     }
 
-    /// The decoder after one more column of this level, or `None` where no word can be shown any more.
+    /// The decoder after one more column of this level, or `None` if no word can be shown any more.
     #[inline(always)]
     fn next(self, system: System, level: bool) -> Option<Decoder>
         requires sound { IsSound self }
@@ -291,7 +291,7 @@ impl Decoder {
         }
     }
 
-    /// How many columns the last run has; 0 where its length has no limit and is not kept.
+    /// How many columns the last run has; 0 if its length has no limit and is not kept.
     fn length(self) -> usize
         ensures { result ≡ length_of (state_of self) }
     {

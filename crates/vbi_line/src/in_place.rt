@@ -12,7 +12,7 @@ use vbi_words::{Levels, System};
 /// The columns of a word of a packed line.
 const WORD: usize = 64;
 
-/// One bit for each of sixteen samples from a column on, the lowest for the first: set where the sample is above `low`.
+/// One bit for each of sixteen samples from a column on, the lowest for the first: set if the sample is above `low`.
 fn block_bits_at(bytes: &[u8], column: usize, low: u16) -> u64
     requires { 2 * column + 32 ≤ length bytes.now }
     ensures levels { TellsAbove low bytes.now column 16 result }
@@ -22,7 +22,7 @@ fn block_bits_at(bytes: &[u8], column: usize, low: u16) -> u64
     bits_above(samples, low)
 }
 
-/// The bits of the last samples before a whole block's end, fewer than sixteen, the lowest for the first: set where the
+/// The bits of the last samples before a whole block's end, fewer than sixteen, the lowest for the first: set if the
 /// sample is above `low`.
 // The samples asked for are the last of the block of sixteen that ends where they end.
 fn last_bits_at(bytes: &[u8], column: usize, count: usize, low: u16) -> u64
@@ -35,7 +35,7 @@ fn last_bits_at(bytes: &[u8], column: usize, count: usize, low: u16) -> u64
     block_bits_at(bytes, column + count - LANES, low) >> (LANES - count)
 }
 
-/// One bit for each of `count` samples of a line's bytes from a column on, the lowest bit for the first: set where the
+/// One bit for each of `count` samples of a line's bytes from a column on, the lowest bit for the first: set if the
 /// sample is above `low`.
 // Inlined, so that a call with a `count` of 64 is compiled to four blocks one after the other, without the loop.
 #[inline(always)]

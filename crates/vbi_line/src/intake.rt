@@ -133,7 +133,7 @@ impl<'a, R: Read> Intake<'a, R> {
         read_line(&mut self.line, system, slicing)
     }
 
-    /// The reading of the line that is held: its outcome or, where it shows no word, the word that its smoothed levels
+    /// The reading of the line that is held: its outcome or, if it shows no word, the word that its smoothed levels
     /// show. Columns in it are counted from 0.
     pub fn reading(&mut self, slicing: Levels) -> Reading
         requires full { IsFull (line_of self.old) }

@@ -1,7 +1,7 @@
 //! One line of an ld-decode TBC stream: its bytes, its levels, and the code word that it shows.
 //!
 //! An `Intake` reads a line from a reader, and `read_line` and `read_twice` find its outcome and its reading, exactly
-//! as the definitions of `vbi_words` say; where a line shows no word, the outcome names the first hopeless column. The
+//! as the definitions of `vbi_words` say; if a line shows no word, the outcome names the first hopeless column. The
 //! module `laws` says that each line has exactly one outcome and one reading. Bytes fetched, samples looked at and
 //! failed calls of the reader are counted. No sample of a line is looked at more than twice, and nothing allocates. For
 //! callers that have a line's bytes and need no counts there are `slice_bytes` and `read_bytes_twice`.

@@ -168,7 +168,7 @@ impl LineBuf {
         Some(sample)
     }
 
-    /// The next sixteen samples of the latest pass, or `None` where fewer are left; the pass then stays where it is.
+    /// The next sixteen samples of the latest pass, or `None` if fewer are left; the pass then stays where it is.
     pub fn next_block(&mut self) -> Option<[u16; 16]>
         requires { 0 < length self.old.cursors }
         ensures gives { IsNextBlock self.old result self.new }

@@ -6,7 +6,7 @@ ghost use Rattle.vbi_line.specs.Packing.{level_of_bit, levels_in, EqualBits, IsR
 
 use std::marker::Model;
 
-/// The levels of a line: one bit for each column, set where the sample is high.
+/// The levels of a line: one bit for each column, set if the sample is high.
 // 18 words have 1,152 bits, for the 1,135 columns of PAL. The bits past the width are 0, so a search that comes there
 // finds lows, and needs to ask for the width only once a word has no other level.
 #[derive(Drop)]

@@ -17,7 +17,7 @@ use crate::outcome::find_outcome;
 use crate::packed::Packed;
 use vbi_words::{Levels, Outcome, Reading, System, Word24};
 
-/// The reading of a line of this system that is held whole: its outcome or, where it shows no word, the word that its
+/// The reading of a line of this system that is held whole: its outcome or, if it shows no word, the word that its
 /// smoothed levels show. Columns in it are counted from 0. The samples are looked at only once: their levels are kept,
 /// and the smoothed levels are found from these.
 pub fn read_twice(line: &mut LineBuf, system: System, slicing: Levels) -> Reading
@@ -64,7 +64,7 @@ pub fn read_bytes_twice(bytes: &[u8], system: System, slicing: Levels) -> Readin
     read_packed_twice(&packed, system)
 }
 
-/// The reading of a line's levels. Columns in it are counted from 0. The smoothed levels are read only where the levels
+/// The reading of a line's levels. Columns in it are counted from 0. The smoothed levels are read only if the levels
 /// show no word and one of them is high.
 #[tactic(auto, using(crate::proofs::OneReading::only_reading))]
 pub fn read_packed_twice(packed: &Packed, system: System) -> Reading

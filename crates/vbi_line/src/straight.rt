@@ -13,7 +13,7 @@
 //! Twice `half_min` is more than `half_max`. So the next middle is the first change that is more than `half_max`
 //! columns away, in either case, and a change before that can only be the cell's end. `next_middle` looks for both in
 //! the 64 columns after a middle, which is enough as two half cells have 44 at most, and then asks whether the lengths
-//! are right. Where there is one run, its two halves are the half cells. A glitch makes changes of its own, with which
+//! are right. If there is one run, its two halves are the half cells. A glitch makes changes of its own, with which
 //! the lengths come out wrong, and the answer is `None`.
 //!
 //! A word that is found here is proved to be the one that the line shows: `IsMiddle` says that the machine of
@@ -50,7 +50,7 @@ fn first_level(word: u64) -> bool
     word & 1 == 1
 }
 
-/// Where a cell ends whose middle is before the first column: after the first change of level where that is near, and
+/// Where a cell ends whose middle is before the first column: after the first change of level if that is near, and
 /// else in the middle of the columns up to the next.
 fn cell_end(first: usize, columns: usize, most: usize) -> usize
     ensures { ((first ≤ most) × (result ≡ first)) ⊎ ((most < first) × (result ≡ columns / 2)) }
@@ -65,7 +65,7 @@ fn next_middle(window: u64, system: System) -> Option<usize>
 {
     let least = system.half_min();
     let most = system.half_max();
-    // The bit of a column is set where the level changes after it. The next middle is the first change that is more
+    // The bit of a column is set if the level changes after it. The next middle is the first change that is more
     // than the longest half cell away; a change before that is the cell's end.
     let changes = window ^ (window >> 1);
     let columns = most + 1 + equal_bits(changes, most, false);
@@ -121,7 +121,7 @@ fn last_middle(packed: &Packed, system: System, first: usize) -> Option<(usize, 
     Some((column, bits))
 }
 
-/// The word of these bits, whose last cell has its middle at a column, where only lows follow that cell.
+/// The word of these bits, whose last cell has its middle at a column, if only lows follow that cell.
 fn word_from(packed: &Packed, system: System, column: usize, bits: u32) -> Option<Word24>
     requires bits { bits < 2 ^ 24 }
     requires middle { IsMiddle system packed.now column (lowest_bits 24 bits) }

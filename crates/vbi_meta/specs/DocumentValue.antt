@@ -44,7 +44,7 @@ whole_of n = number (unsigned n)
 abbrev pub lines_value : (Reading → Data) → FieldReadings → Data
 lines_value said readings = array_of (said readings.first ∷ said readings.second ∷ said readings.third ∷ [])
 
--- a field, by its number from 1 and its readings; the words of its lines are 0 where there is none
+-- a field, by its number from 1 and its readings; the words of its lines are 0 if there is none
 abbrev pub field_value : ℕ → FieldReadings → Data
 field_value n readings = object_of (
     (codes "seqNo", whole_of n)

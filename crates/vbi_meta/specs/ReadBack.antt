@@ -58,7 +58,7 @@ pub record HasReading (text : List ℕ) (i k : ℕ) (reading : Reading) : Type 0
   pub cause : cause_of k (field_in text i) ≡ Some (cause_text_of reading.outcome)
   pub pass : pass_of k (field_in text i) ≡ Some reading.pass
 
--- `.cutField` is null where no byte came past the whole fields, and else has the number of the cut field and its bytes
+-- `.cutField` is null if no byte came past the whole fields, and else has the number of the cut field and its bytes
 pub record HasCut (text : List ℕ) (fields rest : ℕ) : Type 0 where
   pub none : rest ≡ 0 → cut_in text ≡ Some null
   pub number : 0 < rest → number_of (cut_in text) ≡ Some (fields + 1)

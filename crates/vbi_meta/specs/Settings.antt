@@ -1,5 +1,5 @@
 -- The settings that metadata and options give together: refusals in their order, of which the first that holds counts,
--- and the values where none holds. The members are those of ld-decode's `.tbc.json`; the order is this project's own.
+-- and the values if none holds. The members are those of ld-decode's `.tbc.json`; the order is this project's own.
 use Rattle.std.specs.Prelude.{◌≡◌, ℕ, ◌^◌, ◌==◌, ◌&&◌, ◌||◌, Bool, true, false, not, nat_lt, nat_le, List, [], ◌∷◌}
 use Rattle.std.specs.Prelude.{◌++◌, codes, if◌then◌else◌, Option, Some, None, is_some, is_none, option_map}
 use Rattle.std.specs.Prelude.{option_and_then, unwrap_or, ◌<◌, ◌≤◌, length, IsUtf8}
@@ -17,12 +17,12 @@ use Rattle.serde_json.specs.Read.{read}
 
 -- ---- the members
 
--- a document's `videoParameters`, where it is an object
+-- a document's `videoParameters`, if it is an object
 abbrev pub parameters_of : Data → Option Data
 parameters_of document =
     option_and_then (λ p. if is_some (as_object p) then Some p else None) (get (codes "videoParameters") document)
 
--- the member of this name, where there are parameters and it is there
+-- the member of this name, if there are parameters and it is there
 abbrev pub member_of : Option Data → List ℕ → Option Data
 member_of parameters name = option_and_then (get name) parameters
 
@@ -84,7 +84,7 @@ unfoldable pub first_refusal : List FaultTest → Option MetaFault
 first_refusal [] = None
 first_refusal (refusal ∷ refusals) = if refusal.1 then Some refusal.0 else first_refusal refusals
 
--- of the document, where one is given
+-- of the document, if one is given
 unfoldable pub document_refusals : Option Data → List FaultTest
 document_refusals document = (NoVideoParameters, is_bad parameters_of document) ∷ []
 
@@ -99,7 +99,7 @@ system_refusals given name flag =
     )
     ∷ []
 
--- of one level, where its two faults are these: the option and the member
+-- of one level, if its two faults are these: the option and the member
 unfoldable pub level_refusals : MetaFault → MetaFault → Option ℕ → Option Data → List FaultTest
 level_refusals missing bad given member =
     (missing, is_none given && is_none member)
@@ -110,7 +110,7 @@ level_refusals missing bad given member =
 unfoldable pub order_refusals : ℕ → ℕ → List FaultTest
 order_refusals black white = (LevelsOrder, not (nat_lt black white)) ∷ []
 
--- of one size, where its fault is this: the system's number and the member
+-- of one size, if its fault is this: the system's number and the member
 unfoldable pub size_refusals : MetaFault → ℕ → Option Data → List FaultTest
 size_refusals differs size member = (differs, is_other size member) ∷ []
 
@@ -167,7 +167,7 @@ pub record IsMetadata (bytes : List ℕ) (document : Data) : Type 0 where
   pub nested : depth document ≤ 127
 
 -- these bytes give no document for this reason: they are over the limit; or they are within it and are none; or they
--- are within it, and memory was refused, as it can be where there is a byte at all
+-- are within it, and memory was refused, as it can be if there is a byte at all
 abbrev pub IsUnread : List ℕ → MetaFault → Type 0
 IsUnread bytes TooLarge = most_bytes < length bytes
 IsUnread bytes NotJson = (length bytes ≤ most_bytes) × ((document : Data) → ¬ IsMetadata bytes document)

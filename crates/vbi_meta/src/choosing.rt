@@ -15,7 +15,7 @@ use serde_json::Value;
 use vbi_field::{Config, MAX_FIELDS_LIMIT};
 use vbi_words::{Levels, System};
 
-/// What the options of the command line put in place of metadata; None where an option isn't given.
+/// What the options of the command line put in place of metadata; None if an option isn't given.
 #[derive(Clone, Copy, Debug, PartialEq, Eq)]
 pub struct Overrides {
     /// In place of `system` and `isSourcePal`.
@@ -24,11 +24,11 @@ pub struct Overrides {
     pub black: Option<u16>,
     /// The sample of white, in place of `white16bIre`.
     pub white: Option<u16>,
-    /// The most fields of a run; no metadata has it, and it is 1,000,000 where it isn't given.
+    /// The most fields of a run; no metadata has it, and it is 1,000,000 if it isn't given.
     pub max_fields: Option<u32>,
 }
 
-/// The settings of a run: system, levels and the most fields. `value` is the metadata document, where there is one. An
+/// The settings of a run: system, levels and the most fields. `value` is the metadata document, if there is one. An
 /// option stands before its member, which then isn't looked at; other members than those named in `Overrides`,
 /// `fieldWidth` and `fieldHeight` are never looked at.
 #[tactic(auto, using(crate::proofs::Refusals::first_refusal_append), unfolding(crate::specs::Settings::refusals_of))]
@@ -72,7 +72,7 @@ pub fn settings(value: Option<&Value>, overrides: &Overrides) -> Result<Config, 
     config(system, levels, overrides.max_fields)
 }
 
-/// The document's `videoParameters`; None where there is no document.
+/// The document's `videoParameters`; None if there is no document.
 #[tactic(auto, unfolding(crate::specs::Settings::document_refusals, crate::specs::Settings::first_refusal))]
 fn parameters(document: Option<&Value>) -> Result<Option<&Value>, MetaFault>
     ensures ok { IfOk result (λ p. let d = option_map (λ v. view v.now) document.entry in
@@ -90,7 +90,7 @@ fn parameters(document: Option<&Value>) -> Result<Option<&Value>, MetaFault>
     }
 }
 
-/// The member of this name, where it is there.
+/// The member of this name, if it is there.
 fn member<'v>(parameters: Option<&'v Value>, name: &str) -> Option<&'v Value>
     ensures { option_map (λ v. view v.now) result
         ≡ member_of (option_map (λ v. view v.now) parameters.entry) name.now }
@@ -117,7 +117,7 @@ fn system(
     if let Some(system) = given {
         return Ok(system);
     }
-    // Both members are read before they are compared: where one of them is no system, that is the fault, and not that
+    // Both members are read before they are compared: if one of them is no system, that is the fault, and not that
     // the two disagree.
     let named = match name {
         None => None,
@@ -171,7 +171,7 @@ fn level(
     u16::try_from(level).map_err(|_| bad)
 }
 
-/// The levels, where black is below white.
+/// The levels, if black is below white.
 #[tactic(auto, unfolding(crate::specs::Settings::order_refusals, crate::specs::Settings::first_refusal))]
 fn ordered(black: u16, white: u16) -> Result<Levels, MetaFault>
     ensures ok { IfOk result (λ l. (first_refusal (order_refusals black white) ≡ None)

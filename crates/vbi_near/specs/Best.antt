@@ -43,7 +43,7 @@ bits_at bits start = record {
   margin = slice_index_or bits.margins start 0;
 }
 
--- bits of one cell more: they are best where those before are and a one and a zero cost so much in the cell
+-- bits of one cell more: they are best if those before are and a one and a zero cost so much in the cell
 abbrev pub Grows : Bits → ℕ → ℕ → Bits → Type 0
 Grows best as_one as_zero more =
     ((cost : ℕ → Bool → ℕ) (n : ℕ) → IsBest cost n best → cost (suc n) true ≡ as_one → cost (suc n) false ≡ as_zero

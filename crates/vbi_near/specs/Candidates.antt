@@ -67,7 +67,7 @@ are_alike system slicing row other =
 
 -- ---- candidates
 
--- the nearest words of lines levelled, where they can be, and as they are
+-- the nearest words of lines levelled, if they can be, and as they are
 pub record Candidates : Type 0 where
   pub levelled : Option Nears
   pub given : Nears

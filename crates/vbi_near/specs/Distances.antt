@@ -9,7 +9,7 @@ use Rattle.vbi_words.specs.Geometry.{width_of, line_at}
 use Rattle.vbi_words.specs.Levels.{Slicing, samples_of}
 use Rattle.vbi_near.specs.Pictures.{sample_of}
 
--- the samples of a line, of which none is known where it is erased
+-- the samples of a line, of which none is known if it is erased
 abbrev pub Samples : Type 0
 Samples = List (Option ℕ)
 

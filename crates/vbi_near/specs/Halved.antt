@@ -16,7 +16,7 @@ abbrev pub half_of : Bool → ℕ → List Bool
 half_of true word = begun_later word 24
 half_of false word = ended_earlier word 24
 
--- the distance of the nearer of both rows; where there is no word, its own
+-- the distance of the nearer of both rows; if there is no word, its own
 abbrev pub halved_far : System → (List Bool → ℕ) → Option ℕ → Near → ℕ
 halved_far system far None near = near.distance
 halved_far system far (Some word) near =

@@ -63,7 +63,7 @@ unfoldable pub swing_of : System → List ℕ → ℕ
 swing_of system samples =
     2 * off_in system samples (columns_of system) / (window_of system * columns_of system)
 
--- a line is levelled where its swing is at least 3 and at most 16 tenths of what white is from black
+-- a line is levelled if its swing is at least 3 and at most 16 tenths of what white is from black
 abbrev pub is_swing : ℕ → ℕ → Bool
 is_swing unit swing = nat_le (3 * unit) (10 * swing) && nat_le (10 * swing) (16 * unit)
 

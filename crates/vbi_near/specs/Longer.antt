@@ -30,7 +30,7 @@ ended_later system word start bit =
     ++ (drawn_halves system 0 (cell_of bit)
     ++ replicate (width_of system - (start + word_length system + cell_length system)) false))
 
--- the levels of a row on which a word goes on by one cell, a one or a zero, where there is room for it
+-- the levels of a row on which a word goes on by one cell, a one or a zero, if there is room for it
 abbrev pub GoesOn : System → ℕ → ℕ → List Bool → Type 0
 GoesOn system word start levels = (bit : Bool)
     × (((cell_length system ≤ start) × (levels ≡ begun_earlier system word start bit))
@@ -42,7 +42,7 @@ pub record IsLeastLonger (system : System) (far : List Bool → ℕ) (word start
   pub least : (levels : List Bool) → GoesOn system word start levels → longer ≤ far levels
   pub one : (levels : List Bool) × GoesOn system word start levels × (far levels ≡ longer)
 
--- the same of the word answered; where there is none, its own distance
+-- the same of the word answered; if there is none, its own distance
 abbrev pub HasLonger : System → (List Bool → ℕ) → Option ℕ → Near → Type 0
 HasLonger system far None near = near.longer ≡ near.distance
 HasLonger system far (Some word) near = IsLeastLonger system far word near.start near.longer
@@ -59,7 +59,7 @@ abbrev pub IsBeside : System → ℕ → ℕ → Type 0
 IsBeside system start begin = (begin + cell_length system ≡ start)
     ⊎ ((begin ≡ start + word_length system) × (begin + cell_length system ≤ width_of system))
 
--- what a distance becomes where a cell that begins in this column is drawn, and no longer black
+-- what a distance becomes if a cell that begins in this column is drawn, and no longer black
 abbrev pub IsWithCell : Shades → System → ℕ → ℕ → Bool → ℕ → Type 0
 IsWithCell sums system distance begin bit far =
     far + total_in sums.dark begin (cell_length system) ≡ distance + cell_cost sums system begin 0 bit

@@ -1,5 +1,5 @@
 -- The word that lines say together which all have one word, or none: by their nearest words levelled, if they may be
--- levelled together, and where these say none, by those of the lines as they are.
+-- levelled together, and if these say none, by those of the lines as they are.
 use Rattle.std.specs.Prelude.{◌≡◌, ℕ, ◌*◌, Bool, if◌then◌else◌, List, length, map, take, drop, Option, Some}
 use Rattle.std.specs.List.{list_all, range_with_len}
 use Rattle.vbi_words.specs.declared.system.System.{System}
@@ -14,7 +14,7 @@ use Rattle.vbi_near.specs.Candidates.{Candidates, HasNear, HasNearIf}
 -- ---- the rule
 
 -- the columns by which the nearest word has to be ahead: a code that may stand on the lines by fewer than another word,
--- where it is known which columns are erased
+-- if it is known which columns are erased
 abbrev pub pile_margins : Bool → Margins
 pile_margins known = record { code = if known then 6 else 10; other = 10; code_share = 0; other_share = 0 }
 

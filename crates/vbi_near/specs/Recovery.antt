@@ -1,5 +1,5 @@
--- The words of a field's three lines: those that its lines show, and where a line shows none, the word that its samples
--- say (Said.antt): first the levelled ones, and where these say none, those as they are.
+-- The words of a field's three lines: those that its lines show, and if a line shows none, the word that its samples
+-- say (Said.antt): first the levelled ones, and if these say none, those as they are.
 use Rattle.std.specs.Prelude.{◌≡◌, ℕ, ◌+◌, ◌*◌, ◌==◌, ◌&&◌, ◌||◌, Bool, true, false, not, List, [], ◌∷◌, take}
 use Rattle.std.specs.Prelude.{drop, replicate, nat_le, IsTrue, Option, Some, None, if◌then◌else◌}
 use Rattle.vbi_words.specs.declared.system.System.{System}
@@ -22,7 +22,7 @@ use Rattle.vbi_near.specs.Stretched.{IsStretched}
 
 -- ---- one line
 
--- what there is of a line: its reading; where that is of pass 2, the outcome of the line's own levels, and how far the
+-- what there is of a line: its reading; if that is of pass 2, the outcome of the line's own levels, and how far the
 -- line is from the nearest row of the word on cells that are somewhat longer or shorter; and the words that it may have
 pub record Seen : Type 0 where
   pub reading : Reading
@@ -142,7 +142,7 @@ pub record IsSeen (system : System) (number : ℕ) (slicing : Slicing) (row : Ro
 
 -- ---- as it is found
 
--- a line as it is read, and its nearest words levelled where they are asked for
+-- a line as it is read, and its nearest words levelled if they are asked for
 pub record IsLine (system : System) (number : ℕ) (slicing : Slicing) (row : Row) (line : Line) : Type 0 where
   pub reading : line.reading ≡ reading_of system (row_levels slicing row.bytes)
   pub levelled : IsTrue (is_asked line.reading.outcome line.reading.pass)
@@ -169,7 +169,7 @@ row_at system rows erased i =
 abbrev pub row_reading : System → Slicing → List ℕ → ℕ → Reading
 row_reading system slicing rows row = reading_of system (row_levels slicing (line_at system rows 0 row))
 
--- what there is of a field's three lines, and the nearest words of lines 17 and 18 together where both are open
+-- what there is of a field's three lines, and the nearest words of lines 17 and 18 together if both are open
 pub record AreSeen (system : System) (slicing : Slicing) (rows : List ℕ) (erased : List Bool)
     (first second third : Seen) (both : Candidates) : Type 0 where
   pub line_16 : IsSeen system 16 slicing (row_at system rows erased 0) first

@@ -127,7 +127,7 @@ abbrev pub do_agree : ℕ → Nears → Nears → Nears → Bool
 do_agree unit second third both =
     have_one unit second third both && not (goes_on unit 1 second.word && goes_on unit 1 third.word)
 
--- nor do they where the one or the other has no nearest word, or both together
+-- nor do they if the one or the other has no nearest word, or both together
 abbrev pub may_agree : ℕ → Option Nears → Option Nears → Option Nears → Bool
 may_agree unit (Some second) (Some third) (Some both) = do_agree unit second third both
 may_agree unit second third both = false

@@ -38,7 +38,7 @@ pub record IsLeastShorter (system : System) (far : List Bool → ℕ) (word star
   pub least : (levels : List Bool) → IsCutShort system word start levels → shorter ≤ far levels
   pub one : (levels : List Bool) × IsCutShort system word start levels × (far levels ≡ shorter)
 
--- the same of the word answered; where there is none, its own distance
+-- the same of the word answered; if there is none, its own distance
 abbrev pub HasShorter : System → (List Bool → ℕ) → Option ℕ → Near → Type 0
 HasShorter system far None near = near.shorter ≡ near.distance
 HasShorter system far (Some word) near = IsLeastShorter system far word near.start near.shorter
@@ -59,7 +59,7 @@ abbrev pub black_cost : Shades → System → ℕ → ℕ → ℕ
 black_cost sums system start cell =
     half_cost sums system start (2 * cell) false + half_cost sums system start (suc (2 * cell)) false
 
--- what a distance becomes where a cell of the word is black
+-- what a distance becomes if a cell of the word is black
 abbrev pub IsWithoutCell : Shades → System → Found → ℕ → ℕ → ℕ → Type 0
 IsWithoutCell sums system found cell distance far =
     far + cell_cost sums system found.start cell (bit_in_cell found.word cell)

@@ -168,7 +168,7 @@ fn place_of(word: u32, place: usize) -> usize
     usize::from(digit(word, place as u32 + 1))
 }
 
-/// The best six digits of a range, where each value of each digit costs so much.
+/// The best six digits of a range, if each value of each digit costs so much.
 fn best_digits(digits: &[u32], base: u32, least: u32, greatest: u32) -> Bits
     requires digits { length digits.now ≡ 96 }
     requires few { (i : ℕ) → i < 96 → slice_index digits.now i < 2 ^ 28 }
@@ -331,7 +331,7 @@ fn with_start(
     with_codes(&digits, base, system, line, start, found)
 }
 
-/// The same where no word that begins there is nearer than this bound.
+/// The same if no word that begins there is nearer than this bound.
 fn with_start_by(
     dark: &[u32],
     light: &[u32],

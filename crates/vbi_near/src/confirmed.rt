@@ -1,7 +1,7 @@
 //! The word that a line says by itself, and which words of pass 2 its nearest words confirm.
 //!
-//! A search takes some microseconds, so one is made only where its answer counts: a line as it is is searched only
-//! where the levelled one says no word. The contracts say that a call answers as the definitions do by whatever nearest
+//! A search takes some microseconds, so one is made only if its answer counts: a line as it is is searched only
+//! if the levelled one says no word. The contracts say that a call answers as the definitions do by whatever nearest
 //! words the line has, of which there is one each.
 
 ghost use Rattle.std.specs.Prelude.{◌≡◌, ℕ, ◌-◌, ◌∷◌, [], length};
@@ -19,7 +19,7 @@ use crate::near::Near;
 use crate::said::{first_said, is_said, said_by_one};
 use vbi_words::{Levels, System, Word24};
 
-/// The word that a line says by itself. It is searched as it is only where it says none levelled.
+/// The word that a line says by itself. It is searched as it is only if it says none levelled.
 pub(crate) fn said_alone(
     system: System,
     number: u32,

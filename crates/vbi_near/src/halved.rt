@@ -12,7 +12,7 @@ use crate::near::Near;
 use crate::sums::between;
 use vbi_words::{System, Word24};
 
-/// Whether a half cell is high where the first half of a word is black, or its last.
+/// Whether a half cell is high if the first half of a word is black, or its last.
 #[tactic(auto, using(crate::proofs::HalvedRows::below_half, crate::proofs::HalvedRows::from_half))]
 fn is_high(word: Word24, is_late: bool, half: usize) -> bool
     requires { half < 48 }
@@ -52,7 +52,7 @@ fn half_distance(
     sum + between(dark, end, system.width())
 }
 
-/// How far the lines are from the nearer row of half the word answered; its own distance where there is none.
+/// How far the lines are from the nearer row of half the word answered; its own distance if there is none.
 pub(crate) fn halved_distance(dark: &[u32], light: &[u32], system: System, near: &Near) -> u32
     requires sums { AreRowSums system (shades dark.now light.now) }
     requires place { IsPlace system near.now.word near.now.start }

@@ -23,14 +23,14 @@ ghost use Rattle.vbi_near.specs.LineCodes.{IsOneOf, codes_of};
 ghost use Rattle.vbi_near.specs.declared.recovery.Recovered.{Recovered};
 ghost use Rattle.vbi_near.specs.Recovery.{IsRecovered};
 
-/// Where another word than the one answered was recorded, the samples of the lines are off by `rival` or more in sum.
+/// If another word than the one answered was recorded, the samples of the lines are off by `rival` or more in sum.
 pub fn misread_at_least()
     ensures { (system : System) (slicing : Slicing) (lines : List Samples) (near : Near) (word : Option ℕ) (start : ℕ)
         → IsNearest system slicing lines near → IsPlace system word start → word ≢ near.word
         → near.rival ≤ distance_of (unit_of slicing) lines (drawn_as slicing (picture_of system word start)) }
 {}
 
-/// Where the samples are off by less than `rival` in sum, the word answered is the recorded one.
+/// If the samples are off by less than `rival` in sum, the word answered is the recorded one.
 pub fn right_below_rival()
     ensures { (system : System) (slicing : Slicing) (lines : List Samples) (near : Near) (word : Option ℕ) (start : ℕ)
         → IsNearest system slicing lines near → IsPlace system word start
@@ -38,7 +38,7 @@ pub fn right_below_rival()
         → word ≡ near.word }
 {}
 
-/// Of some lines there is one least distance; and where the rival is farther, one nearest word.
+/// Of some lines there is one least distance; and if the rival is farther, one nearest word.
 pub fn one_nearest()
     ensures distance { (system : System) (slicing : Slicing) (lines : List Samples) (near other : Near)
         → IsNearest system slicing lines near → IsNearest system slicing lines other → near.distance ≡ other.distance }
@@ -108,7 +108,7 @@ pub fn rows_apart()
         (drawn_as slicing (picture_of system other t)) }
 {}
 
-/// Where the samples are off by so little, the word answered is the recorded one, wherever it begins: in each line, at
+/// If the samples are off by so little, the word answered is the recorded one, wherever it begins: in each line, at
 /// the mean, by less than 14 (NTSC) or 17.5 (PAL) times how far white is from black.
 pub fn few_misread()
     ensures { (system : System) (slicing : Slicing) (lines : List (List ℕ)) (near : Near) (word : Option ℕ) (start : ℕ)

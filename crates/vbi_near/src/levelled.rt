@@ -86,7 +86,7 @@ fn middle(levels: Levels) -> u16
     levels.black() + (levels.white() - levels.black()) / 2
 }
 
-/// Writes a line's samples, but half way between black and white where a column is erased.
+/// Writes a line's samples, but half way between black and white if a column is erased.
 pub(crate) fn fill(levels: Levels, row: &[u8], erased: &[bool], out: &mut [u8])
     requires row { length row.now ≡ 2 * length erased.now }
     requires out { length out.old ≡ 2 * length erased.now }

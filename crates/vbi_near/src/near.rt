@@ -17,7 +17,7 @@
 //! of them, so a field's lines 17 and 18, or a pile of lines, take no longer than one.
 //!
 //! The nearest word alone says little, as noise has one, too. So a `Near` says how far others are. `rival` is the
-//! nearest other row: what makes one word surer than another. `longer` is the row with one cell more (beyond.rt): where
+//! nearest other row: what makes one word surer than another. `longer` is the row with one cell more (beyond.rt): if
 //! it is nearer, the signal isn't a word of 24 cells. `shorter` is the row with fewer (within.rt). The nearest code
 //! (near_code.rt, codes.rt) is sought among the words whose code may stand on the line, and its rival is the nearest
 //! other one of these, or none: a code needs a smaller margin than any word, since fewer can be mistaken for it.
@@ -51,17 +51,17 @@ pub(crate) const WIDEST: usize = 1135;
 pub struct Near {
     /// The word, if a drawn row of one is nearer than that of no word.
     pub word: Option<Word24>,
-    /// The column at which it begins; 0 where there is none.
+    /// The column at which it begins; 0 if there is none.
     pub start: usize,
     /// How far the samples of the lines are from its drawn row, in sum.
     pub distance: u32,
     /// The least distance of a drawn row of another word, or of none.
     pub rival: u32,
-    /// The least distance of a drawn row that has one cell more before or after those of the word; the distance where
+    /// The least distance of a drawn row that has one cell more before or after those of the word; the distance if
     /// there is none.
     pub longer: u32,
     /// The least distance of a drawn row that has fewer cells: the row of the word with its first one, its first two,
-    /// its last one or its last two cells black; the distance where there is none.
+    /// its last one or its last two cells black; the distance if there is none.
     pub shorter: u32,
 }
 

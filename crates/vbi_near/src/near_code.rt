@@ -51,7 +51,7 @@ fn code_or_none(found: Found, longer: u32, shorter: u32) -> Near
     }
 }
 
-/// The least distance of a drawn row on which the found code goes on; 0 where there is none.
+/// The least distance of a drawn row on which the found code goes on; 0 if there is none.
 fn code_longer(dark: &[u32], light: &[u32], system: System, found: Found) -> u32
     requires sums { AreRowSums system (shades dark.now light.now) }
     requires start { (found.word ≡ 0) ⊎ (found.start < starts system) }
@@ -67,7 +67,7 @@ fn code_longer(dark: &[u32], light: &[u32], system: System, found: Found) -> u32
     }
 }
 
-/// The least distance of a drawn row on which the found code begins later or ends earlier; 0 where there is none.
+/// The least distance of a drawn row on which the found code begins later or ends earlier; 0 if there is none.
 fn code_shorter(dark: &[u32], light: &[u32], system: System, found: Found) -> u32
     requires sums { AreRowSums system (shades dark.now light.now) }
     requires start { (found.word ≡ 0) ⊎ (found.start < starts system) }

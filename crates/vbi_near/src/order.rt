@@ -35,7 +35,7 @@ pub(crate) fn nearer_lead(one: Found, other: Found) -> Found
 }
 
 /// Whether words that begin at this column can be nearer than the rival of what was found, or as near as what was found
-/// and before it, where none of them is nearer than the bound.
+/// and before it, if none of them is nearer than the bound.
 pub(crate) fn needs_look(start: usize, bound: u32, found: Found) -> bool
     ensures { result ≡ false
         → (found.rival ≤ bound) × ((found.distance < bound) ⊎ (found.start < start)) }

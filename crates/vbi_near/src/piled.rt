@@ -16,7 +16,7 @@ use vbi_words::{Levels, System, Word24};
 /// So many lines at most: the sums of more could pass 32 bits.
 const MOST_LINES: usize = 28;
 
-/// By how many columns the nearest word has to be ahead, where the erased columns are known or not.
+/// By how many columns the nearest word has to be ahead, by whether the erased columns are known.
 fn pile_margins(known: bool) -> Margins
     ensures { result ≡ pile_margins known }
 {
@@ -115,7 +115,7 @@ fn levelled_near_of_all(
 }
 
 /// The word that so many lines of this number say together, which all have one word, or none. Their samples lie one
-/// line after the other, as do the marks of their erased columns. Where these are known, a code may be less far ahead.
+/// line after the other, as do the marks of their erased columns. If these are known, a code may be less far ahead.
 pub fn recover_pile(
     system: System,
     number: u32,

@@ -14,7 +14,7 @@
 //!
 //! `rule_laws.rt` has worked rows of the rule. Whatever changes a word here changes the tables of docs/measured, too.
 //!
-//! As in `confirmed.rt`, lines as they are are searched only where the levelled ones say no word, and the contracts say
+//! As in `confirmed.rt`, lines as they are are searched only if the levelled ones say no word, and the contracts say
 //! that a call answers as the definitions do by whatever nearest words the lines have, of which there is one each.
 
 ghost use Rattle.std.specs.Prelude.{◌≡◌, ℕ, ◌+◌, ◌*◌, ◌-◌, ◌<◌, ◌^◌, ◌&&◌, List, ◌∷◌, [], length, take, drop, IsTrue};
@@ -50,7 +50,7 @@ pub struct Recovered {
 struct Line {
     /// Its reading.
     reading: Reading,
-    /// Where the rule asks for them, and the line swings as one with a word does, its nearest words levelled.
+    /// If the rule asks for them, and the line swings as one with a word does, its nearest words levelled.
     levelled: Option<Nears>,
 }
 
@@ -121,7 +121,7 @@ fn is_asked(outcome: Outcome, pass: u8) -> bool
     }
 }
 
-/// A line's nearest words levelled, where they are asked for.
+/// A line's nearest words levelled, if they are asked for.
 fn levelled_if_asked(
     system: System,
     number: u32,
@@ -181,7 +181,7 @@ fn shown_alone(
     }
 }
 
-/// The words that lines 17 and 18 say, both of which are open. They are searched as they are only where one of them
+/// The words that lines 17 and 18 say, both of which are open. They are searched as they are only if one of them
 /// says none levelled.
 fn said_by_both(
     system: System,

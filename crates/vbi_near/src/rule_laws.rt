@@ -48,7 +48,7 @@ pub fn worked_margins()
 
 /// Fields written down, NTSC with white 100 above black: which words their lines show, and of which pass.
 pub fn worked_fields()
-    // The two agree up to 30 columns, or where their words are the same, and then say their word together, whatever
+    // The two agree up to 30 columns, or if their words are the same, and then say their word together, whatever
     // each of them says.
     ensures together { Shows (recovered_of 100 (read_as Blank 0) (worn (as_code (near_with 0xF12345 10100 10000)))
         (worn (as_code (near_with 0xF12346 12000 10000))) (together_at 23000 23800))
@@ -76,7 +76,7 @@ pub fn worked_fields()
         (worn (from_none 13999 (as_code (near_with 0xF12346 10100 10000)))) (together_at 22000 29999))
         (None ∷ Some 0xF12345 ∷ None ∷ []) (0 ∷ 3 ∷ 0 ∷ []) }
 
-    // Where each of the two goes on beyond its nearest word, they don't agree; where one does, they may.
+    // If each of the two goes on beyond its nearest word, they don't agree; if one does, they may.
     ensures go_on { Shows (recovered_of 100 (read_as Blank 0) (worn (as_code (near_with 0xF12345 20000 9599)))
         (worn (as_code (near_with 0xF12345 20000 9599))) (together_at 20000 29999))
         (None ∷ None ∷ None ∷ []) (0 ∷ 0 ∷ 0 ∷ []) }
@@ -84,7 +84,7 @@ pub fn worked_fields()
         (worn (as_code (near_with 0xF12345 20000 9600))) (together_at 20000 29999))
         (None ∷ Some 0xF12345 ∷ Some 0xF12345 ∷ []) (0 ∷ 3 ∷ 3 ∷ []) }
 
-    // Beside a word that stays, a line is alone. A word of pass 2 stays where the line's nearest word says it.
+    // Beside a word that stays, a line is alone. A word of pass 2 stays if the line's nearest word says it.
     ensures alone { Shows (recovered_of 100 (worn (as_code (near_with 0x8AE000 10600 10000)))
         (read_as (Word 0xF12345) 1)
         (worn (as_code (near_with 0xF12346 10600 10000))) (together_at 21000 29999))
@@ -102,8 +102,8 @@ pub fn worked_fields()
         ∷ record { outcome = Word 0xF12345; pass = 1 } ∷ [] }
 {}
 
-/// Levelled lines are asked first, and lines as they are where these say nothing: each line of a field for itself, and
-/// lines 17 and 18 together where they agree by what is asked.
+/// Levelled lines are asked first, and lines as they are if these say nothing: each line of a field for itself, and
+/// lines 17 and 18 together if they agree by what is asked.
 pub fn worked_levels()
     // Line 16 says the word of its levelled samples, line 17 that of its own, since the levelled ones have no margin.
     ensures first { Shows (recovered_of 100
@@ -112,7 +112,7 @@ pub fn worked_levels()
         (read_as Blank 0) (as_given (both_at 0 0)))
         (Some 0x8AE000 ∷ Some 0xF12346 ∷ None ∷ []) (3 ∷ 3 ∷ 0 ∷ []) }
 
-    // Lines 17 and 18 agree levelled, or, where they can't be levelled together, as they are.
+    // Lines 17 and 18 agree levelled, or, if they can't be levelled together, as they are.
     ensures together { Shows (recovered_of 100 (read_as Blank 0)
         (worn_by (levelled_as (as_code (near_with 0xF12345 10100 10000)) (as_code (near_with 0xF12346 10100 10000))))
         (worn_by (levelled_as (as_code (near_with 0xF12345 10100 10000)) (as_code (near_with 0xF12346 10100 10000))))
@@ -129,7 +129,7 @@ pub fn worked_levels()
         (levelled_as (both_at 23001 29999) (both_at 23001 29999)))
         (None ∷ Some 0xF12347 ∷ Some 0xF12346 ∷ []) (0 ∷ 3 ∷ 3 ∷ []) }
 
-    // A word of pass 2 stays where one of both says it first.
+    // A word of pass 2 stays if one of both says it first.
     ensures stays { Shows (recovered_of 100
         (smoothed_by 0x8DC000 (levelled_as (as_code (near_with 0x8DC000 10600 10000))
         (as_code (near_with 0x8DC001 10600 10000))))
@@ -139,7 +139,7 @@ pub fn worked_levels()
         (Some 0x8DC000 ∷ Some 0xF12345 ∷ Some 0xF12345 ∷ []) (2 ∷ 2 ∷ 1 ∷ []) }
 {}
 
-/// A word of pass 2 that its line doesn't say stays where the line, on somewhat longer or shorter cells, is nearer to
+/// A word of pass 2 that its line doesn't say stays if the line, on somewhat longer or shorter cells, is nearer to
 /// it by eight columns than to any other word.
 pub fn worked_stretched()
     // Beside another nearest word at 10,000: 9,200 is near enough, 9,201 isn't.
@@ -149,7 +149,7 @@ pub fn worked_stretched()
         (read_as Blank 0) (together_at 0 0))
         (Some 0x8DC000 ∷ None ∷ None ∷ []) (2 ∷ 0 ∷ 0 ∷ []) }
 
-    // Where it is the nearest word, its rival counts: at 10,599, too near for a code to be said.
+    // If it is the nearest word, its rival counts: at 10,599, too near for a code to be said.
     ensures beside_its_rival { Shows (recovered_of 100
         (smoothed_at 9799 0x8DC000 (as_given (as_code (near_with 0x8DC000 10599 10000))))
         (smoothed_at 9800 0x8DC000 (as_given (as_code (near_with 0x8DC000 10599 10000))))

@@ -266,7 +266,7 @@ fn do_agree(unit: u32, second: &Nears, third: &Nears, both: &Nears) -> bool
         && !(goes_on(unit, 1, &second.word) && goes_on(unit, 1, &third.word))
 }
 
-/// Whether two lines agree, where each has a nearest word, and both together.
+/// Whether two lines agree, if each has a nearest word, and both together.
 fn may_agree(unit: u32, second: Option<Nears>, third: Option<Nears>, both: Option<Nears>) -> bool
     ensures { result ≡ may_agree unit second third both }
 {

@@ -12,10 +12,10 @@ use crate::near::WIDEST;
 use crate::sums::{between, sum_up};
 use vbi_words::{System, Word24};
 
-/// At so many columns a word may begin at most: on a line of PAL, where its cells have 98 hundredths of their length.
+/// At so many columns a word may begin at most: on a line of PAL, if its cells have 98 hundredths of their length.
 const MOST_STARTS: usize = 302;
 
-/// The columns from a word's start to a half cell, or to its end, where its cells have so many hundredths of their
+/// The columns from a word's start to a half cell, or to its end, if its cells have so many hundredths of their
 /// length.
 fn stretched_offset(system: System, rate: usize, half: usize) -> usize
     requires rate { rate ≤ 102 }

@@ -23,7 +23,7 @@ fn black_cell(dark: &[u32], light: &[u32], system: System, start: usize, cell: u
     cell_at(dark, dark, system, start, cell).one
 }
 
-/// What a distance becomes where a cell of the found word is black.
+/// What a distance becomes if a cell of the found word is black.
 fn without_cell(
     dark: &[u32],
     light: &[u32],

@@ -1,4 +1,4 @@
--- Whether a disc has its numbers on both fields of a picture. That is found by the numbers that are believed: where the
+-- Whether a disc has its numbers on both fields of a picture. That is found by the numbers that are believed: if the
 -- next number follows on a disc with a number on one field of each picture, it stands an even count of fields after
 -- the one before, but for a loss of one field. A number that stays says nothing, as a field may have been frozen.
 use Rattle.std.specs.Prelude.{ℕ, zero, suc, ◌+◌, ◌*◌, ◌%◌, ◌==◌, nat_lt, nat_le, not, ◌&&◌, Bool, false}

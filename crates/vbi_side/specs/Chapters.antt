@@ -104,7 +104,7 @@ abbrev pub IsWithin : List Sightings → ℕ → ℕ → Type 0
 IsWithin fields i m = (enough ≤ weight_before fields i m) × (enough ≤ weight_behind fields i m)
 
 -- what holds of a believed chapter n of field i: it is on the disc near there, if the misread codes weigh less than
--- enough; and where enough codes before the field and after it say one chapter, it is that one
+-- enough; and if enough codes before the field and after it say one chapter, it is that one
 pub record IsSoundChapter (recorded : ℕ → Option ℕ) (fields : List Sightings) (i n : ℕ) : Type 0 where
   pub near : wrong_weight recorded fields i < enough → HasNear recorded i n
   pub within : (m : ℕ) → IsWithin fields i m → n ≡ m

@@ -1,4 +1,4 @@
--- The pace that is found: of the pictures of NTSC film where over a tenth more numbers are believed by it than by that
+-- The pace that is found: of the pictures of NTSC film if over a tenth more numbers are believed by it than by that
 -- of video, else video.
 use Rattle.std.specs.Prelude.{◌≡◌, ℕ, zero, suc, ◌*◌, nat_lt, if◌then◌else◌, ◌⊎◌, List, length}
 use Rattle.vbi_words.specs.declared.system.System.{System}
@@ -17,7 +17,7 @@ IsCount pace fields (suc n) count =
     ((m fewer : ℕ) × Believed pace fields n m × IsCount pace fields n fewer × (count ≡ suc fewer))
     ⊎ (((m : ℕ) → Believed pace fields n m → ⊥) × IsCount pace fields n count)
 
--- the pace by which so many numbers are believed, at that of video and at that of film: film where over a tenth more
+-- the pace by which so many numbers are believed, at that of video and at that of film: film if over a tenth more
 -- are believed by it, else video
 abbrev pub pace_by : ℕ → ℕ → Pace
 pace_by video film = if nat_lt (11 * video) (10 * film) then Film else Video

@@ -36,7 +36,7 @@ doubtful_of field = doubtful_or field.line_17 (doubtful_or field.line_18 nothing
 abbrev pub IsMarked : List Number → ℕ → ℕ → Type 0
 IsMarked answers i n = slice_get answers i ≡ Some (believed n)
 
--- of field i: its believed number, or where there is none what it shows in doubt
+-- of field i: its believed number, or if there is none what it shows in doubt
 abbrev pub IsMark : Pace → List Sightings → ℕ → Number → Type 0
 IsMark pace fields i answer =
     ((n : ℕ) × Believed pace fields i n × (answer ≡ believed n))

@@ -19,11 +19,11 @@ weight_as_stop _ weight = 0
 abbrev pub stop_weight : Shown → ℕ
 stop_weight line = weight_as_stop (code_in line) (pass_weight line.pass)
 
--- a stop is believed where lines 16 and 17 say it with a weight of 2 or more
+-- a stop is believed if lines 16 and 17 say it with a weight of 2 or more
 abbrev pub BelievedStop : Shown → Shown → Type 0
 BelievedStop line_16 line_17 = 2 ≤ stop_weight line_16 + stop_weight line_17
 
--- it is in doubt where they say it with less
+-- it is in doubt if they say it with less
 abbrev pub DoubtfulStop : Shown → Shown → Type 0
 DoubtfulStop line_16 line_17 = stop_weight line_16 + stop_weight line_17 ≡ 1
 
@@ -53,7 +53,7 @@ IsToldSurely line_16 line_17 =
 abbrev pub IsStopWord : Option ℕ → Type 0
 IsStopWord word = option_map code_of word ≡ Some PictureStop
 
--- what holds of a believed stop: where the disc has none in the field, the words that were misread on its lines 16 and
+-- what holds of a believed stop: if the disc has none in the field, the words that were misread on its lines 16 and
 -- 17 weigh 2 or more, so that one of them is of pass 1, or both were misread
 abbrev pub IsSoundStop : Shown → Shown → Type 0
 IsSoundStop line_16 line_17 = (word_16 word_17 : Option ℕ) → (IsStopWord word_16 → ⊥) → (IsStopWord word_17 → ⊥)

@@ -25,7 +25,7 @@ abbrev pub RunsOn : Pace → (ℕ → Option ℕ) → ℕ → Type 0
 RunsOn pace recorded i = (j k m n : ℕ) → IsNear i j → IsNear i k → InStep pace j k
     → recorded j ≡ Some m → recorded k ≡ Some n → fits pace j m k n ≡ true
 
--- the disc is regular around field i: where numbers of the disc before and after it, both near it, count to one number
+-- the disc is regular around field i: if numbers of the disc before and after it, both near it, count to one number
 -- in it, it has that number
 abbrev pub IsRegular : Pace → (ℕ → Option ℕ) → ℕ → Type 0
 IsRegular pace recorded i = (j m k l n : ℕ) → j < i → i < k → IsNear i j → IsNear i k → recorded j ≡ Some m

@@ -9,7 +9,7 @@ use Rattle.vbi_side.specs.Beliefs.{enough, support_of}
 use Rattle.vbi_side.specs.Truth.{IsNear, RunsOn}
 
 -- the disc runs on at this pace, each number that a field shows is the one that it has on the disc, and enough supports
--- it, as five fields with numbers within reach do, or three where both lines have the number
+-- it, as five fields with numbers within reach do, or three if both lines have the number
 pub record IsWhole (pace : Pace) (recorded : ℕ → Option ℕ) (fields : List Sightings) : Type 0 where
   pub runs : (i : ℕ) → RunsOn pace recorded i
   pub right : (i n : ℕ) → Shows (slice_get fields i) n → recorded i ≡ Some n

@@ -1,4 +1,4 @@
--- Worked captures of chapters, at each edge of the rule. A chapter's field shows it on line 17, in pass 1 where nothing
+-- Worked captures of chapters, at each edge of the rule. A chapter's field shows it on line 17, in pass 1 if nothing
 -- else is said.
 use Rattle.std.specs.Prelude.{ℕ, zero, suc, List, [], ◌∷◌, ◌++◌, Some}
 use Rattle.vbi_side.specs.declared.lines.Shown.{Shown}
@@ -21,7 +21,7 @@ abbrev pub blanks : ℕ → List Sightings
 blanks zero = []
 blanks (suc n) = blank ∷ blanks n
 
--- field 0 shows chapter 7, and so do four after it: together they weigh 10, or 9 where the last is of pass 2
+-- field 0 shows chapter 7, and so do four after it: together they weigh 10, or 9 if the last is of pass 2
 abbrev pub said_by_10 : List Sightings
 said_by_10 = fields_of 5 7
 
@@ -66,7 +66,7 @@ rising = fields_of 5 7 ++ fields_of 5 8
 abbrev pub rising_at_both : List Sightings
 rising_at_both = fields_of 5 7 ++ field_of 7 2 8 2 ∷ fields_of 5 8
 
--- the same where one field more shows chapter 8 than chapter 7
+-- the same if one field more shows chapter 8 than chapter 7
 abbrev pub rising_to_8 : List Sightings
 rising_to_8 = fields_of 5 7 ++ field_of 7 2 8 2 ∷ fields_of 6 8
 

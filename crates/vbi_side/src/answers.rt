@@ -54,13 +54,13 @@ pub fn judge(fields: &[Sightings], pace: Pace, numbers: &mut [Number])
     requires { length numbers.old ≡ length fields.now }
     ensures answers { AreAnswers pace fields.now numbers.new }
 
-    // Where the disc ran on around a field, or stood still, and little was misread there, it is the number on the disc.
+    // If the disc ran on around a field, or stood still, and little was misread there, it is the number on the disc.
     ensures sound { (recorded : ℕ → Option ℕ) (i m n : ℕ) → slice_get numbers.new i ≡ Some (believed n)
         → IsSound pace recorded fields.now i m → n ≡ m }
     ensures sound_still { (recorded : ℕ → Option ℕ) (i m n : ℕ) → slice_get numbers.new i ≡ Some (believed n)
         → pace ≡ Video → IsSoundStill recorded fields.now i m → n ≡ m }
 
-    // Where the disc is regular around a field and the believed numbers there are right, it has the number that is due.
+    // If the disc is regular around a field and the believed numbers there are right, it has the number that is due.
     ensures due_sound { (recorded : ℕ → Option ℕ) (i n : ℕ) → slice_get numbers.new i ≡ Some (due n)
         → IsRegular pace recorded i → AreRight numbers.new recorded i → recorded i ≡ Some n }
 {
@@ -68,7 +68,7 @@ pub fn judge(fields: &[Sightings], pace: Pace, numbers: &mut [Number])
     fill(fields, pace, numbers);
 }
 
-/// The number of one field of a part of a capture: believed, due, in doubt, or none. Where the part has the 48 fields
+/// The number of one field of a part of a capture: believed, due, in doubt, or none. If the part has the 48 fields
 /// on either side of this one, or all that the capture has there, it is that of the whole capture (`same_in_part`).
 pub fn judge_one(fields: &[Sightings], pace: Pace, field: usize) -> Number
     requires few { length fields.now ≤ part_most }

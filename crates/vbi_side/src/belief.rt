@@ -4,13 +4,13 @@
 //! numbers go on at a known pace. So each sighting of a number in the 49 fields around one (24 before it, itself, 24
 //! after) is asked whether it **fits**: whether the two numbers are as far apart as their fields. What fits is
 //! weighed, 2 for a word of pass 1 and 1 for a word of pass 2, and from 10 on the number is believed: that is five
-//! lines in pass 1. Where the field's two lines show two numbers, the one with more support is believed, and none if
+//! lines in pass 1. If the field's two lines show two numbers, the one with more support is believed, and none if
 //! both have as much.
 //!
-//! The bound of 10 is what the laws rest on: where less than 10 was misread around a field, a believed number is right
+//! The bound of 10 is what the laws rest on: if less than 10 was misread around a field, a believed number is right
 //! (`sound`), and with 10 a wrong one may be believed (`worked_sides`). A player that stands still breaks the pace, and
 //! shows one number in every second field. So numbers may fit as those of a **still** too, but there 4 are taken off:
-//! where a disc runs on, and a number is misread as one that another field rightly shows, that field would stand by the
+//! if a disc runs on, and a number is misread as one that another field rightly shows, that field would stand by the
 //! misread one as by a still's, and its two lines weigh up to 4.
 //!
 //! A field within reach is counted by its `offset` from the first of the 49, so that no distance is negative, and
@@ -84,7 +84,7 @@ fn fits_as(fit: Fit, number: u32, offset: usize, other: u32) -> bool
     }
 }
 
-/// The weight of a sighting, where it fits.
+/// The weight of a sighting, if it fits.
 fn weight_where_it_fits(fit: Fit, number: u32, offset: usize, sighting: &Sighting) -> u32
     requires { offset ≤ 2 * reach }
     ensures value { (i : ℕ) → reach ≤ i + offset
@@ -163,7 +163,7 @@ pub(crate) fn reaches(
     false
 }
 
-/// Whether enough supports this number in a field. The stills are looked at only where it doesn't run.
+/// Whether enough supports this number in a field. The stills are looked at only if it doesn't run.
 fn is_supported(fields: &[Sightings], pace: Pace, field: usize, number: u32) -> bool
     requires { field < length fields.now }
     ensures { (result ≡ true) ↔ (enough ≤ support_of pace fields.now field number) }

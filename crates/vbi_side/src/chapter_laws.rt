@@ -14,14 +14,14 @@ ghost use Rattle.vbi_side.specs.WorkedChapters.{said_from_25, opposed_by_9, oppo
 ghost use Rattle.vbi_side.specs.WorkedChapters.{opposed_in_its_field, rising_at_both, rising_to_8, IsDoubted};
 ghost use Rattle.vbi_side.specs.WorkedChapters.{line_of, said};
 
-/// Where the chapters misread around a field weigh less than enough, a believed one stands on the disc near the field;
-/// and where enough codes before a field and after it say one chapter, no other is believed.
+/// If the chapters misread around a field weigh less than enough, a believed one stands on the disc near the field;
+/// and if enough codes before a field and after it say one chapter, no other is believed.
 pub fn chapters_sound()
     ensures { (recorded : ℕ → Option ℕ) (fields : List Sightings) (i n : ℕ)
         → BelievedChapter fields i n → IsSoundChapter recorded fields i n }
 {}
 
-/// Where the chapters of a disc never fall around a field, what was misread there weighs less than enough, and enough
+/// If the chapters of a disc never fall around a field, what was misread there weighs less than enough, and enough
 /// codes say the field's own chapter, it is believed wherever the field shows it, unless as many say another one that
 /// the field shows.
 pub fn chapters_complete()
@@ -63,7 +63,7 @@ pub fn worked_codes()
 {}
 
 /// The edges of the rule: what weighs 10 is enough, and 9 isn't; 24 fields are within reach, and 25 aren't; a chapter
-/// may have 9 against it, and not 10; where chapters rise, the first field of one is believed; and of two chapters of a
+/// may have 9 against it, and not 10; if chapters rise, the first field of one is believed; and of two chapters of a
 /// field the one that more codes say.
 pub fn worked_chapters()
     ensures enough { BelievedChapter said_by_10 0 7 × IsDoubted said_by_9 0 }

@@ -2,9 +2,9 @@
 //!
 //! A misread code says a chapter like any other. So the codes of the 49 fields around one (24 before it, itself, 24
 //! after) are weighed as numbers are: those that say the same chapter, and those that speak against it, since the
-//! chapters of a disc rise. The weight of 10 is both what a chapter needs and what it can't have against it. So where
+//! chapters of a disc rise. The weight of 10 is both what a chapter needs and what it can't have against it. So if
 //! less than that was misread, a believed chapter stands on the disc nearby, and a misread one can only be believed
-//! where the disc's own chapter has nearly ended or has just begun.
+//! if the disc's own chapter has nearly ended or has just begun.
 //!
 //! How many pictures a chapter lasts is free, so nothing is due: a field without a code has none.
 

@@ -53,7 +53,7 @@ fn shows_any(seen: &Sightings) -> bool
     seen.line_17.is_seen() || seen.line_18.is_seen()
 }
 
-/// The word of line 17 or 18 that completes the time of line 16 in a field: where neither line shows a time, that of
+/// The word of line 17 or 18 that completes the time of line 16 in a field: if neither line shows a time, that of
 /// the elected number, if it has an hour of one digit.
 pub fn completed_time(
     system: System,

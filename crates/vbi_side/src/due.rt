@@ -3,8 +3,8 @@
 //! Only what leaves no choice is due. The nearest believed numbers before and after that lie whole pictures away have
 //! to count to one number: on video the second field of a picture has no number of its own on most discs, and on film
 //! one cannot say which field of five begins a picture. No believed number between the two may be off from it, so that
-//! nothing was lost there. Where a field shows a chapter or the lead-in, the disc has no number, and none is due. Nor
-//! is one due where both lines show the same number, since both were hardly misread alike.
+//! nothing was lost there. If a field shows a chapter or the lead-in, the disc has no number, and none is due. Nor
+//! is one due if both lines show the same number, since both were hardly misread alike.
 
 ghost use Rattle.std.specs.Prelude.{◌≡◌, ◌↔◌, ℕ, ◌<◌, ◌≤◌, ◌+◌, ◌*◌, ◌-◌, true, length, Some, None, IfSome};
 ghost use Rattle.vbi_side.specs.Beliefs.{reach, Believed};

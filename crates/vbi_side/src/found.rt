@@ -23,7 +23,7 @@ fn believed_count(fields: &[Sightings], pace: Pace) -> usize
     count
 }
 
-/// The pace by which more numbers are believed: that of film where they are over a tenth more than by that of video.
+/// The pace by which more numbers are believed: that of film if they are over a tenth more than by that of video.
 fn more_believed(fields: &[Sightings]) -> Pace
     ensures { IsMore fields.now result }
 {

@@ -32,7 +32,7 @@ pub struct Gap {
     pub after: usize,
     /// The field after it that has one.
     pub before: usize,
-    /// By how many fields: those lost or too many, at least; those of the still; else 0. Where it is open, how many
+    /// By how many fields: those lost or too many, at least; those of the still; else 0. If it is open, how many
     /// more or less there are than the numbers count to.
     pub fields: u64,
     /// How many fields between the two show a number between theirs, on both lines in pass 1.

@@ -43,7 +43,7 @@ pub fn all_told()
         → slice_get gaps i ≡ Some one → slice_get gaps j ≡ Some other → one.before ≤ other.after }
 {}
 
-/// Where each number of video goes on from the one before it, any two count to each other.
+/// If each number of video goes on from the one before it, any two count to each other.
 pub fn all_count()
     ensures { (numbering : Numbering) (seen : List Sightings) (answers : List Number) (ends : List ℕ)
         (k unread : ℕ) → AreGaps Video 0 numbering seen answers ends k [] unread
@@ -78,7 +78,7 @@ pub fn cut_found()
         → IsOneRun place (gap.after - reach) (gap.before + reach) → ⊥ }
 {}
 
-/// Where a capture of video is said to be whole, its fields stand in the disc's order, and less than enough was misread
+/// If a capture of video is said to be whole, its fields stand in the disc's order, and less than enough was misread
 /// around its first and its last number, no field of the disc is lost from 24 fields after the first to 24 before the
 /// last. Of what was read between the two nothing is assumed.
 pub fn whole_yes()
@@ -117,7 +117,7 @@ pub fn nearly_whole()
         → (p q some : ℕ) × IsNear finding.first p × IsNear finding.last q × AreLost place p q some × (some ≤ 4) }
 {}
 
-/// Where fields are said to be lost, the numbers at the ends of those gaps are right, and the capture's fields stand in
+/// If fields are said to be lost, the numbers at the ends of those gaps are right, and the capture's fields stand in
 /// the disc's order, so many of the disc at least are lost between its first and its last number.
 pub fn lost_sound()
     ensures { (pace : Pace) (slack : ℕ) (disc : ℕ → Option ℕ) (place : ℕ → ℕ) (answers : List Number)
@@ -129,7 +129,7 @@ pub fn lost_sound()
         → LostAtLeast place finding.first finding.last finding.tally.lost }
 {}
 
-/// Where nothing is known, it can't be told.
+/// If nothing is known, it can't be told.
 pub fn none_known()
     ensures { (pace : Pace) (slack : ℕ) (numbering : Numbering) (may_end : Bool) (seen : List Sightings)
         (answers : List Number) (ends : List ℕ) (finding : Finding)

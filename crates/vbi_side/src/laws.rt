@@ -30,14 +30,14 @@ ghost use Rattle.vbi_side.specs.Whole.{IsWhole, TakesTurns};
 ghost use Rattle.vbi_side.specs.Worked.{wrong_by_9, wrong_by_10, apart_by, still_of, film_side};
 ghost use Rattle.vbi_side.specs.Worked.{field_of, instead_of, shown_in, told_by};
 
-/// Where the disc ran on around a field that has a number and what was misread there weighs less than enough, a
+/// If the disc ran on around a field that has a number and what was misread there weighs less than enough, a
 /// believed number is that number.
 pub fn sound()
     ensures { (pace : Pace) (recorded : ℕ → Option ℕ) (fields : List Sightings) (i m n : ℕ)
         → IsSound pace recorded fields i m → Believed pace fields i n → n ≡ m }
 {}
 
-/// Where the disc ran on around a field and what was misread there weighs less than enough, a number that is believed
+/// If the disc ran on around a field and what was misread there weighs less than enough, a number that is believed
 /// of the field fits one that was recorded within reach of it and read, whether the field has a number on the disc or
 /// not. Of video it fits each that was recorded in a field an even number of fields away, so it is the one that the
 /// disc counts there.
@@ -51,14 +51,14 @@ pub fn on_the_disc()
         → (j m : ℕ) → IsNear i j → AreEven i j → recorded j ≡ Some m → fits Video i n j m ≡ true }
 {}
 
-/// Where the player stood still around a field and what was misread there weighs 4 less than enough, a number believed
+/// If the player stood still around a field and what was misread there weighs 4 less than enough, a number believed
 /// at the pace of video is that of the still.
 pub fn sound_still()
     ensures { (recorded : ℕ → Option ℕ) (fields : List Sightings) (i m n : ℕ)
         → IsSoundStill recorded fields i m → Believed Video fields i n → n ≡ m }
 {}
 
-/// Where the disc is regular around a field and the numbers believed within reach of it are those recorded, the field
+/// If the disc is regular around a field and the numbers believed within reach of it are those recorded, the field
 /// has the number that is due in it.
 pub fn due_sound()
     ensures { (pace : Pace) (recorded : ℕ → Option ℕ) (fields : List Sightings) (i n : ℕ)
@@ -67,7 +67,7 @@ pub fn due_sound()
         → Due pace fields i n → recorded i ≡ Some n }
 {}
 
-/// Where the disc ran on around a field that shows the number that it has, and what fits that weighs enough and more
+/// If the disc ran on around a field that shows the number that it has, and what fits that weighs enough and more
 /// than all that was misread there, it is believed.
 pub fn complete()
     ensures { (pace : Pace) (recorded : ℕ → Option ℕ) (fields : List Sightings) (i m : ℕ)
@@ -91,7 +91,7 @@ pub fn worked_capture()
 {}
 
 /// The premise of `sound` can be met, and it is sharp. With wrong readings of weight 9 around a field its number is
-/// believed. With wrong ones of weight 10 a wrong number is believed where the right one wasn't read.
+/// believed. With wrong ones of weight 10 a wrong number is believed if the right one wasn't read.
 pub fn worked_sides()
     ensures sound { IsSound Video video_disc wrong_by_9 4 2 }
     ensures nine { wrong_weight video_disc wrong_by_9 4 ≡ 9 }
@@ -124,8 +124,8 @@ pub fn known_numbers()
         → IsKnown answer n ↔ (Believed pace fields i n ⊎ Due pace fields i n) }
 {}
 
-/// The pace of a disc that runs on and is read whole is found, where enough supports each number at that pace; of film,
-/// where its pictures take turns and one number is shown. In a few fields too little supports a number: six fields of
+/// The pace of a disc that runs on and is read whole is found, if enough supports each number at that pace; of film,
+/// if its pictures take turns and one number is shown. In a few fields too little supports a number: six fields of
 /// video with a number on each are taken for film.
 pub fn whole_found()
     ensures video { (system : System) (counted : Counted) (recorded : ℕ → Option ℕ) (fields : List Sightings)
@@ -135,7 +135,7 @@ pub fn whole_found()
         → IsFound Ntsc Pictures fields pace → pace ≡ Film }
 {}
 
-/// Where film is found, by the numbers that are believed at either pace.
+/// When film is found, by the numbers that are believed at either pace.
 pub fn worked_paces()
     ensures equal { map (pace_by 10) (0 ∷ 10 ∷ 11 ∷ 12 ∷ []) ≡ Video ∷ Video ∷ Video ∷ Film ∷ [] }
     ensures many { map (pace_by 1000) (1000 ∷ 1100 ∷ 1101 ∷ 2000 ∷ []) ≡ Video ∷ Video ∷ Film ∷ Film ∷ [] }
@@ -156,7 +156,7 @@ pub fn never_alone()
         × ((fits pace i n j m ≡ true) ⊎ (stays i n j m ≡ true)) }
 {}
 
-/// Two captures that agree on the fields within reach of one believe the same of it. Where they agree on those within
+/// Two captures that agree on the fields within reach of one believe the same of it. If they agree on those within
 /// twice that, the same is due in it. So a capture that goes on changes no more than its last 24 fields, and 48.
 pub fn only_near()
     ensures believed { (pace : Pace) (fields others : List Sightings) (i n : ℕ)
@@ -174,7 +174,7 @@ pub fn same_in_part()
         → IsPart Sightings whole part first i → IsAnswer pace part i answer ↔ IsAnswer pace whole (first + i) answer }
 {}
 
-/// The number that a line shows is that of the words on it and on line 16: where it is another than what was recorded,
+/// The number that a line shows is that of the words on it and on line 16: if it is another than what was recorded,
 /// one of these two words is another.
 pub fn same_words()
     ensures { (system : System) (counted : Counted) (line_16 line recorded_16 recorded : Shown)
@@ -184,9 +184,9 @@ pub fn same_words()
 {}
 
 /// What was misread around a field weighs in numbers no more than in words, line 16 of a time counting for both lines
-/// beside it. So where the disc ran on around a field and the misread words of lines 16, 17 and 18 weigh less than
+/// beside it. So if the disc ran on around a field and the misread words of lines 16, 17 and 18 weigh less than
 /// enough, a believed number is the one that the words on the disc tell; in a field without one it fits one that was
-/// recorded near it and read; and so of a still, where they weigh 4 less.
+/// recorded near it and read; and so of a still, if they weigh 4 less.
 pub fn misread_words()
     ensures weight { (system : System) (counted : Counted) (lines : List Lines) (disc : ℕ → Words)
         (recorded : ℕ → Option ℕ) (i : ℕ) → AreTold system counted disc recorded

@@ -1,8 +1,8 @@
 //! Which number and which chapter of its disc each field of a capture shows, judged by the fields around it.
 //!
-//! A line that was misread shows a number like any other. So a number is believed only where sightings of the same
+//! A line that was misread shows a number like any other. So a number is believed only if sightings of the same
 //! field and of the 24 before it and after it fit it at the disc's pace and weigh enough together. The definitions are
-//! in `specs/`, and the module `laws` says what holds of them: above all that where less than enough of what was read
+//! in `specs/`, and the module `laws` says what holds of them: above all that if less than enough of what was read
 //! around a field is wrong, a believed number is the true one. Chapters are weighed alike (`chapter_laws`); a picture
 //! stop is judged by the lines of its own field (`stop_laws`). Nothing allocates or fails.
 #![tactic(auto)]

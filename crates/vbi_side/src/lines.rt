@@ -21,7 +21,7 @@ pub enum Counted {
 pub struct Shown {
     /// Its word, if it has one.
     pub word: Option<Word24>,
-    /// 2 where only the smoothed levels show the word, 3 where it is the nearest one: it then weighs half.
+    /// 2 if only the smoothed levels show the word, 3 if it is the nearest one: it then weighs half.
     pub pass: u8,
 }
 

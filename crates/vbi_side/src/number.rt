@@ -19,7 +19,7 @@ pub const DUE: u32 = 3;
 #[derive(Clone, Copy)]
 #[repr(C)]
 pub struct Number {
-    /// The picture's number, or the pictures from the disc's beginning; 0 where there is none.
+    /// The picture's number, or the pictures from the disc's beginning; 0 if there is none.
     pub number: u32,
     /// `NOTHING`, `BELIEVED`, `DOUBTFUL` or `DUE`.
     pub state: u32,
@@ -46,7 +46,7 @@ impl Number {
         Number { number, state: DUE }
     }
 
-    /// Where no number is believed or due: that of line 17, else that of line 18, or nothing.
+    /// If no number is believed or due: that of line 17, else that of line 18, or nothing.
     pub(crate) fn doubtful(field: &Sightings) -> Number
         ensures { result ≡ doubtful_of field.now }
     {

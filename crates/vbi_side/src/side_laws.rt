@@ -13,7 +13,7 @@ ghost use Rattle.vbi_side.specs.Truth.{IsNear, video_disc};
 ghost use Rattle.vbi_side.specs.Side.{DiscRuns, DiscCounts, Rises, captured, Lacks, NoneLost, AreLost};
 ghost use Rattle.vbi_side.specs.Side.{IsAnchor, IsLost, IsExtent, AreFew};
 
-/// Where two believed numbers at least 48 fields apart count to each other, no field of the disc is lost between them,
+/// If two believed numbers at least 48 fields apart count to each other, no field of the disc is lost between them,
 /// but maybe within 24 fields of either: the capture lacks none.
 pub fn none_lost()
     ensures in_order { (disc : ℕ → Option ℕ) (place : ℕ → ℕ) (fields : List Sightings) (i m j n : ℕ)
@@ -24,7 +24,7 @@ pub fn none_lost()
         → Lacks place d → ⊥ }
 {}
 
-/// Where they count to so many fields more than lie between them, so many of the disc's fields are lost between two
+/// If they count to so many fields more than lie between them, so many of the disc's fields are lost between two
 /// fields of which one is within 24 fields of each.
 pub fn some_lost()
     ensures { (disc : ℕ → Option ℕ) (place : ℕ → ℕ) (fields : List Sightings) (i m j n lost : ℕ)
@@ -42,7 +42,7 @@ pub fn nearly_lost()
         × (more ≤ lost + slack) }
 {}
 
-/// Of film the numbers fit to within a field: where two of them do, at most 4 fields are lost.
+/// Of film the numbers fit to within a field: if two of them do, at most 4 fields are lost.
 pub fn few_lost_of_film()
     ensures { (disc : ℕ → Option ℕ) (place : ℕ → ℕ) (fields : List Sightings) (i m j n : ℕ)
         → DiscRuns Film disc → Rises place → IsAnchor Film (captured disc place) fields i m
@@ -50,9 +50,9 @@ pub fn few_lost_of_film()
         → (p q lost : ℕ) × IsNear i p × IsNear j q × AreLost place p q lost × (lost ≤ 4) }
 {}
 
-/// What is said of a side is true of it. Where its first and its last believed number are at least 48 fields apart,
+/// What is said of a side is true of it. If its first and its last believed number are at least 48 fields apart,
 /// they count to each other, and less than enough was misread around either, the capture has each field of the disc
-/// between them, but maybe for those within 24 fields of either; and each picture that the disc has there. Where they
+/// between them, but maybe for those within 24 fields of either; and each picture that the disc has there. If they
 /// count to more fields, so many are lost.
 pub fn side_is_so()
     ensures whole { (disc : ℕ → Option ℕ) (place : ℕ → ℕ) (fields : List Sightings) (answers : List Number)

@@ -12,7 +12,7 @@ use std::mem::size_of;
 pub struct Sighting {
     /// The picture's number, or the pictures from the disc's beginning.
     pub number: u32,
-    /// How much it weighs: 2 of a word of pass 1, 1 of a word of pass 2; 0 where the line shows no number. What is
+    /// How much it weighs: 2 of a word of pass 1, 1 of a word of pass 2; 0 if the line shows no number. What is
     /// above 2 counts as 2.
     pub weight: u32,
 }
@@ -25,7 +25,7 @@ pub struct Sightings {
     pub line_17: Sighting,
     /// The number of line 18.
     pub line_18: Sighting,
-    /// Not 0 where one of the two shows a code that stands there in place of a number, as a chapter or the lead-in.
+    /// Not 0 if one of the two shows a code that stands there in place of a number, as a chapter or the lead-in.
     pub instead: u32,
 }
 

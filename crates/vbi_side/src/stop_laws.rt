@@ -7,18 +7,18 @@ ghost use Rattle.vbi_side.specs.Worked.{shown_in};
 ghost use Rattle.vbi_side.specs.Stops.{stop_weight, BelievedStop, DoubtfulStop, NoStop, ShowsStop, IsSure};
 ghost use Rattle.vbi_side.specs.Stops.{IsToldSurely, IsStopWord, IsSoundStop, IsJudgedStop};
 
-/// A stop is believed exactly where line 16 or 17 shows it in pass 1, or both show it.
+/// A stop is believed exactly if line 16 or 17 shows it in pass 1, or both show it.
 pub fn stops_in_words()
     ensures { (line_16 line_17 : Shown) → BelievedStop line_16 line_17 ↔ IsToldSurely line_16 line_17 }
 {}
 
-/// Where the disc has no stop in a field, and one is believed of it, a word of pass 1 was misread there, or two words
+/// If the disc has no stop in a field, and one is believed of it, a word of pass 1 was misread there, or two words
 /// were.
 pub fn stops_sound()
     ensures { (line_16 line_17 : Shown) → BelievedStop line_16 line_17 → IsSoundStop line_16 line_17 }
 {}
 
-/// A stop that the disc has is believed where one of its lines was read as it is in pass 1, whatever the other one
+/// A stop that the disc has is believed if one of its lines was read as it is in pass 1, whatever the other one
 /// shows, or both were read as they are.
 pub fn stops_complete()
     ensures first { (line_16 line_17 : Shown) → IsStopWord line_16.word → IsSure line_16

@@ -1,7 +1,7 @@
 //! Which picture stops are believed.
 //!
 //! A player freezes at a stop, so one line that was misread in pass 2 is not to make one. A disc has its stop on lines
-//! 16 and 17 of a field: it is believed where one of them shows it in pass 1, or both do, in whatever pass. Other
+//! 16 and 17 of a field: it is believed if one of them shows it in pass 1, or both do, in whatever pass. Other
 //! fields have no say, since a stop may stand alone anywhere on a side.
 
 ghost use Rattle.std.specs.Prelude.{◌≡◌, ◌≤◌};

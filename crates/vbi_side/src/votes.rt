@@ -4,7 +4,7 @@
 //! minute. The disc goes on, so each time that is read nearby tells which minute stands here, if it goes on with this
 //! second and picture. A misread minute mostly stands alone. So each such time within 240 fields has a vote, of the
 //! weight of its line, and the number that has more than half of all is elected, if they weigh 4 or more: two lines in
-//! pass 1, so that no misread line alone decides where nothing else was read (`elected_is_right` says when it is the
+//! pass 1, so that no misread line alone decides if nothing else was read (`elected_is_right` says when it is the
 //! right one).
 //!
 //! That number is found in two passes (the vote of Boyer and Moore): the first finds the only one that can have more

@@ -67,7 +67,7 @@ pub record IsDrawnRow (system : System) (slicing : Slicing) (word : Option ℕ) 
 
 -- ---- readings
 
--- what the drawn row is read as: the word in the first pass, or blank where there is none
+-- what the drawn row is read as: the word in the first pass, or blank if there is none
 abbrev pub drawn_reading : Option ℕ → Reading
 drawn_reading None = record { outcome = Blank; pass = 0 }
 drawn_reading (Some word) = record { outcome = Word word; pass = 1 }

@@ -33,7 +33,7 @@ NoneAlone levels =
 abbrev pub IsJittered : List Bool → List Bool → Type 0
 IsJittered drawn levels = IsBlurred drawn levels × NoneAlone levels
 
--- the reading of the levels is the word: in the first pass exactly where no column stands alone, else in the second
+-- the reading of the levels is the word: in the first pass exactly if no column stands alone, else in the second
 pub record ReadsWord (system : System) (levels : List Bool) (word : ℕ) : Type 0 where
   pub pass : ℕ
   pub reading : IsReading system levels (record { outcome = Word word; pass = pass })

@@ -8,7 +8,7 @@ use Rattle.vbi_words.specs.Shows.{Shows, ShowsNone}
 use Rattle.vbi_words.specs.Outcomes.{AllLow, IsOutcome}
 use Rattle.vbi_words.specs.Smooth.{smooth_of}
 
--- the outcome and the pass of a reading: where it has no word, the smoothed levels show none either
+-- the outcome and the pass of a reading: if it has no word, the smoothed levels show none either
 abbrev pub Reads : System → List Bool → Outcome → ℕ → Type 0
 Reads system levels (Word w) pass =
     ((pass ≡ 1) × Shows system levels w)

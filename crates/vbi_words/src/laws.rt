@@ -74,8 +74,8 @@ pub fn jitter_shown()
         → IsJittered (levels_of slicing (drawn_row_of system slicing (Some word))) levels → Shows system levels word }
 {}
 
-/// Where the two columns beside each change of level in such a list, the last before it and the first after it, have
-/// any levels, and all others are as they were, the reading is still its word: in the first pass exactly where no
+/// If the two columns beside each change of level in such a list, the last before it and the first after it, have
+/// any levels, and all others are as they were, the reading is still its word: in the first pass exactly if no
 /// column stands alone, else in the second.
 pub fn blur_read()
     ensures any { (system : System) (drawn levels : List Bool) (word : ℕ)
@@ -86,7 +86,7 @@ pub fn blur_read()
         → ReadsWord system levels word }
 {}
 
-/// Where such a blurred list has one glitch or more besides, of up to three columns each and with four equal columns on
+/// If such a blurred list has one glitch or more besides, of up to three columns each and with four equal columns on
 /// either side, the reading is still its word, in the second pass. A glitch with five columns on either side that were
 /// drawn at one level has four equal ones, whatever the blur.
 pub fn glitches_read()

@@ -43,7 +43,7 @@ impl fmt::Display for LevelsFault {
 impl Error for LevelsFault {}
 
 impl Levels {
-    /// Black and white of these values; `Order` where black is not below white.
+    /// Black and white of these values; `Order` if black is not below white.
     pub fn new(black: u16, white: u16) -> Result<Levels, LevelsFault>
         ensures ok { IfOk result (λ l. l ≡ record { black = black; white = white }) }
         ensures order { (result ≡ Err LevelsFault.Order) ↔ (white ≤ black) }

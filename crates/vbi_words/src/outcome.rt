@@ -5,7 +5,7 @@ ghost use Rattle.vbi_words.specs.Outcomes.{word_of};
 
 use crate::word::Word24;
 
-/// What a line shows: its word, or why it shows none. Columns are counted from 0. A column is hopeless where no list of
+/// What a line shows: its word, or why it shows none. Columns are counted from 0. A column is hopeless if no list of
 /// levels that begins like the line up to it, and with it, shows a word.
 #[derive(Clone, Copy, Debug, PartialEq, Eq)]
 pub enum Outcome {
@@ -33,7 +33,7 @@ impl Outcome {
     }
 }
 
-/// The reading of a line: the outcome of its own levels, or, where these show no word and aren't blank, the word that
+/// The reading of a line: the outcome of its own levels, or, if these show no word and aren't blank, the word that
 /// its smoothed levels show.
 #[derive(Clone, Copy, Debug, PartialEq, Eq)]
 pub struct Reading {

@@ -153,9 +153,9 @@ def _aside(numbers, readings):
 
 
 def _second_rows(codes: Codes, numbers: Numbers, rest: List[Reading]) -> List[SecondRow]:
-    """Readings that aren't believed, but of which the library believes a row where it is shown these alone: as of a
+    """Readings that aren't believed, but of which the library believes a row if it is shown these alone: as of a
     line on which one digit is always read wrong, or of a second disc. Which of two rows is the right one isn't known
-    where their weights are near. A few of many wrong numbers always fit, so a row weighs more than the widest break,
+    if their weights are near. A few of many wrong numbers always fit, so a row weighs more than the widest break,
     and has at least a tenth of the readings that are believed beside it."""
     row = _row_of(codes, numbers, rest) if sum(one.weight for one in rest) > WIDEST else []
     weight = sum(one.weight for one in row)
@@ -213,7 +213,7 @@ def _times_aside(times, numbers):
 
 
 def _field_aside(times, numbers, field, said, number, all_beside):
-    """What a field says beside its number, or, where it has none, beside those that may be due there."""
+    """What a field says beside its number, or, if it has none, beside those that may be due there."""
     doubtful, fits = [], set()
     if number is not None:
         fits.add(number // times.whole)

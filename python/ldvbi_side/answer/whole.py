@@ -14,8 +14,8 @@ from .gaps import Gaps, is_outside
 YES, NO, OPEN = "yes", "no", "can't tell"
 UNITS: Dict[Optional[str], str] = {"picture": "pictures", "time": "times", "minute": "minutes"}
 _OTHER = {"cav": "CLV", "clv": "CAV"}
-NEAR = 2  # fields from one code of the other format to the next, where they aren't wrong words by chance
-SHARE = 10  # numbers to one that is set aside, at most, where what was read shows whether a side is whole
+NEAR = 2  # fields from one code of the other format to the next, if they aren't wrong words by chance
+SHARE = 10  # numbers to one that is set aside, at most, if what was read shows whether a side is whole
 
 
 def reasons_of(answer: Answer, gaps: Gaps, unit: Unit, is_strict: bool = False, may_end: bool = False) -> List[Ground]:

@@ -38,7 +38,7 @@ def _settings(options):
 
 
 def _refuse_settings(options, name, is_tbc):
-    """Raises a ValueError where system or levels are given, and the side with this name is a document."""
+    """Raises a ValueError if system or levels are given, and the side with this name is a document."""
     if not is_tbc and any(value is not None for value in _settings(options)):
         raise ValueError("%s: %s" % (name, OF_TBC))
 
@@ -67,7 +67,7 @@ def _source(options, into=None):
 
 
 def _refuse_begin(options, begin):
-    """Raises a ValueError where a side that begins with these bytes is compressed, or is standard input and no text."""
+    """Raises a ValueError if a side that begins with these bytes is compressed, or is standard input and no text."""
     if options.side == "-":
         refuse_packed(STANDARD_INPUT, begin)
         refuse_no_document(options, begin)
@@ -166,7 +166,7 @@ def _print_table(columns, rows, file=None):
 
 
 def _cut_status(cut, system, name):
-    """The status of what is printed of all whole fields of a side: 3 where the last one is cut, which is said then."""
+    """The status of what is printed of all whole fields of a side: 3 if the last one is cut, which is said then."""
     if cut is None:
         return 0
     say("%s: the last field is cut: field %d has %d of %d bytes" % (name, *cut, field_bytes(system)))
@@ -230,7 +230,7 @@ def _into(options):
 
 
 def _options(words, settings=None):
-    """The options of these words, and of these settings, with the metadata beside the TBC file where they leave
+    """The options of these words, and of these settings, with the metadata beside the TBC file if they leave
     something open."""
     parser = parser_of_side(NAME)
     options = parser.parse_args(words, settings)

@@ -13,7 +13,7 @@ COLUMNS = {
     "how": "`side` for the whole side; `read` if the field shows the number; if it is only due there, `near` if the "
            "lines' nearest word says it, else `neighbours`",
 }
-NONE = "-"  # the number of a stop where no number is near, and a level that isn't known
+NONE = "-"  # the number of a stop if no number is near, and a level that isn't known
 
 
 def head_rows(answer: Answer, levels: Optional[Levels]) -> Iterator[Tuple[Any, ...]]:

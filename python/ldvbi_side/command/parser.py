@@ -16,7 +16,7 @@ LEVELS = "the sample of %s, from 0 to 65535, in place of the metadata's; black i
 
 
 class Parser(argparse.ArgumentParser):
-    """One whose help isn't lost without a word where it can't be written."""
+    """One whose help isn't lost without a word if it can't be written."""
 
     def _print_message(self, message: str, file: Optional[IO[str]] = None) -> None:
         (file or sys.stderr).write(message)

@@ -19,7 +19,7 @@ file, with its metadata beside it, and each .vbi.json document without a .tbc be
 row has the fault, and the others go on. The options by which a side is read count for all of them, but a document has
 its own system and levels. """ + statuses_text("scan")
 AS_READ = "with --into, copy all words as they were read, also those that are set aside"
-MOST_JOBS = 4  # sides that are read at a time, where the command line doesn't say
+MOST_JOBS = 4  # sides that are read at a time, if the command line doesn't say
 
 
 def _wanted(text):
@@ -36,7 +36,7 @@ def _ordinal(text):
 
 
 def parser_of_side(program: str) -> argparse.ArgumentParser:
-    """What reads the words where there is no command."""
+    """What reads the words if there is no command."""
     parser = Parser(prog=program, description=DESCRIPTION)
     parser.add_argument("side", help="the TBC file, or the document; - is standard input, for a document")
     parser.add_argument("--version", action=Version, help="print the version, and which library is loaded")

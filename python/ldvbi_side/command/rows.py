@@ -33,7 +33,7 @@ def fault_row(path: str, fault: str) -> Row:
 
 
 def _cells(row):
-    """The cells of a row, None where there is nothing to say."""
+    """The cells of a row, None if there is nothing to say."""
     whole = FAULT if row["fault"] is not None else row["whole"]
     why = row["fault"] if row["fault"] is not None else "; ".join(row["reasons"])
     return [row["side"], whole, *(row[member] for member in list(COLUMNS.values())[2:-1]), why]

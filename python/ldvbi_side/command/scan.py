@@ -80,7 +80,7 @@ def scan(words: List[str], read: Read) -> int:
 
 
 def _refuse_settings(options, sides):
-    """Raises a ValueError where system or levels are given, and no side is a TBC file by its name."""
+    """Raises a ValueError if system or levels are given, and no side is a TBC file by its name."""
     is_given = any(value is not None for value in (options.system, options.black, options.white))
     if is_given and all(side.path.endswith(".json") for side in sides):
         raise ValueError("%s: %s" % (sides[0].path, OF_TBC))
@@ -204,7 +204,7 @@ def _drop_files(task, process):
 
 
 def _refuse_no_file(path):
-    """Raises a ValueError where something that is no file stands in the place of one that is to be written."""
+    """Raises a ValueError if something that is no file stands in the place of one that is to be written."""
     if path and os.path.exists(path) and not os.path.isfile(path):
         raise ValueError("%s is no file" % path)
 

@@ -13,14 +13,14 @@ from ..side import Side
 FIELD_COLUMNS = {
     "field": "a field with a word", "frame": "its frame", "format": "by the field's own codes, as `show` has it",
     "picture": "as believed: a doubtful field has none", "chapter": "likewise", "time": "likewise",
-    "stop": "`stop` where one is believed", "doubt": "each word that was set aside, and why",
+    "stop": "`stop` if one is believed", "doubt": "each word that was set aside, and why",
     "status": "line 16's programme status, as `show` has it", "users": "its users' code, likewise",
     "unknown": "the words that are no code",
 }
 BAD_LINE_COLUMNS = {
     "field": "the line's field", "line": "16, 17 or 18", "cause": "as in the document",
     "offset": "the line's first byte in the TBC file",
-    "nearest": "the word nearest to the line alone, or `-` where none, black, is as near as any",
+    "nearest": "the word nearest to the line alone, or `-` if none, black, is as near as any",
     "distance": "how far the line is from it, in hundredths of a column: 100 is a column with the other level",
     "rival": "how far it is from any other word, likewise",
 }

@@ -26,7 +26,7 @@ _NO_DAMAGE = frozenset(["recovered", "read only after smoothing", "word", "blank
 HEIGHT, STEP = 28, 34  # of a band, and from band to band, in pixels
 LEAST_SHARE = 4  # pixels of a band for what is neither a word of pass 1, nor blank, nor noise
 MOST_BOXES = 2000  # of a band: of noise more fields share a column
-FEW = 20  # fields to a word of line 16, at least, where that has no codes
+FEW = 20  # fields to a word of line 16, at least, if that has no codes
 _PLAIN = ("word", "blank", "noise")
 
 

@@ -66,7 +66,7 @@ def _draw_head(svg, answer, title):
 
 
 def _draw_no_numbers(svg, answer):
-    """What is said in the place of the curve, where there is none."""
+    """What is said in the place of the curve, if there is none."""
     texts = ["no picture number and no time" + (" is believed" if answer.unit else "")]
     levels = answer.levels
     if levels:
@@ -119,7 +119,7 @@ def _draw_stops(svg, axis, answer):
 
 
 def _draw_chapter_lines(svg, axis, answer):
-    """An upright at each chapter's begin, below the strip that names it, where these are few."""
+    """An upright at each chapter's begin, below the strip that names it, if these are few."""
     pixels = sorted({axis.pixel(one.field) for one in answer.chapters})
     for x in pixels if len(pixels) <= MOST_UPRIGHTS else []:
         svg.line(x, CURVE_TOP, x, CURVE_TOP + CURVE_HEIGHT, "#94a3b8", class_="chapter-line", stroke_dasharray="2 4")

@@ -67,7 +67,7 @@ class _Head(HTMLParser):
 
 
 def _parsed(text):
-    """What a page says of itself, or None where it is none of ours."""
+    """What a page says of itself, or None if it is none of ours."""
     try:
         return json.loads(text, parse_constant=_no_number)
     except (ValueError, RecursionError):

@@ -6,7 +6,7 @@ import json
 import re
 from typing import Any, NamedTuple, Optional, Tuple
 
-Words = Tuple[int, int, int]  # of a field: those of lines 16, 17 and 18, each 0 where there is none
+Words = Tuple[int, int, int]  # of a field: those of lines 16, 17 and 18, each 0 if there is none
 
 _WHITE = r"[ \t\n\r]*"
 _NAME = re.compile(r'{w}("[^"\\]*(?:\\.[^"\\]*)*"){w}:{w}'.format(w=_WHITE))

@@ -77,7 +77,7 @@ class Rows:
 
     def _other(self, database, written, wanted, said):
         """What the copy has otherwise: whatever the database has that isn't known here, all words are to be in it, with
-        what is said of them, and its other tables are to be as long. None where nothing is."""
+        what is said of them, and its other tables are to be as long. None if nothing is."""
         rows = database.execute("SELECT field_id, vbi0, vbi1, vbi2 FROM vbi ORDER BY field_id")
         known = {field: tuple(three) for field, *three in rows}
         for place, field in enumerate(self._fields):

@@ -64,7 +64,7 @@ class Places:
             yield begin, end, forms[form] % three
 
     def _edits_of_member(self, head: str) -> List[Edit]:
-        """Those of the member, in a document that begins so: it is changed where it is there, else added."""
+        """Those of the member, in a document that begins so: it is changed if it is there, else added."""
         if self._members:
             return [(begin, end, json.dumps(self._said)) for begin, end in self._members]
         place = place_of_member(head)

@@ -63,7 +63,7 @@ class Capture(NamedTuple):
         return {number for first, last in stretches for number in range(self.ordinal(first), self.ordinal(last) + 1)}
 
     def lasts(self, number: int) -> Optional[int]:
-        """How many fields there are from a number to the next one, where each comes first; None if either isn't
+        """How many fields there are from a number to the next one, if each comes first; None if either isn't
         there."""
         one, after = self.first.get(number), self.first.get(number + 1)
         return after.field - one.field if one and after else None
@@ -137,7 +137,7 @@ def _read_on(side, field, doubtful):
 
 def _last_of(answer, one, after, is_torn):
     """The last field of a number, by the one that comes after it, if one does. A picture has two fields, or three on
-    film where the next number says so and there is no break. Where both fields have the number, it is the last one that
+    film if the next number says so and there is no break. If both fields have the number, it is the last one that
     shows it, or the one before the next number, which may be read in its second field alone."""
     pace = answer.pace
     if pace == "minute":
@@ -150,7 +150,7 @@ def _last_of(answer, one, after, is_torn):
 # ---- What stands beside the numbers
 
 def _chapters(answer, first):
-    """The chapter that each number is in, where its picture has one."""
+    """The chapter that each number is in, if its picture has one."""
     stretches = answer.chapters
     begins = [one.field for one in stretches]
     found = {}

@@ -59,7 +59,7 @@ def _part(capture, places):
 # ---- Between two breaks
 
 def _detours(one: Capture, other: Capture) -> Iterator[Disagreement]:
-    """Numbers between two breaks of a capture, where those before and after both breaks fit each other."""
+    """Numbers between two breaks of a capture, if those before and after both breaks fit each other."""
     if one.answer.pace == "minute":
         return
     pace = Pace(str(one.answer.pace))

@@ -7,7 +7,7 @@ from typing import List, Set
 from ..answer.whole import UNITS
 from .captures import Capture
 
-LEAST = 10  # numbers beside which two captures say the same, or not, where that is more than a wrong word
+LEAST = 10  # numbers beside which two captures say the same, or not, if that is more than a wrong word
 CHAPTER, STATUS, USERS = "chapter", "programme status", "users' code"
 KINDS = CHAPTER, STATUS, USERS  # of codes that may show that two captures are of one disc
 

@@ -49,8 +49,8 @@ def read_together(captures: List[Capture], disputed: Set[Tuple[str, int]]) -> Se
 
 
 def _is_said(number: int, fields: List[Due], unit: Unit) -> bool:
-    """Whether the lines of these fields say this number together. They don't where one of them has a word of pass 1
-    that says something else, or where those of one capture are all that there is."""
+    """Whether the lines of these fields say this number together. They don't if one of them has a word of pass 1
+    that says something else, or if those of one capture are all that there is."""
     lines = [line for one in fields for line in _lines_of(one, _LINES[unit.name])]
     if any(line.word and not says(line.word, number, unit) for line in lines):
         return False
@@ -83,7 +83,7 @@ def _pile_of(lines: List[Line]) -> List[Line]:
 
 
 def _word_of(pile: List[Line], number: int) -> Optional[int]:
-    """What the lines of a pile say, which have this number. Dropouts are known where each stream has some."""
+    """What the lines of a pile say, which have this number. Dropouts are known if each stream has some."""
     first = pile[0].stream
     dropouts = [(place, *columns) for place, line in enumerate(pile) for columns in line.erased]
     is_known = all(line.stream.dropouts for line in pile)

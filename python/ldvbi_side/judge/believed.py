@@ -184,7 +184,7 @@ def line_from(numbers: Numbers, reading: Reading, is_before: bool) -> Line:
 
 
 def _lines_between(numbers, before, after):
-    """The line on which the numbers go on from a reading, and the one on which they come to another; None where neither
+    """The line on which the numbers go on from a reading, and the one on which they come to another; None if neither
     of these is in a stretch."""
     speeds = numbers.speeds
     place = bisect.bisect(speeds, (after.field, math.inf)) - 1

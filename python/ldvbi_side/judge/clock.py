@@ -51,7 +51,7 @@ class Played(NamedTuple):
 
 class Clock(NamedTuple):
     """Which gaps are the clock's. `judged` says of each number in a gap whether the clock left it out. `open` are the
-    numbers of gaps where too few numbers were played to know. `breaks` are the pairs of readings of all gaps that
+    numbers of gaps if too few numbers were played to know. `breaks` are the pairs of readings of all gaps that
     aren't the clock's."""
     judged: Dict[int, bool]
     open: Set[int]
@@ -69,7 +69,7 @@ def clock_of(played: List[Played]) -> Clock:
         for before, after in singles:
             between = _between(before, after)
             if rule and rule.has((before, after)):
-                # where some of several weren't read, the one left out is that of the others' place in the thousand
+                # if some of several weren't read, the one left out is that of the others' place in the thousand
                 out = max(between, key=lambda number: rule.phases[number % rule.spacing])
                 judged.update((number, number == out) for number in between)
                 continue

@@ -24,7 +24,7 @@ from .order import with_rest_between, with_speeds, with_swaps, with_turned
 from .paces import RATES, MinutePace, Unit
 from .readings import WEIGHTS, ByField, Codes, Lines, Reading
 
-CARRIED = 1  # seconds that are lost at most where a minute is carried over although others were read
+CARRIED = 1  # seconds that are lost at most if a minute is carried over although others were read
 
 
 class Times(NamedTuple):
@@ -107,7 +107,7 @@ def _pictures_of(codes):
 # ---- Times
 
 def _times_of(codes):
-    """The times of a CLV side, or its minutes where no field has a second and picture that can be joined to them."""
+    """The times of a CLV side, or its minutes if no field has a second and picture that can be joined to them."""
     rate = RATES[codes.fields.system]
     parts = {field: second * rate + picture for field, values in codes.kinds[Kind.clv_picture].items()
              for second, picture in values if picture < rate}

@@ -141,7 +141,7 @@ def _with_stretch(numbers, stretch, ones):
     inside = numbers.believed_in(stretch.first, stretch.last)
     fields = {one.field for one in ones}
     if 2 * sum(one.weight for one in inside if one.field not in fields) > sum(one.weight for one in ones):
-        return numbers  # as where a disc is turned by hand: it showed other numbers, too
+        return numbers  # as when a disc is turned by hand: it showed other numbers, too
     before, after = numbers.around(stretch.first)[0], numbers.around(stretch.last)[1]
     place = bisect.bisect(numbers.speeds, stretch)
     changed = numbers._replace(speeds=numbers.speeds[:place] + (stretch,) + numbers.speeds[place:])
@@ -182,7 +182,7 @@ def _lines(loose, is_both):
     """The lines on which enough of these readings are, each with its readings."""
     found, rows = [], []
     for phase in (0, 1) if len(loose) >= LEAST else ():
-        # where both fields of a picture have its number, it begins with an odd one or with an even one
+        # if both fields of a picture have its number, it begins with an odd one or with an even one
         near = loose if is_both else [one for one in loose if one.field % 2 == phase]
         rows.append((phase, near, [one.number for one in near], [(one.field - phase) // 2 for one in near]))
     for step in STEPS:

@@ -103,7 +103,7 @@ def places_of(numbers: Numbers, codes: Codes) -> Places:
     joins = [(step.before, step.after) for step in steps if ends and _is_join(step, ends)]
     steps = [_joined(step) if (step.before, step.after) in set(joins) else step for step in steps] if joins else steps
     due, without_field, unshown, unseen = _due(numbers, steps, codes)
-    # where both lines show another number surely, none is due
+    # if both lines show another number surely, none is due
     others = {one: said for one in due for said in [codes.sure_picture(one[1])] if said is not None}
     for (number, field), said in others.items():
         (unseen if _is_played(codes, field, said) else without_field).add(number)
@@ -205,7 +205,7 @@ def _due(numbers, steps, codes):
 
 
 def _is_played(codes, field, said):
-    """Whether a number was played in its field, as where a disc is turned by hand: it is at most one off what a field
+    """Whether a number was played in its field, as when a disc is turned by hand: it is at most one off what a field
     beside it shows. Else it is misread."""
     return any(abs(said - number) <= 1 for near in NEAR for number in codes.kinds[Kind.picture].get(field + near, ()))
 
@@ -248,8 +248,8 @@ def _break(numbers, before, after, off):
 # ---- Discs of another kind
 
 def _spacing_of(numbers: Numbers) -> int:
-    """How many pictures apart the numbers of the disc are: 1 but where most of the steps from one believed time to the
-    next are longer, and all as long. Where numbers aren't read by chance, more of them are one apart than two."""
+    """How many pictures apart the numbers of the disc are: 1 unless most of the steps from one believed time to the
+    next are longer, and all as long. If numbers aren't read by chance, more of them are one apart than two."""
     if numbers.unit.name != "time":
         return 1
     fields, values = numbers.fields, numbers.values
