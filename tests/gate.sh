@@ -1,6 +1,6 @@
 #!/bin/sh
 # The whole gate, at the top of the repository: every proof, test and stored run by `rt ci`, each wrong body by
-# tests/wrong_bodies.py, and beside both the scripts on the built program and library, and on the same source, built by
+# proofs/wrong_bodies.py, and beside both the scripts on the built program and library, and on the same source, built by
 # cargo, which is compared with what was proved. What was run is compared with the list in git (tests/ran.sh), count by
 # count.
 #
@@ -71,10 +71,10 @@ if [ "$(awk '/^MemAvailable/ { print $2 }' /proc/meminfo)" -lt "$memory_of_both"
     ends_proofs
     part 'proofs and tests'
 fi
-(cd "$work/tried" && exec setsid python3 tests/wrong_bodies.py > "$work/wrong") &
+(cd "$work/tried" && exec setsid python3 tests/proofs/wrong_bodies.py > "$work/wrong") &
 tried=$!
 make JOBS=1 ldvbi lib rust || fails 'not all is built'
-python3 tests/wrong_bodies_trials.py || fails 'a wrong body may pass for a refused one'
+python3 tests/proofs/wrong_bodies_trials.py || fails 'a wrong body may pass for a refused one'
 part 'programs and libraries'
 compared sh tests/scripts.sh ./ldvbi || fails 'of the scripts one failed'
 part 'scripts'

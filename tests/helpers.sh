@@ -182,7 +182,7 @@ finish() {
 
 # signal SYSTEM FIELDS [BLACK WHITE] < DESCRIPTIONS: lines (FIELDS is 0) or fields (1), see described.py
 signal() {
-    python3 "$tests/program/described.py" "$@"
+    python3 "$tests/cli/described.py" "$@"
 }
 
 # document_head SYSTEM WIDTH HEIGHT BLACK WHITE: how a document begins

@@ -51,7 +51,7 @@ def sizes() -> Dict[str, int]:
 def refused() -> Dict[str, int]:
     """How many wrong bodies there are, and how many of them the check may refuse by a name alone."""
     count, = of_source(RAN, r"^wrong bodies: (\d+) refused, 0 not$")
-    most, = of_source("tests/wrong_bodies.py", r"^MOST_LOST = (\d+)\b")
+    most, = of_source("tests/proofs/wrong_bodies.py", r"^MOST_LOST = (\d+)\b")
     return {"wrong_bodies": count, "refused.name": most}
 
 

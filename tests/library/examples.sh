@@ -9,7 +9,7 @@
 
 . "$(dirname "$0")/../helpers.sh"
 . "$here/library_helpers.sh"
-. "$tests/answers/table.sh"
+. "$tests/cli/table.sh"
 
 with_python
 

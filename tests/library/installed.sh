@@ -2,7 +2,7 @@
 # Installs program and library as a new user does, and builds on them by pkg-config and by CMake: nothing but these
 # tells the loader where the library is (no LD_LIBRARY_PATH). Then the wheel of the Python module, which brings the
 # library. Of what was proved also by the lines in LIBRARY.md, moved, and in other folders; the wheel without the net,
-# and its tag; and `pip install` of the source. What is installed where, tests/program/packaging.sh tries.
+# and its tag; and `pip install` of the source. What is installed where, tests/cli/packaging.sh tries.
 # Needs libldvbi.a and libldvbi.so.1 beside the program, or at the top of the repository (`make lib`), and of what was
 # proved Debian's python3-venv, python3-setuptools and python3-wheel.
 # usage: sh tests/library/installed.sh PROGRAM

@@ -80,7 +80,7 @@ $cc -std=c99 -Wall -I"$top/include" -c -o compiled.o call.c 2> err
 check 'a status that nobody looks at is warned of' grep -q warn_unused_result err
 check 'what is written is never null' [ "$(grep -c 'Wnonnull]' err)" = 1 ]
 
-PYTHONPATH=$PYTHONPATH:$tests/python
+PYTHONPATH=$PYTHONPATH:$tests/unit
 for part in refusals judged lines worn; do
     check "the tests of $part" prints 0 '0 wrong' python3 "$here/$part.py"
 done

@@ -146,7 +146,7 @@ def test_judges():
 
 
 def test_words():
-    """Codes and formats. What each word says, tests/python/test_classes.py compares."""
+    """Codes and formats. What each word says, tests/unit/test_classes.py compares."""
     test_call("classify", {"word": 0xF9DD59}, BAD_WORD=one("word", (0, )))
     expect(OPEN["code"].get(12) == layout("Code").pack(NUMBERS.TIME, 9, 59), "classify", OPEN["code"].get(12))
     for *words, wanted in ((0, 0, 0, NUMBERS.NEITHER), (0x88FFFF, 0x88FFFF, 0x88FFFF, NUMBERS.NEITHER),

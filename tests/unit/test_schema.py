@@ -53,7 +53,7 @@ def schema_of(kind):
 
 def read_table(*kinds):
     """The words of each place in schema.txt, by the rows of all kinds and those of these ones."""
-    text = re.sub(r"^#.*\n", "", pathlib.Path(TOP, "tests", "python", "schema.txt").read_text("ascii"), flags=re.M)
+    text = re.sub(r"^#.*\n", "", pathlib.Path(TOP, "tests", "unit", "schema.txt").read_text("ascii"), flags=re.M)
     alike, *parts = re.split(r"^= (.*)\n", text, flags=re.M)
     rows = alike + "".join(part for kind, part in zip(parts[::2], parts[1::2]) if kind in kinds)
     table = {}
@@ -182,7 +182,7 @@ def each_line(is_valid, document):
 def test_documents(room, system, kind, version, options, passes):
     """Those of no field, of all fields, and of one of which a byte is there or lacks; which columns a cause has."""
     white, width, hold, signal = SYSTEMS[system]
-    ran = subprocess.run([sys.executable, os.path.join(TOP, "tests", "program", "described.py"), system, "1"],
+    ran = subprocess.run([sys.executable, os.path.join(TOP, "tests", "cli", "described.py"), system, "1"],
                          input=signal.encode(), stdout=subprocess.PIPE, check=True)
     settings, documents = ["--system", system, "--black", "16384", "--white", white], []
     for data in (b"", ran.stdout[:1], ran.stdout[:-1], ran.stdout):

@@ -1,10 +1,10 @@
 #!/usr/bin/env python3
-"""Tries tests/wrong_bodies.py itself: what isn't a wrong body has to be named as such, and to fail.
+"""Tries tests/proofs/wrong_bodies.py itself: what isn't a wrong body has to be named as such, and to fail.
 
 That is done in a copy of one crate with the edits below and what `rt lib` kept of it, and in one that isn't proved as
 it stands. And without edits each public function has to be named.
 
-usage: python3 tests/wrong_bodies_trials.py     (at the top, with `rt` on the PATH)
+usage: python3 tests/proofs/wrong_bodies_trials.py     (at the top, with `rt` on the PATH)
 """
 import os
 import re
@@ -16,7 +16,7 @@ from wrong_bodies import Crate, FOLDER, REFUSED, REFUSES, ran, write  # noqa: E4
 from wrong_edits import public_functions, read  # noqa: E402
 
 CRATE = "vbi_words"
-SCRIPT = [sys.executable, os.path.abspath("tests/wrong_bodies.py"), CRATE]
+SCRIPT = [sys.executable, os.path.abspath("tests/proofs/wrong_bodies.py"), CRATE]
 # Name, file, old text, new text, and what the script has to say of it
 EDITS = [
     ("wrong", "src/format.rt", "Some(word) => matches!(classify(word), Code::Picture(_) | Code::PictureStop),",

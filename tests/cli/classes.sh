@@ -1,7 +1,7 @@
 #!/bin/sh
 # Compares what the table of classes (codes/classes.txt) says of words with what the built program's `show` says of
 # them: words of each class with any other digit at each place, and any words.
-# usage: sh tests/program/classes.sh PROGRAM
+# usage: sh tests/cli/classes.sh PROGRAM
 # runs: everywhere rust
 # fails where: codes/classes.txt|s/^words     8, x, d, DDD/words     8, d, d, DDD/
 

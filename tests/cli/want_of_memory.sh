@@ -2,9 +2,9 @@
 # Refuses each allocation of the built program in turn. Each answer has to be the whole one, or `ldvbi: out of memory`
 # with status 1, nothing written, and nothing read from the input. Where no allocation was refused, that is never said,
 # whatever the length of the metadata; metadata of 10 MB is read with 20 times its bytes of memory.
-# usage: sh tests/program/want_of_memory.sh PROGRAM
+# usage: sh tests/cli/want_of_memory.sh PROGRAM
 # runs: everywhere rust
-# fails where: tests/program/want_of_memory.sh|s/out of memory/out of memori/
+# fails where: tests/cli/want_of_memory.sh|s/out of memory/out of memori/
 
 . "$(dirname "$0")/../helpers.sh"
 

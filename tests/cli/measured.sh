@@ -1,6 +1,6 @@
 #!/bin/sh
 # Tries the bounds of `make bench`: one that is passed, a line that is missing and a measurement that fails each end it.
-# usage: sh tests/program/measured.sh PROGRAM
+# usage: sh tests/cli/measured.sh PROGRAM
 # runs: everywhere
 # fails where: bench/bounds.awk|s/ratio < least/ratio > least/
 

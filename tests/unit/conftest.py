@@ -17,7 +17,7 @@ os.environ.setdefault("LDVBI_PROGRAM", os.path.join(BUILT, "ldvbi"))
 FOLDERS = [os.path.join(TOP, *names) for names in (("python",), ("bench", "sides"))]
 if "COVERAGE_PROCESS_START" not in os.environ:  # else python.sh has set it
     os.environ["PYTHONPATH"] = os.pathsep.join(FOLDERS)  # of the processes that tests start
-sys.path[:0] = [*FOLDERS, os.path.join(TOP, "tests", "program")]
+sys.path[:0] = [*FOLDERS, os.path.join(TOP, "tests", "cli")]
 os.environ.setdefault("HYPOTHESIS_STORAGE_DIRECTORY", os.path.join(tempfile.gettempdir(), "ldvbi-hypothesis"))
 hypothesis.settings.register_profile("same", derandomize=True, database=None, deadline=None)
 hypothesis.settings.load_profile("same")

@@ -1,6 +1,6 @@
 """Prints the help of a command or of the program as the tables of the source have its texts, without the indents and
 the empty lines. Behind -h the texts are the short ones, and each stands in the line of its option.
-usage: python3 tests/program/help.py [COMMAND] -h | --help"""
+usage: python3 tests/cli/help.py [COMMAND] -h | --help"""
 import pathlib
 import re
 import sys

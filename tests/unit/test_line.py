@@ -19,8 +19,8 @@ FORMATS = pathlib.Path(TOP, "docs", "FORMATS.md").read_text("utf-8")
 
 
 def described(text, setup=NTSC):
-    """The line of this description (tests/program/described.py)."""
-    words = [sys.executable, os.path.join(TOP, "tests", "program", "described.py"), setup[0], "0", *map(str, setup[1:])]
+    """The line of this description (tests/cli/described.py)."""
+    words = [sys.executable, os.path.join(TOP, "tests", "cli", "described.py"), setup[0], "0", *map(str, setup[1:])]
     return subprocess.run(words, input=text.encode(), stdout=subprocess.PIPE, check=True).stdout
 
 

@@ -2,7 +2,7 @@
 # Runs the tests of the Python package by Debian's pytest, side by side. Each test that passes is a check, so that none
 # gets lost; one that is skipped is a failure. Each line of the package has to run, in the tests or in a process that
 # they start. Needs libldvbi.so.1 beside the program, or at the top of the repository (`make lib`).
-# usage: sh tests/python/python.sh PROGRAM
+# usage: sh tests/unit/python.sh PROGRAM
 # runs: library
 # fails where: python/ldvbi_side/answer/analysis.py|s/^def analyse(/def analyze(/
 
@@ -31,7 +31,7 @@ seconds=$((5 * seconds)) # for the runs of many tests, beside other scripts
 status=0
 bounded python3 -m pytest -n "$(nproc)" --dist loadgroup ${STOP_AT_FIRST:+-x} --quiet --basetemp "$work/tests" -rpsxX \
     --durations 10 "$here" < empty > out 2>&1 || status=$?
-sed -n 's,^PASSED [^ ]*tests/python/,,p' out > names
+sed -n 's,^PASSED [^ ]*tests/unit/,,p' out > names
 grep -v '^PASSED ' out > err
 check 'pytest passed' [ "$status" = 0 ]
 unset COVERAGE_PROCESS_START

@@ -9,7 +9,7 @@ as soon as their crate is proved, and let proofs go first (`nice`). What one doe
 
 What an edit is, and which of them share a round: wrong_edits.py. Each public function needs one.
 
-usage: python3 tests/wrong_bodies.py [--only WORD] [--plan] [CRATE..]    (at the top, `rt` on the PATH)
+usage: python3 tests/proofs/wrong_bodies.py [--only WORD] [--plan] [CRATE..]    (at the top, `rt` on the PATH)
 """
 import argparse
 import collections

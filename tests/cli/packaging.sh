@@ -1,7 +1,7 @@
 #!/bin/sh
 # Installs the built program, and the library where it is built, from a copy of the source without the toolchain, takes
 # both away again, and packs them: what is there has one list of files. Then what `make` prints of the toolchain's work.
-# usage: sh tests/program/packaging.sh PROGRAM
+# usage: sh tests/cli/packaging.sh PROGRAM
 # runs: everywhere
 # fails where: Makefile|/install.*MANUALS/d
 

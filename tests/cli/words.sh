@@ -1,6 +1,6 @@
 #!/bin/sh
 # Runs the built program on a few words that it refuses, on each kind of path, and on words that ask for help.
-# usage: sh tests/program/words.sh PROGRAM
+# usage: sh tests/cli/words.sh PROGRAM
 # runs: everywhere rust
 # fails where: crates/vbi_cli/src/commands.rt|s/Turns rows/Turns words/
 

@@ -4,7 +4,7 @@
 # found. COMPARE_RUNS is how many times the usual number of runs it makes, COMPARE_SEED where they begin (1 and 1 where
 # the environment doesn't say); COMPARE_RUNNER runs the program, as wine64 or qemu-aarch64 do, and then the library,
 # which is of another machine, is left out.
-# usage: sh tests/program/rust_compare.sh PROGRAM
+# usage: sh tests/cli/rust_compare.sh PROGRAM
 # runs: rust
 # fails where: ldvbi|s/short line/shirt line/g
 

@@ -3,7 +3,7 @@
 # of the source of the last commit, lead to `ldvbi-side` of a drawn side. What these took of a processor it says on
 # standard error. Then the package of Debian's of what was built is installed on another bare Debian, used, and removed.
 # Needs root, debootstrap and a mirror of Debian (MIRROR); where one of them is missing, that is left out.
-# usage: sh tests/program/bare.sh PROGRAM     (the program is never run)
+# usage: sh tests/cli/bare.sh PROGRAM     (the program is never run)
 # runs: whole
 # fails where: README.md|/^make rust && make venv$/d
 

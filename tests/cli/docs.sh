@@ -6,7 +6,7 @@
 # One marked ```text that comes next is what it prints, on standard output and standard error. One marked ```console has
 # commands and what they print by turns: a command begins with `$ `, each further line of it with `> `. A block marked
 # `skip` as well (```sh skip) is left out, one marked `lib` where the library isn't built; others find no library.
-# usage: sh tests/program/docs.sh PROGRAM
+# usage: sh tests/cli/docs.sh PROGRAM
 # runs: everywhere
 # fails where: README.md|s/^picture 1$/picture 2/
 
@@ -150,7 +150,7 @@ database.executescript(re.search(r'^FORM = """(.*?)"""', form, re.M | re.S)[1])
 for words in re.findall(r"\bsqlite3 [\w.]+ ('[^']*'|[^\n`]*)", "".join(documents)):
     print(*database.execute(words[1:-1]).fetchall() if words.startswith("'") else [words])
 END
-does python3 sql.py "$tests/python/test_into.py" "$top"/*.md "$top"/docs/*.md
+does python3 sql.py "$tests/unit/test_into.py" "$top"/*.md "$top"/docs/*.md
 check 'what documents ask of a database' \
     [ "$status $(sort -u out | paste -s -d ' ')" = "0 ('NTSC', 16384, 51200) .schema" ]
 

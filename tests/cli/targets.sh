@@ -1,7 +1,7 @@
 #!/bin/sh
 # Tries what `make` runs beside building and installing, .ci/run, and the tools that tests/tools.sh asks for, with stubs
 # for the scripts, for make and for Debian's commands.
-# usage: sh tests/program/targets.sh PROGRAM     (the program is never run)
+# usage: sh tests/cli/targets.sh PROGRAM     (the program is never run)
 # runs: everywhere
 # fails where: .ci/run|s/make setup test/make setup/
 

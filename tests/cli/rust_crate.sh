@@ -2,7 +2,7 @@
 # Tries the script that takes the contracts out of the source, on forms that it doesn't know; and the crate that it
 # writes (rust/crate, by `make rust`): no warning, the two ways of `bits_above`, its own interface, its package, and the
 # example project.
-# usage: sh tests/program/rust_crate.sh PROGRAM
+# usage: sh tests/cli/rust_crate.sh PROGRAM
 # runs: rust
 # fails where: rust/hand/Cargo.toml|s/^version = .*/version = "0.0.9"/
 # shellcheck disable=SC2059
@@ -104,7 +104,7 @@ check 'the example project is built' quiet cargo build --quiet
 player=$CARGO_TARGET_DIR/debug/player
 cd "$work" || exit 1
 
-# What it answers of drawn sides is tried by tests/answers/rust_answers.sh; here what it plays, and what it refuses.
+# What it answers of drawn sides is tried by tests/cli/rust_answers.sh; here what it plays, and what it refuses.
 bounded sh "$top/examples/side.sh" "$program" || exit 1
 head -c 100 side.tbc > cut.tbc
 printf '%s\n' '- F00001 F00001' '- 800DDD 800DDD' '- F00002 F00002' '- 800DDD 800DDD' '82CFFF 82CFFF F00003' \

@@ -3,9 +3,9 @@
 # where its settings come from, and in which order faults are found. Fields and texts that are expected are made here
 # (by described.py and helpers.sh). What else streams, metadata, rows of words and lines come to, the crates test,
 # and for the Rust program rust_compare.sh.
-# usage: sh tests/program/program.sh PROGRAM
+# usage: sh tests/cli/program.sh PROGRAM
 # runs: everywhere rust
-# fails where: tests/program/program.sh|s/too many fields/too many fielts/g
+# fails where: tests/cli/program.sh|s/too many fields/too many fielts/g
 
 . "$(dirname "$0")/../helpers.sh"
 

@@ -1,6 +1,6 @@
 # What bash offers after each command line of standard input, by a file of completions for one command: `files` where
 # it is file names.
-# usage: bash tests/program/complete.bash FILE
+# usage: bash tests/cli/complete.bash FILE
 compopt() { printf 'files\n'; }
 # shellcheck source=share/completions/ldvbi.bash
 . "$1"

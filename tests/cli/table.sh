@@ -3,7 +3,7 @@
 
 # draw_side NAME RATE OPTIONS: prints the side of the table with this name
 draw_side() {
-    sed -n "s/^= $1 [A-Z]* //p" "$tests/answers/answers.txt" | PYTHONPATH=$top/python:$tests/python python3 -Bc '
+    sed -n "s/^= $1 [A-Z]* //p" "$tests/cli/answers.txt" | PYTHONPATH=$top/python:$tests/unit python3 -Bc '
 import sys
 from compact import rows
 print(*rows(sys.stdin.read(), int(sys.argv[1])), sep="\n")' $2 > side.words

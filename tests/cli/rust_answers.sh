@@ -1,8 +1,8 @@
 #!/bin/sh
 # Asks the crate of `make rust` what answers.sh asks others, by the player in examples/rust and its example `answers`.
-# usage: sh tests/answers/rust_answers.sh PROGRAM
+# usage: sh tests/cli/rust_answers.sh PROGRAM
 # runs: rust
-# fails where: tests/answers/answers.txt|s/ = field 29;/ = field 27;/
+# fails where: tests/cli/answers.txt|s/ = field 29;/ = field 27;/
 
 . "$(dirname "$0")/../helpers.sh"
 . "$tests/library/library_helpers.sh"

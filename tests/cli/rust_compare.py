@@ -1,7 +1,7 @@
 """Runs the proved program and the Rust program, or the two libraries, on the same drawn, damaged and random input, and
 compares status, output and what is said, byte for byte. Of words of the command line, a refusal has to be one of both,
 whatever clap says, and what is printed has to have the same words.
-usage: python3 tests/program/rust_compare.py WHAT PROVED OTHER COUNT SEED [RUNNER..]
+usage: python3 tests/cli/rust_compare.py WHAT PROVED OTHER COUNT SEED [RUNNER..]
 
 WHAT is words (of the command line), streams (of fields, and lines), rows (of words to be drawn), metadata, or library.
 PROVED and OTHER are programs, or libraries that can be loaded; RUNNER is what runs OTHER, as wine or qemu. Ends with

@@ -2,9 +2,9 @@
 # Asks the examples in C, C++ and Python, and `ldvbi-side` for pictures, times, chapters and stops of drawn sides,
 # whether they are whole, and for their gaps. Each has to answer what the table answers.txt has.
 # Needs libldvbi.so.1 beside the program, or at the top of the repository (`make lib`).
-# usage: sh tests/answers/answers.sh PROGRAM
+# usage: sh tests/cli/answers.sh PROGRAM
 # runs: library rust
-# fails where: tests/answers/answers.txt|s/ = field 29;/ = field 27;/
+# fails where: tests/cli/answers.txt|s/ = field 29;/ = field 27;/
 
 . "$(dirname "$0")/../helpers.sh"
 . "$tests/library/library_helpers.sh"

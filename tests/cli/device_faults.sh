@@ -3,9 +3,9 @@
 # compares what the built program writes, what it says, its status, and how often it asks its devices. Here the devices
 # are those of the system (devices.c); what becomes of a fault at each byte is proved, and tested in the crates over
 # made-up ones.
-# usage: sh tests/program/device_faults.sh PROGRAM
+# usage: sh tests/cli/device_faults.sh PROGRAM
 # runs: everywhere rust
-# fails where: tests/program/device_faults.sh|s/write failed/write foiled/g
+# fails where: tests/cli/device_faults.sh|s/write failed/write foiled/g
 
 . "$(dirname "$0")/../helpers.sh"
 

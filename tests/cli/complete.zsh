@@ -1,5 +1,5 @@
 # What zsh offers after each command line of standard input, by the completions in a folder.
-# usage: zsh -f tests/program/complete.zsh FOLDER
+# usage: zsh -f tests/cli/complete.zsh FOLDER
 # A second shell runs at a terminal of its own. There each match is written between < and > as it is added.
 zmodload zsh/zpty
 zpty shell TERM=dumb zsh -f -i

@@ -1,7 +1,7 @@
 #!/bin/sh
 # Looks at the manual pages and the completions, which texts/write.py makes of the source: mandoc takes the pages, and
 # bash and zsh offer what is meant, with the options that the help of the built program and of ldvbi-side has.
-# usage: sh tests/program/manual.sh PROGRAM
+# usage: sh tests/cli/manual.sh PROGRAM
 # runs: everywhere
 # fails where: share/completions/ldvbi.bash|s/extract/extrakt/
 
