@@ -1,23 +1,20 @@
 use Rattle.std.proofs.Common.{arith, refl}
 use Rattle.vbi_side.proofs.Around.{left_due, marked_at, state_at, instead_at, code_at, twice_at, lines_at}
 use Rattle.vbi_side.proofs.Around.{nothing_there, not_both}
-use Rattle.vbi_side.proofs.due.number_due.Goals.{then-is_believed-via-then-is_believed}
-use Rattle.vbi_side.proofs.due.number_due.Goals.{then-is_believed-via-else-is_believed+then-shows_instead}
-use Rattle.vbi_side.proofs.due.number_due.Goals.{then-is_believed-via-else-is_believed+else-shows_instead+then-shows_twice}
 use Rattle.vbi_side.proofs.due.number_due.Goals as goal
 
 pub returns-then-is_believed : goal.returns-then-is_believed
 returns-then-is_believed c n =
     let i = c.args.field in
     elim c.then-is_believed.branch [
-      | then-is_believed-via-then-is_believed w ↦
+      | goal.then-is_believed-via-then-is_believed w ↦
           let marked = marked_at c.args.numbers.now i _ (omega (arith, c.requires.inside, c.requires.same))
           (c.is_believed.ensures.0 w.if-is_believed.true) in
           nothing_there _ n refl (λ due. due.unbelieved marked.0 ((c.requires.marked i marked.0).0 marked.1))
-      | then-is_believed-via-else-is_believed+then-shows_instead w ↦
+      | goal.then-is_believed-via-else-is_believed+then-shows_instead w ↦
           nothing_there _ n refl (λ due. due.vacant (instead_at c.args.fields.now i _ c.requires.inside
           (w.shows_instead.ensures.0 w.if-shows_instead.true)))
-      | then-is_believed-via-else-is_believed+else-shows_instead+then-shows_twice w ↦
+      | goal.then-is_believed-via-else-is_believed+else-shows_instead+then-shows_twice w ↦
           nothing_there _ n refl (λ due. due.unread (twice_at c.args.fields.now i _ c.requires.inside
           (w.shows_twice.ensures.0 w.if-shows_twice.true)))
     ]
