@@ -206,7 +206,7 @@ def test_bars_and_page():
         "51 to 70: in fields 101 to 140 of b, and a otherwise",
         "151 to 170: in fields 101 to 140 of a, and b otherwise"]
     page = page_of_joined(found, joined_text(found))
-    # each has lost what comes after it the picture, and perhaps a field of that
+    # each has lost what comes after the picture, and perhaps a field of that
     for text in (*("<p>%s</p>" % text for text in joined_text(found)), bars_of(found),
                  '<details id="missing"><summary>numbers that no capture has: 1</summary>',
                  "<tr><td>22</td><td>22</td><td>1</td><td>lost</td></tr>",

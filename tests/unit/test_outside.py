@@ -61,7 +61,7 @@ NUMBERS = signal.SIGINT, signal.SIGTERM, signal.SIGHUP, signal.SIGALRM
 
 @pytest.fixture
 def signals():
-    """What begins to heed signals, as the command does. A shell has what runs after its back ignore SIGINT."""
+    """What begins to heed signals, as the command does. A shell has what runs behind its back ignore SIGINT."""
     before = {number: signal.signal(number, signal.SIG_DFL) for number in NUMBERS}
     with mock.patch("sys.unraisablehook", sys.__unraisablehook__):  # not that of pytest
         yield outside.end_in_order

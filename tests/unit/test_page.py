@@ -125,7 +125,7 @@ def test_bad_lines_are_drawn_up_to_a_count_and_a_size(text, count, size, heads):
 
 
 def test_each_drawing_is_that_of_the_same_line_alone(drawn):
-    """A line with a few high columns has no row of a word after it, and none has one without recovered words."""
+    """A line with a few high columns has no row of a word behind it, and none has one without recovered words."""
     words = {(1, 17): 0xF00001, (3, 17): 0xF00002, (3, 18): 0xF00002, (6, 16): 0x8DC0A1}
     lines = {place: worn_line(words[place], NTSC, 7 + count, 10 + count) for count, place in enumerate(words)}
     lines[7, 16], name = line_with(0, NTSC, [(3, 30, True)]), "a <b>&.tbc"

@@ -108,7 +108,7 @@ def test_nested_and_long():
     one = Scanner(io.StringIO(many))
     assert (len(scanned(many, 50)), [one.value() for _ in one.items() for _ in one.items()]) == (200, [[]] * 200)
     assert [value for _, value, *_ in scanned("[1e308,-1e-999]", 50)] == [1e308, 0]
-    file = io.StringIO("[[1 2" + "," * 100)  # what comes after it a fault isn't read
+    file = io.StringIO("[[1 2" + "," * 100)  # what comes after a fault isn't read
     assert (reason(scanned, file, 50, kind=NotJson) is not None, file.tell()) == (True, 50)
     with mock.patch.object(scanner, "LONGEST", 20):
         assert len(scanned('["%s"]' % ("a" * 18), 1)) == 1

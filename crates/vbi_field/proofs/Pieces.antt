@@ -27,7 +27,7 @@ allowed-grows z b m =
     ]
 
 module _ {W : Type 0} (contents : W → Option (List ℕ)) where
-  -- what comes after it a piece that failed changes nothing
+  -- what comes after a piece that failed changes nothing
   fault_stays : (c : ConfigView) (o o' : Outlet W) (z piece more : List ℕ) (now : Position) (fault : RunFault)
       → IsFed contents c o o' z piece now (Err fault) → IsFed contents c o o' z (piece ++ more) now (Err fault)
   fault_stays c o o' z piece more now (Read field offset) fed = fed

@@ -93,7 +93,7 @@ IsCompleted system line_16 fields i word =
 
 -- ---- when it is right
 
--- the disc ran on around field i, if it counts number m: all numbers that it has within reach fit that one
+-- the disc ran on around field i, where it counts number m: all numbers that it has within reach fit that one
 abbrev pub RunsFrom : (ℕ → Option ℕ) → ℕ → ℕ → Type 0
 RunsFrom recorded i m = (j n : ℕ) → IsVoter i j → recorded j ≡ Some n → fits Video i m j n ≡ true
 
@@ -107,7 +107,7 @@ abbrev pub wrong_votes : (ℕ → Option ℕ) → ℕ → List Sightings → ℕ
 wrong_votes recorded minute fields i part =
     weight_of_first (λ j n. votes minute i part j n && not (is_recorded (recorded j) n)) fields (length fields)
 
--- around field i, if the disc counts number m, it ran on, and the wrong votes weigh less than the right ones, or
+-- around field i, where the disc counts number m, it ran on, and the wrong votes weigh less than the right ones, or
 -- less than a number needs to be elected
 pub record IsVotedSoundly (recorded : ℕ → Option ℕ) (minute : ℕ) (fields : List Sightings) (i part m : ℕ)
     : Type 0 where
@@ -115,7 +115,7 @@ pub record IsVotedSoundly (recorded : ℕ → Option ℕ) (minute : ℕ) (fields
   pub few : (wrong_votes recorded minute fields i part < right_votes recorded minute fields i part)
       ⊎ (wrong_votes recorded minute fields i part < field_most)
 
--- around field i, if the disc counts number m with this part of a minute, it ran on, and the wrong votes weigh less
+-- around field i, where the disc counts number m with this part of a minute, it ran on, and the wrong votes weigh less
 -- than the right ones, which weigh at least what a number needs
 pub record IsVotedRightly (recorded : ℕ → Option ℕ) (minute : ℕ) (fields : List Sightings) (i part m : ℕ) : Type 0 where
   pub runs : RunsFrom recorded i m

@@ -204,7 +204,7 @@ def row_starts(start: int, system: System) -> List[int]:
 
 
 def _draw_row(plot, line, row):
-    """The row of a word, after the samples. The answer is what is said of both."""
+    """The row of a word, behind the samples. The answer is what is said of both."""
     starts, levels = row_starts(row.start, line.system), [False] * len(line.samples)
     for begin, end, level in zip(starts, starts[1:], _halves_of(row.word)):
         levels[begin:end] = [level] * (end - begin)
