@@ -5,6 +5,7 @@ use Rattle.std.specs.Prelude.{Result, Ok}
 use Rattle.vbi_words.specs.declared.system.System as words
 use Rattle.vbi_side.specs.declared.lines.Counted as side
 use Rattle.vbi_side.specs.declared.number.Number.{Number}
+use Rattle.vbi_side.specs.declared.clock.Clock.TheVariants.{Plain}
 use Rattle.vbi_side.specs.declared.pace.Pace as paces
 use Rattle.vbi_side.specs.declared.pace.Pace.TheVariants.{Video, Film}
 use Rattle.vbi_side.specs.Both.{is_on_both}
@@ -23,7 +24,7 @@ pace_given number = if number == 1 then Some Video else (if number == 2 then Som
 abbrev pub with_given : Result words.System Refusal → Option side.Counted → Option paces.Pace → Result Siding Refusal
 with_given system counted pace = in_turn system (λ system. in_turn (ok_or counted Counted) (λ counted.
     in_turn (ok_or pace Pace) (λ pace.
-    Ok (record { numbering = record { system = system; counted = counted }; pace = pace }))))
+    Ok (record { numbering = record { system = system; counted = counted; clock = Plain }; pace = pace }))))
 
 -- what the numbers of a call ask for, with arrays that are equally long
 abbrev pub siding_of : ℕ → ℕ → ℕ → ℕ → ℕ → ℕ → Result Siding Refusal

@@ -6,6 +6,7 @@ use Rattle.vbi_words.specs.declared.system.System.TheVariants.{Ntsc, Pal}
 use Rattle.vbi_near.specs.declared.near.Near.{Near}
 use Rattle.vbi_side.specs.declared.lines.Counted.{Counted}
 use Rattle.vbi_side.specs.declared.number.Number.{Number}
+use Rattle.vbi_side.specs.declared.clock.Clock.TheVariants.{Plain}
 use Rattle.vbi_side.specs.declared.pace.Pace.{Pace}
 use Rattle.vbi_side.specs.declared.sighting.Sightings.{Sightings}
 use Rattle.vbi_side.specs.Numbers.{believed, nothing}
@@ -95,7 +96,7 @@ second_on_18 = field_of 5 2 5 2 ∷ blank ∷ field_of 0 0 6 2 ∷ []
 
 -- what a whole side is judged by
 abbrev pub sided_as : System → Counted → Pace → Siding
-sided_as system counted pace = record { numbering = record { system = system; counted = counted }; pace = pace }
+sided_as system counted pace = record { numbering = record { system = system; counted = counted; clock = Plain }; pace = pace }
 
 -- numbers on one field of each picture, and on both
 abbrev pub on_one : List Number

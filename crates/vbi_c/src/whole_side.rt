@@ -9,7 +9,7 @@ ghost use Rattle.vbi_c.specs.Statuses.{status_of};
 use crate::judging::counted_of;
 use crate::setup::system_of;
 use crate::status::{DONE, Refusal};
-use vbi_side::{Finding, Gap, Number, Numbering, Pace, Rule, Sightings, is_on_both, judge_whole};
+use vbi_side::{Clock, Finding, Gap, Number, Numbering, Pace, Rule, Sightings, is_on_both, judge_whole};
 
 /// What a side is judged by.
 #[derive(Clone, Copy)]
@@ -47,7 +47,11 @@ fn siding_of(
     let counted = counted_of(counted).ok_or(Refusal::Counted)?;
     let pace = pace_given(pace).ok_or(Refusal::Pace)?;
     Ok(Siding {
-        numbering: Numbering { system, counted },
+        numbering: Numbering {
+            system,
+            counted,
+            clock: Clock::Plain,
+        },
         pace,
     })
 }

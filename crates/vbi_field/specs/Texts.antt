@@ -1,6 +1,6 @@
 -- The text that is written for a TBC stream, of two kinds: its head, an entry for each whole field, and its tail; and
 -- that text by what the stream's lines show (IEC 60857 and IEC 60856 by the words of `vbi_words`).
-use Rattle.std.specs.Prelude.{◌≡◌, ℕ, ◌+◌, ◌==◌, if◌then◌else◌, List, [], ◌++◌, Option, ◌<◌, codes}
+use Rattle.std.specs.Prelude.{◌≡◌, ℕ, ◌+◌, ◌==◌, if◌then◌else◌, List, [], ◌∷◌, ◌++◌, Option, Some, None, ◌<◌, codes}
 use Rattle.std.specs.List.{join_by, range_with_len}
 use Rattle.vbi_field.specs.ConfigView.{ConfigView, System}
 pub use Rattle.vbi_field.specs.Outlet.{Wrote, WrotePart, Outlet}
@@ -193,3 +193,15 @@ IsRecoveredText t c z text =
     (fields : ℕ → FieldRecovered) × ((i : ℕ) → i < fields_of c z → FieldRecovers c z i (fields i))
     × (text ≡ t.head c ++ join_by (λ i. t.entry c (i + 1) (fields i)) t.joint (range_with_len 0 (fields_of c z))
     ++ t.tail (fields_of c z) (rest_of c z))
+
+-- a field whose line 16 was read in pass 2, whose line 17 was recovered, and whose line 18 was by both lines together:
+-- its own nearest row is that of no word
+abbrev pub worn_field : FieldRecovered
+worn_field = record {
+  readings = of_lines (has_word 0x82CFFF 2) (has_none (Change 34)) (has_word 0xF12347 2);
+  shown = record { outcome = Word 0x82CFFF; pass = 2 } ∷ record { outcome = Word 0xF12345; pass = 3 }
+      ∷ record { outcome = Word 0xF12346; pass = 3 } ∷ [];
+  first = record { word = None; start = 0; distance = 1; rival = 2; longer = 3; shorter = 4 };
+  second = record { word = Some 0xF12345; start = 150; distance = 34816; rival = 87040; longer = 5; shorter = 6 };
+  third = record { word = None; start = 0; distance = 0; rival = 34815; longer = 7; shorter = 8 };
+}

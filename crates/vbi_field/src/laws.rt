@@ -10,7 +10,12 @@ ghost use Rattle.vbi_field.specs.Texts.{FieldReads, IsWholeText, text_before_tai
 ghost use Rattle.vbi_field.specs.Texts.{document, report, plain_document, plain_report};
 ghost use Rattle.vbi_field.specs.Texts.{RecoveredKind, recovering, IsRecoveredText, recovered_document};
 ghost use Rattle.vbi_field.specs.Shown.{IsNearRow, near_of, recovery_of};
-ghost use Rattle.vbi_field.specs.Recovered.{FieldRecovered, RowsRecover, recovered_without};
+ghost use Rattle.vbi_field.specs.Recovered.{FieldRecovered, RowsRecover, recovered_without, recovered_record_of};
+ghost use Rattle.vbi_field.specs.Report.{recovered_entry_of};
+ghost use Rattle.vbi_field.specs.Shown.{as_readings};
+ghost use Rattle.vbi_field.specs.Texts.{worn_field};
+ghost use Rattle.std.specs.Prelude.{[], ◌∷◌};
+ghost use Rattle.vbi_words.specs.declared.outcome.Outcome.TheVariants.{Word, Blank, Change};
 ghost use Rattle.vbi_near.specs.Candidates.{Row};
 ghost use Rattle.vbi_near.specs.Recovery.{IsRecovered};
 ghost use Rattle.vbi_near.specs.declared.near.Near.{Near};
@@ -180,4 +185,20 @@ pub fn worked_texts()
         ++ codes "17 87FFFF clv\n18 F0DD00 time 0:00\n")
         × (plain_report.entry 7 refused_field ≡ codes "field 7 neither\n16 none change 34\n17 none hold 909\n"
         ++ codes "18 8DC0A1 cx on 0A1\n") }
+{}
+
+/// The record of a field with recovered words, and its lines in the report, written down by hand.
+pub fn worked_recovered()
+    ensures record_is { recovered_record_of (plain_config Ntsc).levels 7 worn_field
+        ≡ codes "{\"seqNo\":7,\"vbi\":{\"vbiData\":[8572927,15803205,15803206]},\"vbiCause\":[\"word\",\"change 34\""
+        ++ codes ",\"word\"],\"vbiPass\":[2,3,3],\"vbiNear\":[null,{\"word\":15803205,\"distance\":100,\"rival\":250}"
+        ++ codes ",{\"word\":0,\"distance\":0,\"rival\":99}]}" }
+    ensures fallen { recovered_record_of (plain_config Pal).levels 8 (record worn_field {
+      shown = record { outcome = Change 34; pass = 0 } ∷ record { outcome = Blank; pass = 0 }
+          ∷ record { outcome = Word 0xF12346; pass = 1 } ∷ [] })
+        ≡ codes "{\"seqNo\":8,\"vbi\":{\"vbiData\":[0,0,15803206]},\"vbiCause\":[\"change 34\",\"blank\""
+        ++ codes ",\"word\"],\"vbiPass\":[0,0,1],\"vbiNear\":[null,null,null]}" }
+    ensures report_is { recovered_entry_of 7 (as_readings worn_field.shown)
+        ≡ codes "field 7 cav\n16 82CFFF picture stop\n17 F12345 picture 12345 (recovered)\n"
+        ++ codes "18 F12346 picture 12346 (recovered)\n" }
 {}

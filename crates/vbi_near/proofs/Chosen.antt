@@ -5,6 +5,7 @@ use Rattle.std.specs.Prelude.{Some, None}
 use Rattle.std.proofs.Math.Nat.{min-le_left, min-le_right}
 use Rattle.vbi_words.specs.declared.system.System.{System}
 use Rattle.vbi_words.specs.Geometry.{width_of}
+use Rattle.vbi_words.specs.Words.{IsWord}
 use Rattle.vbi_near.specs.declared.found.Found.{Found}
 use Rattle.vbi_near.specs.declared.near.Near.{Near}
 use Rattle.vbi_near.specs.Pictures.{IsPlace, picture_of, starts, word_length}
@@ -16,7 +17,7 @@ use Rattle.vbi_near.specs.Nearest.{IsNearestBy, IsFirstBy, Precedes}
 use Rattle.vbi_near.proofs.BestBits.{min_is}
 use Rattle.vbi_near.proofs.Columns.{word-fits, starts-few}
 use Rattle.vbi_near.proofs.Costs.{blank-cost, word-cost}
-use Rattle.vbi_near.proofs.Distances.{AreBoth}
+use Rattle.vbi_near.specs.Sums.{AreBoth}
 
 -- how far the lines are from a picture, by their columns' costs
 abbrev pub far : System → Shades → Option ℕ → ℕ → ℕ
@@ -33,6 +34,20 @@ none_some w e = cc
 
 pub some_none : (w : ℕ) → Some w ≡ None → ⊥
 some_none w e = cc
+
+pub chosen-place : (system : System) (found : Found) → IsWord found.word → found.start < starts system
+    → (longer shorter blank : ℕ) (near : Near) → IsChosen found longer shorter blank near
+    → IsPlace system near.word near.start
+chosen-place system found word before longer shorter blank near (inl (order, e)) =
+    subst (λ (n : Near). IsPlace system n.word n.start) (sym e) refl
+chosen-place system found word before longer shorter blank near (inr (order, e)) =
+    subst (λ (n : Near). IsPlace system n.word n.start) (sym e) (word, omega (arith, before, word-fits system))
+
+pub start-few : (system : System) (found : Found) → found.start < starts system → (longer shorter blank : ℕ)
+    (near : Near) → IsChosen found longer shorter blank near → near.start < 285
+start-few system found before longer shorter blank near (inl (order, e)) = omega (arith, ap (λ (n : Near). n.start) e)
+start-few system found before longer shorter blank near (inr (order, e)) =
+    omega (arith, ap (λ (n : Near). n.start) e, before, starts-few system)
 
 module _ (costs sums : Shades) (system : System) (both : AreBoth costs sums (width_of system)) (found : Found)
     (is : IsFound (place_cost sums system) 0 (starts system) found) where
@@ -186,11 +201,6 @@ module _ (costs sums : Shades) (system : System) (both : AreBoth costs sums (wid
       subst (IsFirstBy (IsPlace system) (far system costs)) (sym e) (none_first order)
   first_is longer shorter near (inr (order, e)) =
       subst (IsFirstBy (IsPlace system) (far system costs)) (sym e) (word_first longer shorter order)
-
-  pub start-few : (longer shorter blank : ℕ) (near : Near) → IsChosen found longer shorter blank near → near.start < 285
-  start-few longer shorter blank near (inl (order, e)) = omega (arith, ap (λ (n : Near). n.start) e)
-  start-few longer shorter blank near (inr (order, e)) =
-      omega (arith, ap (λ (n : Near). n.start) e, is.before, starts-few system)
 
   pub nearest_is : (longer shorter : ℕ) (near : Near)
       → IsChosen found longer shorter (span sums false 0 (width_of system)) near

@@ -19,7 +19,7 @@ use Rattle.vbi_near.specs.Leads.{all_codes, code_cost, IsLead, IsClose, IsCodeCh
 use Rattle.vbi_near.proofs.Chosen.{far, some_is, none_some, some_none}
 use Rattle.vbi_near.proofs.Columns.{word-fits}
 use Rattle.vbi_near.proofs.Costs.{blank-cost, word-cost}
-use Rattle.vbi_near.proofs.Distances.{AreBoth}
+use Rattle.vbi_near.specs.Sums.{AreBoth}
 use Rattle.vbi_near.proofs.OneCellMore.{least_longer}
 use Rattle.vbi_near.proofs.CutShort.{least_shorter}
 use Rattle.vbi_near.proofs.Priced.{code-word}
@@ -33,6 +33,21 @@ pub code-place : (ranges : List Range) (system : System) (word : Option ℕ) (st
     → IsCodePlace ranges system word start → IsPlace system word start
 code-place ranges system None start place = place
 code-place ranges system (Some w) start place = (code-is_word ranges w place.0, place.1)
+
+-- a code that was found is a word, and begins where one may
+pub lead-found : (sums : Shades) (system : System) (ranges : List Range) (lead : Found)
+    → IsLead (code_cost sums system) (all_codes ranges system) lead → lead.word ≢ 0
+    → (lead.start < starts system) × IsWord lead.word
+    × (place_cost sums system lead.start lead.word ≡ lead.distance)
+lead-found sums system ranges lead is some = go is.there
+  where
+    go : ((lead.start ≡ 0) × (lead.word ≡ 0)) ⊎ ((lead.start < starts system) × IsOneOf ranges lead.word)
+        → (lead.start < starts system) × IsWord lead.word
+        × (place_cost sums system lead.start lead.word ≡ lead.distance)
+    go (inl none) = absurd (some none.1)
+    go (inr (l, one)) =
+        let word = code-is_word ranges lead.word one in
+        (l, word, sym (code-word sums system lead.start lead.word word) ∙ is.exact)
 
 module _ (costs sums : Shades) (system : System) (both : AreBoth costs sums (width_of system)) (ranges : List Range)
     (lead : Found) (is : IsLead (code_cost sums system) (all_codes ranges system) lead) where
@@ -252,29 +267,3 @@ module _ (costs sums : Shades) (system : System) (both : AreBoth costs sums (wid
             (least_shorter costs sums system both lead.start (fits lead.start l) lead refl
             (sym (code-word sums system lead.start lead.word (code-is_word ranges lead.word one)) ∙ is.exact) shorter
             shortest)
-
-    -- what its longer row needs
-    pub lead-start : (lead.word ≡ 0) ⊎ (lead.start < starts system)
-    lead-start = go lead-word
-      where
-        go : (lead.word ≡ 0) ⊎ ((lead.start < starts system) × IsOneOf ranges lead.word)
-            → (lead.word ≡ 0) ⊎ (lead.start < starts system)
-        go (inl none) = inl none
-        go (inr (l, one)) = inr l
-
-    pub lead-exact : (lead.word ≡ 0) ⊎ (place_cost sums system lead.start lead.word ≡ lead.distance)
-    lead-exact = go lead-word
-      where
-        go : (lead.word ≡ 0) ⊎ ((lead.start < starts system) × IsOneOf ranges lead.word)
-            → (lead.word ≡ 0) ⊎ (place_cost sums system lead.start lead.word ≡ lead.distance)
-        go (inl none) = inl none
-        go (inr (l, one)) =
-            inr (sym (code-word sums system lead.start lead.word (code-is_word ranges lead.word one)) ∙ is.exact)
-
-    pub lead-is_word : (lead.word ≡ 0) ⊎ IsWord lead.word
-    lead-is_word = go lead-word
-      where
-        go : (lead.word ≡ 0) ⊎ ((lead.start < starts system) × IsOneOf ranges lead.word)
-            → (lead.word ≡ 0) ⊎ IsWord lead.word
-        go (inl none) = inl none
-        go (inr (l, one)) = inr (code-is_word ranges lead.word one)

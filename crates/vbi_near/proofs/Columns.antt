@@ -34,19 +34,6 @@ column-step : (system : System) (start j : ℕ) → (column_of system start j �
 column-step Ntsc start j = (omega arith, omega arith)
 column-step Pal start j = (omega arith, omega arith)
 
--- the columns of a cell are in order, and not far apart
-pub cell-columns : (system : System) (start cell begin middle end : ℕ) → begin ≡ column_of system start (2 * cell)
-    → middle ≡ column_of system start (2 * cell + 1) → end ≡ column_of system start (2 * cell + 2)
-    → (begin ≤ middle) × (middle ≤ end) × (end ≤ begin + 36)
-cell-columns system start cell begin middle end b m e =
-    let next : 2 * cell + 1 ≡ suc (2 * cell) = omega arith in
-    let last : 2 * cell + 2 ≡ suc (suc (2 * cell)) = omega arith in
-    let m2 : middle ≡ column_of system start (suc (2 * cell)) = m ∙ ap (column_of system start) next in
-    let e2 : end ≡ column_of system start (suc (suc (2 * cell))) = e ∙ ap (column_of system start) last in
-    let s = column-step system start (2 * cell) in
-    let t = column-step system start (suc (2 * cell)) in
-    (omega (arith, b, m2, s.0), omega (arith, m2, e2, t.0), omega (arith, b, m2, e2, s.1, t.1))
-
 pub width-few : (system : System) → width_of system ≤ 1135
 width-few Ntsc = omega arith
 width-few Pal = omega arith

@@ -18,7 +18,7 @@ use Rattle.vbi_near.specs.Stretched.{halves_cost}
 use Rattle.vbi_near.proofs.BestBits.{min_is}
 use Rattle.vbi_near.proofs.Columns.{column-first, column-next}
 use Rattle.vbi_near.proofs.Costs.{word-cost}
-use Rattle.vbi_near.proofs.Distances.{AreBoth}
+use Rattle.vbi_near.specs.Sums.{AreBoth}
 use Rattle.vbi_near.proofs.Halves.{drawn-with, halves_cost-append, row-far}
 
 -- ---- a word's first cells, and its last

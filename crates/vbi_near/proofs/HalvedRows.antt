@@ -19,7 +19,7 @@ use Rattle.vbi_near.specs.Distances.{Samples, unit_of, distance_of, Shades, dist
 use Rattle.vbi_near.specs.Shorter.{row_of_halves}
 use Rattle.vbi_near.specs.Halved.{half_of, halved_far, row_cost, halved_cost}
 use Rattle.vbi_near.proofs.Halves.{drawn-with, row-far}
-use Rattle.vbi_near.proofs.Distances.{AreBoth}
+use Rattle.vbi_near.specs.Sums.{AreBoth}
 use Rattle.vbi_near.proofs.Piles.{levels-same}
 use Rattle.vbi_near.proofs.ShorterRows.{row-wide}
 

@@ -8,7 +8,8 @@ use Rattle.vbi_near.specs.Pictures.{half_length, drawn_halves}
 use Rattle.vbi_near.specs.Distances.{Shades, distance_from}
 use Rattle.vbi_near.specs.Sums.{span}
 use Rattle.vbi_near.specs.Stretched.{halves_with, halves_cost}
-use Rattle.vbi_near.proofs.Distances.{AreBoth, distance-append, distance-run}
+use Rattle.vbi_near.specs.Sums.{AreBoth}
+use Rattle.vbi_near.proofs.Distances.{distance-append, distance-run}
 
 -- the half cells of a drawn word have the lengths of its half cells
 pub drawn-with : (system : System) (j : ℕ) (halves : List Bool)

@@ -14,7 +14,7 @@ use Rattle.vbi_near.specs.Stretched.{stretched_row_cost, IsLeastAt, IsStretched,
 use Rattle.vbi_near.specs.Stretched.{IsStartBefore, IsRateBefore}
 use Rattle.vbi_near.proofs.BestBits.{min_is}
 use Rattle.vbi_near.proofs.CutShort.{many-halves}
-use Rattle.vbi_near.proofs.Distances.{AreBoth}
+use Rattle.vbi_near.specs.Sums.{AreBoth}
 use Rattle.vbi_near.proofs.Halves.{row-far, row-long}
 use Rattle.vbi_near.proofs.Piles.{levels-same}
 use Rattle.vbi_near.proofs.Stretches.{offset-first, offset-next}

@@ -1,39 +1,17 @@
 -- What was looked at, and what needs no look.
-use Rattle.std.proofs.Common.{◌≡◌, ℕ, zero, suc, ◌≤◌, ◌<◌, ◌^◌, List, [], ◌∷◌, false}
-use Rattle.std.proofs.Common.{◌⊎◌, inl, inr, refl, arith, ap, sym, subst}
+use Rattle.std.proofs.Common.{◌≡◌, ℕ, zero, suc, ◌≤◌, ◌<◌, List, [], ◌∷◌}
+use Rattle.std.proofs.Common.{length, get_or, take, ◌⊎◌, inl, inr, refl, arith, ap, sym, subst}
 use Rattle.std.proofs.lemmas.Bool.{cases_lt}
 use Rattle.vbi_words.specs.declared.system.System.{System}
-use Rattle.vbi_words.specs.Geometry.{width_of}
 use Rattle.vbi_words.specs.Words.{IsWord}
 use Rattle.vbi_near.specs.declared.found.Found.{Found}
 use Rattle.vbi_near.specs.Pictures.{starts}
-use Rattle.vbi_near.specs.Distances.{Shades}
-use Rattle.vbi_near.specs.Sums.{span}
-use Rattle.vbi_near.specs.LineCodes.{Range, IsOneOf}
-use Rattle.vbi_near.specs.Leads.{Look, look, at_start, IsSeen, with_ranges, looks_before, all_codes, code_cost}
+use Rattle.vbi_near.specs.LineCodes.{Range, range, IsOneOf}
+use Rattle.vbi_near.specs.Priced.{ranges_of}
+use Rattle.vbi_near.specs.Leads.{Look, look, at_start, IsSeen, with_ranges, looks_before, all_codes}
 use Rattle.vbi_near.specs.Leads.{IsLead}
 use Rattle.vbi_near.specs.Nearest.{IsBefore}
 use Rattle.vbi_near.proofs.Merged.{lead-passed, lead-same, turned}
-
--- none alone
-pub none-lead : (sums : Shades) (system : System) (blank : ℕ) → blank ≡ span sums false 0 (width_of system)
-    → blank < 2 ^ 31 → IsLead (code_cost sums system) (IsSeen []) (record {
-      word = 0;
-      start = 0;
-      distance = blank;
-      rival = 4294967295;
-    })
-none-lead sums system blank e few = record {
-  there = (refl, refl);
-  exact = sym e;
-  order = omega (arith, few);
-  least = λ s w there.
-      let same : code_cost sums system s w ≡ code_cost sums system s 0 = ap (code_cost sums system s) there.1 in
-      omega (arith, e, same);
-  rival = λ s w there differs. absurd (differs there.1);
-  first = λ s w there same. inr (sym there.0, omega arith);
-  other = inl (omega arith);
-}
 
 -- ---- ranges at one start
 
@@ -131,3 +109,13 @@ all-looks cost ranges system first lead inside is =
     from : (s w : ℕ) → all_codes ranges system s w → Before ranges first (starts system) s w
     from s w (inl none) = inl none
     from s w (inr (less, one)) = inr (inl less, one)
+
+-- the ranges up to an index are those before it and the one there
+pub ranges-more : (looks : List Look) (at : ℕ) (codes : List (ℕ × ℕ)) (i : ℕ) → i < length codes
+    → with_ranges looks at (ranges_of (take (suc i) codes))
+    ≡ look at (range (get_or codes i (0, 0)).0 (get_or codes i (0, 0)).1)
+    ∷ with_ranges looks at (ranges_of (take i codes))
+ranges-more looks at [] i inside = absurd (omega (arith, inside))
+ranges-more looks at (words ∷ codes) zero inside = refl
+ranges-more looks at (words ∷ codes) (suc i) inside =
+    ranges-more (look at (range words.0 words.1) ∷ looks) at codes i (omega (arith, inside))

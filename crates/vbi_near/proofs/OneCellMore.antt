@@ -16,7 +16,8 @@ use Rattle.vbi_near.specs.Best.{IsChosen}
 use Rattle.vbi_near.specs.Longer.{cell_length, begun_earlier, ended_later, GoesOn, IsLeastLonger, HasLonger}
 use Rattle.vbi_near.specs.Longer.{IsBeside, IsWithCell, IsLongerFound}
 use Rattle.vbi_near.proofs.Columns.{column-first, column-drawn, word-drawn, word-fits}
-use Rattle.vbi_near.proofs.Distances.{AreBoth, distance-append, distance-run}
+use Rattle.vbi_near.specs.Sums.{AreBoth}
+use Rattle.vbi_near.proofs.Distances.{distance-append, distance-run}
 use Rattle.vbi_near.proofs.Costs.{cell-alone, halves-cost}
 use Rattle.vbi_near.proofs.Beside.{cell-long, before-split, behind-split}
 

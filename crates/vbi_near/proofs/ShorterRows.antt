@@ -16,7 +16,7 @@ use Rattle.vbi_near.specs.Shorter.{begun_later, ended_earlier, row_of_halves, Is
 use Rattle.vbi_near.specs.Shorter.{IsShorterFound}
 use Rattle.vbi_near.proofs.Columns.{column-first, column-next, word-fits}
 use Rattle.vbi_near.proofs.CutShort.{one-later-long, two-later-long, one-earlier-long, two-earlier-long, least_shorter}
-use Rattle.vbi_near.proofs.Distances.{AreBoth}
+use Rattle.vbi_near.specs.Sums.{AreBoth}
 use Rattle.vbi_near.proofs.Halves.{drawn-with, row-long}
 use Rattle.vbi_near.proofs.Piles.{levels-same}
 

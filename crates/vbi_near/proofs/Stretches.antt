@@ -15,7 +15,7 @@ use Rattle.vbi_near.specs.Stretched.{stretched_offset, stretched_half, halves_co
 use Rattle.vbi_near.specs.Stretched.{stretched_cost, stretched_length, stretched_word_cost, stretched_row_cost}
 use Rattle.vbi_near.proofs.CellsAt.{set-more}
 use Rattle.vbi_near.proofs.CutShort.{many-halves}
-use Rattle.vbi_near.proofs.Halves.{halves_cost-append, rises-by}
+use Rattle.vbi_near.proofs.Halves.{halves_cost-append}
 
 -- ---- columns
 
@@ -40,21 +40,6 @@ offset-first Pal rate = omega arith
 pub offset-next : (system : System) (rate j : ℕ)
     → stretched_offset system rate j + stretched_half system rate j ≡ stretched_offset system rate (suc j)
 offset-next system rate j = omega (arith, offset-rises system rate j)
-
-pub offset-more : (system : System) (rate j : ℕ) → stretched_offset system rate j ≤ stretched_offset system rate (j + 1)
-offset-more system rate j =
-    let e : suc j ≡ j + 1 = omega arith in
-    omega (arith, offset-rises system rate j, ap (stretched_offset system rate) e)
-
-pub offset-up : (system : System) (rate j k : ℕ) → j ≤ k
-    → stretched_offset system rate j ≤ stretched_offset system rate k
-offset-up system rate j k le =
-    let e : j + (k - j) ≡ k = omega arith in
-    omega (
-      arith,
-      rises-by (stretched_offset system rate) (stretched_half system rate) (offset-next system rate) j (k - j),
-      ap (stretched_offset system rate) e,
-    )
 
 -- there are 302 starts at most
 pub few-starts : (system : System) (rate : ℕ) → 98 ≤ rate → width_of system + 1 ≤ stretched_length system rate + 302

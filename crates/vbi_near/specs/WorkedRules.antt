@@ -149,3 +149,21 @@ passes_of lines = map (λ line. line.pass) lines
 -- what a field shows on its lines 16, 17 and 18
 abbrev pub Shows : List Recovered → List (Option ℕ) → List ℕ → Type 0
 Shows lines words passes = (words_of lines ≡ words) × (passes_of lines ≡ passes)
+
+-- this word, which no code is, beside the picture number 12345, each at a distance; of the word that of the row that
+-- goes on, of the code that of its rival
+abbrev pub code_beside : ℕ → ℕ → ℕ → ℕ → ℕ → Nears
+code_beside word near longer distance rival = record {
+  word = record (near_with word 10100 longer) { distance = near; rival = near + 100; shorter = near };
+  code = record {
+    word = Some 0xF12345;
+    start = 150;
+    distance = distance;
+    rival = rival;
+    longer = distance;
+    shorter = distance;
+  };
+  blank = 30000;
+  word_halved = 99999;
+  code_halved = 99999;
+}

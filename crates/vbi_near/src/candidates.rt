@@ -3,16 +3,17 @@
 ghost use Rattle.std.specs.Prelude.{◌≡◌, ◌∷◌, [], ◌-◌, ◌^◌, ◌<◌, length, IsTrue};
 ghost use Rattle.vbi_words.specs.Geometry.{line_bytes, width_of};
 ghost use Rattle.vbi_words.specs.Levels.{samples_of};
-ghost use Rattle.vbi_near.specs.Distances.{known_but};
+ghost use Rattle.vbi_near.specs.Lines.{row_in, first_in, other_in};
 ghost use Rattle.vbi_near.specs.Levelled.{levelled};
 ghost use Rattle.vbi_near.specs.Stretched.{IsStretched};
-ghost use Rattle.vbi_near.specs.Candidates.{HasNear, HasNearIf, row_of, filled_samples, swing_in, has_swing};
+ghost use Rattle.vbi_near.specs.Candidates.{HasNear, HasNearIf, row_of, given_samples, filled_samples, swing_in, has_swing};
 ghost use Rattle.vbi_near.specs.Candidates.{are_alike, are_alike_by, levelled_samples};
 
 use crate::levelled::{fill, is_swing, level, sum_samples, swing};
 use crate::lines::{Nears, nears_of};
 use crate::near::WIDEST;
 use crate::pile::add_line;
+use crate::row::{Pair, Row};
 use crate::stretched::stretched_distance;
 use vbi_words::{Levels, System, Word24};
 
@@ -25,69 +26,41 @@ pub(crate) fn unit_of(levels: Levels) -> u32
 }
 
 /// The nearest ones of one line, by its bytes and which of its columns are erased.
-pub(crate) fn near_of_one(
-    system: System,
-    number: u32,
-    levels: Levels,
-    row: &[u8],
-    erased: &[bool],
-) -> Nears
-    requires row { length row.now ≡ line_bytes system }
-    requires erased { length erased.now ≡ width_of system }
-    ensures { HasNear system number levels (known_but erased.now (samples_of row.now) ∷ []) result }
+pub(crate) fn near_of_one(number: u32, levels: Levels, row: &Row) -> Nears
+    ensures { HasNear row.now.system number levels (given_samples (row_in row.now) ∷ []) result }
 {
     let mut all_darks = [0; WIDEST];
     let mut all_lights = [0; WIDEST];
-    let darks = &mut all_darks[..system.width()];
-    let lights = &mut all_lights[..system.width()];
-    add_line(levels, row, erased, darks, lights);
-    nears_of(system, number, darks, lights)
+    let darks = &mut all_darks[..row.system.width()];
+    let lights = &mut all_lights[..row.system.width()];
+    add_line(levels, row.bytes, row.erased, darks, lights);
+    nears_of(row.system, number, darks, lights)
 }
 
 /// The nearest ones of two lines that have one word.
-pub(crate) fn near_of_two(
-    system: System,
-    number: u32,
-    levels: Levels,
-    row: &[u8],
-    erased: &[bool],
-    other: &[u8],
-    other_erased: &[bool],
-) -> Nears
-    requires row { length row.now ≡ line_bytes system }
-    requires erased { length erased.now ≡ width_of system }
-    requires other { length other.now ≡ line_bytes system }
-    requires other_erased { length other_erased.now ≡ width_of system }
-    ensures { HasNear system number levels (known_but erased.now (samples_of row.now)
-        ∷ known_but other_erased.now (samples_of other.now) ∷ []) result }
+pub(crate) fn near_of_two(number: u32, levels: Levels, pair: &Pair) -> Nears
+    ensures { HasNear pair.now.system number levels (given_samples (first_in pair.now)
+        ∷ given_samples (other_in pair.now) ∷ []) result }
 {
     let mut all_darks = [0; WIDEST];
     let mut all_lights = [0; WIDEST];
-    let darks = &mut all_darks[..system.width()];
-    let lights = &mut all_lights[..system.width()];
-    add_line(levels, row, erased, darks, lights);
-    add_line(levels, other, other_erased, darks, lights);
-    nears_of(system, number, darks, lights)
+    let darks = &mut all_darks[..pair.system.width()];
+    let lights = &mut all_lights[..pair.system.width()];
+    add_line(levels, pair.bytes, pair.erased, darks, lights);
+    add_line(levels, pair.other_bytes, pair.other_erased, darks, lights);
+    nears_of(pair.system, number, darks, lights)
 }
 
 /// How far a line is from the nearest row of this word on cells that are somewhat longer or shorter.
-pub(crate) fn stretched_of_one(
-    system: System,
-    levels: Levels,
-    row: &[u8],
-    erased: &[bool],
-    word: Word24,
-) -> u32
-    requires row { length row.now ≡ line_bytes system }
-    requires erased { length erased.now ≡ width_of system }
-    ensures { IsStretched system levels (known_but erased.now (samples_of row.now) ∷ []) word result }
+pub(crate) fn stretched_of_one(levels: Levels, row: &Row, word: Word24) -> u32
+    ensures { IsStretched row.now.system levels (given_samples (row_in row.now) ∷ []) word result }
 {
     let mut all_darks = [0; WIDEST];
     let mut all_lights = [0; WIDEST];
-    let darks = &mut all_darks[..system.width()];
-    let lights = &mut all_lights[..system.width()];
-    add_line(levels, row, erased, darks, lights);
-    stretched_distance(darks, lights, system, word)
+    let darks = &mut all_darks[..row.system.width()];
+    let lights = &mut all_lights[..row.system.width()];
+    add_line(levels, row.bytes, row.erased, darks, lights);
+    stretched_distance(darks, lights, row.system, word)
 }
 
 /// Levels a line, if it swings as one with a word does, and answers its swing.
@@ -118,23 +91,20 @@ pub(crate) fn level_row(
 }
 
 /// The nearest ones of one line levelled, if it swings as one with a word does.
-pub(crate) fn levelled_near_of_one(
-    system: System,
-    number: u32,
-    levels: Levels,
-    row: &[u8],
-    erased: &[bool],
-) -> Option<Nears>
-    requires row { length row.now ≡ line_bytes system }
-    requires erased { length erased.now ≡ width_of system }
-    ensures { HasNearIf system number levels (has_swing system levels (row_of row.now erased.now))
-        (levelled_samples system levels (row_of row.now erased.now) ∷ []) result }
+pub(crate) fn levelled_near_of_one(number: u32, levels: Levels, row: &Row) -> Option<Nears>
+    ensures { HasNearIf row.now.system number levels (has_swing row.now.system levels (row_in row.now))
+        (levelled_samples row.now.system levels (row_in row.now) ∷ []) result }
 {
     let mut buffer = [0; 2 * WIDEST];
-    let levelled = &mut buffer[..row.len()];
-    let swing = level_row(system, levels, row, erased, levelled);
+    let levelled = &mut buffer[..row.bytes.len()];
+    let swing = level_row(row.system, levels, row.bytes, row.erased, levelled);
     if is_swing(unit_of(levels), swing) {
-        Some(near_of_one(system, number, levels, levelled, erased))
+        let row = Row {
+            system: row.system,
+            bytes: levelled,
+            erased: row.erased,
+        };
+        Some(near_of_one(number, levels, &row))
     } else {
         None
     }
@@ -151,40 +121,33 @@ pub(crate) fn are_alike(unit: u32, swing: u32, other: u32) -> bool
 }
 
 /// The nearest ones of two lines levelled, if both swing alike.
-pub(crate) fn levelled_near_of_two(
-    system: System,
-    number: u32,
-    levels: Levels,
-    row: &[u8],
-    erased: &[bool],
-    other: &[u8],
-    other_erased: &[bool],
-) -> Option<Nears>
-    requires row { length row.now ≡ line_bytes system }
-    requires erased { length erased.now ≡ width_of system }
-    requires other { length other.now ≡ line_bytes system }
-    requires other_erased { length other_erased.now ≡ width_of system }
-    ensures { HasNearIf system number levels
-        (are_alike system levels (row_of row.now erased.now) (row_of other.now other_erased.now))
-        (levelled_samples system levels (row_of row.now erased.now)
-        ∷ levelled_samples system levels (row_of other.now other_erased.now) ∷ []) result }
+pub(crate) fn levelled_near_of_two(number: u32, levels: Levels, pair: &Pair) -> Option<Nears>
+    ensures { HasNearIf pair.now.system number levels
+        (are_alike pair.now.system levels (first_in pair.now) (other_in pair.now))
+        (levelled_samples pair.now.system levels (first_in pair.now)
+        ∷ levelled_samples pair.now.system levels (other_in pair.now) ∷ []) result }
 {
     let mut buffer = [0; 2 * WIDEST];
     let mut other_buffer = [0; 2 * WIDEST];
-    let levelled = &mut buffer[..row.len()];
-    let other_levelled = &mut other_buffer[..other.len()];
-    let swing = level_row(system, levels, row, erased, levelled);
-    let other_swing = level_row(system, levels, other, other_erased, other_levelled);
+    let levelled = &mut buffer[..pair.bytes.len()];
+    let other_levelled = &mut other_buffer[..pair.other_bytes.len()];
+    let swing = level_row(pair.system, levels, pair.bytes, pair.erased, levelled);
+    let other_swing = level_row(
+        pair.system,
+        levels,
+        pair.other_bytes,
+        pair.other_erased,
+        other_levelled,
+    );
     if are_alike(unit_of(levels), swing, other_swing) {
-        Some(near_of_two(
-            system,
-            number,
-            levels,
-            levelled,
-            erased,
-            other_levelled,
-            other_erased,
-        ))
+        let pair = Pair {
+            system: pair.system,
+            bytes: levelled,
+            erased: pair.erased,
+            other_bytes: other_levelled,
+            other_erased: pair.other_erased,
+        };
+        Some(near_of_two(number, levels, &pair))
     } else {
         None
     }

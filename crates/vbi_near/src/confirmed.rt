@@ -4,35 +4,30 @@
 //! if the levelled one says no word. The contracts say that a call answers as the definitions do by whatever nearest
 //! words the line has, of which there is one each.
 
-ghost use Rattle.std.specs.Prelude.{◌≡◌, ℕ, ◌-◌, ◌∷◌, [], length};
-ghost use Rattle.vbi_words.specs.Geometry.{line_bytes, width_of};
-ghost use Rattle.vbi_words.specs.Levels.{samples_of};
-ghost use Rattle.vbi_near.specs.Distances.{known_but};
+ghost use Rattle.std.specs.Prelude.{◌≡◌, ℕ, ◌-◌, ◌∷◌, []};
+ghost use Rattle.vbi_near.specs.Lines.{row_in};
 ghost use Rattle.vbi_near.specs.Stretched.{IsStretched};
-ghost use Rattle.vbi_near.specs.Candidates.{Candidates, candidates, row_of, has_swing, levelled_samples, HasNearIf};
+ghost use Rattle.vbi_near.specs.Candidates.{Candidates, candidates, given_samples, has_swing, levelled_samples, HasNearIf};
 ghost use Rattle.vbi_near.specs.Candidates.{AreOf};
 ghost use Rattle.vbi_near.specs.Recovery.{said_alone, other_than, is_stretched, is_confirmed};
 
 use crate::candidates::{near_of_one, stretched_of_one, unit_of};
 use crate::lines::Nears;
 use crate::near::Near;
+use crate::row::Row;
 use crate::said::{first_said, is_said, said_by_one};
-use vbi_words::{Levels, System, Word24};
+use vbi_words::{Levels, Word24};
 
 /// The word that a line says by itself. It is searched as it is only if it says none levelled.
 pub(crate) fn said_alone(
-    system: System,
     number: u32,
     levels: Levels,
-    row: &[u8],
-    erased: &[bool],
+    row: &Row,
     levelled: &Option<Nears>,
 ) -> Option<Word24>
-    requires row { length row.now ≡ line_bytes system }
-    requires erased { length erased.now ≡ width_of system }
-    requires levelled { HasNearIf system number levels (has_swing system levels (row_of row.now erased.now))
-        (levelled_samples system levels (row_of row.now erased.now) ∷ []) levelled.now }
-    ensures { (near : Candidates) → AreOf system number levels (row_of row.now erased.now) near
+    requires { HasNearIf row.now.system number levels (has_swing row.now.system levels (row_in row.now))
+        (levelled_samples row.now.system levels (row_in row.now) ∷ []) levelled.now }
+    ensures { (near : Candidates) → AreOf row.now.system number levels (row_in row.now) near
         → result ≡ said_alone (levels.white - levels.black) near }
 {
     let unit = unit_of(levels);
@@ -40,7 +35,7 @@ pub(crate) fn said_alone(
     if said.is_some() {
         return said;
     }
-    let given = near_of_one(system, number, levels, row, erased);
+    let given = near_of_one(number, levels, row);
     first_said(said, said_by_one(unit, Some(given)))
 }
 
@@ -82,27 +77,23 @@ fn is_confirmed_by(
 /// Whether a word of pass 2 is confirmed: the line says it by itself, or it is ahead on somewhat longer or shorter
 /// cells.
 pub(crate) fn is_confirmed(
-    system: System,
     number: u32,
     levels: Levels,
-    row: &[u8],
-    erased: &[bool],
+    row: &Row,
     levelled: &Option<Nears>,
     word: Word24,
 ) -> bool
-    requires row { length row.now ≡ line_bytes system }
-    requires erased { length erased.now ≡ width_of system }
-    requires levelled { HasNearIf system number levels (has_swing system levels (row_of row.now erased.now))
-        (levelled_samples system levels (row_of row.now erased.now) ∷ []) levelled.now }
-    ensures { (near : Candidates) (stretched : ℕ) → AreOf system number levels (row_of row.now erased.now) near
-        → IsStretched system levels (known_but erased.now (samples_of row.now) ∷ []) word stretched
+    requires { HasNearIf row.now.system number levels (has_swing row.now.system levels (row_in row.now))
+        (levelled_samples row.now.system levels (row_in row.now) ∷ []) levelled.now }
+    ensures { (near : Candidates) (stretched : ℕ) → AreOf row.now.system number levels (row_in row.now) near
+        → IsStretched row.now.system levels (given_samples (row_in row.now) ∷ []) word stretched
         → result ≡ is_confirmed (levels.white - levels.black) near stretched word }
 {
     let unit = unit_of(levels);
     if is_said(word, said_by_one(unit, *levelled)) {
         return true;
     }
-    let given = near_of_one(system, number, levels, row, erased);
-    let stretched = stretched_of_one(system, levels, row, erased, word);
+    let given = near_of_one(number, levels, row);
+    let stretched = stretched_of_one(levels, row, word);
     is_confirmed_by(unit, levelled, &given, stretched, word)
 }

@@ -9,9 +9,13 @@ ghost use Rattle.vbi_near.specs.Nearest.{IsNearest, IsFirst};
 ghost use Rattle.vbi_near.specs.Longer.{IsLonger};
 ghost use Rattle.vbi_near.specs.Shorter.{IsShorter};
 
-use crate::near::{Near, WIDEST, nearest};
-use crate::near_code::nears;
+use crate::bits::MOST_STARTS;
+use crate::found::{nearest_word, start_count};
+use crate::halved::halved_distance;
+use crate::near::{Near, WIDEST, near_word, nearest};
+use crate::near_code::near_code;
 use crate::pile::add_line;
+use crate::sums::{ROOM, Sums};
 use vbi_words::{Levels, System};
 
 /// The bytes of a line, counted from 0.
@@ -70,5 +74,20 @@ pub fn nears_of(system: System, number: u32, darks: &[u32], lights: &[u32]) -> N
     ensures { (slicing : Slicing) (lines : List Samples) → IsPile system slicing lines (shades darks.now lights.now)
         → HasNear system number slicing lines result }
 {
-    nears(system, number, darks, lights)
+    let mut dark = [0; ROOM];
+    let mut light = [0; ROOM];
+    let sums = Sums::of(system, darks, lights, &mut dark, &mut light);
+    let mut all_bounds = [0; MOST_STARTS];
+    let bounds = &mut all_bounds[..start_count(system)];
+    let found = nearest_word(&sums, bounds);
+    let word = near_word(&sums, found);
+    // No word is nearer than the nearest one, so the search of codes begins where that begins.
+    let code = near_code(&sums, number, found.start, bounds);
+    Nears {
+        word,
+        code,
+        blank: sums.blank(),
+        word_halved: halved_distance(&sums, &word),
+        code_halved: halved_distance(&sums, &code),
+    }
 }

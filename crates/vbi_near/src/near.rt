@@ -23,15 +23,14 @@
 //! other one of these, or none: a code needs a smaller margin than any word, since fewer can be mistaken for it.
 //! said.rt decides by these numbers what a line says; how large a margin has to be stands in `specs/Said.antt`.
 
-ghost use Rattle.std.specs.Prelude.{◌≡◌, ℕ, ◌+◌, ◌≤◌, ◌<◌, length, List};
+ghost use Rattle.std.specs.Prelude.{◌≡◌, ◌^◌, ◌≤◌, ◌<◌, length, List};
 ghost use Rattle.vbi_words.specs.Geometry.{width_of};
 ghost use Rattle.vbi_words.specs.Words.{IsWord};
-ghost use Rattle.vbi_near.specs.Pictures.{starts};
+ghost use Rattle.vbi_near.specs.Pictures.{starts, IsPlace};
 ghost use Rattle.vbi_words.specs.Levels.{Slicing};
-ghost use Rattle.vbi_near.specs.Sums.{span};
-ghost use Rattle.vbi_near.specs.Costs.{place_cost};
+ghost use Rattle.vbi_near.specs.Rows.{word_cost_by, IsRowOf, IsNearWord};
 ghost use Rattle.vbi_near.specs.Best.{IsFound, IsChosen};
-ghost use Rattle.vbi_near.specs.Distances.{Samples, IsPile, AreFew, shades};
+ghost use Rattle.vbi_near.specs.Distances.{Samples, Shades, IsPile, AreFew, shades};
 ghost use Rattle.vbi_near.specs.Nearest.{IsNearest, IsFirst};
 ghost use Rattle.vbi_near.specs.Longer.{IsLonger};
 ghost use Rattle.vbi_near.specs.Shorter.{IsShorter};
@@ -39,7 +38,7 @@ ghost use Rattle.vbi_near.specs.Shorter.{IsShorter};
 use crate::beyond::longer_distance;
 use crate::bits::MOST_STARTS;
 use crate::found::{Found, nearest_word, start_count};
-use crate::sums::{between, sum_up};
+use crate::sums::{ROOM, Sums};
 use crate::within::shorter_distance;
 use vbi_words::{System, Word24};
 
@@ -99,6 +98,20 @@ pub(crate) fn or_none(found: Found, longer: u32, shorter: u32, blank: u32) -> Ne
     }
 }
 
+/// The nearest word of a row, or none, by the nearest one of all that are drawn.
+pub(crate) fn near_word(sums: &Sums, found: Found) -> Near
+    requires found { IsFound (word_cost_by sums.now) 0 (starts sums.now.system) found }
+    requires few { found.distance < 2 ^ 31 }
+    ensures near { (slicing : Slicing) (lines : List Samples) (costs : Shades) → IsRowOf sums.now slicing lines costs
+        → IsNearWord sums.now.system slicing lines result }
+    ensures place { IsPlace sums.now.system result.word result.start }
+    ensures start { result.start < 285 }
+{
+    let longer = longer_distance(sums, found);
+    let shorter = shorter_distance(sums, found);
+    or_none(found, longer, shorter, sums.blank())
+}
+
 /// The word that is nearest to some lines, of which `darks` and `lights` say for each column how far their samples are
 /// from black there, and from white, in sum. Of drawn rows that are as near, the one of no word comes first, then the
 /// one that begins first, and of these the one of the least word.
@@ -116,16 +129,10 @@ pub fn nearest(system: System, darks: &[u32], lights: &[u32]) -> Near
         → IsPile system slicing lines (shades darks.now lights.now) → IsShorter system slicing lines result }
     ensures start { result.start < 285 }
 {
-    let mut dark_sums = [0; WIDEST + 1];
-    let mut light_sums = [0; WIDEST + 1];
-    let dark = &mut dark_sums[..darks.len() + 1];
-    let light = &mut light_sums[..lights.len() + 1];
-    sum_up(darks, dark);
-    sum_up(lights, light);
-    let blank = between(dark, 0, system.width());
+    let mut dark = [0; ROOM];
+    let mut light = [0; ROOM];
+    let sums = Sums::of(system, darks, lights, &mut dark, &mut light);
     let mut bounds = [0; MOST_STARTS];
-    let found = nearest_word(dark, light, system, &mut bounds[..start_count(system)]);
-    let longer = longer_distance(dark, light, system, found);
-    let shorter = shorter_distance(dark, light, system, found);
-    or_none(found, longer, shorter, blank)
+    let found = nearest_word(&sums, &mut bounds[..start_count(system)]);
+    near_word(&sums, found)
 }

@@ -21,8 +21,9 @@ ghost use Rattle.std.specs.Prelude.{◌≡◌, ℕ, ◌+◌, ◌*◌, ◌-◌, �
 ghost use Rattle.vbi_words.specs.Geometry.{line_bytes, width_of};
 ghost use Rattle.vbi_words.specs.Levels.{row_levels};
 ghost use Rattle.vbi_line.specs.OneReading.{reading_of};
-ghost use Rattle.vbi_near.specs.Candidates.{Candidates, row_of, has_swing, levelled_samples, HasNearIf, AreOf};
+ghost use Rattle.vbi_near.specs.Candidates.{Candidates, has_swing, levelled_samples, HasNearIf, AreOf};
 ghost use Rattle.vbi_near.specs.Candidates.{AreOfBoth};
+ghost use Rattle.vbi_near.specs.Lines.{row_in, first_in, other_in};
 ghost use Rattle.vbi_near.specs.Recovery.{Seen, own_of, is_open, are_open, stands_by, stands_of, said_by};
 ghost use Rattle.vbi_near.specs.Recovery.{recovered_as, is_asked, IsSeen, IsLine, IsOwn, IsRecovered, IsKept};
 ghost use Rattle.vbi_near.specs.Recovery.{row_at, row_reading, alone, shown_in};
@@ -32,6 +33,7 @@ use crate::candidates::{
 };
 use crate::confirmed::{is_confirmed, said_alone};
 use crate::lines::{Nears, line_of};
+use crate::row::{Pair, Row};
 use crate::said::{first_said, said_by_pair};
 use vbi_line::{read_bytes_twice, read_packed, slice_bytes};
 use vbi_words::{Levels, Outcome, Reading, System, Word24};
@@ -55,18 +57,9 @@ struct Line {
 }
 
 /// What a line of this reading is taken to show by its own levels.
-fn own(
-    system: System,
-    number: u32,
-    levels: Levels,
-    row: &[u8],
-    erased: &[bool],
-    line: &Line,
-) -> Recovered
-    requires row { length row.now ≡ line_bytes system }
-    requires erased { length erased.now ≡ width_of system }
-    requires line { IsLine system number levels (row_of row.now erased.now) line.now }
-    ensures { (seen : Seen) → IsSeen system number levels (row_of row.now erased.now) seen
+fn own(number: u32, levels: Levels, row: &Row, line: &Line) -> Recovered
+    requires { IsLine row.now.system number levels (row_in row.now) line.now }
+    ensures { (seen : Seen) → IsSeen row.now.system number levels (row_in row.now) seen
         → result ≡ own_of (levels.white - levels.black) seen }
 {
     let read = Recovered {
@@ -77,13 +70,11 @@ fn own(
         Outcome::Word(word) => word,
         _ => return read,
     };
-    if line.reading.pass != 2
-        || is_confirmed(system, number, levels, row, erased, &line.levelled, word)
-    {
+    if line.reading.pass != 2 || is_confirmed(number, levels, row, &line.levelled, word) {
         return read;
     }
     Recovered {
-        outcome: read_packed(&slice_bytes(row, system, levels), system),
+        outcome: read_packed(&slice_bytes(row.bytes, row.system, levels), row.system),
         pass: 0,
     }
 }
@@ -122,59 +113,38 @@ fn is_asked(outcome: Outcome, pass: u8) -> bool
 }
 
 /// A line's nearest words levelled, if they are asked for.
-fn levelled_if_asked(
-    system: System,
-    number: u32,
-    levels: Levels,
-    row: &[u8],
-    erased: &[bool],
-    reading: &Reading,
-) -> Option<Nears>
-    requires row { length row.now ≡ line_bytes system }
-    requires erased { length erased.now ≡ width_of system }
+fn levelled_if_asked(number: u32, levels: Levels, row: &Row, reading: &Reading) -> Option<Nears>
     ensures { IsTrue (is_asked reading.now.outcome reading.now.pass)
-        → HasNearIf system number levels (has_swing system levels (row_of row.now erased.now))
-        (levelled_samples system levels (row_of row.now erased.now) ∷ []) result }
+        → HasNearIf row.now.system number levels (has_swing row.now.system levels (row_in row.now))
+        (levelled_samples row.now.system levels (row_in row.now) ∷ []) result }
 {
     if is_asked(reading.outcome, reading.pass) {
-        levelled_near_of_one(system, number, levels, row, erased)
+        levelled_near_of_one(number, levels, row)
     } else {
         None
     }
 }
 
 /// A line as it is read, and its nearest words levelled.
-fn line_in(system: System, number: u32, levels: Levels, row: &[u8], erased: &[bool]) -> Line
-    requires row { length row.now ≡ line_bytes system }
-    requires erased { length erased.now ≡ width_of system }
-    ensures { IsLine system number levels (row_of row.now erased.now) result }
+fn line_in(number: u32, levels: Levels, row: &Row) -> Line
+    ensures { IsLine row.now.system number levels (row_in row.now) result }
 {
-    let reading = read_bytes_twice(row, system, levels);
+    let reading = read_bytes_twice(row.bytes, row.system, levels);
     Line {
         reading,
-        levelled: levelled_if_asked(system, number, levels, row, erased, &reading),
+        levelled: levelled_if_asked(number, levels, row, &reading),
     }
 }
 
 /// What a line shows that has no other beside it.
-fn shown_alone(
-    system: System,
-    number: u32,
-    levels: Levels,
-    row: &[u8],
-    erased: &[bool],
-    line: &Line,
-    own: Recovered,
-) -> Recovered
-    requires row { length row.now ≡ line_bytes system }
-    requires erased { length erased.now ≡ width_of system }
-    requires line { IsLine system number levels (row_of row.now erased.now) line.now }
-    requires own { IsOwn system number levels (row_of row.now erased.now) own }
-    ensures { (seen : Seen) (both : Candidates) → IsSeen system number levels (row_of row.now erased.now) seen
+fn shown_alone(number: u32, levels: Levels, row: &Row, line: &Line, own: Recovered) -> Recovered
+    requires line { IsLine row.now.system number levels (row_in row.now) line.now }
+    requires own { IsOwn row.now.system number levels (row_in row.now) own }
+    ensures { (seen : Seen) (both : Candidates) → IsSeen row.now.system number levels (row_in row.now) seen
         → result ≡ shown_in alone (levels.white - levels.black) seen both }
 {
     if is_open(own.outcome) {
-        let said = said_alone(system, number, levels, row, erased, &line.levelled);
+        let said = said_alone(number, levels, row, &line.levelled);
         recovered_as(own, said)
     } else {
         own
@@ -184,41 +154,43 @@ fn shown_alone(
 /// The words that lines 17 and 18 say, both of which are open. They are searched as they are only if one of them
 /// says none levelled.
 fn said_by_both(
-    system: System,
     levels: Levels,
-    row: &[u8],
-    erased: &[bool],
+    pair: &Pair,
     levelled: &Option<Nears>,
-    other: &[u8],
-    other_erased: &[bool],
     other_levelled: &Option<Nears>,
 ) -> (Option<Word24>, Option<Word24>)
-    requires row { length row.now ≡ line_bytes system }
-    requires erased { length erased.now ≡ width_of system }
-    requires levelled { HasNearIf system 17 levels
-        (has_swing system levels (row_of row.now erased.now))
-        (levelled_samples system levels (row_of row.now erased.now) ∷ []) levelled.now }
-    requires other { length other.now ≡ line_bytes system }
-    requires other_erased { length other_erased.now ≡ width_of system }
-    requires other_levelled { HasNearIf system 18 levels
-        (has_swing system levels (row_of other.now other_erased.now))
-        (levelled_samples system levels (row_of other.now other_erased.now) ∷ []) other_levelled.now }
-    ensures { (near again both : Candidates) → AreOf system 17 levels (row_of row.now erased.now) near
-        → AreOf system 18 levels (row_of other.now other_erased.now) again
-        → AreOfBoth system 17 levels (row_of row.now erased.now) (row_of other.now other_erased.now) both
+    requires levelled { HasNearIf pair.now.system 17 levels
+        (has_swing pair.now.system levels (first_in pair.now))
+        (levelled_samples pair.now.system levels (first_in pair.now) ∷ []) levelled.now }
+    requires other_levelled { HasNearIf pair.now.system 18 levels
+        (has_swing pair.now.system levels (other_in pair.now))
+        (levelled_samples pair.now.system levels (other_in pair.now) ∷ []) other_levelled.now }
+    ensures { (near again both : Candidates) → AreOf pair.now.system 17 levels (first_in pair.now) near
+        → AreOf pair.now.system 18 levels (other_in pair.now) again
+        → AreOfBoth pair.now.system 17 levels (first_in pair.now) (other_in pair.now) both
         → let stands = stands_by (levels.white - levels.black) near again both in
         (result.0 ≡ said_by stands (levels.white - levels.black) near both)
         × (result.1 ≡ said_by stands (levels.white - levels.black) again both) }
 {
     let unit = unit_of(levels);
-    let both = levelled_near_of_two(system, 17, levels, row, erased, other, other_erased);
+    let both = levelled_near_of_two(17, levels, pair);
     let said = said_by_pair(unit, levelled, other_levelled, &both);
     if said.0.is_some() && said.1.is_some() {
         return said;
     }
-    let near = Some(near_of_one(system, 17, levels, row, erased));
-    let other_near = Some(near_of_one(system, 18, levels, other, other_erased));
-    let both_near = Some(near_of_two(system, 17, levels, row, erased, other, other_erased));
+    let row = Row {
+        system: pair.system,
+        bytes: pair.bytes,
+        erased: pair.erased,
+    };
+    let other = Row {
+        system: pair.system,
+        bytes: pair.other_bytes,
+        erased: pair.other_erased,
+    };
+    let near = Some(near_of_one(17, levels, &row));
+    let other_near = Some(near_of_one(18, levels, &other));
+    let both_near = Some(near_of_two(17, levels, pair));
     let given = said_by_pair(unit, &near, &other_near, &both_near);
     (first_said(said.0, given.0), first_said(said.1, given.1))
 }
@@ -259,33 +231,37 @@ fn shown_pair(
         (result.0 ≡ shown_in stands (levels.white - levels.black) second both)
         × (result.1 ≡ shown_in stands (levels.white - levels.black) third both) }
 {
-    let second = line_of(system, rows, 1);
-    let third = line_of(system, rows, 2);
-    let second_erased = erased_of(system, erased, 1);
-    let third_erased = erased_of(system, erased, 2);
-    let near = line_in(system, 17, levels, second, second_erased);
-    let other = line_in(system, 18, levels, third, third_erased);
-    let own_near = own(system, 17, levels, second, second_erased, &near);
-    let own_other = own(system, 18, levels, third, third_erased, &other);
+    let second = Row {
+        system,
+        bytes: line_of(system, rows, 1),
+        erased: erased_of(system, erased, 1),
+    };
+    let third = Row {
+        system,
+        bytes: line_of(system, rows, 2),
+        erased: erased_of(system, erased, 2),
+    };
+    let near = line_in(17, levels, &second);
+    let other = line_in(18, levels, &third);
+    let own_near = own(17, levels, &second, &near);
+    let own_other = own(18, levels, &third, &other);
     if are_both_open(own_near.outcome, own_other.outcome) {
-        let said = said_by_both(
+        let pair = Pair {
             system,
-            levels,
-            second,
-            second_erased,
-            &near.levelled,
-            third,
-            third_erased,
-            &other.levelled,
-        );
+            bytes: second.bytes,
+            erased: second.erased,
+            other_bytes: third.bytes,
+            other_erased: third.erased,
+        };
+        let said = said_by_both(levels, &pair, &near.levelled, &other.levelled);
         return (
             recovered_as(own_near, said.0),
             recovered_as(own_other, said.1),
         );
     }
     (
-        shown_alone(system, 17, levels, second, second_erased, &near, own_near),
-        shown_alone(system, 18, levels, third, third_erased, &other, own_other),
+        shown_alone(17, levels, &second, &near, own_near),
+        shown_alone(18, levels, &third, &other, own_other),
     )
 }
 
@@ -297,11 +273,14 @@ fn shown_first(system: System, levels: Levels, rows: &[u8], erased: &[bool]) -> 
         → IsSeen system 16 levels (row_at system rows.now erased.now 0) seen
         → result ≡ shown_in alone (levels.white - levels.black) seen both }
 {
-    let row = line_of(system, rows, 0);
-    let row_erased = erased_of(system, erased, 0);
-    let line = line_in(system, 16, levels, row, row_erased);
-    let own = own(system, 16, levels, row, row_erased, &line);
-    shown_alone(system, 16, levels, row, row_erased, &line, own)
+    let row = Row {
+        system,
+        bytes: line_of(system, rows, 0),
+        erased: erased_of(system, erased, 0),
+    };
+    let line = line_in(16, levels, &row);
+    let own = own(16, levels, &row, &line);
+    shown_alone(16, levels, &row, &line, own)
 }
 
 /// What lines 16, 17 and 18 of a field show, by the bytes of their rows, which lie one after the other, as do the

@@ -1,7 +1,10 @@
 //! Laws of the rule by which words are recovered, as rows written down. A function here does nothing: its contract
 //! holds each number of the rule.
 
-ghost use Rattle.std.specs.Prelude.{◌≡◌, ◌∷◌, [], Some, None};
+ghost use Rattle.std.specs.Prelude.{◌≡◌, ◌∷◌, [], Some, None, map, true, false};
+ghost use Rattle.vbi_near.specs.Piled.{said_together};
+ghost use Rattle.vbi_near.specs.Candidates.{are_alike_by};
+ghost use Rattle.vbi_near.specs.WorkedRules.{code_beside};
 ghost use Rattle.vbi_words.specs.declared.outcome.Outcome.TheVariants.{Word, Blank, Change};
 ghost use Rattle.vbi_near.specs.Said.{said_of, lone_margins, apart_margins, both_margins};
 ghost use Rattle.vbi_near.specs.Recovery.{recovered_of};
@@ -164,4 +167,28 @@ pub fn worked_stretched()
         (as_code (near_with 0x8AE000 10100 10000))))
         (read_as Blank 0) (as_given (both_at 0 0)))
         (Some 0x8DC000 ∷ None ∷ None ∷ []) (2 ∷ 0 ∷ 0 ∷ []) }
+{}
+
+/// Two lines agree by their words or by their codes, and go on by their words; what several lines say together.
+pub fn worked_together()
+    ensures by_codes { Shows (recovered_of 100 (read_as Blank 0) (worn (code_beside 0xF1234A 10000 9600 11000 11500))
+        (worn (code_beside 0xF1234B 10000 9600 11000 11500))
+        (as_given (from_none 60000 (code_beside 0xF1234C 23300 23300 24000 29000))))
+        (None ∷ Some 0xF12345 ∷ Some 0xF12345 ∷ []) (0 ∷ 3 ∷ 3 ∷ []) }
+    ensures words_go_on { Shows (recovered_of 100 (read_as Blank 0) (worn (code_beside 0xF1234A 10000 9599 11000 11500))
+        (worn (code_beside 0xF1234B 10000 9599 11000 11500))
+        (as_given (from_none 60000 (code_beside 0xF1234C 23300 23300 24000 29000))))
+        (None ∷ None ∷ None ∷ []) (0 ∷ 0 ∷ 0 ∷ []) }
+    ensures levelled_first { said_together 100 true 2 (levelled_as (as_code (near_with 0xF12345 11000 10000))
+        (as_code (near_with 0xF12346 11000 10000))) ≡ Some 0xF12345 }
+    ensures given_next { said_together 100 true 2 (levelled_as (as_code (near_with 0xF12345 10599 10000))
+        (as_code (near_with 0xF12346 10600 10000))) ≡ Some 0xF12346 }
+    ensures known { map (λ rival. said_together 100 true 2 (as_given (as_code (near_with 0xF12345 rival 10000))))
+        (10599 ∷ 10600 ∷ []) ≡ None ∷ Some 0xF12345 ∷ [] }
+    ensures unknown { map (λ rival. said_together 100 false 2 (as_given (as_code (near_with 0xF12345 rival 10000))))
+        (10999 ∷ 11000 ∷ []) ≡ None ∷ Some 0xF12345 ∷ [] }
+    ensures other { map (λ rival. said_together 100 true 2 (as_given (as_other (near_with 0xF1234A rival 10000))))
+        (10999 ∷ 11000 ∷ []) ≡ None ∷ Some 0xF1234A ∷ [] }
+    ensures alike { map (are_alike_by 100 100) (49 ∷ 50 ∷ 160 ∷ []) ≡ false ∷ true ∷ true ∷ [] }
+    ensures alike_least { map (are_alike_by 100 60) (29 ∷ 30 ∷ 120 ∷ 121 ∷ []) ≡ false ∷ true ∷ true ∷ false ∷ [] }
 {}

@@ -4,12 +4,12 @@ ghost use Rattle.std.specs.Prelude.{◌≡◌, ℕ, ◌+◌, ◌-◌, ◌*◌, �
 ghost use Rattle.vbi_words.specs.Geometry.{width_of};
 ghost use Rattle.vbi_words.specs.Levels.{Slicing};
 ghost use Rattle.vbi_near.specs.Distances.{Samples, IsPile, AreFew, shades};
-ghost use Rattle.vbi_near.specs.Sums.{AreRowSums, IsRising, total_in};
+ghost use Rattle.vbi_near.specs.Rows.{shades_of};
+ghost use Rattle.vbi_near.specs.Sums.{IsRising, total_in};
 ghost use Rattle.vbi_near.specs.Stretched.{stretched_offset, stretched_length, IsLeastAt, IsStretched};
 ghost use Rattle.vbi_near.specs.Stretched.{stretched_word_cost, stretched_row_cost, IsAtRate};
 
-use crate::near::WIDEST;
-use crate::sums::{between, sum_up};
+use crate::sums::{ROOM, Sums, between};
 use vbi_words::{System, Word24};
 
 /// At so many columns a word may begin at most: on a line of PAL, if its cells have 98 hundredths of their length.
@@ -64,44 +64,40 @@ fn add_half(sums: &[u32], begin: usize, end: usize, costs: &mut [u32])
 }
 
 /// Puts how far the lines are from the rows of a word on cells of this rate, from each start, up to the word's end.
-fn word_costs(
-    dark: &[u32],
-    light: &[u32],
-    system: System,
-    word: Word24,
-    rate: usize,
-    costs: &mut [u32],
-)
-    requires sums { AreRowSums system (shades dark.now light.now) }
+fn word_costs(sums: &Sums, word: Word24, rate: usize, costs: &mut [u32])
     requires rate { rate ≤ 102 }
-    requires room { length costs.old + stretched_length system rate ≤ width_of system + 1 }
+    requires room { length costs.old + stretched_length sums.now.system rate ≤ width_of sums.now.system + 1 }
     ensures value { (start : ℕ) → start < length costs.old → slice_index_or costs.new start 0
-        ≡ stretched_word_cost (shades dark.now light.now) system word rate start }
+        ≡ stretched_word_cost (shades_of sums.now) sums.now.system word rate start }
     ensures few { (start : ℕ) → start < length costs.old
-        → slice_index_or costs.new start 0 ≤ 1834980 * (start + stretched_length system rate) }
+        → slice_index_or costs.new start 0 ≤ 1834980 * (start + stretched_length sums.now.system rate) }
 {
-    lead_costs(dark, costs);
+    lead_costs(sums.dark, costs);
     for half in 0..48 {
-        let sums = if word.half(half) { light } else { dark };
-        let begin = stretched_offset(system, rate, half);
-        add_half(sums, begin, stretched_offset(system, rate, half + 1), costs);
+        let level = sums.level(word.half(half));
+        let begin = stretched_offset(sums.system, rate, half);
+        add_half(
+            level,
+            begin,
+            stretched_offset(sums.system, rate, half + 1),
+            costs,
+        );
     }
 }
 
 /// How far the lines are from the nearest row of a word on cells of this rate.
-fn distance_by(dark: &[u32], light: &[u32], system: System, word: Word24, rate: usize) -> u32
-    requires sums { AreRowSums system (shades dark.now light.now) }
-    requires rate { (98 ≤ rate) × (rate ≤ 102) }
-    ensures { IsLeastAt (IsAtRate system rate) (stretched_row_cost (shades dark.now light.now) system word) result }
+fn distance_by(sums: &Sums, word: Word24, rate: usize) -> u32
+    requires { (98 ≤ rate) × (rate ≤ 102) }
+    ensures { IsLeastAt (IsAtRate sums.now.system rate) (stretched_row_cost (shades_of sums.now) sums.now.system word) result }
 {
-    let length = stretched_offset(system, rate, 48);
-    let count = system.width() - length + 1;
+    let length = stretched_offset(sums.system, rate, 48);
+    let count = sums.system.width() - length + 1;
     let mut all_costs = [0; MOST_STARTS];
     let costs = &mut all_costs[..count];
-    word_costs(dark, light, system, word, rate, costs);
-    let mut least = costs[0] + between(dark, length, system.width());
+    word_costs(sums, word, rate, costs);
+    let mut least = costs[0] + between(sums.dark, length, sums.system.width());
     for start in 1..count {
-        least = least.min(costs[start] + between(dark, start + length, system.width()));
+        least = least.min(costs[start] + between(sums.dark, start + length, sums.system.width()));
     }
     least
 }
@@ -115,15 +111,12 @@ pub fn stretched_distance(darks: &[u32], lights: &[u32], system: System, word: W
     ensures { (slicing : Slicing) (lines : List Samples)
         → IsPile system slicing lines (shades darks.now lights.now) → IsStretched system slicing lines word result }
 {
-    let mut dark_sums = [0; WIDEST + 1];
-    let mut light_sums = [0; WIDEST + 1];
-    let dark = &mut dark_sums[..darks.len() + 1];
-    let light = &mut light_sums[..lights.len() + 1];
-    sum_up(darks, dark);
-    sum_up(lights, light);
-    let mut least = distance_by(dark, light, system, word, 98);
+    let mut dark = [0; ROOM];
+    let mut light = [0; ROOM];
+    let sums = Sums::of(system, darks, lights, &mut dark, &mut light);
+    let mut least = distance_by(&sums, word, 98);
     for rate in 99..103 {
-        least = least.min(distance_by(dark, light, system, word, rate));
+        least = least.min(distance_by(&sums, word, rate));
     }
     least
 }

@@ -6,14 +6,17 @@ use Rattle.vbi_side.specs.declared.gap.Numbering.{Numbering}
 use Rattle.vbi_side.specs.declared.number.Number.{Number}
 use Rattle.vbi_side.specs.declared.pace.Pace.TheVariants.{Video}
 use Rattle.vbi_side.specs.declared.sighting.Sightings.{Sightings}
-use Rattle.vbi_side.specs.Paces.{nearly}
+use Rattle.vbi_side.specs.declared.clock.Clock.TheVariants.{Plain}
+use Rattle.vbi_side.specs.Clocks.{kept, nearly_by, DiscCountsBy, IsClear}
+use Rattle.vbi_side.proofs.Counting.{plain, clear_video}
+use Rattle.vbi_side.proofs.Sides.{alone_of, near_one}
 use Rattle.vbi_side.specs.Beliefs.{reach, enough}
 use Rattle.vbi_side.specs.Truth.{RunsOn, wrong_weight}
 use Rattle.vbi_side.specs.Numbers.{AreAnswers}
-use Rattle.vbi_side.specs.Side.{DiscRuns, captured, IsOneRun}
+use Rattle.vbi_side.specs.Side.{DiscRuns, Rises, captured, IsOneRun}
 use Rattle.vbi_side.specs.Gaps.{gap_as, kind_of, ended_between, shown_between, IsGap}
 use Rattle.vbi_side.proofs.Truth.{video_fits, on_the_disc}
-use Rattle.vbi_side.proofs.SideAnswers.{marked_is}
+use Rattle.vbi_side.proofs.SideAnswers.{marked_is, anchor}
 use Rattle.vbi_side.proofs.GapLaws.{near_same, none_found}
 
 -- in one run the disc's fields are as far apart as those of the capture
@@ -56,12 +59,12 @@ module _ (disc : ℕ → Option ℕ) (place : ℕ → ℕ) (runs : DiscRuns Vide
       (omega (arith, from, others.0)) (omega (arith, to, others.1)) here there)
 
 pub gap_not_run : (disc : ℕ → Option ℕ) (place : ℕ → ℕ) (fields : List Sightings) (numbering : Numbering)
-    (seen : List Sightings) (answers : List Number) (ends : List ℕ) (gap : Gap) → DiscRuns Video disc
-    → AreAnswers Video fields answers → IsGap Video 0 numbering seen answers ends gap
+    (seen : List Sightings) (answers : List Number) (ends : List ℕ) (gap : Gap) → numbering.clock ≡ Plain
+    → DiscRuns Video disc → AreAnswers Video fields answers → IsGap Video 0 numbering seen answers ends gap
     → wrong_weight (captured disc place) fields gap.after < enough
     → wrong_weight (captured disc place) fields gap.before < enough
     → IsOneRun place (gap.after - reach) (gap.before + reach) → ⊥
-gap_not_run disc place fields numbering seen answers ends gap runs are is few low run =
+gap_not_run disc place fields numbering seen answers ends gap none runs are is few low run =
     let order : gap.after < gap.before = is.neighbours.order in
     let here = ran_on disc place runs gap.after gap.before run gap.after (omega arith) (omega (arith, order)) in
     let there = ran_on disc place runs gap.after gap.before run gap.before (omega (arith, order)) (omega arith) in
@@ -73,8 +76,43 @@ gap_not_run disc place fields numbering seen answers ends gap runs are is few lo
     (omega (arith, p.2.1, order)) (omega (arith, q.2.0, order)) (omega (arith, q.2.1)) p.3 q.3 in
     let one = video_fits gap.after gap.from p.0 p.1 p.5 in
     let other = video_fits gap.before gap.to q.0 q.1 q.5 in
-    none_found (nearly Video 0 gap.after gap.from gap.before gap.to)
-    (gap_as Video 0 (kind_of Video numbering (ended_between ends gap.after gap.before) gap.after gap.from gap.before
+    none_found (nearly_by numbering.clock Video 0 gap.after gap.from gap.before gap.to)
+    (gap_as numbering.clock Video 0 (kind_of Video numbering (ended_between ends gap.after gap.before) gap.after gap.from gap.before
     gap.to)
     (shown_between seen gap.after gap.from gap.before gap.to) gap.after gap.from gap.before gap.to) gap
-    (near_same (gap.before + 2 * gap.from) (gap.after + 2 * gap.to) (omega (arith, on, one, other))) is.found
+    (near_same (gap.before + 2 * kept numbering.clock gap.from) (gap.after + 2 * kept numbering.clock gap.to)
+    (omega (arith, on, one, other, plain numbering.clock gap.from none, plain numbering.clock gap.to none))) is.found
+
+-- by the clock: of a capture in the disc's order, where no number near those of the gap is left out
+pub gap_not_run_by : (disc : ℕ → Option ℕ) (place : ℕ → ℕ) (fields : List Sightings) (numbering : Numbering)
+    (seen : List Sightings) (answers : List Number) (ends : List ℕ) (gap : Gap)
+    → DiscCountsBy numbering.clock Video disc → Rises place → AreAnswers Video fields answers
+    → IsGap Video 0 numbering seen answers ends gap
+    → wrong_weight (captured disc place) fields gap.after < enough
+    → wrong_weight (captured disc place) fields gap.before < enough
+    → IsClear numbering.clock gap.from → IsClear numbering.clock gap.to
+    → IsOneRun place (gap.after - reach) (gap.before + reach) → ⊥
+gap_not_run_by disc place fields numbering seen answers ends gap runs rises are is few low clear too run =
+    let clock = numbering.clock in
+    let order : gap.after < gap.before = is.neighbours.order in
+    let alone = alone_of disc place rises
+    (λ d e k here there. omega (arith, video_fits d (kept clock k) e (kept clock k) (runs d e k k here there))) in
+    let first = anchor (captured disc place) fields answers gap.after gap.from are is.neighbours.here few in
+    let last = anchor (captured disc place) fields answers gap.before gap.to are is.neighbours.there low in
+    let p = near_one Video (captured disc place) fields alone gap.after gap.from first in
+    let q = near_one Video (captured disc place) fields alone gap.before gap.to last in
+    let here = clear_video clock gap.after gap.from p.0 p.1 clear p.2 p.4 in
+    let there = clear_video clock gap.before gap.to q.0 q.1 too q.2 q.4 in
+    let on = video_fits (place p.0) (kept clock p.1) (place q.0) (kept clock q.1)
+    (runs (place p.0) (place q.0) p.1 q.1 p.3 q.3) in
+    let start = gap.after - reach in
+    let end = gap.before + reach in
+    let from = far_in place start end p.0 run (omega (arith, p.2.0)) (omega (arith, p.2.1, order)) in
+    let to = far_in place start end q.0 run (omega (arith, q.2.0, order)) (omega (arith, q.2.1)) in
+    let counts : gap.before + 2 * kept clock gap.from ≡ gap.after + 2 * kept clock gap.to
+    = omega (arith, here, there, on, from, to, p.2.0, q.2.0, order) in
+    none_found (nearly_by clock Video 0 gap.after gap.from gap.before gap.to)
+    (gap_as clock Video 0 (kind_of Video numbering (ended_between ends gap.after gap.before) gap.after gap.from
+    gap.before gap.to)
+    (shown_between seen gap.after gap.from gap.before gap.to) gap.after gap.from gap.before gap.to) gap
+    (near_same (gap.before + 2 * kept clock gap.from) (gap.after + 2 * kept clock gap.to) counts) is.found

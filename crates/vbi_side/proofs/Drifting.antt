@@ -9,10 +9,12 @@ use Rattle.vbi_side.specs.declared.gap.Place.{Place}
 use Rattle.vbi_side.specs.declared.drift.Stretch.{Stretch}
 use Rattle.vbi_side.specs.declared.pace.Pace.{Pace}
 use Rattle.vbi_side.specs.declared.pace.Pace.TheVariants.{Video, Film}
+use Rattle.vbi_side.specs.declared.clock.Clock.{Clock}
 use Rattle.vbi_side.specs.Paces.{nearly}
+use Rattle.vbi_side.specs.Clocks.{kept, nearly_by}
 use Rattle.vbi_side.specs.Numbers.{IsMarked}
 use Rattle.vbi_side.specs.Gaps.{AreNeighbours, IsLast}
-use Rattle.vbi_side.specs.Drifts.{leads, IsStretch, IsDrift, IsApart, IsSpread}
+use Rattle.vbi_side.specs.Drifts.{leads, leads_by, IsStretch, IsDrift, IsApart, IsSpread}
 use Rattle.vbi_side.proofs.Truth.{both, and_so}
 use Rattle.vbi_side.proofs.Telling.{last_kept, last_new, neighbours_of}
 use Rattle.vbi_side.proofs.GapLaws.{same_before, same_number}
@@ -85,42 +87,42 @@ last_before answers k last i m is at less = elim (leb_tells i last.field) [
 ]
 
 -- a pair that ends in field k is that of the last number and this one
-ends_here : (pace : Pace) (slack : ℕ) (answers : List Number) (k n : ℕ) (last : Place) (a m o : ℕ)
+ends_here : (clock : Clock) (pace : Pace) (slack : ℕ) (answers : List Number) (k n : ℕ) (last : Place) (a m o : ℕ)
     → IsLast answers k (Some last) → IsMarked answers k n → AreNeighbours answers a m k o
-    → nearly pace slack last.field last.number k n ≡ true → nearly pace slack a m k o ≡ true
-ends_here pace slack answers k n last a m o is at pair near =
+    → nearly_by clock pace slack last.field last.number k n ≡ true → nearly_by clock pace slack a m k o ≡ true
+ends_here clock pace slack answers k n last a m o is at pair near =
     let there = neighbours_of answers k n last is at in
     let first = same_before answers a m k o last.field last.number n pair there in
     let from = same_number answers last.field m last.number
     (subst (λ i. IsMarked answers i m) first pair.here) there.here in
     let to = same_number answers k o n pair.there at in
-    subst (λ x. nearly pace slack x m k o ≡ true) (sym first)
-    (subst (λ x. nearly pace slack last.field x k o ≡ true) (sym from)
-    (subst (λ x. nearly pace slack last.field last.number k x ≡ true) (sym to) near))
+    subst (λ x. nearly_by clock pace slack x m k o ≡ true) (sym first)
+    (subst (λ x. nearly_by clock pace slack last.field x k o ≡ true) (sym from)
+    (subst (λ x. nearly_by clock pace slack last.field last.number k x ≡ true) (sym to) near))
 
 -- ---- the stretch, field by field
 
 -- a stretch with a number more goes on
-runs_on : (pace : Pace) (slack : ℕ) (answers : List Number) (k n i : ℕ) (last : Place) → IsLast answers k (Some last)
-    → IsMarked answers k n → nearly pace slack last.field last.number k n ≡ true
-    → IsStretch pace slack answers i last.field → IsStretch pace slack answers i k
-runs_on pace slack answers k n i last is at near runs a m b o from to pair = elim (eqb_tells b k) [
-  | inl (t, same) ↦ subst (λ x. nearly pace slack a m x o ≡ true) (sym same)
-      (ends_here pace slack answers k n last a m o is at (subst (λ x. AreNeighbours answers a m x o) same pair) near)
+runs_on : (clock : Clock) (pace : Pace) (slack : ℕ) (answers : List Number) (k n i : ℕ) (last : Place) → IsLast answers k (Some last)
+    → IsMarked answers k n → nearly_by clock pace slack last.field last.number k n ≡ true
+    → IsStretch clock pace slack answers i last.field → IsStretch clock pace slack answers i k
+runs_on clock pace slack answers k n i last is at near runs a m b o from to pair = elim (eqb_tells b k) [
+  | inl (t, same) ↦ subst (λ x. nearly_by clock pace slack a m x o ≡ true) (sym same)
+      (ends_here clock pace slack answers k n last a m o is at (subst (λ x. AreNeighbours answers a m x o) same pair) near)
   | inr (f, other) ↦ runs a m b o from
       (last_before answers k last b o is pair.there (omega (arith, to, other))) pair
 ]
 
 -- part of a stretch is one
-runs_in : (pace : Pace) (slack : ℕ) (answers : List Number) (h i j : ℕ) → h ≤ i → IsStretch pace slack answers h j
-    → IsStretch pace slack answers i j
-runs_in pace slack answers h i j le runs a m b n from to pair = runs a m b n (omega (arith, le, from)) to pair
+runs_in : (clock : Clock) (pace : Pace) (slack : ℕ) (answers : List Number) (h i j : ℕ) → h ≤ i → IsStretch clock pace slack answers h j
+    → IsStretch clock pace slack answers i j
+runs_in clock pace slack answers h i j le runs a m b n from to pair = runs a m b n (omega (arith, le, from)) to pair
 
-pub spread_begun : (pace : Pace) (slack : ℕ) (answers : List Number) (before : Option Place) (first : Place)
-    → IsLast answers first.field before → IsMarked answers first.field first.number → IsApart pace slack before first
-    → IsSpread pace slack answers (first.field + 1)
+pub spread_begun : (clock : Clock) (pace : Pace) (slack : ℕ) (answers : List Number) (before : Option Place) (first : Place)
+    → IsLast answers first.field before → IsMarked answers first.field first.number → IsApart clock pace slack before first
+    → IsSpread clock pace slack answers (first.field + 1)
     (record { before = before; first = first; last = first; low = first; high = first })
-spread_begun pace slack answers before first is at apart = record {
+spread_begun clock pace slack answers before first is at apart = record {
   before = is;
   first = at;
   apart = apart;
@@ -134,10 +136,10 @@ spread_begun pace slack answers before first is at apart = record {
   high_inside = omega arith;
   high_before = omega arith;
   runs = λ a m b n from to pair. let order : a < b = pair.order in absurd (omega (arith, from, to, order));
-  least = λ i m from less marked. only i m from less marked (λ j o. leads pace first.field first.number j o ≡ true)
-      (leads_self pace first.field first.number);
-  most = λ i m from less marked. only i m from less marked (λ j o. leads pace j o first.field first.number ≡ true)
-      (leads_self pace first.field first.number);
+  least = λ i m from less marked. only i m from less marked (λ j o. leads_by clock pace first.field first.number j o ≡ true)
+      (leads_self pace first.field (kept clock first.number));
+  most = λ i m from less marked. only i m from less marked (λ j o. leads_by clock pace j o first.field first.number ≡ true)
+      (leads_self pace first.field (kept clock first.number));
 }
   where
     only : (i m : ℕ) → first.field ≤ i → i < first.field + 1 → IsMarked answers i m → (P : ℕ → ℕ → Type 0)
@@ -148,10 +150,10 @@ spread_begun pace slack answers before first is at apart = record {
         (subst (λ x. IsMarked answers x first.number) same at) marked in
         subst (λ x. P i x) number (subst (λ x. P x first.number) same p)
 
-pub spread_kept : (pace : Pace) (slack : ℕ) (answers : List Number) (k : ℕ) (stretch : Stretch)
-    → ((n : ℕ) → IsMarked answers k n → ⊥) → IsSpread pace slack answers k stretch
-    → IsSpread pace slack answers (k + 1) stretch
-spread_kept pace slack answers k stretch none is = record {
+pub spread_kept : (clock : Clock) (pace : Pace) (slack : ℕ) (answers : List Number) (k : ℕ) (stretch : Stretch)
+    → ((n : ℕ) → IsMarked answers k n → ⊥) → IsSpread clock pace slack answers k stretch
+    → IsSpread clock pace slack answers (k + 1) stretch
+spread_kept clock pace slack answers k stretch none is = record {
   before = is.before;
   first = is.first;
   apart = is.apart;
@@ -175,16 +177,16 @@ spread_kept pace slack answers k stretch none is = record {
       | inr (f, other) ↦ omega (arith, less, other)
     ]
 
-pub spread_more : (pace : Pace) (slack : ℕ) (answers : List Number) (stretch : Stretch) (there low high : Place)
-    → IsSpread pace slack answers there.field stretch → IsMarked answers there.field there.number
-    → nearly pace slack stretch.last.field stretch.last.number there.field there.number ≡ true
-    → ((low ≡ stretch.low) × (leads pace stretch.low.field stretch.low.number there.field there.number ≡ true))
-    ⊎ ((low ≡ there) × (leads pace there.field there.number stretch.low.field stretch.low.number ≡ true))
-    → ((high ≡ stretch.high) × (leads pace there.field there.number stretch.high.field stretch.high.number ≡ true))
-    ⊎ ((high ≡ there) × (leads pace stretch.high.field stretch.high.number there.field there.number ≡ true))
-    → IsSpread pace slack answers (there.field + 1)
+pub spread_more : (clock : Clock) (pace : Pace) (slack : ℕ) (answers : List Number) (stretch : Stretch) (there low high : Place)
+    → IsSpread clock pace slack answers there.field stretch → IsMarked answers there.field there.number
+    → nearly_by clock pace slack stretch.last.field stretch.last.number there.field there.number ≡ true
+    → ((low ≡ stretch.low) × (leads_by clock pace stretch.low.field stretch.low.number there.field there.number ≡ true))
+    ⊎ ((low ≡ there) × (leads_by clock pace there.field there.number stretch.low.field stretch.low.number ≡ true))
+    → ((high ≡ stretch.high) × (leads_by clock pace there.field there.number stretch.high.field stretch.high.number ≡ true))
+    ⊎ ((high ≡ there) × (leads_by clock pace stretch.high.field stretch.high.number there.field there.number ≡ true))
+    → IsSpread clock pace slack answers (there.field + 1)
     (record { before = stretch.before; first = stretch.first; last = there; low = low; high = high })
-spread_more pace slack answers stretch there low high is at near lower higher = record {
+spread_more clock pace slack answers stretch there low high is at near lower higher = record {
   before = is.before;
   first = is.first;
   apart = is.apart;
@@ -197,15 +199,17 @@ spread_more pace slack answers stretch there low high is at near lower higher = 
   high = high_is.0;
   high_inside = high_is.1;
   high_before = high_is.2;
-  runs = runs_on pace slack answers there.field there.number stretch.first.field stretch.last is.last at near is.runs;
+  runs = runs_on clock pace slack answers there.field there.number stretch.first.field stretch.last is.last at near is.runs;
   least = λ i m from less marked. elim (eqb_tells i there.field) [
-    | inl (t, same) ↦ here i m same marked (λ j o. leads pace low.field low.number j o ≡ true) low_is.3
-    | inr (f, other) ↦ leads_on pace low.field low.number stretch.low.field stretch.low.number i m low_is.4
+    | inl (t, same) ↦ here i m same marked (λ j o. leads_by clock pace low.field low.number j o ≡ true) low_is.3
+    | inr (f, other) ↦ leads_on pace low.field (kept clock low.number) stretch.low.field
+        (kept clock stretch.low.number) i (kept clock m) low_is.4
         (is.least i m from (omega (arith, less, other)) marked)
   ];
   most = λ i m from less marked. elim (eqb_tells i there.field) [
-    | inl (t, same) ↦ here i m same marked (λ j o. leads pace j o high.field high.number ≡ true) high_is.3
-    | inr (f, other) ↦ leads_on pace i m stretch.high.field stretch.high.number high.field high.number
+    | inl (t, same) ↦ here i m same marked (λ j o. leads_by clock pace j o high.field high.number ≡ true) high_is.3
+    | inr (f, other) ↦ leads_on pace i (kept clock m) stretch.high.field
+        (kept clock stretch.high.number) high.field (kept clock high.number)
         (is.most i m from (omega (arith, less, other)) marked) high_is.4
   ];
 }
@@ -224,57 +228,55 @@ spread_more pace slack answers stretch there low high is at near lower higher = 
         subst (λ x. P i x) number (subst (λ x. P x there.number) (sym same) p)
 
     low_is : IsMarked answers low.field low.number × (stretch.first.field ≤ low.field) × (low.field ≤ there.field)
-        × (leads pace low.field low.number there.field there.number ≡ true)
-        × (leads pace low.field low.number stretch.low.field stretch.low.number ≡ true)
+        × (leads_by clock pace low.field low.number there.field there.number ≡ true)
+        × (leads_by clock pace low.field low.number stretch.low.field stretch.low.number ≡ true)
     low_is = elim lower [
       | inl (e, lead) ↦ subst (λ (one : Place). IsMarked answers one.field one.number
           × (stretch.first.field ≤ one.field) × (one.field ≤ there.field)
-          × (leads pace one.field one.number there.field there.number ≡ true)
-          × (leads pace one.field one.number stretch.low.field stretch.low.number ≡ true)) (sym e) (
+          × (leads_by clock pace one.field one.number there.field there.number ≡ true)
+          × (leads_by clock pace one.field one.number stretch.low.field stretch.low.number ≡ true)) (sym e) (
             is.low,
             is.low_inside,
             omega (arith, is.low_before, order),
             lead,
-            leads_self pace stretch.low.field
-                stretch.low.number,
+            leads_self pace stretch.low.field (kept clock stretch.low.number),
           )
       | inr (e, lead) ↦ subst (λ (one : Place). IsMarked answers one.field one.number
           × (stretch.first.field ≤ one.field) × (one.field ≤ there.field)
-          × (leads pace one.field one.number there.field there.number ≡ true)
-          × (leads pace one.field one.number stretch.low.field stretch.low.number ≡ true)) (sym e)
-          (at, inside, omega arith, leads_self pace there.field there.number, lead)
+          × (leads_by clock pace one.field one.number there.field there.number ≡ true)
+          × (leads_by clock pace one.field one.number stretch.low.field stretch.low.number ≡ true)) (sym e)
+          (at, inside, omega arith, leads_self pace there.field (kept clock there.number), lead)
     ]
 
     high_is : IsMarked answers high.field high.number × (stretch.first.field ≤ high.field) × (high.field ≤ there.field)
-        × (leads pace there.field there.number high.field high.number ≡ true)
-        × (leads pace stretch.high.field stretch.high.number high.field high.number ≡ true)
+        × (leads_by clock pace there.field there.number high.field high.number ≡ true)
+        × (leads_by clock pace stretch.high.field stretch.high.number high.field high.number ≡ true)
     high_is = elim higher [
       | inl (e, lead) ↦ subst (λ (one : Place). IsMarked answers one.field one.number
           × (stretch.first.field ≤ one.field) × (one.field ≤ there.field)
-          × (leads pace there.field there.number one.field one.number ≡ true)
-          × (leads pace stretch.high.field stretch.high.number one.field one.number ≡ true)) (sym e) (
+          × (leads_by clock pace there.field there.number one.field one.number ≡ true)
+          × (leads_by clock pace stretch.high.field stretch.high.number one.field one.number ≡ true)) (sym e) (
             is.high,
             is.high_inside,
             omega (arith, is.high_before, order),
             lead,
-            leads_self pace stretch.high.field
-                stretch.high.number,
+            leads_self pace stretch.high.field (kept clock stretch.high.number),
           )
       | inr (e, lead) ↦ subst (λ (one : Place). IsMarked answers one.field one.number
           × (stretch.first.field ≤ one.field) × (one.field ≤ there.field)
-          × (leads pace there.field there.number one.field one.number ≡ true)
-          × (leads pace stretch.high.field stretch.high.number one.field one.number ≡ true)) (sym e)
-          (at, inside, omega arith, leads_self pace there.field there.number, lead)
+          × (leads_by clock pace there.field there.number one.field one.number ≡ true)
+          × (leads_by clock pace stretch.high.field stretch.high.number one.field one.number ≡ true)) (sym e)
+          (at, inside, omega arith, leads_self pace there.field (kept clock there.number), lead)
     ]
 
 -- ---- a number that doesn't count to one of its stretch
 
-pub drift_found : (pace : Pace) (slack : ℕ) (answers : List Number) (k n : ℕ) (stretch : Stretch) (one : Place)
-    → IsSpread pace slack answers k stretch → IsMarked answers k n
-    → nearly pace slack stretch.last.field stretch.last.number k n ≡ true → IsMarked answers one.field one.number
+pub drift_found : (clock : Clock) (pace : Pace) (slack : ℕ) (answers : List Number) (k n : ℕ) (stretch : Stretch) (one : Place)
+    → IsSpread clock pace slack answers k stretch → IsMarked answers k n
+    → nearly_by clock pace slack stretch.last.field stretch.last.number k n ≡ true → IsMarked answers one.field one.number
     → stretch.first.field ≤ one.field → one.field ≤ stretch.last.field
-    → nearly pace slack one.field one.number k n ≡ false → IsDrift pace slack answers k
-drift_found pace slack answers k n stretch one is at near marked from to apart =
+    → nearly_by clock pace slack one.field one.number k n ≡ false → IsDrift clock pace slack answers k
+drift_found clock pace slack answers k n stretch one is at near marked from to apart =
     let order : stretch.last.field < k = is.last.0 in
     record {
       i = one.field;
@@ -283,20 +285,20 @@ drift_found pace slack answers k n stretch one is at near marked from to apart =
       order = omega (arith, to, order);
       here = marked;
       there = at;
-      stretch = runs_in pace slack answers stretch.first.field one.field k from
-          (runs_on pace slack answers k n stretch.first.field stretch.last is.last at near is.runs);
+      stretch = runs_in clock pace slack answers stretch.first.field one.field k from
+          (runs_on clock pace slack answers k n stretch.first.field stretch.last is.last at near is.runs);
       apart = apart;
     }
 
 -- one that nearly fits the earliest and the latest counts to each
-pub no_drift_on : (pace : Pace) (slack : ℕ) (answers : List Number) (k n : ℕ) (stretch : Stretch)
-    → IsSpread pace slack answers k stretch → IsMarked answers k n
-    → nearly pace slack stretch.low.field stretch.low.number k n ≡ true
-    → nearly pace slack stretch.high.field stretch.high.number k n ≡ true → IsDrift pace slack answers k → ⊥
-no_drift_on pace slack answers k n stretch is at low high drift = go (leb_tells stretch.first.field drift.i)
+pub no_drift_on : (clock : Clock) (pace : Pace) (slack : ℕ) (answers : List Number) (k n : ℕ) (stretch : Stretch)
+    → IsSpread clock pace slack answers k stretch → IsMarked answers k n
+    → nearly_by clock pace slack stretch.low.field stretch.low.number k n ≡ true
+    → nearly_by clock pace slack stretch.high.field stretch.high.number k n ≡ true → IsDrift clock pace slack answers k → ⊥
+no_drift_on clock pace slack answers k n stretch is at low high drift = go (leb_tells stretch.first.field drift.i)
   where
     earlier : (before : Option Place) → IsLast answers stretch.first.field before
-        → IsApart pace slack before stretch.first → drift.i < stretch.first.field → ⊥
+        → IsApart clock pace slack before stretch.first → drift.i < stretch.first.field → ⊥
     earlier None none apart less = none drift.i drift.m less drift.here
     earlier (Some one) last apart less =
         let pair = neighbours_of answers stretch.first.field stretch.first.number one last is.first in
@@ -309,19 +311,19 @@ no_drift_on pace slack answers k n stretch is at low high drift = go (leb_tells 
     go : ((nat_le stretch.first.field drift.i ≡ true) × (stretch.first.field ≤ drift.i))
         ⊎ ((nat_le stretch.first.field drift.i ≡ false) × (drift.i < stretch.first.field)) → ⊥
     go (inl (t, le)) =
-        let near = squeezed pace slack stretch.low.field stretch.low.number drift.i drift.m stretch.high.field
-        stretch.high.number k n (is.least drift.i drift.m le drift.order drift.here)
+        let near = squeezed pace slack stretch.low.field (kept clock stretch.low.number) drift.i
+        (kept clock drift.m) stretch.high.field (kept clock stretch.high.number) k (kept clock n) (is.least drift.i drift.m le drift.order drift.here)
         (is.most drift.i drift.m le drift.order drift.here) low high in
         let number = same_number answers k drift.n n drift.there at in
-        let apart = subst (λ x. nearly pace slack drift.i drift.m k x ≡ false) number drift.apart in
+        let apart = subst (λ x. nearly_by clock pace slack drift.i drift.m k x ≡ false) number drift.apart in
         let h : true ≡ false = sym near ∙ apart in cc
     go (inr (f, lt)) = earlier stretch.before is.before is.apart lt
 
 -- nor does one drift that doesn't go on from the last
-pub no_drift_apart : (pace : Pace) (slack : ℕ) (answers : List Number) (k n : ℕ) (last : Place)
-    → IsLast answers k (Some last) → IsMarked answers k n → nearly pace slack last.field last.number k n ≡ false
-    → IsDrift pace slack answers k → ⊥
-no_drift_apart pace slack answers k n last is at apart drift =
+pub no_drift_apart : (clock : Clock) (pace : Pace) (slack : ℕ) (answers : List Number) (k n : ℕ) (last : Place)
+    → IsLast answers k (Some last) → IsMarked answers k n → nearly_by clock pace slack last.field last.number k n ≡ false
+    → IsDrift clock pace slack answers k → ⊥
+no_drift_apart clock pace slack answers k n last is at apart drift =
     let near = drift.stretch last.field last.number k n
     (last_before answers k last drift.i drift.m is drift.here drift.order) (omega arith)
     (neighbours_of answers k n last is at) in

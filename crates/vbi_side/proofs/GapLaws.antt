@@ -11,11 +11,12 @@ use Rattle.vbi_side.specs.declared.gap.Gap.{Gap}
 use Rattle.vbi_side.specs.declared.pace.Pace.{Pace}
 use Rattle.vbi_side.specs.declared.pace.Pace.TheVariants.{Video, Film}
 use Rattle.vbi_side.specs.Paces.{nearly, stays}
+use Rattle.vbi_side.specs.Clocks.{kept, nearly_by, DiscCountsBy}
 use Rattle.vbi_side.specs.Numbers.{believed, IsMarked}
-use Rattle.vbi_side.specs.Side.{DiscRuns, Rises, captured, AreLost}
+use Rattle.vbi_side.specs.Side.{Rises, captured, AreLost}
 use Rattle.vbi_side.specs.declared.sighting.Sightings.{Sightings}
 use Rattle.vbi_side.specs.declared.gap.Numbering.{Numbering}
-use Rattle.vbi_side.specs.Gaps.{lost, held, back, still, joined, open_gap, has_stills, is_open, lacking, gap_as}
+use Rattle.vbi_side.specs.Gaps.{lost, held, back, still, joined, open_gap, has_stills, is_open, lacking_by, gap_as}
 use Rattle.vbi_side.specs.Gaps.{kind_of}
 use Rattle.vbi_side.specs.Gaps.{fields_of, ended_between, shown_between, AreNeighbours, IsFree, IsGap, AreGaps}
 use Rattle.vbi_side.specs.Gaps.{fields_if, CountTo, HasRightEnds, LostAtLeast}
@@ -28,24 +29,29 @@ use Rattle.vbi_side.proofs.Telling.{gap_is, some_is}
 -- its fields are those of its kind
 gap_fields : (pace : Pace) (slack : ℕ) (numbering : Numbering) (seen : List Sightings) (answers : List Number)
     (ends : List ℕ) (gap : Gap) → IsGap pace slack numbering seen answers ends gap
-    → gap.fields ≡ fields_of pace slack gap.kind gap.after gap.from gap.before gap.to
+    → gap.fields ≡ fields_of pace slack gap.kind gap.after (kept numbering.clock gap.from) gap.before
+    (kept numbering.clock gap.to)
 gap_fields pace slack numbering seen answers ends gap is =
     let e = gap_is pace slack numbering (ended_between ends gap.after gap.before)
     (shown_between seen gap.after gap.from gap.before gap.to) gap.after gap.from gap.before gap.to gap is.found in
     ap (λ (g : Gap). g.fields) e
-    ∙ ap (λ (k : ℕ). fields_of pace slack k gap.after gap.from gap.before gap.to) (sym (ap (λ (g : Gap). g.kind) e))
+    ∙ ap (λ (k : ℕ). fields_of pace slack k gap.after (kept numbering.clock gap.from) gap.before
+    (kept numbering.clock gap.to)) (sym (ap (λ (g : Gap). g.kind) e))
 
 kind_lost : (pace : Pace) (numbering : Numbering) (ended : Bool) (i m k n : ℕ)
     → kind_of pace numbering ended i m k n ≡ lost
-    → 0 < lacking pace i m k n
+    → 0 < lacking_by numbering.clock pace i m k n
 kind_lost pace numbering ended i m k n =
     go ended (has_stills numbering && stays i m k n) (nat_lt n m) (is_open pace numbering i m k n)
-    (leb_tells 1 (lacking pace i m k n))
+    (leb_tells 1 (lacking_by numbering.clock pace i m k n))
   where
-    go : (a b c d : Bool) → ((nat_le 1 (lacking pace i m k n) ≡ true) × (1 ≤ lacking pace i m k n))
-        ⊎ ((nat_le 1 (lacking pace i m k n) ≡ false) × (lacking pace i m k n < 1))
+    go : (a b c d : Bool) → ((nat_le 1 (lacking_by numbering.clock pace i m k n) ≡ true)
+        × (1 ≤ lacking_by numbering.clock pace i m k n))
+        ⊎ ((nat_le 1 (lacking_by numbering.clock pace i m k n) ≡ false)
+        × (lacking_by numbering.clock pace i m k n < 1))
         → (if a then joined else (if b then still else (if c then back else (if d then open_gap
-        else (if nat_le 1 (lacking pace i m k n) then lost else held))))) ≡ lost → 0 < lacking pace i m k n
+        else (if nat_le 1 (lacking_by numbering.clock pace i m k n) then lost else held))))) ≡ lost
+        → 0 < lacking_by numbering.clock pace i m k n
     go true b c d l e = absurd (omega (arith, e))
     go false true c d l e = absurd (omega (arith, e))
     go false false true d l e = absurd (omega (arith, e))
@@ -56,13 +62,15 @@ kind_lost pace numbering ended i m k n =
 -- of a gap with lost fields so many are too few between its numbers, and some are
 lost_lacks : (pace : Pace) (slack : ℕ) (numbering : Numbering) (seen : List Sightings) (answers : List Number)
     (ends : List ℕ) (gap : Gap) → IsGap pace slack numbering seen answers ends gap
-    → gap.kind ≡ lost → (gap.fields ≡ lacking pace gap.after gap.from gap.before gap.to - slack)
-    × (0 < lacking pace gap.after gap.from gap.before gap.to)
+    → gap.kind ≡ lost
+    → (gap.fields ≡ lacking_by numbering.clock pace gap.after gap.from gap.before gap.to - slack)
+    × (0 < lacking_by numbering.clock pace gap.after gap.from gap.before gap.to)
 lost_lacks pace slack numbering seen answers ends gap is kind =
     let e = gap_is pace slack numbering (ended_between ends gap.after gap.before)
     (shown_between seen gap.after gap.from gap.before gap.to) gap.after gap.from gap.before gap.to gap is.found in (
       gap_fields pace slack numbering seen answers ends gap is
-          ∙ ap (λ (k : ℕ). fields_of pace slack k gap.after gap.from gap.before gap.to) kind,
+          ∙ ap (λ (k : ℕ). fields_of pace slack k gap.after (kept numbering.clock gap.from) gap.before
+          (kept numbering.clock gap.to)) kind,
       kind_lost pace numbering (ended_between ends gap.after gap.before) gap.after gap.from gap.before gap.to
           (sym (ap (λ (g : Gap). g.kind) e) ∙ kind),
     )
@@ -71,11 +79,11 @@ lost_lacks pace slack numbering seen answers ends gap is kind =
 pub gap_exact : (disc : ℕ → Option ℕ) (place : ℕ → ℕ) (numbering : Numbering) (seen : List Sightings)
     (answers : List Number)
     (ends : List ℕ) (gap : Gap)
-    → DiscRuns Video disc → IsGap Video 0 numbering seen answers ends gap → gap.kind ≡ lost
+    → DiscCountsBy numbering.clock Video disc → IsGap Video 0 numbering seen answers ends gap → gap.kind ≡ lost
     → HasRightEnds (captured disc place) gap → AreLost place gap.after gap.before gap.fields
 gap_exact disc place numbering seen answers ends gap runs is kind (first, last) =
     let p = lost_lacks Video 0 numbering seen answers ends gap is kind in
-    let on = video_fits (place gap.after) gap.from (place gap.before) gap.to
+    let on = video_fits (place gap.after) (kept numbering.clock gap.from) (place gap.before) (kept numbering.clock gap.to)
     (runs (place gap.after) (place gap.before) gap.from gap.to first last) in
     let order : gap.after < gap.before = is.neighbours.order in
     omega (arith, p.0, p.1, on, order)
@@ -83,17 +91,17 @@ gap_exact disc place numbering seen answers ends gap runs is kind (first, last) 
 -- at either pace so many at least
 pub gap_least : (pace : Pace) (slack : ℕ) (disc : ℕ → Option ℕ) (place : ℕ → ℕ) (numbering : Numbering)
     (seen : List Sightings) (answers : List Number) (ends : List ℕ)
-    (gap : Gap) → DiscRuns pace disc → IsGap pace slack numbering seen answers ends gap → gap.kind ≡ lost
+    (gap : Gap) → DiscCountsBy numbering.clock pace disc → IsGap pace slack numbering seen answers ends gap → gap.kind ≡ lost
     → HasRightEnds (captured disc place) gap → LostAtLeast place gap.after gap.before gap.fields
 gap_least Video slack disc place numbering seen answers ends gap runs is kind (first, last) =
     let p = lost_lacks Video slack numbering seen answers ends gap is kind in
-    let on = video_fits (place gap.after) gap.from (place gap.before) gap.to
+    let on = video_fits (place gap.after) (kept numbering.clock gap.from) (place gap.before) (kept numbering.clock gap.to)
     (runs (place gap.after) (place gap.before) gap.from gap.to first last) in
     let order : gap.after < gap.before = is.neighbours.order in
     omega (arith, p.0, p.1, on, order)
 gap_least Film slack disc place numbering seen answers ends gap runs is kind (first, last) =
     let p = lost_lacks Film slack numbering seen answers ends gap is kind in
-    let on = film_fits (place gap.after) gap.from (place gap.before) gap.to
+    let on = film_fits (place gap.after) (kept numbering.clock gap.from) (place gap.before) (kept numbering.clock gap.to)
     (runs (place gap.after) (place gap.before) gap.from gap.to first last) in
     let order : gap.after < gap.before = is.neighbours.order in
     omega (arith, p.0, p.1, on.0, on.1, order)
@@ -129,7 +137,7 @@ same_before answers i m k n h l o one other = go (leb_tells i h) (leb_tells h i)
 no_push : (xs : List Gap) (y : Gap) → [] ≡ xs ++ y ∷ [] → ⊥
 no_push xs y e = absurd (omega (arith, ap (λ (zs : List Gap). length zs) e, length_push xs y))
 
-pub on_video : (i m k n : ℕ) → nearly Video 0 i m k n ≡ true → CountTo i m k n
+pub on_video : (i m k n : ℕ) → nearly Video 0 i m k n ≡ true → k + 2 * m ≡ i + 2 * n
 on_video i m k n is =
     let p = both (nat_le (k + 2 * m) (i + 2 * n + 0)) (nat_le (i + 2 * n) (k + 2 * m + 0)) is in
     let a = leb_tells (k + 2 * m) (i + 2 * n + 0) in
@@ -144,7 +152,8 @@ on_video i m k n is =
 
 pub all_count : (numbering : Numbering) (seen : List Sightings) (answers : List Number) (ends : List ℕ) (k unread : ℕ)
     → AreGaps Video 0 numbering seen answers ends k [] unread
-    → (i m j n : ℕ) → IsMarked answers i m → IsMarked answers j n → i ≤ j → j < k → CountTo i m j n
+    → (i m j n : ℕ) → IsMarked answers i m → IsMarked answers j n → i ≤ j → j < k
+    → CountTo numbering.clock i m j n
 unfolding AreGaps
 all_count numbering seen answers ends zero unread all i m j n here there order inside = absurd (omega (arith, inside))
 all_count numbering seen answers ends (suc k) unread all i m j n here there order inside =
@@ -152,9 +161,9 @@ all_count numbering seen answers ends (suc k) unread all i m j n here there orde
   where
     go : ((other : ℕ) → AreGaps Video 0 numbering seen answers ends k [] other → (a b c d : ℕ) → IsMarked answers a b
         → IsMarked answers c d
-        → a ≤ c → c < k → CountTo a b c d) → AreGaps Video 0 numbering seen answers ends (suc k) [] unread
+        → a ≤ c → c < k → CountTo numbering.clock a b c d) → AreGaps Video 0 numbering seen answers ends (suc k) [] unread
         → ((eqb j k ≡ true) × (j ≡ k)) ⊎ ((eqb j k ≡ false) × (j ≢ k))
-        → ((eqb i k ≡ true) × (i ≡ k)) ⊎ ((eqb i k ≡ false) × (i ≢ k)) → CountTo i m j n
+        → ((eqb i k ≡ true) × (i ≡ k)) ⊎ ((eqb i k ≡ false) × (i ≢ k)) → CountTo numbering.clock i m j n
     go ih (inl (free, fewer)) (inr (f, differ)) _ =
         ih unread fewer i m j n here there order (omega (arith, inside, differ))
     go ih (inr (inl (h, l, o, other, on, fewer, e))) (inr (f, differ)) _ =
@@ -162,22 +171,30 @@ all_count numbering seen answers ends (suc k) unread all i m j n here there orde
     go ih (inr (inr (one, others, is, last, fewer, e))) _ _ = absurd (no_push others one e)
     go ih (inl (free, fewer)) (inl (t, same)) (inl (u, first)) =
         let e : i ≡ j = omega (arith, same, first) in
-        omega (arith, e, same_number answers j m n (subst (λ x. IsMarked answers x m) e here) there)
+        omega (
+          arith,
+          e,
+          ap (kept numbering.clock) (same_number answers j m n (subst (λ x. IsMarked answers x m) e here) there),
+        )
     go ih (inr (inl (h, l, o, other, on, fewer, e))) (inl (t, same)) (inl (u, first)) =
         let e : i ≡ j = omega (arith, same, first) in
-        omega (arith, e, same_number answers j m n (subst (λ x. IsMarked answers x m) e here) there)
+        omega (
+          arith,
+          e,
+          ap (kept numbering.clock) (same_number answers j m n (subst (λ x. IsMarked answers x m) e here) there),
+        )
     go ih (inl (inl never, fewer)) (inl (t, same)) (inr (u, differ)) =
         absurd (never n (subst (λ x. IsMarked answers x n) same there))
     go ih (inl (inr never, fewer)) (inl (t, same)) (inr (u, differ)) =
         absurd (never i m (omega (arith, order, same, differ)) here)
     go ih (inr (inl (h, l, o, other, on, fewer, e))) (inl (t, same)) (inr (u, differ)) =
-        let number = same_number answers k n o (subst (λ x. IsMarked answers x n) same there) on.neighbours.there in
+        let number = ap (kept numbering.clock) (same_number answers k n o (subst (λ x. IsMarked answers x n) same there) on.neighbours.there) in
         elim (leb_tells i h) [
           | inl (v, le) ↦ omega (
             arith,
             same,
             number,
-            on_video h l k o on.near,
+            on_video h (kept numbering.clock l) k (kept numbering.clock o) on.near,
             ih other fewer i m h l here on.neighbours.here le on.neighbours.order,
           )
           | inr (v, lt) ↦ absurd (on.neighbours.between i m lt (omega (arith, order, same, differ)) here)
@@ -201,7 +218,7 @@ none_gaps pace slack numbering seen answers ends (suc k) gaps unread (inr (inr (
 
 module _ (pace : Pace) (slack : ℕ) (disc : ℕ → Option ℕ) (place : ℕ → ℕ) (numbering : Numbering) (seen : List Sightings)
     (answers : List Number) (ends : List ℕ)
-    (runs : DiscRuns pace disc) (rises : Rises place)
+    (runs : DiscCountsBy numbering.clock pace disc) (rises : Rises place)
     (right : (gap : Gap) → IsGap pace slack numbering seen answers ends gap → gap.kind ≡ lost
     → HasRightEnds (captured disc place) gap)
     (first : ℕ) (before_first : (j l : ℕ) → j < first → IsMarked answers j l → ⊥) where
@@ -287,15 +304,17 @@ near_same x y e = elim (leb_tells x (y + 0)) [
 pub gap_is_cut : (disc : ℕ → Option ℕ) (place : ℕ → ℕ) (numbering : Numbering) (seen : List Sightings)
     (answers : List Number)
     (ends : List ℕ) (gap : Gap)
-    → DiscRuns Video disc → IsGap Video 0 numbering seen answers ends gap → HasRightEnds (captured disc place) gap
+    → DiscCountsBy numbering.clock Video disc → IsGap Video 0 numbering seen answers ends gap → HasRightEnds (captured disc place) gap
     → place gap.before ≢ place gap.after + (gap.before - gap.after)
 gap_is_cut disc place numbering seen answers ends gap runs is (first, last) same =
-    let on = video_fits (place gap.after) gap.from (place gap.before) gap.to
+    let on = video_fits (place gap.after) (kept numbering.clock gap.from) (place gap.before) (kept numbering.clock gap.to)
     (runs (place gap.after) (place gap.before) gap.from gap.to first last) in
     let order : gap.after < gap.before = is.neighbours.order in
-    let counts : gap.before + 2 * gap.from ≡ gap.after + 2 * gap.to = omega (arith, on, order, same) in
-    none_found (nearly Video 0 gap.after gap.from gap.before gap.to)
-    (gap_as Video 0 (kind_of Video numbering (ended_between ends gap.after gap.before) gap.after gap.from gap.before
+    let from = kept numbering.clock gap.from in
+    let to = kept numbering.clock gap.to in
+    let counts : gap.before + 2 * from ≡ gap.after + 2 * to = omega (arith, on, order, same) in
+    none_found (nearly_by numbering.clock Video 0 gap.after gap.from gap.before gap.to)
+    (gap_as numbering.clock Video 0 (kind_of Video numbering (ended_between ends gap.after gap.before) gap.after gap.from gap.before
     gap.to)
     (shown_between seen gap.after gap.from gap.before gap.to) gap.after gap.from gap.before gap.to) gap
-    (near_same (gap.before + 2 * gap.from) (gap.after + 2 * gap.to) counts) is.found
+    (near_same (gap.before + 2 * from) (gap.after + 2 * to) counts) is.found

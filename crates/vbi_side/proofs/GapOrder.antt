@@ -10,7 +10,7 @@ use Rattle.std.proofs.lemmas.Option.{slice_get-get_or, slice_get_within, get_or_
 use Rattle.vbi_side.specs.declared.number.Number.{Number}
 use Rattle.vbi_side.specs.declared.gap.Gap.{Gap}
 use Rattle.vbi_side.specs.declared.pace.Pace.{Pace}
-use Rattle.vbi_side.specs.Paces.{nearly}
+use Rattle.vbi_side.specs.Clocks.{nearly_by}
 use Rattle.vbi_side.specs.Numbers.{IsMarked}
 use Rattle.vbi_side.specs.declared.sighting.Sightings.{Sightings}
 use Rattle.vbi_side.specs.declared.gap.Numbering.{Numbering}
@@ -111,8 +111,8 @@ every_gap pace slack numbering seen answers ends (suc k) gaps unread
         (shown_between seen a f b t) a f b t
         ≡ Some gap)
         i m k n gap.after gap.from gap.before gap.to (sym first) (sym from) (sym same) (sym to) is.found in
-        absurd (none_found (nearly pace slack i m k n)
-        (gap_as pace slack (kind_of pace numbering (ended_between ends i k) i m k n)
+        absurd (none_found (nearly_by numbering.clock pace slack i m k n)
+        (gap_as numbering.clock pace slack (kind_of pace numbering (ended_between ends i k) i m k n)
         (shown_between seen i m k n) i m k n)
         gap on.near found)
 every_gap pace slack numbering seen answers ends (suc k) gaps unread

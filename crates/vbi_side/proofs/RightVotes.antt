@@ -1,16 +1,23 @@
 -- Who is elected, and when it is right.
-use Rattle.std.proofs.Common.{◌≡◌, ◌≢◌, ℕ, ◌+◌, ◌*◌, ◌≤◌, ◌<◌, List, length, ap, arith, inl, inr, sym}
+use Rattle.std.proofs.Common.{◌≡◌, ◌≢◌, ℕ, zero, suc, ◌+◌, ◌*◌, ◌≤◌, ◌<◌, ◌∙◌, List, length, ap, arith, inl, inr, sym}
+use Rattle.std.proofs.Common.{eq-eqb}
+use Rattle.std.proofs.Math.Nat.{mul-le-mul_left, add-mul-mod_self_left, mod-zero}
+use Rattle.vbi_side.specs.declared.clock.Clock.{Clock}
+use Rattle.vbi_side.specs.declared.pace.Pace.TheVariants.{Video}
+use Rattle.vbi_side.specs.Paces.{fits}
+use Rattle.vbi_side.specs.Clocks.{kept}
+use Rattle.vbi_side.proofs.Counting.{kept_is}
 use Rattle.std.proofs.Common.{Bool, true, false}
-use Rattle.std.specs.Prelude.{Option, ◌⊎◌, ◌&&◌, not}
+use Rattle.std.specs.Prelude.{Option, Some, ◌⊎◌, ◌&&◌, ◌/◌, ◌%◌, nat_le, not}
 use Rattle.std.proofs.lemmas.Bool.{eqb-true, and_parts, and_from}
-use Rattle.std.proofs.lemmas.Bool.Decides.{eqb_tells}
+use Rattle.std.proofs.lemmas.Bool.Decides.{leb_tells, eqb_tells}
 use Rattle.std.proofs.Math.Dec.{eqb}
 use Rattle.vbi_side.specs.declared.sighting.Sightings.{Sightings}
 use Rattle.vbi_side.specs.Truth.{is_recorded}
 use Rattle.vbi_side.specs.Beliefs.{field_most}
 use Rattle.vbi_side.specs.Votes.{votes, votes_as, votes_cast, votes_for, IsElected, IsVotedSoundly, IsVotedRightly}
-use Rattle.vbi_side.specs.Votes.{RunsFrom, right_votes, wrong_votes}
-use Rattle.vbi_side.proofs.Truth.{recorded_is, wrong_or_right}
+use Rattle.vbi_side.specs.Votes.{RunsFromBy, RanAround, right_votes, wrong_votes}
+use Rattle.vbi_side.proofs.Truth.{video_fits, recorded_is, wrong_or_right}
 use Rattle.vbi_side.proofs.Voting.{first_narrower, first_split, first_apart, votes_near}
 
 -- no vote is for two numbers
@@ -80,15 +87,71 @@ right recorded minute i part j n = votes minute i part j n && is_recorded (recor
 abbrev wrong : (ℕ → Option ℕ) → ℕ → ℕ → ℕ → ℕ → ℕ → Bool
 wrong recorded minute i part j n = votes minute i part j n && not (is_recorded (recorded j) n)
 
--- the right votes are for the number that the disc counts there
-right_fits : (recorded : ℕ → Option ℕ) (minute i part m j n : ℕ) → RunsFrom recorded i m
-    → right recorded minute i part j n ≡ true → votes_as minute i part m j n ≡ true
-right_fits recorded minute i part m j n runs e =
-    let p = and_parts _ _ e in
-    and_from _ _ p.0 (runs j n (votes_near minute i part j n p.0) (recorded_is (recorded j) n p.1))
+-- two numbers less than k apart that leave the same remainder are one
+one_round : (k a b : ℕ) → a % k ≡ b % k → a < b + k → b < a + k → a ≡ b
+one_round zero a b same less more = absurd (omega (arith, less, more))
+one_round (suc k) a b same less more = go (leb_tells (a / suc k) (b / suc k)) (leb_tells (b / suc k) (a / suc k))
+  where
+    one : suc k * (a / suc k) + a % suc k ≡ a
+    one = omega arith
 
-right_for : (recorded : ℕ → Option ℕ) (minute : ℕ) (fields : List Sightings) (i part m : ℕ) → RunsFrom recorded i m
-    → right_votes recorded minute fields i part ≤ votes_for minute fields i part m
+    other : suc k * (b / suc k) + b % suc k ≡ b
+    other = omega arith
+
+    go : ((nat_le (a / suc k) (b / suc k) ≡ true) × (a / suc k ≤ b / suc k))
+        ⊎ ((nat_le (a / suc k) (b / suc k) ≡ false) × (b / suc k < a / suc k))
+        → ((nat_le (b / suc k) (a / suc k) ≡ true) × (b / suc k ≤ a / suc k))
+        ⊎ ((nat_le (b / suc k) (a / suc k) ≡ false) × (a / suc k < b / suc k)) → a ≡ b
+    go (inl (t, le)) (inl (u, ge)) =
+        let e : a / suc k ≡ b / suc k = omega (arith, le, ge) in
+        omega (arith, one, other, same, ap (λ q. suc k * q) e)
+    go (inr (f, lt)) _ =
+        let up : suc k * (b / suc k + 1) ≤ suc k * (a / suc k) = mul-le-mul_left (suc k) (omega (arith, lt)) in
+        absurd (omega (arith, one, other, same, up, less, more))
+    go _ (inr (f, lt)) =
+        let up : suc k * (a / suc k + 1) ≤ suc k * (b / suc k) = mul-le-mul_left (suc k) (omega (arith, lt)) in
+        absurd (omega (arith, one, other, same, up, less, more))
+
+-- a number that goes on with this part of a minute goes on with each number that has it
+same_part : (minute i part m j n : ℕ) → m % minute ≡ part → votes minute i part j n ≡ true
+    → (2 * n + i) % (2 * minute) ≡ (2 * m + j) % (2 * minute)
+same_part zero i part m j n is e =
+    let goes : (2 * n + i) % (2 * zero) ≡ (2 * part + j) % (2 * zero) = eqb-true _ _ (and_parts _ _ e).1 in
+    goes ∙ ap (λ (p : ℕ). (2 * p + j) % (2 * zero)) (sym is ∙ mod-zero m)
+same_part (suc k) i part m j n is e =
+    let whole : suc k * (m / suc k) + m % suc k ≡ m = omega arith in
+    let more : 2 * m + j ≡ 2 * part + j + 2 * suc k * (m / suc k) = omega (arith, whole, is) in
+    let goes : (2 * n + i) % (2 * suc k) ≡ (2 * part + j) % (2 * suc k) = eqb-true _ _ (and_parts _ _ e).1 in
+    goes ∙ sym (ap (λ (x : ℕ). x % (2 * suc k)) more ∙ add-mul-mod_self_left (2 * part + j) (2 * suc k) (m / suc k))
+
+-- a right number that votes is one between which and the field's none is left out
+clock_vote : (recorded : ℕ → Option ℕ) (minute i part m j n : ℕ) (clock : Clock) → m % minute ≡ part
+    → RunsFromBy clock minute recorded i m → votes minute i part j n ≡ true → recorded j ≡ Some n
+    → fits Video i m j n ≡ true
+clock_vote recorded minute i part m j n clock is runs e has =
+    let p = runs j n (votes_near minute i part j n e) has in
+    let on = video_fits i (kept clock m) j (kept clock n) p.0 in
+    let here = kept_is clock m in
+    let there = kept_is clock n in
+    eq-eqb (j + 2 * m) (i + 2 * n) (omega (
+      arith,
+      one_round (2 * minute) (2 * n + i) (2 * m + j) (same_part minute i part m j n is e)
+          (omega (arith, on, here, there, p.1)) (omega (arith, on, here, there, p.2)),
+    ))
+
+-- the right votes are for the number that the disc counts there
+right_fits : (recorded : ℕ → Option ℕ) (minute i part m j n : ℕ) → RanAround recorded minute i part m
+    → right recorded minute i part j n ≡ true → votes_as minute i part m j n ≡ true
+right_fits recorded minute i part m j n ran e =
+    let p = and_parts _ _ e in
+    let has = recorded_is (recorded j) n p.1 in
+    and_from _ _ p.0 (elim ran [
+      | inl runs ↦ runs j n (votes_near minute i part j n p.0) has
+      | inr by ↦ clock_vote recorded minute i part m j n by.1.0 by.0 by.1.1 p.0 has
+    ])
+
+right_for : (recorded : ℕ → Option ℕ) (minute : ℕ) (fields : List Sightings) (i part m : ℕ)
+    → RanAround recorded minute i part m → right_votes recorded minute fields i part ≤ votes_for minute fields i part m
 right_for recorded minute fields i part m runs =
     first_narrower (right recorded minute i part) (votes_as minute i part m) fields (length fields)
     (λ j n. right_fits recorded minute i part m j n runs)
@@ -110,7 +173,7 @@ all_votes recorded minute fields i part =
 
 -- those for another number are wrong
 wrong_for : (recorded : ℕ → Option ℕ) (minute : ℕ) (fields : List Sightings) (i part m n : ℕ)
-    → RunsFrom recorded i m → m ≢ n
+    → RanAround recorded minute i part m → m ≢ n
     → votes_for minute fields i part n ≤ wrong_votes recorded minute fields i part
 wrong_for recorded minute fields i part m n runs apart =
     first_narrower (votes_as minute i part n) (wrong recorded minute i part) fields (length fields) is_wrong

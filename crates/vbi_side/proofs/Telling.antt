@@ -13,7 +13,8 @@ use Rattle.vbi_side.specs.declared.gap.Gap.{Gap}
 use Rattle.vbi_side.specs.declared.gap.Tally.{Tally}
 use Rattle.vbi_side.specs.declared.gap.Place.{Place}
 use Rattle.vbi_side.specs.declared.pace.Pace.{Pace}
-use Rattle.vbi_side.specs.Paces.{nearly}
+use Rattle.vbi_side.specs.declared.clock.Clock.{Clock}
+use Rattle.vbi_side.specs.Clocks.{nearly_by}
 use Rattle.vbi_side.specs.Numbers.{believed, IsMarked}
 use Rattle.vbi_side.specs.declared.sighting.Sightings.{Sightings}
 use Rattle.vbi_side.specs.declared.gap.Numbering.{Numbering}
@@ -129,9 +130,9 @@ stills_more : (gaps : List Gap) (gap : Gap)
 stills_more gaps gap = capped_more (stills_of 0 gaps) (begins_still (last_still 0 gaps) gap)
     ∙ ap capped (sym (stills_push 0 gaps gap))
 
-pub tally_gap : (gaps : List Gap) (unread : ℕ) (gap : Gap)
-    → with_gap (tally_of gaps unread) gap ≡ tally_of (gaps ++ gap ∷ []) unread
-tally_gap gaps unread gap =
+pub tally_gap : (clock : Clock) (gaps : List Gap) (unread : ℕ) (gap : Gap)
+    → with_gap clock (tally_of clock gaps unread) gap ≡ tally_of clock (gaps ++ gap ∷ []) unread
+tally_gap clock gaps unread gap =
     cc (
       sym (length_push gaps gap),
       summed (fields_if lost) gaps gap,
@@ -142,23 +143,23 @@ tally_gap gaps unread gap =
       summed (one_if back) gaps gap,
       summed (one_if joined) gaps gap,
       summed (one_if open_gap) gaps gap,
-      summed lost_of gaps gap,
-      summed undecided_of gaps gap,
+      summed (lost_of clock) gaps gap,
+      summed (undecided_of clock) gaps gap,
     )
 
-pub tally_unread : (gaps : List Gap) (unread more : ℕ)
-    → with_unread (tally_of gaps unread) more ≡ tally_of gaps (unread + more)
-tally_unread gaps unread more = ap (λ (n : ℕ). record (tally_of gaps unread) { unread = n }) (capped_more unread more)
+pub tally_unread : (clock : Clock) (gaps : List Gap) (unread more : ℕ)
+    → with_unread (tally_of clock gaps unread) more ≡ tally_of clock gaps (unread + more)
+tally_unread clock gaps unread more = ap (λ (n : ℕ). record (tally_of clock gaps unread) { unread = n }) (capped_more unread more)
 
 -- ---- a gap
 
 pub gap_is : (pace : Pace) (slack : ℕ) (numbering : Numbering) (ended : Bool) (shown i m k n : ℕ) (gap : Gap)
     → gap_of pace slack numbering ended shown i m k n ≡ Some gap
-    → gap ≡ gap_as pace slack (kind_of pace numbering ended i m k n) shown i m k n
-gap_is pace slack numbering ended shown i m k n gap = go (nearly pace slack i m k n)
+    → gap ≡ gap_as numbering.clock pace slack (kind_of pace numbering ended i m k n) shown i m k n
+gap_is pace slack numbering ended shown i m k n gap = go (nearly_by numbering.clock pace slack i m k n)
   where
     one : Gap
-    one = gap_as pace slack (kind_of pace numbering ended i m k n) shown i m k n
+    one = gap_as numbering.clock pace slack (kind_of pace numbering ended i m k n) shown i m k n
 
     go : (b : Bool) → (if b then None else Some one) ≡ Some gap → gap ≡ one
     go true e = absurd cc
@@ -166,11 +167,11 @@ gap_is pace slack numbering ended shown i m k n gap = go (nearly pace slack i m 
 
 -- numbers with no gap between go on
 pub goes_on : (pace : Pace) (slack : ℕ) (numbering : Numbering) (ended : Bool) (shown i m k n : ℕ)
-    → gap_of pace slack numbering ended shown i m k n ≡ None → nearly pace slack i m k n ≡ true
-goes_on pace slack numbering ended shown i m k n = go (nearly pace slack i m k n)
+    → gap_of pace slack numbering ended shown i m k n ≡ None → nearly_by numbering.clock pace slack i m k n ≡ true
+goes_on pace slack numbering ended shown i m k n = go (nearly_by numbering.clock pace slack i m k n)
   where
     one : Gap
-    one = gap_as pace slack (kind_of pace numbering ended i m k n) shown i m k n
+    one = gap_as numbering.clock pace slack (kind_of pace numbering ended i m k n) shown i m k n
 
     go : (b : Bool) → (if b then None else Some one) ≡ None → b ≡ true
     go true e = refl
@@ -206,7 +207,7 @@ gap_between pace slack numbering seen answers ends i m k n gap neighbours found 
 
 pub told_begins : (pace : Pace) (slack : ℕ) (numbering : Numbering) (seen : List Sightings) (answers : List Number)
     (ends : List ℕ) (old : List Gap)
-    → IsTold pace slack numbering seen answers ends 0 (tally_of [] 0) old old
+    → IsTold pace slack numbering seen answers ends 0 (tally_of numbering.clock [] 0) old old
 unfolding AreGaps
 told_begins pace slack numbering seen answers ends old = record {
   gaps = [];
@@ -232,15 +233,15 @@ told_free pace slack numbering seen answers ends k tally old new free told = rec
 pub told_on : (pace : Pace) (slack : ℕ) (numbering : Numbering) (seen : List Sightings) (answers : List Number)
     (ends : List ℕ) (i m k n : ℕ) (tally : Tally)
     (old new : List Gap) → AreNeighbours answers i m k n
-    → nearly pace slack i m k n ≡ true → IsTold pace slack numbering seen answers ends k tally old new
-    → IsTold pace slack numbering seen answers ends (suc k) (with_unread tally (skipped m n)) old new
+    → nearly_by numbering.clock pace slack i m k n ≡ true → IsTold pace slack numbering seen answers ends k tally old new
+    → IsTold pace slack numbering seen answers ends (suc k) (with_unread tally (skipped numbering.clock m n)) old new
 unfolding AreGaps
 told_on pace slack numbering seen answers ends i m k n tally old new neighbours near told = record {
   gaps = told.gaps;
-  unread = told.unread + skipped m n;
+  unread = told.unread + skipped numbering.clock m n;
   all = inr (inl (i, m, n, told.unread, record { neighbours = neighbours; near = near }, told.all, refl));
-  comes_to = ap (λ (t : Tally). with_unread t (skipped m n)) told.comes_to
-      ∙ tally_unread told.gaps told.unread (skipped m n);
+  comes_to = ap (λ (t : Tally). with_unread t (skipped numbering.clock m n)) told.comes_to
+      ∙ tally_unread numbering.clock told.gaps told.unread (skipped numbering.clock m n);
   written = told.written;
 }
 
@@ -249,13 +250,14 @@ told_more : (pace : Pace) (slack : ℕ) (numbering : Numbering) (seen : List Sig
     (old new next : List Gap) → IsGap pace slack numbering seen answers ends gap → gap.before ≡ k
     → (told : IsTold pace slack numbering seen answers ends k tally old new)
     → AreWritten (told.gaps ++ gap ∷ []) old next
-    → IsTold pace slack numbering seen answers ends (suc k) (with_gap tally gap) old next
+    → IsTold pace slack numbering seen answers ends (suc k) (with_gap numbering.clock tally gap) old next
 unfolding AreGaps
 told_more pace slack numbering seen answers ends k gap tally old new next is last told written = record {
   gaps = told.gaps ++ gap ∷ [];
   unread = told.unread;
   all = inr (inr (gap, told.gaps, is, last, told.all, refl));
-  comes_to = ap (λ (t : Tally). with_gap t gap) told.comes_to ∙ tally_gap told.gaps told.unread gap;
+  comes_to = ap (λ (t : Tally). with_gap numbering.clock t gap) told.comes_to
+      ∙ tally_gap numbering.clock told.gaps told.unread gap;
   written = written;
 }
 
@@ -265,7 +267,7 @@ pub told_gap : (pace : Pace) (slack : ℕ) (numbering : Numbering) (seen : List 
     → gap_of pace slack numbering (ended_between ends i k) (shown_between seen i m k n) i m k n ≡ Some gap
     → (tally.gaps < length new → next ≡ slice_set new tally.gaps gap) → (length new ≤ tally.gaps → next ≡ new)
     → IsTold pace slack numbering seen answers ends k tally old new
-    → IsTold pace slack numbering seen answers ends (suc k) (with_gap tally gap) old next
+    → IsTold pace slack numbering seen answers ends (suc k) (with_gap numbering.clock tally gap) old next
 told_gap pace slack numbering seen answers ends i m k n gap tally old new next neighbours found there full told =
     let is = gap_between pace slack numbering seen answers ends i m k n gap neighbours found in
     let place : tally.gaps ≡ length told.gaps = ap (λ (t : Tally). t.gaps) told.comes_to in

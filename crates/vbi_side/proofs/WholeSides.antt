@@ -12,10 +12,14 @@ use Rattle.vbi_side.specs.declared.verdict.Finding.{Finding}
 use Rattle.vbi_side.specs.declared.pace.Pace.{Pace}
 use Rattle.vbi_side.specs.declared.pace.Pace.TheVariants.{Video, Film}
 use Rattle.vbi_side.specs.Paces.{nearly}
+use Rattle.vbi_side.specs.declared.clock.Clock.{Clock}
+use Rattle.vbi_side.specs.declared.clock.Clock.TheVariants.{Plain}
+use Rattle.vbi_side.specs.Clocks.{kept, nearly_by, out_near, DiscCountsBy, DiscNearlyBy, IsClear, IsClearAt}
+use Rattle.vbi_side.proofs.Counting.{clear_video, clear_film, near_video, plain_clear, plain_runs, plain_counts}
 use Rattle.vbi_side.specs.Beliefs.{reach, enough}
 use Rattle.vbi_side.specs.Truth.{IsNear, wrong_weight}
 use Rattle.std.proofs.lemmas.Option.{slice_get_within}
-use Rattle.vbi_side.specs.Numbers.{believed, AreAnswers}
+use Rattle.vbi_side.specs.Numbers.{believed, AreAnswers, IsMarked}
 use Rattle.vbi_side.specs.Side.{DiscRuns, DiscCounts, Rises, captured, NoneLost, AreLost, AreEnds, IsAnchor}
 use Rattle.vbi_side.specs.declared.gap.Numbering.{Numbering}
 use Rattle.vbi_side.specs.Gaps.{lost, fields_if, capped, IsGap, HasRightEnds, LostAtLeast}
@@ -25,7 +29,7 @@ use Rattle.vbi_side.specs.Verdicts.{IsFinding}
 use Rattle.vbi_side.specs.Verdicts.{is_end_unseen, is_begin_unseen, are_doubtful}
 use Rattle.vbi_side.proofs.Truth.{both, video_fits, film_fits}
 use Rattle.vbi_side.proofs.Filling.{answer_believed}
-use Rattle.vbi_side.proofs.Sides.{apart, near_one, alone_of, whole}
+use Rattle.vbi_side.proofs.Sides.{apart, near_one, alone_of, none_lost}
 use Rattle.vbi_side.proofs.SideAnswers.{anchor}
 use Rattle.vbi_side.proofs.GapLaws.{lost_below}
 
@@ -74,37 +78,39 @@ yes_near : (pace : Pace) (slack : ℕ) (numbering : Numbering) (may_end : Bool) 
     (answers : List Number) (ends : List ℕ) (finding : Finding) (old new : List Gap)
     → IsFinding pace slack numbering may_end seen answers ends finding old new → finding.verdict ≡ yes
     → (m n : ℕ) × AreEnds answers finding.first m finding.last n
-    × (nearly pace slack (finding.first + finding.tally.stood) m finding.last n ≡ true)
+    × (nearly_by numbering.clock pace slack (finding.first + finding.tally.stood) m finding.last n ≡ true)
 yes_near pace slack numbering may_end seen answers ends finding old new is verdict = go is.reasons
   where
     none : finding.reasons ≡ 0
     none = yes_none finding.reasons (sym is.verdict ∙ verdict)
 
     go : IsUntold answers finding ⊎ ((m n : ℕ) × AreEnds answers finding.first m finding.last n
-        × (finding.reasons ≡ reasons_of pace slack may_end answers ends finding.tally is.swapped is.drifts
+        × (finding.reasons ≡ reasons_of numbering.clock pace slack may_end answers ends finding.tally is.swapped is.drifts
         finding.first m finding.last n))
         → (m n : ℕ) × AreEnds answers finding.first m finding.last n
-        × (nearly pace slack (finding.first + finding.tally.stood) m finding.last n ≡ true)
+        × (nearly_by numbering.clock pace slack (finding.first + finding.tally.stood) m finding.last n ≡ true)
     go (inl (never, e, first, last)) = absurd (omega (arith, none, e))
     go (inr (m, n, are, e)) =
         let first = finding.first in
         let last = finding.last in
         let tally = finding.tally in
-        let seen_here = seen_reasons pace ends tally first m in
+        let from = kept numbering.clock m in
+        let to = kept numbering.clock n in
+        let seen_here = seen_reasons pace ends tally first from in
         let swap = reason 32 is.swapped in
         let last_unseen = reason 256 (is_end_unseen may_end ends last) in
         let first_unseen = reason 512 (is_begin_unseen ends first m) in
         let doubt = reason 1024 (are_doubtful answers) in
         let open_none = not_open seen_here swap (reason 64
-        (is.drifts || is_off pace slack tally first m last n)) last_unseen
+        (is.drifts || is_off pace slack tally first from last to)) last_unseen
         first_unseen doubt (nat_lt 0 tally.open_gaps) (sym e ∙ none) in
         let off = not_off seen_here swap last_unseen first_unseen doubt (reason 2048 (nat_lt 0 tally.open_gaps))
-        (is.drifts || is_off pace slack tally first m last n) (sym e ∙ none) in (
+        (is.drifts || is_off pace slack tally first from last to) (sym e ∙ none) in (
           m,
           n,
           are,
-          is_near tally.open_gaps (nearly pace slack (first + tally.stood) m last n) open_none
-              (neither is.drifts (is_off pace slack tally first m last n) off),
+          is_near tally.open_gaps (nearly pace slack (first + tally.stood) from last to) open_none
+              (neither is.drifts (is_off pace slack tally first from last to) off),
         )
 
 within : (slack i m j n : ℕ) → nearly Video slack i m j n ≡ true
@@ -123,62 +129,81 @@ pub yes_ends : (numbering : Numbering) (may_end : Bool) (seen : List Sightings) 
     (finding : Finding) (old new : List Gap)
     → IsFinding Video 0 numbering may_end seen answers ends finding old new → finding.verdict ≡ yes
     → (m n : ℕ) × AreEnds answers finding.first m finding.last n
-    × (finding.last + 2 * m ≡ finding.first + finding.tally.stood + 2 * n)
+    × (finding.last + 2 * kept numbering.clock m ≡ finding.first + finding.tally.stood + 2 * kept numbering.clock n)
 yes_ends numbering may_end seen answers ends finding old new is verdict =
     let p = yes_near Video 0 numbering may_end seen answers ends finding old new is verdict in
-    let q = within 0 (finding.first + finding.tally.stood) p.0 finding.last p.1 p.3 in
+    let q = within 0 (finding.first + finding.tally.stood) (kept numbering.clock p.0) finding.last
+    (kept numbering.clock p.1) p.3 in
     (p.0, p.1, p.2, omega (arith, q.0, q.1))
 
-module _ (disc : ℕ → Option ℕ) (place : ℕ → ℕ) (fields : List Sightings) (runs : DiscRuns Video disc)
-    (rises : Rises place) where
-  -- in a capture in order no still lies between two numbers that count to each other less the stills
-  no_still : (i m j n stood : ℕ) → IsAnchor Video (captured disc place) fields i m
-      → IsAnchor Video (captured disc place) fields j n → i + 2 * reach ≤ j → j + 2 * m ≡ i + stood + 2 * n → stood ≡ 0
-  no_still i m j n stood first last far same =
+module _ (clock : Clock) (disc : ℕ → Option ℕ) (place : ℕ → ℕ) (fields : List Sightings)
+    (runs : DiscCountsBy clock Video disc) (rises : Rises place) where
+  -- in a capture in order neither a still nor a loss lies between two numbers that count to each other less the stills
+  whole_by : (i m j n stood : ℕ) → IsAnchor Video (captured disc place) fields i m
+      → IsAnchor Video (captured disc place) fields j n → IsClear clock m → IsClear clock n → i + 2 * reach ≤ j
+      → j + 2 * kept clock m ≡ i + stood + 2 * kept clock n → NoneLost place (i + reach) (j - reach)
+  whole_by i m j n stood first last clear too far same =
       let alone = alone_of disc place rises
-      (λ d e k here there. omega (arith, video_fits d k e k (runs d e k k here there))) in
+      (λ d e k here there. omega (arith, video_fits d (kept clock k) e (kept clock k) (runs d e k k here there))) in
       let p = near_one Video (captured disc place) fields alone i m first in
       let q = near_one Video (captured disc place) fields alone j n last in
       let order : p.0 ≤ q.0 = omega (arith, p.2.1, q.2.0, far) in
-      omega (
-        arith,
-        apart place p.0 q.0 rises order,
-        order,
-        same,
-        video_fits (place p.0) p.1 (place q.0) q.1 (runs (place p.0) (place q.0) p.1 q.1 p.3 q.3),
-        video_fits i m p.0 p.1 p.4,
-        video_fits j n q.0 q.1 q.4,
-      )
+      let least = apart place p.0 q.0 rises order in
+      let on = video_fits (place p.0) (kept clock p.1) (place q.0) (kept clock q.1)
+      (runs (place p.0) (place q.0) p.1 q.1 p.3 q.3) in
+      let here = clear_video clock i m p.0 p.1 clear p.2 p.4 in
+      let there = clear_video clock j n q.0 q.1 too q.2 q.4 in
+      none_lost place p.0 q.0 (i + reach) (j - reach) rises (omega (arith, p.2.1)) (omega (arith, q.2.0, far))
+      (omega (arith, least, order, same, on, here, there))
+
+pub whole_clock : (disc : ℕ → Option ℕ) (place : ℕ → ℕ) (fields : List Sightings) (answers : List Number)
+    (numbering : Numbering) (may_end : Bool) (seen : List Sightings) (ends : List ℕ) (finding : Finding)
+    (old new : List Gap) → DiscCountsBy numbering.clock Video disc → Rises place
+    → AreAnswers Video fields answers → IsFinding Video 0 numbering may_end seen answers ends finding old new
+    → finding.verdict ≡ yes
+    → wrong_weight (captured disc place) fields finding.first < enough
+    → wrong_weight (captured disc place) fields finding.last < enough
+    → IsClearAt numbering.clock answers finding.first → IsClearAt numbering.clock answers finding.last
+    → finding.first + 2 * reach ≤ finding.last
+    → NoneLost place (finding.first + reach) (finding.last - reach)
+whole_clock disc place fields answers numbering may_end seen ends finding old new runs rises are is verdict few low
+    clear too far =
+    let p = yes_ends numbering may_end seen answers ends finding old new is verdict in
+    let first = anchor (captured disc place) fields answers finding.first p.0 are p.2.begins few in
+    let last = anchor (captured disc place) fields answers finding.last p.1 are p.2.ends low in
+    whole_by numbering.clock disc place fields runs rises finding.first p.0 finding.last p.1 finding.tally.stood first
+    last (clear p.0 p.2.begins) (too p.1 p.2.ends) far p.3
 
 pub whole_yes : (disc : ℕ → Option ℕ) (place : ℕ → ℕ) (fields : List Sightings) (answers : List Number)
     (numbering : Numbering) (may_end : Bool) (seen : List Sightings) (ends : List ℕ) (finding : Finding)
-    (old new : List Gap) → DiscRuns Video disc → Rises place
+    (old new : List Gap) → numbering.clock ≡ Plain → DiscRuns Video disc → Rises place
     → AreAnswers Video fields answers → IsFinding Video 0 numbering may_end seen answers ends finding old new
     → finding.verdict ≡ yes
     → wrong_weight (captured disc place) fields finding.first < enough
     → wrong_weight (captured disc place) fields finding.last < enough → finding.first + 2 * reach ≤ finding.last
     → NoneLost place (finding.first + reach) (finding.last - reach)
-whole_yes disc place fields answers numbering may_end seen ends finding old new runs rises are is verdict few low far =
-    let p = yes_ends numbering may_end seen answers ends finding old new is verdict in
-    let first = anchor (captured disc place) fields answers finding.first p.0 are p.2.begins few in
-    let last = anchor (captured disc place) fields answers finding.last p.1 are p.2.ends low in
-    let none = no_still disc place fields runs rises finding.first p.0 finding.last p.1 finding.tally.stood first last
-    far p.3 in
-    whole disc place fields runs rises finding.first p.0 finding.last p.1 first last far (omega (arith, p.3, none))
+whole_yes disc place fields answers numbering may_end seen ends finding old new none runs rises are is verdict few low =
+    whole_clock disc place fields answers numbering may_end seen ends finding old new
+    (plain_runs numbering.clock Video disc none runs) rises are is verdict few low
+    (λ n at. plain_clear numbering.clock n none) (λ n at. plain_clear numbering.clock n none)
 
 -- of a disc with a number on both fields of its pictures two fields at most are lost, of film four
 pub yes_of_both : (slack : ℕ) (disc : ℕ → Option ℕ) (place : ℕ → ℕ) (fields : List Sightings) (answers : List Number)
     (numbering : Numbering) (may_end : Bool) (seen : List Sightings) (ends : List ℕ) (finding : Finding)
-    (old new : List Gap) → slack ≤ 1 → DiscCounts slack disc → Rises place
+    (old new : List Gap) → slack ≤ 1 → DiscNearlyBy numbering.clock slack disc → Rises place
     → AreAnswers Video fields answers → IsFinding Video slack numbering may_end seen answers ends finding old new
     → finding.verdict ≡ yes
     → wrong_weight (captured disc place) fields finding.first < enough
-    → wrong_weight (captured disc place) fields finding.last < enough → finding.first + 2 * reach ≤ finding.last
+    → wrong_weight (captured disc place) fields finding.last < enough
+    → IsClearAt numbering.clock answers finding.first → IsClearAt numbering.clock answers finding.last
+    → finding.first + 2 * reach ≤ finding.last
     → (p q some : ℕ) × IsNear finding.first p × IsNear finding.last q × AreLost place p q some × (some ≤ 2 * slack)
 yes_of_both slack disc place fields answers numbering may_end seen ends finding old new one counts rises are is
-    verdict few low far =
+    verdict few low clear too far =
+    let clock = numbering.clock in
     let e = yes_near Video slack numbering may_end seen answers ends finding old new is verdict in
-    let near = within slack (finding.first + finding.tally.stood) e.0 finding.last e.1 e.3 in
+    let near = within slack (finding.first + finding.tally.stood) (kept clock e.0) finding.last (kept clock e.1)
+    e.3 in
     let first = anchor (captured disc place) fields answers finding.first e.0 are e.2.begins few in
     let last = anchor (captured disc place) fields answers finding.last e.1 are e.2.ends low in
     let alone = alone_of disc place rises (λ d e k here there. omega (arith, one, counts e d k k there here)) in
@@ -187,8 +212,8 @@ yes_of_both slack disc place fields answers numbering may_end seen ends finding 
     let order : p.0 ≤ q.0 = omega (arith, p.2.1, q.2.0, far) in
     let least = apart place p.0 q.0 rises order in
     let on = counts (place p.0) (place q.0) p.1 q.1 p.3 q.3 in
-    let here = video_fits finding.first e.0 p.0 p.1 p.4 in
-    let there = video_fits finding.last e.1 q.0 q.1 q.4 in (
+    let here = clear_video clock finding.first e.0 p.0 p.1 (clear e.0 e.2.begins) p.2 p.4 in
+    let there = clear_video clock finding.last e.1 q.0 q.1 (too e.1 e.2.ends) q.2 q.4 in (
       p.0,
       q.0,
       place q.0 - (place p.0 + (q.0 - p.0)),
@@ -200,16 +225,19 @@ yes_of_both slack disc place fields answers numbering may_end seen ends finding 
 
 pub yes_of_film : (disc : ℕ → Option ℕ) (place : ℕ → ℕ) (fields : List Sightings) (answers : List Number)
     (slack : ℕ) (numbering : Numbering) (may_end : Bool) (seen : List Sightings) (ends : List ℕ) (finding : Finding)
-    (old new : List Gap) → DiscRuns Film disc → Rises place
+    (old new : List Gap) → DiscCountsBy numbering.clock Film disc → Rises place
     → AreAnswers Film fields answers → IsFinding Film slack numbering may_end seen answers ends finding old new
     → finding.verdict ≡ yes
     → wrong_weight (captured disc place) fields finding.first < enough
-    → wrong_weight (captured disc place) fields finding.last < enough → finding.first + 2 * reach ≤ finding.last
+    → wrong_weight (captured disc place) fields finding.last < enough
+    → IsClearAt numbering.clock answers finding.first → IsClearAt numbering.clock answers finding.last
+    → finding.first + 2 * reach ≤ finding.last
     → (p q some : ℕ) × IsNear finding.first p × IsNear finding.last q × AreLost place p q some × (some ≤ 4)
 yes_of_film disc place fields answers slack numbering may_end seen ends finding old new runs rises are is verdict few
-    low far =
+    low clear too far =
+    let clock = numbering.clock in
     let e = yes_near Film slack numbering may_end seen answers ends finding old new is verdict in
-    let near = film_fits (finding.first + finding.tally.stood) e.0 finding.last e.1 e.3 in
+    let near = film_fits (finding.first + finding.tally.stood) (kept clock e.0) finding.last (kept clock e.1) e.3 in
     let first : IsAnchor Film (captured disc place) fields finding.first e.0 = record {
       believed = answer_believed Film fields finding.first e.0 (believed e.0)
           (are.each finding.first (believed e.0) e.2.begins) refl;
@@ -221,12 +249,14 @@ yes_of_film disc place fields answers slack numbering may_end seen ends finding 
       few = low;
     } in
     let alone = alone_of disc place rises
-    (λ d e k here there. let f = film_fits d k e k (runs d e k k here there) in omega (arith, f.0, f.1)) in
+    (λ d e k here there. let f = film_fits d (kept clock k) e (kept clock k) (runs d e k k here there) in
+    omega (arith, f.0, f.1)) in
     let p = near_one Film (captured disc place) fields alone finding.first e.0 first in
     let q = near_one Film (captured disc place) fields alone finding.last e.1 last in
-    let fit = film_fits (place p.0) p.1 (place q.0) q.1 (runs (place p.0) (place q.0) p.1 q.1 p.3 q.3) in
-    let here = film_fits finding.first e.0 p.0 p.1 p.4 in
-    let there = film_fits finding.last e.1 q.0 q.1 q.4 in
+    let fit = film_fits (place p.0) (kept clock p.1) (place q.0) (kept clock q.1)
+    (runs (place p.0) (place q.0) p.1 q.1 p.3 q.3) in
+    let here = clear_film clock finding.first e.0 p.0 p.1 (clear e.0 e.2.begins) p.2 p.4 in
+    let there = clear_film clock finding.last e.1 q.0 q.1 (too e.1 e.2.ends) q.2 q.4 in
     let order : p.0 ≤ q.0 = omega (arith, p.2.1, q.2.0, far) in
     let least = apart place p.0 q.0 rises order in (
       p.0,
@@ -238,11 +268,79 @@ yes_of_film disc place fields answers slack numbering may_end seen ends finding 
       omega (arith, order, least, fit.0, fit.1, here.0, here.1, there.0, there.1, near.0, near.1),
     )
 
+-- wherever the ends are: at most twice as many fields are lost as numbers are left out near these
+pub yes_anywhere : (disc : ℕ → Option ℕ) (place : ℕ → ℕ) (fields : List Sightings) (answers : List Number)
+    (numbering : Numbering) (may_end : Bool) (seen : List Sightings) (ends : List ℕ) (finding : Finding)
+    (old new : List Gap) → DiscCountsBy numbering.clock Video disc → Rises place
+    → AreAnswers Video fields answers → IsFinding Video 0 numbering may_end seen answers ends finding old new
+    → finding.verdict ≡ yes
+    → wrong_weight (captured disc place) fields finding.first < enough
+    → wrong_weight (captured disc place) fields finding.last < enough → finding.first + 2 * reach ≤ finding.last
+    → (m n p q some : ℕ) × IsMarked answers finding.first m × IsMarked answers finding.last n
+    × IsNear finding.first p × IsNear finding.last q × AreLost place p q some
+    × (some ≤ 2 * (out_near numbering.clock m + out_near numbering.clock n))
+yes_anywhere disc place fields answers numbering may_end seen ends finding old new runs rises are is verdict few low
+    far =
+    let clock = numbering.clock in
+    let e = yes_ends numbering may_end seen answers ends finding old new is verdict in
+    let first = anchor (captured disc place) fields answers finding.first e.0 are e.2.begins few in
+    let last = anchor (captured disc place) fields answers finding.last e.1 are e.2.ends low in
+    let alone = alone_of disc place rises
+    (λ d e k here there. omega (arith, video_fits d (kept clock k) e (kept clock k) (runs d e k k here there))) in
+    let p = near_one Video (captured disc place) fields alone finding.first e.0 first in
+    let q = near_one Video (captured disc place) fields alone finding.last e.1 last in
+    let order : p.0 ≤ q.0 = omega (arith, p.2.1, q.2.0, far) in
+    let least = apart place p.0 q.0 rises order in
+    let on = video_fits (place p.0) (kept clock p.1) (place q.0) (kept clock q.1)
+    (runs (place p.0) (place q.0) p.1 q.1 p.3 q.3) in
+    let here = near_video clock finding.first e.0 p.0 p.1 p.2 p.4 in
+    let there = near_video clock finding.last e.1 q.0 q.1 q.2 q.4 in (
+      e.0,
+      e.1,
+      p.0,
+      q.0,
+      place q.0 - (place p.0 + (q.0 - p.0)),
+      e.2.begins,
+      e.2.ends,
+      p.2,
+      q.2,
+      omega (arith, least, order),
+      omega (arith, order, least, on, here.0, here.1, there.0, there.1, e.3),
+    )
+
+pub plain_of_both : (slack : ℕ) (disc : ℕ → Option ℕ) (place : ℕ → ℕ) (fields : List Sightings)
+    (answers : List Number) (numbering : Numbering) (may_end : Bool) (seen : List Sightings) (ends : List ℕ)
+    (finding : Finding) (old new : List Gap) → slack ≤ 1 → numbering.clock ≡ Plain → DiscCounts slack disc
+    → Rises place → AreAnswers Video fields answers
+    → IsFinding Video slack numbering may_end seen answers ends finding old new → finding.verdict ≡ yes
+    → wrong_weight (captured disc place) fields finding.first < enough
+    → wrong_weight (captured disc place) fields finding.last < enough → finding.first + 2 * reach ≤ finding.last
+    → (p q some : ℕ) × IsNear finding.first p × IsNear finding.last q × AreLost place p q some × (some ≤ 2 * slack)
+plain_of_both slack disc place fields answers numbering may_end seen ends finding old new one none counts rises are is
+    verdict few low =
+    yes_of_both slack disc place fields answers numbering may_end seen ends finding old new one
+    (plain_counts numbering.clock slack disc none counts) rises are is verdict few low
+    (λ n at. plain_clear numbering.clock n none) (λ n at. plain_clear numbering.clock n none)
+
+pub plain_of_film : (disc : ℕ → Option ℕ) (place : ℕ → ℕ) (fields : List Sightings) (answers : List Number)
+    (slack : ℕ) (numbering : Numbering) (may_end : Bool) (seen : List Sightings) (ends : List ℕ) (finding : Finding)
+    (old new : List Gap) → numbering.clock ≡ Plain → DiscRuns Film disc → Rises place
+    → AreAnswers Film fields answers → IsFinding Film slack numbering may_end seen answers ends finding old new
+    → finding.verdict ≡ yes
+    → wrong_weight (captured disc place) fields finding.first < enough
+    → wrong_weight (captured disc place) fields finding.last < enough → finding.first + 2 * reach ≤ finding.last
+    → (p q some : ℕ) × IsNear finding.first p × IsNear finding.last q × AreLost place p q some × (some ≤ 4)
+plain_of_film disc place fields answers slack numbering may_end seen ends finding old new none runs rises are is
+    verdict few low =
+    yes_of_film disc place fields answers slack numbering may_end seen ends finding old new
+    (plain_runs numbering.clock Film disc none runs) rises are is verdict few low
+    (λ n at. plain_clear numbering.clock n none) (λ n at. plain_clear numbering.clock n none)
+
 -- ---- no
 
 pub whole_lost : (pace : Pace) (slack : ℕ) (disc : ℕ → Option ℕ) (place : ℕ → ℕ) (answers : List Number)
     (numbering : Numbering) (may_end : Bool) (seen : List Sightings) (ends : List ℕ) (finding : Finding)
-    (old new : List Gap) → DiscRuns pace disc → Rises place
+    (old new : List Gap) → DiscCountsBy numbering.clock pace disc → Rises place
     → IsFinding pace slack numbering may_end seen answers ends finding old new
     → ((gap : Gap) → IsGap pace slack numbering seen answers ends gap → gap.kind ≡ lost
     → HasRightEnds (captured disc place) gap)
@@ -254,7 +352,7 @@ whole_lost pace slack disc place answers numbering may_end seen ends finding old
     sum = ap (λ (t : Tally). t.lost) is.told.comes_to
 
     go : IsUntold answers finding ⊎ ((m n : ℕ) × AreEnds answers finding.first m finding.last n
-        × (finding.reasons ≡ reasons_of pace slack may_end answers ends finding.tally is.swapped is.drifts
+        × (finding.reasons ≡ reasons_of numbering.clock pace slack may_end answers ends finding.tally is.swapped is.drifts
         finding.first m finding.last n))
         → LostAtLeast place finding.first finding.last finding.tally.lost
     go (inl (never, e, first, last)) = absurd (some never)
@@ -274,7 +372,7 @@ pub none_known : (pace : Pace) (slack : ℕ) (numbering : Numbering) (may_end : 
 none_known pace slack numbering may_end seen answers ends finding old new is never = go is.reasons
   where
     go : IsUntold answers finding ⊎ ((m n : ℕ) × AreEnds answers finding.first m finding.last n
-        × (finding.reasons ≡ reasons_of pace slack may_end answers ends finding.tally is.swapped is.drifts
+        × (finding.reasons ≡ reasons_of numbering.clock pace slack may_end answers ends finding.tally is.swapped is.drifts
         finding.first m finding.last n))
         → finding.verdict ≡ cannot_tell
     go (inl (always, e, first, last)) = is.verdict ∙ ap verdict_of e

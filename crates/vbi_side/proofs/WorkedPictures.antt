@@ -9,6 +9,8 @@ use Rattle.vbi_side.specs.declared.gap.Numbering.{Numbering}
 use Rattle.vbi_side.specs.declared.pace.Pace.TheVariants.{Video}
 use Rattle.vbi_side.specs.Sightings.{Shows}
 use Rattle.vbi_side.specs.Paces.{nearly}
+use Rattle.vbi_side.specs.declared.clock.Clock.{Clock}
+use Rattle.vbi_side.specs.Clocks.{kept}
 use Rattle.vbi_side.specs.Beliefs.{enough, weight_below, support_of, Believed}
 use Rattle.vbi_side.specs.Truth.{wrong_weight, video_disc}
 use Rattle.vbi_side.specs.Numbers.{believed, nothing, IsMarked, AreAnswers}
@@ -44,6 +46,13 @@ shown_is zero first i n shown = absurd shown
 shown_is (suc k) first zero n shown = omega (arith, shown_here first n shown)
 shown_is (suc k) first (suc zero) n shown = absurd (none_shown n shown)
 shown_is (suc k) first (suc (suc i)) n shown = omega (arith, shown_is k (suc first) i n shown)
+
+-- they are these
+pub shown_less : (k first i n : ℕ) → Shows (slice_get (pictures_from k first) i) n → n < first + k
+shown_less zero first i n shown = absurd shown
+shown_less (suc k) first zero n shown = omega (arith, shown_here first n shown)
+shown_less (suc k) first (suc zero) n shown = absurd (none_shown n shown)
+shown_less (suc k) first (suc (suc i)) n shown = omega (arith, shown_less k (suc first) i n shown)
 
 -- ---- what is answered of them
 
@@ -183,15 +192,18 @@ apart_by_two i m k n pair =
 near_each : (i m k n : ℕ) → i ≡ 2 * m → k ≡ 2 * n → nearly Video 0 i m k n ≡ true
 near_each i m k n first last = near_same (k + 2 * m) (i + 2 * n) (omega (arith, first, last))
 
-pub no_drift : (j : ℕ) → IsDrift Video 0 worked_answers j → ⊥
-no_drift j drift =
+pub no_drift : (clock : Clock) → ((n : ℕ) → n < 25 → kept clock n ≡ n) → (j : ℕ)
+    → IsDrift clock Video 0 worked_answers j → ⊥
+no_drift clock same j drift =
     let here = marked_is drift.i drift.m drift.here in
     let there = marked_is j drift.n drift.there in
-    let h : true ≡ false = sym (near_each drift.i drift.m j drift.n here.0 there.0) ∙ drift.apart in
+    let near = near_each drift.i (kept clock drift.m) j (kept clock drift.n)
+    (omega (arith, here.0, same drift.m here.1)) (omega (arith, there.0, same drift.n there.1)) in
+    let h : true ≡ false = sym near ∙ drift.apart in
     cc
 
-pub no_swap : (k : ℕ) → IsSwap worked_side worked_answers k → ⊥
-no_swap k swap =
+pub no_swap : (clock : Clock) (k : ℕ) → IsSwap clock worked_side worked_answers k → ⊥
+no_swap clock k swap =
     let here = marked_is swap.i swap.m swap.neighbours.here in
     let there = marked_is swap.j swap.n swap.neighbours.there in
     let two = apart_by_two swap.i swap.m swap.j swap.n swap.neighbours in
@@ -199,15 +211,15 @@ no_swap k swap =
     let dark = blank_at 25 0 swap.m here.1 in
     let at : slice_get worked_side k ≡ Some blank = subst (λ j. slice_get worked_side j ≡ Some blank)
     (sym place) dark in
-    let h : false ≡ true = subst (λ o. is_stray worked_answers swap.i swap.m k o ≡ true) at swap.stray in
+    let h : false ≡ true = subst (λ o. is_stray clock worked_answers swap.i swap.m k o ≡ true) at swap.stray in
     cc
 
 -- in a field with no number none ends, and each other number goes on
-pub no_gaps : (numbering : Numbering) (ends : List ℕ) (k : ℕ) → k ≤ 50
+pub no_gaps : (numbering : Numbering) → ((n : ℕ) → n < 25 → kept numbering.clock n ≡ n) → (ends : List ℕ) (k : ℕ) → k ≤ 50
     → AreGaps Video 0 numbering worked_side worked_answers ends k [] 0
 unfolding AreGaps
-no_gaps numbering ends zero le = (refl, refl)
-no_gaps numbering ends (suc k) le = go (no_gaps numbering ends k (omega (arith, le))) (halves k)
+no_gaps numbering same ends zero le = (refl, refl)
+no_gaps numbering same ends (suc k) le = go (no_gaps numbering same ends k (omega (arith, le))) (halves k)
   where
     halves : (n : ℕ) → (n ≡ 0) ⊎ ((t : ℕ) × (n ≡ 2 * (t + 1))) ⊎ ((t : ℕ) × (n ≡ 2 * t + 1))
     halves zero = inl refl
@@ -241,8 +253,9 @@ no_gaps numbering ends (suc k) le = go (no_gaps numbering ends k (omega (arith, 
               (marked_at 25 0 (t + 1) (omega (arith, e, le))));
           between = λ j l more less at. absurd (omega (arith, e, more, less, (marked_is j l at).0));
         };
-        near = near_each (2 * t) t k (t + 1) refl e;
+        near = near_same (k + 2 * kept numbering.clock t) (2 * t + 2 * kept numbering.clock (t + 1))
+            (omega (arith, e, same t (omega (arith, e, le)), same (t + 1) (omega (arith, e, le))));
       },
       before,
-      omega arith,
+      omega (arith, same t (omega (arith, e, le)), same (t + 1) (omega (arith, e, le))),
     ))

@@ -15,7 +15,9 @@ use Rattle.vbi_side.specs.declared.gap.Tally.{Tally}
 use Rattle.vbi_side.specs.declared.gap.Place.{Place}
 use Rattle.vbi_side.specs.declared.pace.Pace.{Pace}
 use Rattle.vbi_side.specs.declared.pace.Pace.TheVariants.{Video, Film}
-use Rattle.vbi_side.specs.Paces.{nearly, stays}
+use Rattle.vbi_side.specs.Paces.{stays}
+use Rattle.vbi_side.specs.Clocks.{kept, nearly_by, is_plain}
+use Rattle.vbi_side.specs.declared.clock.Clock.{Clock}
 use Rattle.vbi_side.specs.Numbers.{IsMarked}
 use Rattle.vbi_side.specs.Ends.{lead_out, lead_in}
 
@@ -49,13 +51,14 @@ stands Times = false
 abbrev pub has_stills : Numbering → Bool
 has_stills numbering = stands numbering.counted
 
--- the numbers keep to a clock: NTSC counts 30 times to a second that has 29.97 pictures
+-- the numbers keep to a clock, whichever it is: NTSC counts 30 times to a second that has 29.97 pictures
 abbrev pub keeps_time : System → Counted → Bool
 keeps_time Ntsc Times = true
 keeps_time _ _ = false
 
+-- it isn't known to which
 abbrev pub has_clock : Numbering → Bool
-has_clock numbering = keeps_time numbering.system numbering.counted
+has_clock numbering = keeps_time numbering.system numbering.counted && is_plain numbering.clock
 
 -- so many fields at least are too few between number m in field i and number n in field k: of video just so many, of
 -- film the least that leaves the numbers to fit
@@ -67,12 +70,20 @@ lacking Film i m k n = ((2 * i + 5 * n) - (2 * k + 5 * m) - 1) / 2
 abbrev pub off_by : Pace → ℕ → ℕ → ℕ → ℕ → ℕ
 off_by pace i m k n = lacking pace i m k n + lacking pace k n i m
 
--- the disc itself may skip between them: a clock leaves out one number or two; where film is cut over a number that
+-- the same by the clock, which counts only the numbers that the disc has
+abbrev pub lacking_by : Clock → Pace → ℕ → ℕ → ℕ → ℕ → ℕ
+lacking_by clock pace i m k n = lacking pace i (kept clock m) k (kept clock n)
+
+abbrev pub off_by_clock : Clock → Pace → ℕ → ℕ → ℕ → ℕ → ℕ
+off_by_clock clock pace i m k n = off_by pace i (kept clock m) k (kept clock n)
+
+-- the disc itself may skip between them: a clock that isn't known leaves out one number or two; where film is cut over a number that
 -- wasn't read, the next one stands a field off
 abbrev pub is_open : Pace → Numbering → ℕ → ℕ → ℕ → ℕ → Bool
 is_open Video numbering i m k n =
-    has_clock numbering && (lacking Video i m k n == 2 || lacking Video i m k n == 4)
-is_open Film numbering i m k n = nat_lt (m + 1) n && (off_by Film i m k n == 1)
+    has_clock numbering
+    && (lacking_by numbering.clock Video i m k n == 2 || lacking_by numbering.clock Video i m k n == 4)
+is_open Film numbering i m k n = nat_lt (m + 1) n && (off_by_clock numbering.clock Film i m k n == 1)
 
 -- what lies between numbers that don't go on, of which an end of a side stands between or not
 abbrev pub kind_of : Pace → Numbering → Bool → ℕ → ℕ → ℕ → ℕ → ℕ
@@ -81,7 +92,7 @@ kind_of pace numbering ended i m k n =
     else (if has_stills numbering && stays i m k n then still
     else (if nat_lt n m then back
     else (if is_open pace numbering i m k n then open_gap
-    else (if nat_lt 0 (lacking pace i m k n) then lost
+    else (if nat_lt 0 (lacking_by numbering.clock pace i m k n) then lost
     else held))))
 
 -- by how many fields: those too few or too many, less the one that numbers on both fields may be off, or those of the
@@ -106,16 +117,17 @@ gap_made i m k n kind fields shown = record {
   kind = kind;
 }
 
--- the gap of this kind
-abbrev pub gap_as : Pace → ℕ → ℕ → ℕ → ℕ → ℕ → ℕ → ℕ → Gap
-gap_as pace slack kind shown i m k n = gap_made i m k n kind (fields_of pace slack kind i m k n) shown
+-- the gap of this kind, whose fields are counted by the clock
+abbrev pub gap_as : Clock → Pace → ℕ → ℕ → ℕ → ℕ → ℕ → ℕ → ℕ → Gap
+gap_as clock pace slack kind shown i m k n =
+    gap_made i m k n kind (fields_of pace slack kind i (kept clock m) k (kept clock n)) shown
 
 -- the gap between number m in field i and number n in field k, or none if they go on: `slack` is 1 of a disc with a
 -- number on both fields of its pictures, else 0; so many fields between show a number between
 abbrev pub gap_of : Pace → ℕ → Numbering → Bool → ℕ → ℕ → ℕ → ℕ → ℕ → Option Gap
 gap_of pace slack numbering ended shown i m k n =
-    if nearly pace slack i m k n then None
-    else Some (gap_as pace slack (kind_of pace numbering ended i m k n) shown i m k n)
+    if nearly_by numbering.clock pace slack i m k n then None
+    else Some (gap_as numbering.clock pace slack (kind_of pace numbering ended i m k n) shown i m k n)
 
 -- ---- what a field shows beyond doubt
 
@@ -171,14 +183,14 @@ IsLast answers k (Some place) = (place.field < k) × IsMarked answers place.fiel
 abbrev pub IsFree : List Number → ℕ → Type 0
 IsFree answers k = ((n : ℕ) → IsMarked answers k n → ⊥) ⊎ ((j l : ℕ) → j < k → IsMarked answers j l → ⊥)
 
--- the numbers that two fields skip which go on: they are there, unread
-abbrev pub skipped : ℕ → ℕ → ℕ
-skipped m n = n - m - 1
+-- the numbers that two fields skip which go on: they are there, unread, but for those that the clock leaves out
+abbrev pub skipped : Clock → ℕ → ℕ → ℕ
+skipped clock m n = kept clock n - kept clock m - 1
 
 -- the numbers of fields i and k, which are neighbours, go on
-pub record GoesOn (pace : Pace) (slack : ℕ) (answers : List Number) (i m k n : ℕ) : Type 0 where
+pub record GoesOn (clock : Clock) (pace : Pace) (slack : ℕ) (answers : List Number) (i m k n : ℕ) : Type 0 where
   pub neighbours : AreNeighbours answers i m k n
-  pub near : nearly pace slack i m k n ≡ true
+  pub near : nearly_by clock pace slack i m k n ≡ true
 
 -- it is the gap between two neighbours
 pub record IsGap (pace : Pace) (slack : ℕ) (numbering : Numbering) (seen : List Sightings) (answers : List Number)
@@ -194,8 +206,8 @@ unfoldable pub AreGaps : Pace → ℕ → Numbering → List Sightings → List 
 AreGaps pace slack numbering seen answers ends zero gaps unread = (gaps ≡ []) × (unread ≡ 0)
 AreGaps pace slack numbering seen answers ends (suc k) gaps unread =
     (IsFree answers k × AreGaps pace slack numbering seen answers ends k gaps unread)
-    ⊎ ((i m n fewer : ℕ) × GoesOn pace slack answers i m k n
-    × AreGaps pace slack numbering seen answers ends k gaps fewer × (unread ≡ fewer + skipped m n))
+    ⊎ ((i m n fewer : ℕ) × GoesOn numbering.clock pace slack answers i m k n
+    × AreGaps pace slack numbering seen answers ends k gaps fewer × (unread ≡ fewer + skipped numbering.clock m n))
     ⊎ ((one : Gap) × (others : List Gap) × IsGap pace slack numbering seen answers ends one × (one.before ≡ k)
     × AreGaps pace slack numbering seen answers ends k others unread × (gaps ≡ others ++ one ∷ []))
 
@@ -218,15 +230,15 @@ fields_if kind gap = if gap.kind == kind then gap.fields else 0
 abbrev pub shown_most : Gap → ℕ
 shown_most gap = max gap.shown ((gap.before - gap.after - 1) / 2)
 
--- of the numbers between those of a gap with lost fields so many at least are lost
-abbrev pub lost_of : Gap → ℕ
-lost_of gap = if gap.kind == lost then skipped gap.from gap.to - shown_most gap else 0
+-- of the numbers between those of a gap with lost fields so many at least are lost; none is that the clock leaves out
+abbrev pub lost_of : Clock → Gap → ℕ
+lost_of clock gap = if gap.kind == lost then skipped clock gap.from gap.to - shown_most gap else 0
 
 -- of the others it isn't known, nor of those between the numbers of an open gap
-abbrev pub undecided_of : Gap → ℕ
-undecided_of gap =
-    if gap.kind == lost then min (skipped gap.from gap.to) (shown_most gap)
-    else (if gap.kind == open_gap then skipped gap.from gap.to else 0)
+abbrev pub undecided_of : Clock → Gap → ℕ
+undecided_of clock gap =
+    if gap.kind == lost then min (skipped clock gap.from gap.to) (shown_most gap)
+    else (if gap.kind == open_gap then skipped clock gap.from gap.to else 0)
 
 -- the field after the last still, if that was field `end` before this gap
 abbrev pub still_end_of : ℕ → Gap → ℕ
@@ -247,8 +259,8 @@ stills_of end [] = 0
 stills_of end (gap ∷ gaps) = begins_still end gap + stills_of (still_end_of end gap) gaps
 
 -- what the gaps come to
-abbrev pub tally_of : List Gap → ℕ → Tally
-tally_of gaps unread = record {
+abbrev pub tally_of : Clock → List Gap → ℕ → Tally
+tally_of clock gaps unread = record {
   gaps = length gaps;
   lost = capped (sum_by (fields_if lost) gaps);
   held = capped (sum_by (fields_if held) gaps);
@@ -258,14 +270,14 @@ tally_of gaps unread = record {
   back = capped (sum_by (one_if back) gaps);
   joined = capped (sum_by (one_if joined) gaps);
   open_gaps = capped (sum_by (one_if open_gap) gaps);
-  lost_numbers = capped (sum_by lost_of gaps);
-  undecided = capped (sum_by undecided_of gaps);
+  lost_numbers = capped (sum_by (lost_of clock) gaps);
+  undecided = capped (sum_by (undecided_of clock) gaps);
   unread = capped unread;
 }
 
 -- the same with one gap more
-abbrev pub with_gap : Tally → Gap → Tally
-with_gap tally gap = record {
+abbrev pub with_gap : Clock → Tally → Gap → Tally
+with_gap clock tally gap = record {
   gaps = tally.gaps + 1;
   lost = capped (tally.lost + fields_if lost gap);
   held = capped (tally.held + fields_if held gap);
@@ -275,8 +287,8 @@ with_gap tally gap = record {
   back = capped (tally.back + one_if back gap);
   joined = capped (tally.joined + one_if joined gap);
   open_gaps = capped (tally.open_gaps + one_if open_gap gap);
-  lost_numbers = capped (tally.lost_numbers + lost_of gap);
-  undecided = capped (tally.undecided + undecided_of gap);
+  lost_numbers = capped (tally.lost_numbers + lost_of clock gap);
+  undecided = capped (tally.undecided + undecided_of clock gap);
   unread = tally.unread;
 }
 
@@ -296,14 +308,14 @@ pub record IsTold (pace : Pace) (slack : ℕ) (numbering : Numbering) (seen : Li
   pub gaps : List Gap
   pub unread : ℕ
   pub all : AreGaps pace slack numbering seen answers ends k gaps unread
-  pub comes_to : tally ≡ tally_of gaps unread
+  pub comes_to : tally ≡ tally_of numbering.clock gaps unread
   pub written : AreWritten gaps old new
 
 -- ---- what is true of them
 
--- numbers m and n are believed of fields i and j and, at video's pace, count to each other
-abbrev pub CountTo : ℕ → ℕ → ℕ → ℕ → Type 0
-CountTo i m j n = j + 2 * m ≡ i + 2 * n
+-- numbers m and n are believed of fields i and j and, at video's pace and by the clock, count to each other
+abbrev pub CountTo : Clock → ℕ → ℕ → ℕ → ℕ → Type 0
+CountTo clock i m j n = j + 2 * kept clock m ≡ i + 2 * kept clock n
 
 -- the numbers at both ends of the gap are those that its fields have on the disc
 abbrev pub HasRightEnds : (ℕ → Option ℕ) → Gap → Type 0

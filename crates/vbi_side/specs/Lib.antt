@@ -1,6 +1,7 @@
 pub mod Sightings
 pub mod Lines
 pub mod Paces
+pub mod Clocks
 pub mod Beliefs
 pub mod Ahead
 pub mod Due
@@ -18,6 +19,7 @@ pub mod Stops
 pub mod Side
 pub mod Ends
 pub mod Gaps
+pub mod ClocksFound
 pub mod Verdicts
 pub mod Swaps
 pub mod Both

@@ -7,7 +7,8 @@ use Rattle.vbi_side.specs.declared.gap.Place.{Place}
 use Rattle.vbi_side.specs.declared.pace.Pace.{Pace}
 use Rattle.vbi_side.specs.declared.pace.Pace.TheVariants.{Video}
 use Rattle.vbi_side.specs.declared.sighting.Sightings.{Sightings}
-use Rattle.vbi_side.specs.Paces.{fits}
+use Rattle.vbi_side.specs.declared.clock.Clock.{Clock}
+use Rattle.vbi_side.specs.Clocks.{kept, clock_fits}
 use Rattle.vbi_side.specs.Gaps.{AreNeighbours}
 use Rattle.vbi_side.specs.declared.sighting.Sighting.{Sighting}
 
@@ -24,42 +25,43 @@ is_believed_as None p = false
 abbrev pub is_beside : List Number → ℕ → ℕ → Bool
 is_beside answers k p = is_believed_as (slice_get answers (k - 1)) p || is_believed_as (slice_get answers (k + 1)) p
 
--- what a line shows stands off so, and isn't the number of a field beside it
-abbrev pub shows_off : List Number → ℕ → ℕ → ℕ → Sighting → Bool
-shows_off answers i m k sighting =
-    nat_lt 0 sighting.weight && stands_off i m k sighting.number && not (is_beside answers k sighting.number)
+-- what a line shows stands off so by the clock, and isn't the number of a field beside it
+abbrev pub shows_off : Clock → List Number → ℕ → ℕ → ℕ → Sighting → Bool
+shows_off clock answers i m k sighting =
+    nat_lt 0 sighting.weight && stands_off i (kept clock m) k (kept clock sighting.number) && not (is_beside answers k sighting.number)
 
 -- one of a field's lines does
-abbrev pub is_stray : List Number → ℕ → ℕ → ℕ → Option Sightings → Bool
-is_stray answers i m k None = false
-is_stray answers i m k (Some field) =
-    shows_off answers i m k field.line_17 || shows_off answers i m k field.line_18
+abbrev pub is_stray : Clock → List Number → ℕ → ℕ → ℕ → Option Sightings → Bool
+is_stray clock answers i m k None = false
+is_stray clock answers i m k (Some field) =
+    shows_off clock answers i m k field.line_17 || shows_off clock answers i m k field.line_18
 
--- field k was swapped with one beside it: between two neighbours that go on as video does it shows a number that stands
+-- field k was swapped with one beside it: between two neighbours that go on as video does, by the clock, it shows a number that stands
 -- a field off
-pub record IsSwap (seen : List Sightings) (answers : List Number) (k : ℕ) : Type 0 where
+pub record IsSwap (clock : Clock) (seen : List Sightings) (answers : List Number) (k : ℕ) : Type 0 where
   pub i : ℕ
   pub m : ℕ
   pub j : ℕ
   pub n : ℕ
   pub neighbours : AreNeighbours answers i m j n
-  pub on : fits Video i m j n ≡ true
+  pub on : clock_fits clock i m j n ≡ true
   pub behind : i < k
   pub before : k < j
-  pub stray : is_stray answers i m k (slice_get seen k) ≡ true
+  pub stray : is_stray clock answers i m k (slice_get seen k) ≡ true
 
 -- of a disc of video with a number on one field of its pictures: a field was swapped, the one that is named, or none
 -- was
-abbrev pub IsSwapTold : Pace → ℕ → List Sightings → List Number → ℕ → Bool → Type 0
-IsSwapTold pace slack seen answers field true = (pace ≡ Video) × (slack ≡ 0) × IsSwap seen answers field
-IsSwapTold pace slack seen answers field false =
-    (field ≡ 0) × (pace ≡ Video → slack ≡ 0 → (k : ℕ) → IsSwap seen answers k → ⊥)
+abbrev pub IsSwapTold : Clock → Pace → ℕ → List Sightings → List Number → ℕ → Bool → Type 0
+IsSwapTold clock pace slack seen answers field true =
+    (pace ≡ Video) × (slack ≡ 0) × IsSwap clock seen answers field
+IsSwapTold clock pace slack seen answers field false =
+    (field ≡ 0) × (pace ≡ Video → slack ≡ 0 → (k : ℕ) → IsSwap clock seen answers k → ⊥)
 
 -- of the fields after the last number and before this one, the one that was found stands off, or none does
-abbrev pub AreStrays : List Sightings → List Number → Option Place → ℕ → Option ℕ → Type 0
-AreStrays seen answers None field None = Unit {0}
-AreStrays seen answers None field (Some k) = ⊥
-AreStrays seen answers (Some place) field None =
-    (k : ℕ) → place.field < k → k < field → is_stray answers place.field place.number k (slice_get seen k) ≡ true → ⊥
-AreStrays seen answers (Some place) field (Some k) =
-    (place.field < k) × (k < field) × (is_stray answers place.field place.number k (slice_get seen k) ≡ true)
+abbrev pub AreStrays : Clock → List Sightings → List Number → Option Place → ℕ → Option ℕ → Type 0
+AreStrays clock seen answers None field None = Unit {0}
+AreStrays clock seen answers None field (Some k) = ⊥
+AreStrays clock seen answers (Some place) field None =
+    (k : ℕ) → place.field < k → k < field → is_stray clock answers place.field place.number k (slice_get seen k) ≡ true → ⊥
+AreStrays clock seen answers (Some place) field (Some k) =
+    (place.field < k) × (k < field) × (is_stray clock answers place.field place.number k (slice_get seen k) ≡ true)

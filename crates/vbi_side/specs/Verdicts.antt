@@ -8,6 +8,9 @@ use Rattle.vbi_side.specs.declared.verdict.Finding.{Finding}
 use Rattle.vbi_side.specs.declared.pace.Pace.{Pace}
 use Rattle.vbi_side.specs.declared.pace.Pace.TheVariants.{Video, Film}
 use Rattle.vbi_side.specs.Paces.{nearly}
+use Rattle.vbi_side.specs.Clocks.{kept}
+use Rattle.vbi_side.specs.declared.clock.Clock.{Clock}
+use Rattle.vbi_side.specs.declared.clock.Clock.TheVariants.{Plain}
 use Rattle.vbi_side.specs.Numbers.{IsMarked}
 use Rattle.vbi_side.specs.Side.{AreEnds}
 use Rattle.vbi_side.specs.Gaps.{since_end, IsTold, tally_of}
@@ -74,11 +77,12 @@ abbrev pub are_doubtful : List Number → Bool
 are_doubtful answers =
     nat_le (count_of 1 answers + count_of 2 answers) (10 * count_of 2 answers)
 
--- all reasons against a capture whose first and last believed numbers are m in field `first` and n in field `last`
-abbrev pub reasons_of : Pace → ℕ → Bool → List Number → List ℕ → Tally → Bool → Bool → ℕ → ℕ → ℕ → ℕ → ℕ
-reasons_of pace slack may_end answers ends tally swapped drifts first m last n =
-    seen_reasons pace ends tally first m + reason 32 swapped
-    + reason 64 (drifts || is_off pace slack tally first m last n)
+-- all reasons against a capture whose first and last believed numbers are m in field `first` and n in field `last`; how
+-- far these are from each other and from the disc's beginning is counted by the clock
+abbrev pub reasons_of : Clock → Pace → ℕ → Bool → List Number → List ℕ → Tally → Bool → Bool → ℕ → ℕ → ℕ → ℕ → ℕ
+reasons_of clock pace slack may_end answers ends tally swapped drifts first m last n =
+    seen_reasons pace ends tally first (kept clock m) + reason 32 swapped
+    + reason 64 (drifts || is_off pace slack tally first (kept clock m) last (kept clock n))
     + reason 256 (is_end_unseen may_end ends last) + reason 512 (is_begin_unseen ends first m)
     + reason 1024 (are_doubtful answers) + reason 2048 (nat_lt 0 tally.open_gaps)
 
@@ -96,19 +100,19 @@ pub record IsFinding (pace : Pace) (slack : ℕ) (numbering : Numbering) (may_en
     (answers : List Number) (ends : List ℕ) (finding : Finding) (old new : List Gap) : Type 0 where
   pub told : IsTold pace slack numbering seen answers ends (length answers) finding.tally old new
   pub swapped : Bool
-  pub swap : IsSwapTold pace slack seen answers finding.swap swapped
+  pub swap : IsSwapTold numbering.clock pace slack seen answers finding.swap swapped
   pub drifts : Bool
-  pub drift : IsDriftTold pace slack answers drifts
+  pub drift : IsDriftTold numbering.clock pace slack answers drifts
   pub verdict : finding.verdict ≡ verdict_of finding.reasons
   pub reasons : IsUntold answers finding
       ⊎ ((m n : ℕ) × AreEnds answers finding.first m finding.last n
-      × (finding.reasons ≡ reasons_of pace slack may_end answers ends finding.tally swapped drifts
+      × (finding.reasons ≡ reasons_of numbering.clock pace slack may_end answers ends finding.tally swapped drifts
       finding.first m finding.last n))
 
 -- what is said of a capture with no gap from the first field with a number to the last, to which nothing is to be said
 abbrev pub found_whole : ℕ → ℕ → Finding
 found_whole first last = record {
-  tally = tally_of [] 0;
+  tally = tally_of Plain [] 0;
   first = first;
   last = last;
   swap = 0;

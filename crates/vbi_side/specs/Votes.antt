@@ -13,6 +13,8 @@ use Rattle.vbi_side.specs.declared.pace.Pace.TheVariants.{Video}
 use Rattle.vbi_side.specs.Sightings.{Shows}
 use Rattle.vbi_side.specs.Lines.{rate_of, code_in}
 use Rattle.vbi_side.specs.Paces.{fits}
+use Rattle.vbi_side.specs.declared.clock.Clock.{Clock}
+use Rattle.vbi_side.specs.Clocks.{left_out, clock_fits}
 use Rattle.vbi_side.specs.Beliefs.{field_most, field_weight}
 use Rattle.vbi_side.specs.Truth.{is_recorded}
 
@@ -97,6 +99,18 @@ IsCompleted system line_16 fields i word =
 abbrev pub RunsFrom : (ℕ → Option ℕ) → ℕ → ℕ → Type 0
 RunsFrom recorded i m = (j n : ℕ) → IsVoter i j → recorded j ≡ Some n → fits Video i m j n ≡ true
 
+-- the disc counted by the clock around field i, where it counts number m: the numbers that it has within reach fit that
+-- one by the clock, which leaves out fewer between than a minute has
+abbrev pub RunsFromBy : Clock → ℕ → (ℕ → Option ℕ) → ℕ → ℕ → Type 0
+RunsFromBy clock minute recorded i m = (j n : ℕ) → IsVoter i j → recorded j ≡ Some n
+    → (clock_fits clock i m j n ≡ true) × (left_out clock n < left_out clock m + minute)
+    × (left_out clock m < left_out clock n + minute)
+
+-- it ran on, or it counted by some clock, and its number there has this part of a minute
+abbrev pub RanAround : (ℕ → Option ℕ) → ℕ → ℕ → ℕ → ℕ → Type 0
+RanAround recorded minute i part m =
+    RunsFrom recorded i m ⊎ ((m % minute ≡ part) × ((clock : Clock) × RunsFromBy clock minute recorded i m))
+
 -- the weight of the votes that were read rightly
 abbrev pub right_votes : (ℕ → Option ℕ) → ℕ → List Sightings → ℕ → ℕ → ℕ
 right_votes recorded minute fields i part =
@@ -107,18 +121,19 @@ abbrev pub wrong_votes : (ℕ → Option ℕ) → ℕ → List Sightings → ℕ
 wrong_votes recorded minute fields i part =
     weight_of_first (λ j n. votes minute i part j n && not (is_recorded (recorded j) n)) fields (length fields)
 
--- around field i, where the disc counts number m, it ran on, and the wrong votes weigh less than the right ones, or
+-- around field i, where the disc counts number m, it ran on, maybe by a clock, and the wrong votes weigh less than the
+-- right ones, or
 -- less than a number needs to be elected
 pub record IsVotedSoundly (recorded : ℕ → Option ℕ) (minute : ℕ) (fields : List Sightings) (i part m : ℕ)
     : Type 0 where
-  pub runs : RunsFrom recorded i m
+  pub runs : RanAround recorded minute i part m
   pub few : (wrong_votes recorded minute fields i part < right_votes recorded minute fields i part)
       ⊎ (wrong_votes recorded minute fields i part < field_most)
 
 -- around field i, where the disc counts number m with this part of a minute, it ran on, and the wrong votes weigh less
 -- than the right ones, which weigh at least what a number needs
 pub record IsVotedRightly (recorded : ℕ → Option ℕ) (minute : ℕ) (fields : List Sightings) (i part m : ℕ) : Type 0 where
-  pub runs : RunsFrom recorded i m
+  pub runs : RanAround recorded minute i part m
   pub part_is : m % minute ≡ part
   pub most : wrong_votes recorded minute fields i part < right_votes recorded minute fields i part
   pub some : field_most ≤ right_votes recorded minute fields i part

@@ -3,6 +3,8 @@ use Rattle.std.specs.Prelude.{ℕ, zero, suc, List, [], ◌∷◌, replicate}
 use Rattle.vbi_words.specs.declared.system.System.TheVariants.{Ntsc, Pal}
 use Rattle.vbi_side.specs.declared.lines.Counted.TheVariants.{Pictures, Times}
 use Rattle.vbi_side.specs.declared.gap.Numbering.{Numbering}
+use Rattle.vbi_side.specs.declared.clock.Clock.{Clock}
+use Rattle.vbi_side.specs.declared.clock.Clock.TheVariants.{Plain}
 use Rattle.vbi_side.specs.declared.gap.Gap.{Gap}
 use Rattle.vbi_side.specs.declared.number.Number.{Number}
 use Rattle.vbi_side.specs.declared.sighting.Sightings.{Sightings}
@@ -12,16 +14,20 @@ use Rattle.vbi_side.specs.Gaps.{lost, still, gap_made}
 
 -- pictures, and times that keep to a clock or don't
 abbrev pub cav : Numbering
-cav = record { system = Ntsc; counted = Pictures }
+cav = record { system = Ntsc; counted = Pictures; clock = Plain }
 
 abbrev pub cav_pal : Numbering
-cav_pal = record { system = Pal; counted = Pictures }
+cav_pal = record { system = Pal; counted = Pictures; clock = Plain }
 
 abbrev pub clv : Numbering
-clv = record { system = Ntsc; counted = Times }
+clv = record { system = Ntsc; counted = Times; clock = Plain }
 
 abbrev pub clv_pal : Numbering
-clv_pal = record { system = Pal; counted = Times }
+clv_pal = record { system = Pal; counted = Times; clock = Plain }
+
+-- times of a disc that leaves out numbers by this clock
+abbrev pub clv_by : Clock → Numbering
+clv_by clock = record { system = Ntsc; counted = Times; clock = clock }
 
 -- a still of three pictures more than the first, a loss, and a still of one picture more
 abbrev pub two_stills : List Gap

@@ -6,12 +6,13 @@
 //! at the two that stand earliest and latest for their numbers.
 
 ghost use Rattle.std.specs.Prelude.{◌≡◌, ℕ, ◌+◌, ◌*◌, ◌<◌, ◌≤◌, ◌^◌, ◌⊎◌, true, false, length, Some, None};
-ghost use Rattle.vbi_side.specs.Paces.{nearly};
+ghost use Rattle.vbi_side.specs.Clocks.{nearly_by};
 ghost use Rattle.vbi_side.specs.Numbers.{IsMarked};
 ghost use Rattle.vbi_side.specs.Gaps.{IsLast};
-ghost use Rattle.vbi_side.specs.Drifts.{leads, IsApart, IsSpread, IsSpreadBefore, IsDrift, IsDriftTold};
+ghost use Rattle.vbi_side.specs.Drifts.{leads, leads_by, IsApart, IsSpread, IsSpreadBefore, IsDrift, IsDriftTold};
 
-use crate::gap::{Place, Rule, goes_on};
+use crate::clock::Clock;
+use crate::gap::{Place, Rule, by_clock, goes_on_by};
 use crate::number::Number;
 use crate::pace::Pace;
 
@@ -44,14 +45,23 @@ fn leads(pace: Pace, here: Place, there: Place) -> bool
     }
 }
 
-/// The one of two that stands earlier.
-fn earlier(pace: Pace, here: Place, there: Place) -> Place
+/// The same by the clock.
+fn leads_by(clock: Clock, pace: Pace, here: Place, there: Place) -> bool
     requires here { here.field < 2 ^ 60 }
     requires there { there.field < 2 ^ 60 }
-    ensures { ((result ≡ here) × (leads pace here.field here.number there.field there.number ≡ true))
-        ⊎ ((result ≡ there) × (leads pace there.field there.number here.field here.number ≡ true)) }
+    ensures { result ≡ leads_by clock pace here.field here.number there.field there.number }
 {
-    if leads(pace, here, there) {
+    leads(pace, by_clock(clock, here), by_clock(clock, there))
+}
+
+/// The one of two that stands earlier.
+fn earlier(clock: Clock, pace: Pace, here: Place, there: Place) -> Place
+    requires here { here.field < 2 ^ 60 }
+    requires there { there.field < 2 ^ 60 }
+    ensures { ((result ≡ here) × (leads_by clock pace here.field here.number there.field there.number ≡ true))
+        ⊎ ((result ≡ there) × (leads_by clock pace there.field there.number here.field here.number ≡ true)) }
+{
+    if leads_by(clock, pace, here, there) {
         here
     } else {
         there
@@ -59,13 +69,13 @@ fn earlier(pace: Pace, here: Place, there: Place) -> Place
 }
 
 /// The one of two that stands later.
-fn later(pace: Pace, here: Place, there: Place) -> Place
+fn later(clock: Clock, pace: Pace, here: Place, there: Place) -> Place
     requires here { here.field < 2 ^ 60 }
     requires there { there.field < 2 ^ 60 }
-    ensures { ((result ≡ here) × (leads pace there.field there.number here.field here.number ≡ true))
-        ⊎ ((result ≡ there) × (leads pace here.field here.number there.field there.number ≡ true)) }
+    ensures { ((result ≡ here) × (leads_by clock pace there.field there.number here.field here.number ≡ true))
+        ⊎ ((result ≡ there) × (leads_by clock pace here.field here.number there.field there.number ≡ true)) }
 {
-    if leads(pace, there, here) {
+    if leads_by(clock, pace, there, here) {
         here
     } else {
         there
@@ -76,8 +86,8 @@ fn later(pace: Pace, here: Place, there: Place) -> Place
 fn begun(numbers: &[Number], rule: Rule, before: Option<Place>, first: Place) -> Stretch
     requires before { IsLast numbers.now first.field before }
     requires first { IsMarked numbers.now first.field first.number }
-    requires apart { IsApart rule.pace rule.slack before first }
-    ensures { IsSpread rule.pace rule.slack numbers.now (first.field + 1) result }
+    requires apart { IsApart rule.numbering.clock rule.pace rule.slack before first }
+    ensures { IsSpread rule.numbering.clock rule.pace rule.slack numbers.now (first.field + 1) result }
 {
     let _numbers = numbers;
     let _rule = rule;
@@ -93,14 +103,14 @@ fn begun(numbers: &[Number], rule: Rule, before: Option<Place>, first: Place) ->
 /// The stretch with one number more, which goes on.
 fn extended(numbers: &[Number], rule: Rule, stretch: Stretch, there: Place) -> Stretch
     requires far { there.field < 2 ^ 60 }
-    requires spread { IsSpread rule.pace rule.slack numbers.now there.field stretch }
+    requires spread { IsSpread rule.numbering.clock rule.pace rule.slack numbers.now there.field stretch }
     requires there { IsMarked numbers.now there.field there.number }
-    requires on { nearly rule.pace rule.slack stretch.last.field stretch.last.number there.field there.number ≡ true }
-    ensures { IsSpread rule.pace rule.slack numbers.now (there.field + 1) result }
+    requires on { nearly_by rule.numbering.clock rule.pace rule.slack stretch.last.field stretch.last.number there.field there.number ≡ true }
+    ensures { IsSpread rule.numbering.clock rule.pace rule.slack numbers.now (there.field + 1) result }
 {
     let _numbers = numbers;
-    let low = earlier(rule.pace, stretch.low, there);
-    let high = later(rule.pace, stretch.high, there);
+    let low = earlier(rule.numbering.clock, rule.pace, stretch.low, there);
+    let high = later(rule.numbering.clock, rule.pace, stretch.high, there);
     Stretch {
         before: stretch.before,
         first: stretch.first,
@@ -119,8 +129,8 @@ fn with_field(
 ) -> Option<Stretch>
     requires slack { rule.slack ≤ 1 }
     requires inside { field < length numbers.now }
-    requires spread { IsSpreadBefore rule.pace rule.slack numbers.now field stretch }
-    ensures { IsSpreadBefore rule.pace rule.slack numbers.now (field + 1) result }
+    requires spread { IsSpreadBefore rule.numbering.clock rule.pace rule.slack numbers.now field stretch }
+    ensures { IsSpreadBefore rule.numbering.clock rule.pace rule.slack numbers.now (field + 1) result }
 {
     let answer = numbers[field];
     if !answer.is_believed() {
@@ -133,7 +143,7 @@ fn with_field(
     let Some(on) = stretch else {
         return Some(begun(numbers, rule, None, there));
     };
-    if goes_on(rule.pace, rule.slack, on.last, there) {
+    if goes_on_by(rule.numbering.clock, rule.pace, rule.slack, on.last, there) {
         Some(extended(numbers, rule, on, there))
     } else {
         Some(begun(numbers, rule, Some(on.last), there))
@@ -144,9 +154,9 @@ fn with_field(
 fn drifts_at(numbers: &[Number], rule: Rule, field: usize, stretch: Option<Stretch>) -> bool
     requires slack { rule.slack ≤ 1 }
     requires inside { field < length numbers.now }
-    requires spread { IsSpreadBefore rule.pace rule.slack numbers.now field stretch }
-    ensures drifts { result ≡ true → IsDrift rule.pace rule.slack numbers.now field }
-    ensures none { result ≡ false → IsDrift rule.pace rule.slack numbers.now field → ⊥ }
+    requires spread { IsSpreadBefore rule.numbering.clock rule.pace rule.slack numbers.now field stretch }
+    ensures drifts { result ≡ true → IsDrift rule.numbering.clock rule.pace rule.slack numbers.now field }
+    ensures none { result ≡ false → IsDrift rule.numbering.clock rule.pace rule.slack numbers.now field → ⊥ }
 {
     let answer = numbers[field];
     if !answer.is_believed() {
@@ -159,19 +169,19 @@ fn drifts_at(numbers: &[Number], rule: Rule, field: usize, stretch: Option<Stret
     let Some(on) = stretch else {
         return false;
     };
-    if !goes_on(rule.pace, rule.slack, on.last, there) {
+    if !goes_on_by(rule.numbering.clock, rule.pace, rule.slack, on.last, there) {
         return false;
     }
-    if !goes_on(rule.pace, rule.slack, on.low, there) {
+    if !goes_on_by(rule.numbering.clock, rule.pace, rule.slack, on.low, there) {
         return true;
     }
-    !goes_on(rule.pace, rule.slack, on.high, there)
+    !goes_on_by(rule.numbering.clock, rule.pace, rule.slack, on.high, there)
 }
 
 /// Whether the numbers of some stretch don't count to each other.
 pub(crate) fn has_drift(numbers: &[Number], rule: Rule) -> bool
     requires { rule.slack ≤ 1 }
-    ensures { IsDriftTold rule.pace rule.slack numbers.now result }
+    ensures { IsDriftTold rule.numbering.clock rule.pace rule.slack numbers.now result }
 {
     let mut stretch: Option<Stretch> = None;
     for field in 0..numbers.len() {

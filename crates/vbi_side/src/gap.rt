@@ -4,7 +4,9 @@ ghost use Rattle.std.specs.Prelude.{◌≡◌, ◌+◌, ◌*◌, ◌<◌, ◌≤
 ghost use Rattle.vbi_side.specs.Paces.{nearly, stays};
 ghost use Rattle.vbi_side.specs.Gaps.{lacking, has_stills, has_clock, off_by, is_open, kind_of, fields_of, gap_of};
 ghost use Rattle.vbi_side.specs.Gaps.{skipped, shown_most, lost_of, undecided_of, fields_if, one_if};
+ghost use Rattle.vbi_side.specs.Clocks.{kept, is_plain, nearly_by};
 
+use crate::clock::Clock;
 use crate::lines::Counted;
 use crate::pace::Pace;
 use std::mem::size_of;
@@ -87,6 +89,8 @@ pub struct Numbering {
     pub system: System,
     /// What it counts.
     pub counted: Counted,
+    /// Which numbers it leaves out.
+    pub clock: Clock,
 }
 
 impl Numbering {
@@ -97,11 +101,14 @@ impl Numbering {
         matches!(self.counted, Counted::Pictures)
     }
 
-    /// Whether the numbers keep to a clock, for which some are left out.
-    fn has_clock(self) -> bool
+    /// Whether the numbers keep to a clock, for which some are left out, and it isn't known to which.
+    pub(crate) fn has_clock(self) -> bool
         ensures { result ≡ has_clock self }
     {
-        matches!((self.system, self.counted), (System::Ntsc, Counted::Times))
+        matches!(
+            (self.system, self.counted, self.clock),
+            (System::Ntsc, Counted::Times, Clock::Plain)
+        )
     }
 }
 
@@ -124,6 +131,17 @@ pub(crate) struct Place {
     pub(crate) number: u32,
 }
 
+/// Where a number stands among those that the disc has.
+pub(crate) fn by_clock(clock: Clock, here: Place) -> Place
+    ensures field { result.field ≡ here.field }
+    ensures number { result.number ≡ kept clock here.number }
+{
+    Place {
+        field: here.field,
+        number: clock.kept(here.number),
+    }
+}
+
 /// Whether two numbers go on, to within so many fields.
 pub(crate) fn goes_on(pace: Pace, slack: u64, here: Place, there: Place) -> bool
     requires slack { slack ≤ 1 }
@@ -143,6 +161,16 @@ pub(crate) fn goes_on(pace: Pace, slack: u64, here: Place, there: Place) -> bool
                 && 2 * field + 5 * count <= 2 * other + 5 * number + 2
         }
     }
+}
+
+/// Whether two numbers go on by the clock.
+pub(crate) fn goes_on_by(clock: Clock, pace: Pace, slack: u64, here: Place, there: Place) -> bool
+    requires slack { slack ≤ 1 }
+    requires here { here.field < 2 ^ 60 }
+    requires there { there.field < 2 ^ 60 }
+    ensures { result ≡ nearly_by clock pace slack here.field here.number there.field there.number }
+{
+    goes_on(pace, slack, by_clock(clock, here), by_clock(clock, there))
 }
 
 /// Whether two fields are of one still.
@@ -190,11 +218,20 @@ fn is_open(pace: Pace, numbering: Numbering, here: Place, there: Place) -> bool
 {
     match pace {
         Pace::Video => {
-            let few = lacking(pace, here, there);
+            let few = lacking(
+                pace,
+                by_clock(numbering.clock, here),
+                by_clock(numbering.clock, there),
+            );
             numbering.has_clock() && (few == 2 || few == 4)
         }
         Pace::Film => {
-            u64::from(here.number) + 1 < u64::from(there.number) && off_by(pace, here, there) == 1
+            let off = off_by(
+                pace,
+                by_clock(numbering.clock, here),
+                by_clock(numbering.clock, there),
+            );
+            u64::from(here.number) + 1 < u64::from(there.number) && off == 1
         }
     }
 }
@@ -213,7 +250,12 @@ fn kind(pace: Pace, numbering: Numbering, ended: bool, here: Place, there: Place
         BACK
     } else if is_open(pace, numbering, here, there) {
         OPEN
-    } else if lacking(pace, here, there) > 0 {
+    } else if lacking(
+        pace,
+        by_clock(numbering.clock, here),
+        by_clock(numbering.clock, there),
+    ) > 0
+    {
         LOST
     } else {
         HELD
@@ -249,14 +291,18 @@ pub(crate) fn between(rule: Rule, ended: bool, shown: u64, here: Place, there: P
     ensures { result ≡ gap_of rule.pace rule.slack rule.numbering ended shown here.field here.number there.field
         there.number }
 {
-    if goes_on(rule.pace, rule.slack, here, there) {
+    let (first, last) = (
+        by_clock(rule.numbering.clock, here),
+        by_clock(rule.numbering.clock, there),
+    );
+    if goes_on(rule.pace, rule.slack, first, last) {
         return None;
     }
     let kind = kind(rule.pace, rule.numbering, ended, here, there);
     Some(Gap {
         after: here.field,
         before: there.field,
-        fields: fields(rule.pace, rule.slack, kind, here, there),
+        fields: fields(rule.pace, rule.slack, kind, first, last),
         shown,
         from: here.number,
         to: there.number,
@@ -264,11 +310,16 @@ pub(crate) fn between(rule: Rule, ended: bool, shown: u64, here: Place, there: P
     })
 }
 
-/// The numbers that two others skip.
-pub(crate) fn skipped(from: u32, to: u32) -> u64
-    ensures { result ≡ skipped from to }
+/// The numbers that two others skip, but for those that the clock leaves out.
+pub(crate) fn skipped(clock: Clock, from: u32, to: u32) -> u64
+    ensures { result ≡ skipped clock from to }
 {
-    u64::from(to.saturating_sub(from).saturating_sub(1))
+    u64::from(
+        clock
+            .kept(to)
+            .saturating_sub(clock.kept(from))
+            .saturating_sub(1),
+    )
 }
 
 impl Gap {
@@ -295,26 +346,26 @@ impl Gap {
     }
 
     /// The numbers that are lost in it, at least.
-    pub(crate) fn lost_numbers(self) -> u64
+    pub(crate) fn lost_numbers(self, clock: Clock) -> u64
         requires { self.after < self.before }
-        ensures { result ≡ lost_of self }
+        ensures { result ≡ lost_of clock self }
     {
         if self.kind == LOST {
-            skipped(self.from, self.to).saturating_sub(self.shown_most())
+            skipped(clock, self.from, self.to).saturating_sub(self.shown_most())
         } else {
             0
         }
     }
 
     /// The further ones of which it isn't known.
-    pub(crate) fn undecided(self) -> u64
+    pub(crate) fn undecided(self, clock: Clock) -> u64
         requires { self.after < self.before }
-        ensures { result ≡ undecided_of self }
+        ensures { result ≡ undecided_of clock self }
     {
         if self.kind == LOST {
-            skipped(self.from, self.to).min(self.shown_most())
+            skipped(clock, self.from, self.to).min(self.shown_most())
         } else if self.kind == OPEN {
-            skipped(self.from, self.to)
+            skipped(clock, self.from, self.to)
         } else {
             0
         }

@@ -12,14 +12,20 @@ ghost use Rattle.vbi_side.specs.Beliefs.{reach, enough};
 ghost use Rattle.vbi_side.specs.Truth.{IsNear, wrong_weight, video_disc};
 ghost use Rattle.vbi_side.specs.Numbers.{IsMarked, AreAnswers, believed, doubtful, nothing};
 ghost use Rattle.vbi_side.specs.Side.{DiscRuns, DiscCounts, Rises, captured, AreLost, NoneLost, IsOneRun};
+ghost use Rattle.vbi_side.specs.declared.clock.Clock.{Clock};
+ghost use Rattle.vbi_side.specs.declared.clock.Clock.TheVariants.{Plain, DropFrame, OneIn};
+ghost use Rattle.vbi_side.specs.Clocks.{DiscCountsBy, DiscNearlyBy, IsClear, IsClearAt, out_near};
 ghost use Rattle.vbi_side.specs.declared.gap.Numbering.{Numbering};
 ghost use Rattle.vbi_side.specs.Gaps.{lost, held, back, still, joined, open_gap, gap_of, gap_made, since_end};
 ghost use Rattle.vbi_side.specs.Gaps.{ended_between};
 ghost use Rattle.vbi_side.specs.Gaps.{shown_between, lost_of, undecided_of, stills_of, last_still};
 ghost use Rattle.vbi_side.specs.Swaps.{stands_off, is_stray};
 ghost use Rattle.vbi_side.specs.Both.{is_on_both};
-ghost use Rattle.vbi_side.specs.Ends.{end_by};
-ghost use Rattle.vbi_side.specs.Verdicts.{is_end_unseen};
+ghost use Rattle.vbi_side.specs.Ends.{end_by, out_weight, in_weight};
+ghost use Rattle.std.specs.Prelude.{replicate};
+ghost use Rattle.vbi_side.specs.Gaps.{tally_of};
+ghost use Rattle.vbi_side.specs.Worked.{shown_in};
+ghost use Rattle.vbi_side.specs.Verdicts.{is_end_unseen, is_begin_unseen, seen_reasons, reasons_of, are_doubtful};
 ghost use Rattle.vbi_side.specs.Drifts.{leads, IsDriftTold};
 ghost use Rattle.vbi_side.specs.Worked.{field_of};
 ghost use Rattle.vbi_side.specs.WorkedSides.{cav, cav_pal, clv, clv_pal, two_stills, two_pictures, two_answers};
@@ -47,22 +53,25 @@ pub fn all_told()
 pub fn all_count()
     ensures { (numbering : Numbering) (seen : List Sightings) (answers : List Number) (ends : List ℕ)
         (k unread : ℕ) → AreGaps Video 0 numbering seen answers ends k [] unread
-        → (i m j n : ℕ) → IsMarked answers i m → IsMarked answers j n → i ≤ j → j < k → CountTo i m j n }
+        → (i m j n : ℕ) → IsMarked answers i m → IsMarked answers j n → i ≤ j → j < k
+        → CountTo numbering.clock i m j n }
 {}
 
-/// In a gap whose numbers are right so many fields are lost as it says, if the disc counts on: of video just so many,
+/// In a gap whose numbers are right so many fields are lost as it says, if the disc counts on by the clock: of video just so many,
 /// at either pace so many at least. And a gap of video of any kind is one: its fields aren't one run of the disc.
 pub fn gap_is_so()
     ensures exact { (disc : ℕ → Option ℕ) (place : ℕ → ℕ) (numbering : Numbering) (seen : List Sightings)
         (answers : List Number) (ends : List ℕ) (gap : Gap)
-        → DiscRuns Video disc → IsGap Video 0 numbering seen answers ends gap → gap.kind ≡ lost
+        → DiscCountsBy numbering.clock Video disc → IsGap Video 0 numbering seen answers ends gap → gap.kind ≡ lost
         → HasRightEnds (captured disc place) gap → AreLost place gap.after gap.before gap.fields }
     ensures cut { (disc : ℕ → Option ℕ) (place : ℕ → ℕ) (numbering : Numbering) (seen : List Sightings)
         (answers : List Number) (ends : List ℕ) (gap : Gap)
-        → DiscRuns Video disc → IsGap Video 0 numbering seen answers ends gap → HasRightEnds (captured disc place) gap
+        → DiscCountsBy numbering.clock Video disc → IsGap Video 0 numbering seen answers ends gap
+        → HasRightEnds (captured disc place) gap
         → place gap.before ≢ place gap.after + (gap.before - gap.after) }
     ensures least { (pace : Pace) (slack : ℕ) (disc : ℕ → Option ℕ) (place : ℕ → ℕ) (numbering : Numbering)
-        (seen : List Sightings) (answers : List Number) (ends : List ℕ) (gap : Gap) → DiscRuns pace disc
+        (seen : List Sightings) (answers : List Number) (ends : List ℕ) (gap : Gap)
+        → DiscCountsBy numbering.clock pace disc
         → IsGap pace slack numbering seen answers ends gap → gap.kind ≡ lost
         → HasRightEnds (captured disc place) gap → LostAtLeast place gap.after gap.before gap.fields }
 {}
@@ -70,21 +79,40 @@ pub fn gap_is_so()
 /// Around a gap of video the capture isn't one run of the disc: if less than enough was misread around the numbers at
 /// both of its ends, not every field from 24 before the one to 24 after the other is followed by the disc's next one.
 pub fn cut_found()
-    ensures { (disc : ℕ → Option ℕ) (place : ℕ → ℕ) (fields : List Sightings) (numbering : Numbering)
-        (seen : List Sightings) (answers : List Number) (ends : List ℕ) (gap : Gap) → DiscRuns Video disc
-        → AreAnswers Video fields answers → IsGap Video 0 numbering seen answers ends gap
+    ensures plain { (disc : ℕ → Option ℕ) (place : ℕ → ℕ) (fields : List Sightings) (numbering : Numbering)
+        (seen : List Sightings) (answers : List Number) (ends : List ℕ) (gap : Gap) → numbering.clock ≡ Plain
+        → DiscRuns Video disc → AreAnswers Video fields answers → IsGap Video 0 numbering seen answers ends gap
         → wrong_weight (captured disc place) fields gap.after < enough
         → wrong_weight (captured disc place) fields gap.before < enough
         → IsOneRun place (gap.after - reach) (gap.before + reach) → ⊥ }
+    ensures by_clock { (disc : ℕ → Option ℕ) (place : ℕ → ℕ) (fields : List Sightings) (numbering : Numbering)
+        (seen : List Sightings) (answers : List Number) (ends : List ℕ) (gap : Gap)
+        → DiscCountsBy numbering.clock Video disc → Rises place → AreAnswers Video fields answers
+        → IsGap Video 0 numbering seen answers ends gap
+        → wrong_weight (captured disc place) fields gap.after < enough
+        → wrong_weight (captured disc place) fields gap.before < enough
+        → IsClear numbering.clock gap.from → IsClear numbering.clock gap.to
+        → IsOneRun place (gap.after - reach) (gap.before + reach) → ⊥ }
 {}
 
-/// If a capture of video is said to be whole, its fields stand in the disc's order, and less than enough was misread
-/// around its first and its last number, no field of the disc is lost from 24 fields after the first to 24 before the
-/// last. Of what was read between the two nothing is assumed.
+/// If a capture of video is said to be whole, its fields stand in the disc's order, the disc counts by the clock of the
+/// answer, less than enough was misread around its first and its last number, and the clock leaves out none near these,
+/// no field of the disc is lost from 24 fields after the first to 24 before the last. Of what was read between the two
+/// nothing is assumed. A disc that leaves out no numbers is the case `plain`.
 pub fn whole_yes()
-    ensures { (disc : ℕ → Option ℕ) (place : ℕ → ℕ) (fields : List Sightings) (answers : List Number)
+    ensures by_clock { (disc : ℕ → Option ℕ) (place : ℕ → ℕ) (fields : List Sightings) (answers : List Number)
         (numbering : Numbering) (may_end : Bool) (seen : List Sightings) (ends : List ℕ) (finding : Finding)
-        (old new : List Gap) → DiscRuns Video disc
+        (old new : List Gap) → DiscCountsBy numbering.clock Video disc
+        → Rises place → AreAnswers Video fields answers
+        → IsFinding Video 0 numbering may_end seen answers ends finding old new → finding.verdict ≡ yes
+        → wrong_weight (captured disc place) fields finding.first < enough
+        → wrong_weight (captured disc place) fields finding.last < enough
+        → IsClearAt numbering.clock answers finding.first → IsClearAt numbering.clock answers finding.last
+        → finding.first + 2 * reach ≤ finding.last
+        → NoneLost place (finding.first + reach) (finding.last - reach) }
+    ensures plain { (disc : ℕ → Option ℕ) (place : ℕ → ℕ) (fields : List Sightings) (answers : List Number)
+        (numbering : Numbering) (may_end : Bool) (seen : List Sightings) (ends : List ℕ) (finding : Finding)
+        (old new : List Gap) → numbering.clock ≡ Plain → DiscRuns Video disc
         → Rises place → AreAnswers Video fields answers
         → IsFinding Video 0 numbering may_end seen answers ends finding old new → finding.verdict ≡ yes
         → wrong_weight (captured disc place) fields finding.first < enough
@@ -94,11 +122,43 @@ pub fn whole_yes()
 {}
 
 /// The same of a disc with a number on both fields of its pictures, and of film: between two fields of which one is
-/// within 24 fields of each end at most two fields are lost, of film at most four.
+/// within 24 fields of each end at most two fields are lost, of film at most four. By a clock, wherever the ends are, at
+/// most twice as many as numbers are left out near them.
 pub fn nearly_whole()
     ensures both { (slack : ℕ) (disc : ℕ → Option ℕ) (place : ℕ → ℕ) (fields : List Sightings) (answers : List Number)
         (numbering : Numbering) (may_end : Bool) (seen : List Sightings) (ends : List ℕ) (finding : Finding)
         (old new : List Gap) → slack ≤ 1
+        → DiscNearlyBy numbering.clock slack disc → Rises place → AreAnswers Video fields answers
+        → IsFinding Video slack numbering may_end seen answers ends finding old new → finding.verdict ≡ yes
+        → wrong_weight (captured disc place) fields finding.first < enough
+        → wrong_weight (captured disc place) fields finding.last < enough
+        → IsClearAt numbering.clock answers finding.first → IsClearAt numbering.clock answers finding.last
+        → finding.first + 2 * reach ≤ finding.last
+        → (p q some : ℕ) × IsNear finding.first p × IsNear finding.last q × AreLost place p q some
+        × (some ≤ 2 * slack) }
+    ensures film { (disc : ℕ → Option ℕ) (place : ℕ → ℕ) (fields : List Sightings) (answers : List Number) (slack : ℕ)
+        (numbering : Numbering) (may_end : Bool) (seen : List Sightings) (ends : List ℕ) (finding : Finding)
+        (old new : List Gap) → DiscCountsBy numbering.clock Film disc
+        → Rises place → AreAnswers Film fields answers
+        → IsFinding Film slack numbering may_end seen answers ends finding old new → finding.verdict ≡ yes
+        → wrong_weight (captured disc place) fields finding.first < enough
+        → wrong_weight (captured disc place) fields finding.last < enough
+        → IsClearAt numbering.clock answers finding.first → IsClearAt numbering.clock answers finding.last
+        → finding.first + 2 * reach ≤ finding.last
+        → (p q some : ℕ) × IsNear finding.first p × IsNear finding.last q × AreLost place p q some × (some ≤ 4) }
+    ensures anywhere { (disc : ℕ → Option ℕ) (place : ℕ → ℕ) (fields : List Sightings) (answers : List Number)
+        (numbering : Numbering) (may_end : Bool) (seen : List Sightings) (ends : List ℕ) (finding : Finding)
+        (old new : List Gap) → DiscCountsBy numbering.clock Video disc → Rises place
+        → AreAnswers Video fields answers
+        → IsFinding Video 0 numbering may_end seen answers ends finding old new → finding.verdict ≡ yes
+        → wrong_weight (captured disc place) fields finding.first < enough
+        → wrong_weight (captured disc place) fields finding.last < enough → finding.first + 2 * reach ≤ finding.last
+        → (m n p q some : ℕ) × IsMarked answers finding.first m × IsMarked answers finding.last n
+        × IsNear finding.first p × IsNear finding.last q × AreLost place p q some
+        × (some ≤ 2 * (out_near numbering.clock m + out_near numbering.clock n)) }
+    ensures both_plain { (slack : ℕ) (disc : ℕ → Option ℕ) (place : ℕ → ℕ) (fields : List Sightings)
+        (answers : List Number) (numbering : Numbering) (may_end : Bool) (seen : List Sightings) (ends : List ℕ)
+        (finding : Finding) (old new : List Gap) → slack ≤ 1 → numbering.clock ≡ Plain
         → DiscCounts slack disc → Rises place → AreAnswers Video fields answers
         → IsFinding Video slack numbering may_end seen answers ends finding old new → finding.verdict ≡ yes
         → wrong_weight (captured disc place) fields finding.first < enough
@@ -106,9 +166,9 @@ pub fn nearly_whole()
         → finding.first + 2 * reach ≤ finding.last
         → (p q some : ℕ) × IsNear finding.first p × IsNear finding.last q × AreLost place p q some
         × (some ≤ 2 * slack) }
-    ensures film { (disc : ℕ → Option ℕ) (place : ℕ → ℕ) (fields : List Sightings) (answers : List Number) (slack : ℕ)
-        (numbering : Numbering) (may_end : Bool) (seen : List Sightings) (ends : List ℕ) (finding : Finding)
-        (old new : List Gap) → DiscRuns Film disc
+    ensures film_plain { (disc : ℕ → Option ℕ) (place : ℕ → ℕ) (fields : List Sightings) (answers : List Number)
+        (slack : ℕ) (numbering : Numbering) (may_end : Bool) (seen : List Sightings) (ends : List ℕ) (finding : Finding)
+        (old new : List Gap) → numbering.clock ≡ Plain → DiscRuns Film disc
         → Rises place → AreAnswers Film fields answers
         → IsFinding Film slack numbering may_end seen answers ends finding old new → finding.verdict ≡ yes
         → wrong_weight (captured disc place) fields finding.first < enough
@@ -122,7 +182,7 @@ pub fn nearly_whole()
 pub fn lost_sound()
     ensures { (pace : Pace) (slack : ℕ) (disc : ℕ → Option ℕ) (place : ℕ → ℕ) (answers : List Number)
         (numbering : Numbering) (may_end : Bool) (seen : List Sightings) (ends : List ℕ) (finding : Finding)
-        (old new : List Gap) → DiscRuns pace disc
+        (old new : List Gap) → DiscCountsBy numbering.clock pace disc
         → Rises place → IsFinding pace slack numbering may_end seen answers ends finding old new
         → ((gap : Gap) → IsGap pace slack numbering seen answers ends gap → gap.kind ≡ lost
         → HasRightEnds (captured disc place) gap) → (HasNone answers → ⊥)
@@ -139,6 +199,7 @@ pub fn none_known()
 {}
 
 /// Gaps, worked by hand: of video between picture 5 in field 10 and others, of times, and of film.
+#[tactic(auto, unfolding(crate::specs::Clocks::kept))]
 pub fn worked_gaps()
     ensures goes_on { map (λ n. gap_of Video 0 cav false 0 10 5 (2 * n) n) (6 ∷ 7 ∷ 1000 ∷ []) ≡ None ∷ None ∷ None ∷
         [] }
@@ -168,9 +229,9 @@ pub fn worked_gaps()
         ≡ Some (gap_made 10 5 12 7 lost 2 0) ∷ Some (gap_made 10 5 12 7 lost 2 0) ∷ [] }
     ensures shown { shown_between (field_of 8 2 8 2 ∷ field_of 7 2 7 2 ∷ field_of 8 1 8 2 ∷ field_of 6 2 8 2
         ∷ field_of 5 2 5 2 ∷ field_of 9 2 9 2 ∷ field_of 6 2 6 2 ∷ []) 0 5 6 9 ≡ 1 }
-    ensures numbers { map lost_of (gap_made 10 5 20 100 lost 180 0 ∷ gap_made 10 5 20 100 lost 180 6
+    ensures numbers { map (lost_of Plain) (gap_made 10 5 20 100 lost 180 0 ∷ gap_made 10 5 20 100 lost 180 6
         ∷ gap_made 10 5 12 7 open_gap 2 0 ∷ gap_made 10 5 20 6 held 8 0 ∷ []) ≡ 90 ∷ 88 ∷ 0 ∷ 0 ∷ [] }
-    ensures undecided { map undecided_of (gap_made 10 5 20 100 lost 180 0 ∷ gap_made 10 5 20 100 lost 180 6
+    ensures undecided { map (undecided_of Plain) (gap_made 10 5 20 100 lost 180 0 ∷ gap_made 10 5 20 100 lost 180 6
         ∷ gap_made 10 5 12 7 open_gap 2 0 ∷ gap_made 10 5 20 6 held 8 0 ∷ []) ≡ 4 ∷ 6 ∷ 1 ∷ 0 ∷ [] }
     ensures stills { (stills_of 0 two_stills ≡ 2) × (last_still 0 two_stills ≡ 21) }
     ensures since { map (since_end (1 ∷ 0 ∷ 2 ∷ 3 ∷ 0 ∷ [])) (0 ∷ 1 ∷ 2 ∷ 3 ∷ 4 ∷ 5 ∷ []) ≡ 0 ∷ 0 ∷ 1 ∷ 2 ∷ 0 ∷ 1 ∷ [] }
@@ -179,17 +240,18 @@ pub fn worked_gaps()
 {}
 
 /// Swapped fields, numbers on both fields, and verdicts, worked by hand.
+#[tactic(auto, unfolding(crate::specs::Clocks::kept))]
 pub fn worked_verdicts()
     ensures off { map (λ k. stands_off 10 5 k 6) (10 ∷ 11 ∷ 12 ∷ 13 ∷ 14 ∷ []) ≡ false ∷ true ∷ false ∷ true ∷ false ∷
         [] }
     ensures leads { map (λ k. leads Video 10 5 k 6) (11 ∷ 12 ∷ 13 ∷ []) ≡ false ∷ true ∷ true ∷ [] }
     ensures film_leads { map (λ k. leads Film 10 5 k 7) (14 ∷ 15 ∷ 16 ∷ []) ≡ false ∷ true ∷ true ∷ [] }
-    ensures stray { map (is_stray [] 10 5 11) (None ∷ Some (field_of 6 2 0 0) ∷ Some (field_of 0 0 6 2) ∷ Some
+    ensures stray { map (is_stray Plain [] 10 5 11) (None ∷ Some (field_of 6 2 0 0) ∷ Some (field_of 0 0 6 2) ∷ Some
         (field_of 6 0 6 1)
         ∷ Some (field_of 7 2 6 0) ∷ Some (field_of 0 0 0 0) ∷ []) ≡ false ∷ true ∷ true ∷ true ∷ false ∷ false ∷ [] }
-    ensures beside { map (λ n. is_stray (nothing ∷ believed n ∷ nothing ∷ []) 1 5 2 (Some (field_of 5 2 0 0)))
+    ensures beside { map (λ n. is_stray Plain (nothing ∷ believed n ∷ nothing ∷ []) 1 5 2 (Some (field_of 5 2 0 0)))
         (5 ∷ 4 ∷ []) ≡ false ∷ true ∷ [] }
-    ensures beside_next { map (λ n. is_stray (nothing ∷ believed 5 ∷ nothing ∷ believed n ∷ []) 1 5 2
+    ensures beside_next { map (λ n. is_stray Plain (nothing ∷ believed 5 ∷ nothing ∷ believed n ∷ []) 1 5 2
         (Some (field_of 0 0 6 2))) (6 ∷ 7 ∷ []) ≡ false ∷ true ∷ [] }
     ensures ends { map (λ outs. map (end_by outs) (0 ∷ 1 ∷ 2 ∷ [])) (0 ∷ 1 ∷ 2 ∷ [])
         ≡ (0 ∷ 2 ∷ 3 ∷ []) ∷ (2 ∷ 2 ∷ 3 ∷ []) ∷ (1 ∷ 1 ∷ 1 ∷ []) ∷ [] }
@@ -214,18 +276,21 @@ pub fn worked_verdicts()
 
 /// A disc with its numbers on both fields, of which the second field of picture 2 is lost: each number is within a
 /// field of the one before it, but picture 3 stands two fields too early for the second field of picture 1.
+#[tactic(auto, unfolding(crate::specs::Clocks::kept))]
 pub fn worked_drift()
-    ensures { IsDriftTold Video 1 (believed 1 ∷ believed 1 ∷ believed 2 ∷ believed 3 ∷ []) true }
+    ensures { IsDriftTold Plain Video 1 (believed 1 ∷ believed 1 ∷ believed 2 ∷ believed 3 ∷ []) true }
 {}
 
 /// A capture that is whole by the definitions, worked by hand: picture 1, its second field, and picture 2, of which the
 /// caller says that the capture may end there.
+#[tactic(auto, unfolding(crate::specs::Clocks::kept))]
 pub fn worked_whole()
     ensures { IsFinding Video 0 cav true two_pictures two_answers (0 ∷ 0 ∷ 0 ∷ []) (found_whole 0 2) [] [] }
 {}
 
 /// The premises of `whole_yes` hold together: of a capture of 25 pictures, each read on both lines, which the
 /// definitions say to be whole.
+#[tactic(auto, unfolding(crate::specs::Clocks::kept))]
 pub fn worked_premises()
     ensures runs { DiscRuns Video video_disc }
     ensures rises { Rises (λ i. i) }
@@ -234,4 +299,29 @@ pub fn worked_premises()
     ensures few { wrong_weight (captured video_disc (λ i. i)) worked_side 0 < enough }
     ensures low { wrong_weight (captured video_disc (λ i. i)) worked_side 48 < enough }
     ensures far { (found_whole 0 48).first + 2 * reach ≤ (found_whole 0 48).last }
+{}
+
+/// The reasons of a verdict by their numbers, and the edges of those that no gap gives, worked by hand.
+pub fn worked_reasons()
+    ensures seen { map (λ kind. seen_reasons Video [] (tally_of Plain (gap_made 10 5 12 8 kind 4 0 ∷ []) 0) 0 1)
+        (lost ∷ held ∷ back ∷ joined ∷ still ∷ []) ≡ 1 ∷ 2 ∷ 4 ∷ 8 ∷ 0 ∷ [] }
+    ensures late { seen_reasons Video (0 ∷ []) (tally_of Plain [] 0) 1 3 ≡ 16 }
+    ensures fields { (tally_of Plain (gap_made 10 5 12 8 lost 4 0 ∷ []) 0).lost ≡ 4 }
+    ensures held_fields { (tally_of Plain (gap_made 10 5 15 6 held 3 0 ∷ []) 0).held ≡ 3 }
+    ensures swapped { reasons_of Plain Video 0 true (believed 1 ∷ []) [] (tally_of Plain [] 0) true false 0 1 0 1 ≡ 32 }
+    ensures drifts { reasons_of Plain Video 0 true (believed 1 ∷ []) [] (tally_of Plain [] 0) false true 0 1 0 1 ≡ 64 }
+    ensures off { reasons_of Plain Video 0 true (believed 1 ∷ []) [] (tally_of Plain [] 0) false false 0 1 2 1 ≡ 64 }
+    ensures stood { reasons_of Plain Video 0 true (believed 1 ∷ []) [] (tally_of Plain (gap_made 0 1 2 1 still 2 0 ∷ []) 0)
+        false false 0 1 2 1 ≡ 0 }
+    ensures left_open { reasons_of Plain Video 0 true (believed 1 ∷ []) [] (tally_of Plain (gap_made 0 1 2 1 open_gap 2 0 ∷ []) 0)
+        false false 0 1 2 1 ≡ 2048 }
+    ensures end { reasons_of Plain Video 0 false (believed 1 ∷ []) [] (tally_of Plain [] 0) false false 0 1 0 1 ≡ 256 }
+    ensures begin { map (λ n. is_begin_unseen (replicate n 0) n 2) (100 ∷ 101 ∷ []) ≡ false ∷ true ∷ [] }
+    ensures begin_bit { reasons_of Plain Video 0 true (believed 2 ∷ []) (replicate 101 0) (tally_of Plain [] 0) false false
+        101 2 101 2 ≡ 512 }
+    ensures doubtful { map are_doubtful ((replicate 9 (believed 1) ++ doubtful 1 ∷ [])
+        ∷ (replicate 10 (believed 1) ++ doubtful 1 ∷ []) ∷ []) ≡ true ∷ false ∷ [] }
+    ensures outs { map (λ pass. out_weight (shown_in pass 0x80EEEE)) (1 ∷ 2 ∷ 3 ∷ []) ≡ 2 ∷ 1 ∷ 1 ∷ [] }
+    ensures ins { map (λ pass. in_weight (shown_in pass 0x88FFFF)) (1 ∷ 2 ∷ 3 ∷ []) ≡ 2 ∷ 1 ∷ 1 ∷ [] }
+    ensures still_at_an_end { gap_of Video 0 cav true 0 10 5 14 5 ≡ Some (gap_made 10 5 14 5 joined 0 0) }
 {}

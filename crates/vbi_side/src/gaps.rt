@@ -4,6 +4,7 @@
 ghost use Rattle.std.specs.Prelude.{◌≡◌, ◌≢◌, ℕ, suc, ◌+◌, ◌*◌, ◌<◌, ◌≤◌, ◌^◌, length, slice_set, List, [], Bool};
 ghost use Rattle.std.specs.Prelude.{Option, Some, None, true};
 ghost use Rattle.vbi_side.specs.declared.gap.Gap.{Gap};
+ghost use Rattle.vbi_side.specs.declared.clock.Clock.{Clock};
 ghost use Rattle.vbi_side.specs.declared.number.Number.{Number};
 ghost use Rattle.vbi_side.specs.declared.sighting.Sightings.{Sightings};
 ghost use Rattle.vbi_side.specs.Numbers.{IsMarked};
@@ -11,6 +12,7 @@ ghost use Rattle.vbi_side.specs.Gaps.{gap_of, skipped, tally_of, with_gap, with_
 ghost use Rattle.vbi_side.specs.Gaps.{shows_between, AreNeighbours, IsTold, IsLast, is_end, since_end, still_end_of};
 ghost use Rattle.vbi_side.specs.Gaps.{begins_still};
 
+use crate::clock::Clock;
 use crate::ends::{LEAD_IN, LEAD_OUT};
 use crate::gap::{
     BACK, Gap, HELD, JOINED, LOST, OPEN, Place, Rule, STILL, Tally, between, skipped,
@@ -21,7 +23,7 @@ use crate::sighting::Sightings;
 impl Tally {
     /// Of no gap.
     fn none() -> Tally
-        ensures { result ≡ tally_of [] 0 }
+        ensures { (clock : Clock) → result ≡ tally_of clock [] 0 }
     {
         Tally {
             gaps: 0,
@@ -64,11 +66,11 @@ impl Tally {
     }
 
     /// With one gap more.
-    fn with_gap(self, gap: Gap) -> Tally
+    fn with_gap(self, clock: Clock, gap: Gap) -> Tally
         requires few { self.gaps < 2 ^ 60 }
         requires far { gap.before < 2 ^ 60 }
         requires order { gap.after < gap.before }
-        ensures { result ≡ with_gap self gap }
+        ensures { result ≡ with_gap clock self gap }
     {
         Tally {
             gaps: self.gaps + 1,
@@ -80,8 +82,8 @@ impl Tally {
             back: self.back.saturating_add(gap.one_if(BACK)),
             joined: self.joined.saturating_add(gap.one_if(JOINED)),
             open_gaps: self.open_gaps.saturating_add(gap.one_if(OPEN)),
-            lost_numbers: self.lost_numbers.saturating_add(gap.lost_numbers()),
-            undecided: self.undecided.saturating_add(gap.undecided()),
+            lost_numbers: self.lost_numbers.saturating_add(gap.lost_numbers(clock)),
+            undecided: self.undecided.saturating_add(gap.undecided(clock)),
             unread: self.unread,
         }
     }
@@ -143,10 +145,10 @@ fn tell(
 {
     let shown = shown_between(seen, here, there);
     match between(rule, ended, shown, here, there) {
-        None => tally.with_unread(skipped(here.number, there.number)),
+        None => tally.with_unread(skipped(rule.numbering.clock, here.number, there.number)),
         Some(gap) => {
             write(out, tally.gaps, gap);
-            tally.with_gap(gap)
+            tally.with_gap(rule.numbering.clock, gap)
         }
     }
 }
@@ -200,7 +202,7 @@ fn visit(
 }
 
 /// The last believed number before the next field.
-fn last_at(numbers: &[Number], field: usize, last: Option<Place>) -> Option<Place>
+pub(crate) fn last_at(numbers: &[Number], field: usize, last: Option<Place>) -> Option<Place>
     requires inside { field < length numbers.now }
     requires last { IsLast numbers.now field last }
     ensures { IsLast numbers.now (field + 1) result }

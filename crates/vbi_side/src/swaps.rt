@@ -6,10 +6,12 @@
 //! off.
 
 ghost use Rattle.std.specs.Prelude.{◌≡◌, ℕ, ◌+◌, ◌*◌, ◌<◌, ◌≤◌, ◌^◌, true, length, IfSome, Some, None, slice_get};
+ghost use Rattle.vbi_side.specs.Clocks.{kept};
 ghost use Rattle.vbi_side.specs.Gaps.{IsLast};
 ghost use Rattle.vbi_side.specs.Swaps.{stands_off, is_believed_as, is_beside, shows_off, is_stray, IsSwap, AreStrays};
 
-use crate::gap::{Place, goes_on};
+use crate::clock::Clock;
+use crate::gap::{Place, by_clock, goes_on_by};
 use crate::number::Number;
 use crate::pace::Pace;
 use crate::sighting::{Sighting, Sightings};
@@ -45,26 +47,35 @@ fn is_beside(numbers: &[Number], field: usize, number: u32) -> bool
 }
 
 /// Whether a line shows a number that stands a field off the one before, and isn't that of a field beside it.
-fn shows_off(numbers: &[Number], here: Place, field: usize, sighting: &Sighting) -> bool
+fn shows_off(
+    numbers: &[Number],
+    clock: Clock,
+    here: Place,
+    field: usize,
+    sighting: &Sighting,
+) -> bool
     requires here { here.field < 2 ^ 60 }
     requires field { field < 2 ^ 60 }
-    ensures { result ≡ shows_off numbers.now here.field here.number field sighting.now }
+    ensures { result ≡ shows_off clock numbers.now here.field here.number field sighting.now }
 {
     let number = sighting.number;
     sighting.weight > 0
-        && stands_off(here, Place { field, number })
+        && stands_off(
+            by_clock(clock, here),
+            by_clock(clock, Place { field, number }),
+        )
         && !is_beside(numbers, field, number)
 }
 
 /// Whether one of a field's lines does.
-fn is_stray(seen: &[Sightings], numbers: &[Number], here: Place, field: usize) -> bool
+fn is_stray(seen: &[Sightings], numbers: &[Number], clock: Clock, here: Place, field: usize) -> bool
     requires inside { field < length seen.now }
     requires here { here.field < 2 ^ 60 }
-    ensures { result ≡ is_stray numbers.now here.field here.number field (slice_get seen.now field) }
+    ensures { result ≡ is_stray clock numbers.now here.field here.number field (slice_get seen.now field) }
 {
     let shown = &seen[field];
-    shows_off(numbers, here, field, &shown.line_17)
-        || shows_off(numbers, here, field, &shown.line_18)
+    shows_off(numbers, clock, here, field, &shown.line_17)
+        || shows_off(numbers, clock, here, field, &shown.line_18)
 }
 
 /// What the search knows of the fields before the next one.
@@ -77,16 +88,22 @@ struct Search {
 }
 
 /// The field that stands off, of those before the next one.
-fn stray_with(seen: &[Sightings], numbers: &[Number], field: usize, search: Search) -> Option<usize>
+fn stray_with(
+    seen: &[Sightings],
+    numbers: &[Number],
+    clock: Clock,
+    field: usize,
+    search: Search,
+) -> Option<usize>
     requires inside { field < length seen.now }
     requires near { IfSome search.last (λ place. place.field < field) }
-    requires strays { AreStrays seen.now numbers.now search.last field search.stray }
-    ensures { AreStrays seen.now numbers.now search.last (field + 1) result }
+    requires strays { AreStrays clock seen.now numbers.now search.last field search.stray }
+    ensures { AreStrays clock seen.now numbers.now search.last (field + 1) result }
 {
     let Some(here) = search.last else {
         return None;
     };
-    if search.stray.is_none() && is_stray(seen, numbers, here, field) {
+    if search.stray.is_none() && is_stray(seen, numbers, clock, here, field) {
         Some(field)
     } else {
         search.stray
@@ -94,13 +111,19 @@ fn stray_with(seen: &[Sightings], numbers: &[Number], field: usize, search: Sear
 }
 
 /// What it knows with one field more.
-fn with_field(seen: &[Sightings], numbers: &[Number], field: usize, search: Search) -> Search
+fn with_field(
+    seen: &[Sightings],
+    numbers: &[Number],
+    clock: Clock,
+    field: usize,
+    search: Search,
+) -> Search
     requires same { length seen.now ≡ length numbers.now }
     requires inside { field < length numbers.now }
     requires last { IsLast numbers.now field search.last }
-    requires strays { AreStrays seen.now numbers.now search.last field search.stray }
+    requires strays { AreStrays clock seen.now numbers.now search.last field search.stray }
     ensures last { IsLast numbers.now (field + 1) result.last }
-    ensures strays { AreStrays seen.now numbers.now result.last (field + 1) result.stray }
+    ensures strays { AreStrays clock seen.now numbers.now result.last (field + 1) result.stray }
 {
     let answer = numbers[field];
     if answer.is_believed() {
@@ -114,7 +137,7 @@ fn with_field(seen: &[Sightings], numbers: &[Number], field: usize, search: Sear
     }
     Search {
         last: search.last,
-        stray: stray_with(seen, numbers, field, search),
+        stray: stray_with(seen, numbers, clock, field, search),
     }
 }
 
@@ -122,15 +145,16 @@ fn with_field(seen: &[Sightings], numbers: &[Number], field: usize, search: Sear
 fn swap_before(
     seen: &[Sightings],
     numbers: &[Number],
+    clock: Clock,
     field: usize,
     search: Search,
 ) -> Option<usize>
     requires same { length seen.now ≡ length numbers.now }
     requires inside { field < length numbers.now }
     requires last { IsLast numbers.now field search.last }
-    requires strays { AreStrays seen.now numbers.now search.last field search.stray }
-    ensures some { IfSome result (λ k. IsSwap seen.now numbers.now k) }
-    ensures none { result ≡ None → (k : ℕ) → (swap : IsSwap seen.now numbers.now k) → swap.j ≡ field → ⊥ }
+    requires strays { AreStrays clock seen.now numbers.now search.last field search.stray }
+    ensures some { IfSome result (λ k. IsSwap clock seen.now numbers.now k) }
+    ensures none { result ≡ None → (k : ℕ) → (swap : IsSwap clock seen.now numbers.now k) → swap.j ≡ field → ⊥ }
 {
     let Some(here) = search.last else {
         return None;
@@ -143,7 +167,7 @@ fn swap_before(
         field,
         number: answer.number,
     };
-    if goes_on(Pace::Video, 0, here, there) {
+    if goes_on_by(clock, Pace::Video, 0, here, there) {
         search.stray
     } else {
         None
@@ -151,21 +175,21 @@ fn swap_before(
 }
 
 /// The first field that was swapped with one beside it, counted from 0, as the numbers around it show.
-pub(crate) fn first_swap(seen: &[Sightings], numbers: &[Number]) -> Option<usize>
+pub(crate) fn first_swap(seen: &[Sightings], numbers: &[Number], clock: Clock) -> Option<usize>
     requires { length seen.now ≡ length numbers.now }
-    ensures some { IfSome result (λ field. IsSwap seen.now numbers.now field) }
-    ensures none { result ≡ None → (k : ℕ) → IsSwap seen.now numbers.now k → ⊥ }
+    ensures some { IfSome result (λ field. IsSwap clock seen.now numbers.now field) }
+    ensures none { result ≡ None → (k : ℕ) → IsSwap clock seen.now numbers.now k → ⊥ }
 {
     let mut search = Search {
         last: None,
         stray: None,
     };
     for field in 0..numbers.len() {
-        let found = swap_before(seen, numbers, field, search);
+        let found = swap_before(seen, numbers, clock, field, search);
         if found.is_some() {
             return found;
         }
-        search = with_field(seen, numbers, field, search);
+        search = with_field(seen, numbers, clock, field, search);
     }
     None
 }

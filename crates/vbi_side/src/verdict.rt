@@ -2,6 +2,7 @@
 
 ghost use Rattle.std.specs.Prelude.{◌≡◌, ℕ, List, ◌+◌, ◌*◌, ◌<◌, ◌≤◌, ◌^◌, length, Bool};
 ghost use Rattle.vbi_side.specs.Paces.{nearly};
+ghost use Rattle.vbi_side.specs.Clocks.{kept};
 ghost use Rattle.vbi_side.specs.Gaps.{since_end, ended_between};
 ghost use Rattle.vbi_side.specs.Verdicts.{verdict_of, reason, too_few, seen_reasons, is_off, is_begin_unseen};
 ghost use Rattle.vbi_side.specs.Verdicts.{is_ended_behind, is_end_unseen, count_of, are_doubtful, reasons_of};
@@ -11,7 +12,7 @@ ghost use Rattle.vbi_side.specs.Swaps.{IsSwapTold};
 use crate::drift::has_drift;
 use crate::ends::LEAD_OUT;
 use crate::extent::{first_believed, last_believed};
-use crate::gap::{Gap, Place, Rule, Tally};
+use crate::gap::{Gap, Place, Rule, Tally, by_clock};
 use crate::gaps::{find_gaps, since_at};
 use crate::number::{BELIEVED, DOUBTFUL, Number};
 use crate::pace::Pace;
@@ -199,14 +200,16 @@ fn reasons(
     requires slack { rule.slack ≤ 1 }
     requires first { first.field < length numbers.now }
     requires last { last.field < length numbers.now }
-    ensures { result ≡ reasons_of rule.pace rule.slack may_end numbers.now ends.now tally.now is_swapped drifts
+    ensures { result ≡ reasons_of rule.numbering.clock rule.pace rule.slack may_end numbers.now ends.now tally.now is_swapped drifts
         first.field first.number last.field last.number }
 {
     let before = since_end(ends, first.field);
     let is_ended = is_ended_behind(ends, last.field);
-    seen_reasons(rule.pace, before, tally, first.number)
+    let begin = by_clock(rule.numbering.clock, first);
+    let end = by_clock(rule.numbering.clock, last);
+    seen_reasons(rule.pace, before, tally, begin.number)
         + reason(IS_SWAPPED, is_swapped)
-        + reason(IS_OFF, drifts || is_off(rule, tally, first, last))
+        + reason(IS_OFF, drifts || is_off(rule, tally, begin, end))
         + reason(END_UNSEEN, !may_end && !is_ended)
         + reason(BEGIN_UNSEEN, first.number > 1 && before > 100)
         + reason(MANY_DOUBTFUL, are_doubtful(numbers))
@@ -224,7 +227,7 @@ struct Swap {
 /// its pictures.
 fn swap_by(seen: &[Sightings], numbers: &[Number], rule: Rule) -> Swap
     requires { length seen.now ≡ length numbers.now }
-    ensures { IsSwapTold rule.pace rule.slack seen.now numbers.now result.field result.is_seen }
+    ensures { IsSwapTold rule.numbering.clock rule.pace rule.slack seen.now numbers.now result.field result.is_seen }
 {
     match rule.pace {
         Pace::Video if rule.slack == 0 => {}
@@ -235,7 +238,7 @@ fn swap_by(seen: &[Sightings], numbers: &[Number], rule: Rule) -> Swap
             };
         }
     }
-    match first_swap(seen, numbers) {
+    match first_swap(seen, numbers, rule.numbering.clock) {
         Some(field) => Swap {
             field,
             is_seen: true,

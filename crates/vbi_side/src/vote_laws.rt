@@ -17,7 +17,8 @@ ghost use Rattle.vbi_side.specs.Worked.{shown_in};
 ghost use Rattle.vbi_side.specs.WorkedVotes.{two_to_one, two_to_two, light_to_heavy, alone, light_alone, three_to_one};
 ghost use Rattle.vbi_side.specs.WorkedVotes.{alone_before, alone_behind};
 
-/// If the disc ran on within 240 fields of one, no other number is elected than the one that it counts there, if of
+/// If the disc ran on within 240 fields of one, or counted by a clock and the part is right, no other number is elected
+/// than the one that it counts there, if of
 /// the times that go on with the field's second and picture less weight was read wrongly than rightly, or less than 4.
 /// It is elected if less was read wrongly than rightly, and 4 or more rightly.
 pub fn elected_is_right()
@@ -44,7 +45,8 @@ pub fn completed_is_told()
     ensures word { (minute : ℕ) → minute < 600 → IsWord (time_word minute) }
 {}
 
-/// If the disc ran on within 240 fields of one, a word that completes it tells the number that the disc counts
+/// If the disc ran on within 240 fields of one, or counted by a clock and line 16 is right, a word that completes it
+/// tells the number that the disc counts
 /// there, if of the times that go on with its second and picture less weight was read wrongly than rightly, or less
 /// than 4. If less was read wrongly than rightly, and 4 or more rightly, line 16 has the disc's second and picture, and
 /// the field shows no time, it is completed by the word of the disc's minute, if that has an hour of one digit.

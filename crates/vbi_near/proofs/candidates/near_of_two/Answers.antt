@@ -1,6 +1,6 @@
 use Rattle.std.proofs.Common.{[], ◌∷◌, ◌∙◌, arith}
-use Rattle.vbi_near.specs.Distances.{known_but}
-use Rattle.vbi_words.specs.Levels.{samples_of}
+use Rattle.vbi_near.specs.Candidates.{given_samples}
+use Rattle.vbi_near.specs.Lines.{first_in, other_in}
 use Rattle.vbi_near.proofs.Counting.{zeros-long, pile-empty, few-empty}
 use Rattle.vbi_near.proofs.candidates.near_of_two.Goals as goal
 
@@ -28,9 +28,9 @@ nears_of-requires-clause-few c =
 
 pub returns : goal.returns
 returns c =
-    let first = known_but c.args.erased.now (samples_of c.args.row.now) in
-    let wide = zeros-long c.args.system c.width.result c.width.ensures in
-    c.nears_of.ensures c.args.levels (first ∷ known_but c.args.other_erased.now (samples_of c.args.other.now) ∷ [])
-    (c.add_line-2.ensures.pile c.args.system (first ∷ []) (c.add_line.ensures.dark ∙ wide)
-    (c.add_line.ensures.pile c.args.system [] wide
-    (pile-empty c.args.system c.args.levels c.width.result c.width-2.result 1135)))
+    let first = given_samples (first_in c.args.pair.now) in
+    let wide = zeros-long c.args.pair.now.system c.width.result c.width.ensures in
+    c.nears_of.ensures c.args.levels (first ∷ given_samples (other_in c.args.pair.now) ∷ [])
+    (c.add_line-2.ensures.pile c.args.pair.now.system (first ∷ []) (c.add_line.ensures.dark ∙ wide)
+    (c.add_line.ensures.pile c.args.pair.now.system [] wide
+    (pile-empty c.args.pair.now.system c.args.levels c.width.result c.width-2.result 1135)))

@@ -1,6 +1,6 @@
 use Rattle.std.proofs.Common.{[], ◌∷◌, arith}
-use Rattle.vbi_near.specs.Distances.{known_but}
-use Rattle.vbi_words.specs.Levels.{samples_of}
+use Rattle.vbi_near.specs.Candidates.{given_samples}
+use Rattle.vbi_near.specs.Lines.{row_in}
 use Rattle.vbi_near.proofs.Counting.{zeros-long, pile-empty, few-empty}
 use Rattle.vbi_near.proofs.candidates.stretched_of_one.Goals as goal
 
@@ -17,6 +17,6 @@ stretched_distance-requires-clause-few c =
 
 pub returns : goal.returns
 returns c =
-    c.stretched_distance.ensures c.args.levels (known_but c.args.erased.now (samples_of c.args.row.now) ∷ [])
-    (c.add_line.ensures.pile c.args.system [] (zeros-long c.args.system c.width.result c.width.ensures)
-    (pile-empty c.args.system c.args.levels c.width.result c.width-2.result 1135))
+    c.stretched_distance.ensures c.args.levels (given_samples (row_in c.args.row.now) ∷ [])
+    (c.add_line.ensures.pile c.args.row.now.system [] (zeros-long c.args.row.now.system c.width.result c.width.ensures)
+    (pile-empty c.args.row.now.system c.args.levels c.width.result c.width-2.result 1135))

@@ -1,20 +1,20 @@
 use Rattle.std.proofs.Common.{◌≡◌, true, ◌∙◌, rules}
 use Rattle.std.specs.Prelude.{is_some}
-use Rattle.vbi_near.specs.Candidates.{row_of}
+use Rattle.vbi_near.specs.Lines.{first_in, other_in}
 use Rattle.vbi_near.proofs.Asked.{pair-says, pair-says-given, levelled-same, given-same, levelled-both, given-both}
 use Rattle.vbi_near.proofs.recovery.said_by_both.Goals as goal
 
 pub returns-then-is_some-2 : goal.returns-then-is_some-2
 returns-then-is_some-2 c near other both is are pair =
-    let second = row_of c.args.row.now c.args.erased.now in
-    let third = row_of c.args.other.now c.args.other_erased.now in
+    let second = first_in c.args.pair.now in
+    let third = other_in c.args.pair.now in
     let some : is_some c.said_by_pair-said.result.0 ≡ true = search rules in
     let some_other : is_some c.said_by_pair-said.result.1 ≡ true = search rules in
-    let a = levelled-same c.args.system 17 c.args.levels second c.args.levelled.now c.requires.levelled
+    let a = levelled-same c.args.pair.now.system 17 c.args.levels second c.args.levelled.now c.requires.levelled
     near is in
-    let b = levelled-same c.args.system 18 c.args.levels third c.args.other_levelled.now c.requires.other_levelled
+    let b = levelled-same c.args.pair.now.system 18 c.args.levels third c.args.other_levelled.now c.requires.other_levelled
     other are in
-    let e = levelled-both c.args.system 17 c.args.levels second third both pair c.levelled_near_of_two-both.result
+    let e = levelled-both c.args.pair.now.system 17 c.args.levels second third both pair c.levelled_near_of_two-both.result
     c.levelled_near_of_two-both.ensures in
     let unit = c.unit_of-unit.ensures.value in (
       pair-says _ _ c.args.levelled.now c.args.other_levelled.now c.levelled_near_of_two-both.result
@@ -25,19 +25,19 @@ returns-then-is_some-2 c near other both is are pair =
 
 pub returns : goal.returns
 returns c near other both is are pair =
-    let second = row_of c.args.row.now c.args.erased.now in
-    let third = row_of c.args.other.now c.args.other_erased.now in
-    let a = levelled-same c.args.system 17 c.args.levels second c.args.levelled.now c.requires.levelled
+    let second = first_in c.args.pair.now in
+    let third = other_in c.args.pair.now in
+    let a = levelled-same c.args.pair.now.system 17 c.args.levels second c.args.levelled.now c.requires.levelled
     near is in
-    let b = levelled-same c.args.system 18 c.args.levels third c.args.other_levelled.now c.requires.other_levelled
+    let b = levelled-same c.args.pair.now.system 18 c.args.levels third c.args.other_levelled.now c.requires.other_levelled
     other are in
-    let e = levelled-both c.args.system 17 c.args.levels second third both pair c.levelled_near_of_two-both.result
+    let e = levelled-both c.args.pair.now.system 17 c.args.levels second third both pair c.levelled_near_of_two-both.result
     c.levelled_near_of_two-both.ensures in
-    let p = given-same c.args.system 17 c.args.levels second c.args.levelled.now c.requires.levelled near
+    let p = given-same c.args.pair.now.system 17 c.args.levels second c.args.levelled.now c.requires.levelled near
     is c.near_of_one.result c.near_of_one.ensures in
-    let q = given-same c.args.system 18 c.args.levels third c.args.other_levelled.now c.requires.other_levelled other
+    let q = given-same c.args.pair.now.system 18 c.args.levels third c.args.other_levelled.now c.requires.other_levelled other
     are c.near_of_one-2.result c.near_of_one-2.ensures in
-    let r = given-both c.args.system 17 c.args.levels second third both pair c.near_of_two.result
+    let r = given-both c.args.pair.now.system 17 c.args.levels second third both pair c.near_of_two.result
     c.near_of_two.ensures in
     let unit = c.unit_of-unit.ensures.value in (
       c.first_said.ensures

@@ -1,21 +1,21 @@
 use Rattle.std.proofs.Common.{◌∙◌, rules}
 use Rattle.std.specs.Prelude.{IsTrue}
-use Rattle.vbi_near.specs.Candidates.{row_of}
 use Rattle.vbi_near.specs.Recovery.{is_open, alone}
+use Rattle.vbi_near.specs.Lines.{row_in}
 use Rattle.vbi_near.proofs.Asked.{open-levelled, open-near, open-shows}
 use Rattle.vbi_near.proofs.recovery.shown_alone.Goals as goal
 
-pub said_alone-said-requires-clause-levelled : goal.said_alone-said-requires-clause-levelled
-said_alone-said-requires-clause-levelled c =
+pub said_alone-said-requires : goal.said_alone-said-requires
+said_alone-said-requires c =
     let opened : IsTrue (is_open c.args.own.outcome) = search rules in
-    open-levelled c.args.system c.args.number c.args.levels (row_of c.args.row.now c.args.erased.now) c.args.own
+    open-levelled c.args.row.now.system c.args.number c.args.levels (row_in c.args.row.now) c.args.own
     c.requires.own c.args.line.now c.requires.line opened
 
 pub returns-then-is_open : goal.returns-then-is_open
 returns-then-is_open c seen both is =
-    let row = row_of c.args.row.now c.args.erased.now in
+    let row = row_in c.args.row.now in
     let opened : IsTrue (is_open c.args.own.outcome) = search rules in
-    let near = open-near c.args.system c.args.number c.args.levels row c.args.own c.requires.own seen is opened in
+    let near = open-near c.args.row.now.system c.args.number c.args.levels row c.args.own c.requires.own seen is opened in
     c.recovered_as.ensures
-    ∙ open-shows c.args.system c.args.number c.args.levels row c.args.own c.requires.own alone seen both
+    ∙ open-shows c.args.row.now.system c.args.number c.args.levels row c.args.own c.requires.own alone seen both
     c.said_alone-said.result is opened (c.said_alone-said.ensures seen.near near)

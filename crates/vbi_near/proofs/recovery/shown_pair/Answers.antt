@@ -10,24 +10,24 @@ pub said_by_both-said-requires-clause-levelled : goal.said_by_both-said-requires
 said_by_both-said-requires-clause-levelled c =
     let opened : IsTrue (is_open c.own-own_near.result.outcome) = search rules in
     open-levelled c.args.system 17 c.args.levels
-    (row_of c.line_of-second.result.now c.erased_of-second_erased.result.now) c.own-own_near.result
+    (row_of c.line_of.result.now c.erased_of.result.now) c.own-own_near.result
     c.own-own_near.ensures c.line_in-near.result c.line_in-near.ensures opened
 
 pub said_by_both-said-requires-clause-other_levelled : goal.said_by_both-said-requires-clause-other_levelled
 said_by_both-said-requires-clause-other_levelled c =
     let opened : IsTrue (is_open c.own-own_other.result.outcome) = search rules in
     open-levelled c.args.system 18 c.args.levels
-    (row_of c.line_of-third.result.now c.erased_of-third_erased.result.now) c.own-own_other.result
+    (row_of c.line_of-2.result.now c.erased_of-2.result.now) c.own-own_other.result
     c.own-own_other.ensures c.line_in-other.result c.line_in-other.ensures opened
 
 pub returns-then-are_both_open : goal.returns-then-are_both_open
 returns-then-are_both_open c second third both is are pair =
-    let row = row_of c.line_of-second.result.now c.erased_of-second_erased.result.now in
-    let other = row_of c.line_of-third.result.now c.erased_of-third_erased.result.now in
+    let row = row_of c.line_of.result.now c.erased_of.result.now in
+    let other = row_of c.line_of-2.result.now c.erased_of-2.result.now in
     let one : row_at c.args.system c.args.rows.now c.args.erased.now 1 ≡ row =
-    λ j. row_of (sym c.line_of-second.ensures.line j) (sym c.erased_of-second_erased.ensures.columns j) in
+    λ j. row_of (sym c.line_of.ensures.line j) (sym c.erased_of.ensures.columns j) in
     let two : row_at c.args.system c.args.rows.now c.args.erased.now 2 ≡ other =
-    λ j. row_of (sym c.line_of-third.ensures.line j) (sym c.erased_of-third_erased.ensures.columns j) in
+    λ j. row_of (sym c.line_of-2.ensures.line j) (sym c.erased_of-2.ensures.columns j) in
     let seen = subst (λ (r : Row). IsSeen c.args.system 17 c.args.levels r second) one is in
     let too = subst (λ (r : Row). IsSeen c.args.system 18 c.args.levels r third) two are in
     let opened : (is_open c.own-own_near.result.outcome && is_open c.own-own_other.result.outcome) ≡ true =
@@ -45,12 +45,12 @@ returns-then-are_both_open c second third both is are pair =
 
 pub returns : goal.returns
 returns c second third both is are pair =
-    let row = row_of c.line_of-second.result.now c.erased_of-second_erased.result.now in
-    let other = row_of c.line_of-third.result.now c.erased_of-third_erased.result.now in
+    let row = row_of c.line_of.result.now c.erased_of.result.now in
+    let other = row_of c.line_of-2.result.now c.erased_of-2.result.now in
     let one : row_at c.args.system c.args.rows.now c.args.erased.now 1 ≡ row =
-    λ j. row_of (sym c.line_of-second.ensures.line j) (sym c.erased_of-second_erased.ensures.columns j) in
+    λ j. row_of (sym c.line_of.ensures.line j) (sym c.erased_of.ensures.columns j) in
     let two : row_at c.args.system c.args.rows.now c.args.erased.now 2 ≡ other =
-    λ j. row_of (sym c.line_of-third.ensures.line j) (sym c.erased_of-third_erased.ensures.columns j) in
+    λ j. row_of (sym c.line_of-2.ensures.line j) (sym c.erased_of-2.ensures.columns j) in
     let seen = subst (λ (r : Row). IsSeen c.args.system 17 c.args.levels r second) one is in
     let too = subst (λ (r : Row). IsSeen c.args.system 18 c.args.levels r third) two are in
     let unit = unit_of c.args.levels in

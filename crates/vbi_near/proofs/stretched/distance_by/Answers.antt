@@ -1,61 +1,15 @@
 use Rattle.std.proofs.Common.{ℕ, ◌+◌, get_or, arith, ap, subst, sym}
-use Rattle.vbi_near.specs.Distances.{Shades, shades}
+use Rattle.vbi_near.specs.Distances.{Shades}
 use Rattle.vbi_near.specs.Stretched.{stretched_row_cost, IsLeastAt, IsStartBefore}
+use Rattle.vbi_near.specs.Rows.{shades_of}
 use Rattle.vbi_near.proofs.Columns.{width-few}
 use Rattle.vbi_near.proofs.LeastAt.{start-more, all-starts}
-use Rattle.vbi_near.proofs.Stretches.{few-starts, row-read, starts-long}
+use Rattle.vbi_near.proofs.Stretches.{row-read, starts-long}
 use Rattle.vbi_near.proofs.stretched.distance_by.Goals as goal
-
-pub word_costs-requires-clause-room : goal.word_costs-requires-clause-room
-word_costs-requires-clause-room c =
-    omega (
-      arith,
-      starts-long c.args.system c.args.rate c.width.result c.stretched_offset-length.result c.requires.rate.0
-          c.width.ensures c.stretched_offset-length.ensures.value,
-      c.width.ensures,
-      c.stretched_offset-length.ensures.value,
-      c.stretched_offset-length.ensures.range,
-    )
-
-pub slice_bounds-all_costs-end : goal.slice_bounds-all_costs-end
-slice_bounds-all_costs-end c =
-    omega (
-      arith,
-      few-starts c.args.system c.args.rate c.requires.rate.0,
-      c.width.ensures,
-      c.stretched_offset-length.ensures.value,
-    )
-
-pub between-requires-clause-order : goal.between-requires-clause-order
-between-requires-clause-order c = omega (arith, c.width-2.ensures, c.stretched_offset-length.ensures.range)
-
-pub overflow_add-least : goal.overflow_add-least
-overflow_add-least c =
-    let long = starts-long c.args.system c.args.rate c.width.result c.stretched_offset-length.result c.requires.rate.0
-    c.width.ensures c.stretched_offset-length.ensures.value in
-    omega (
-      arith,
-      c.word_costs.ensures.few 0 (omega (arith, long)),
-      c.between.ensures.range,
-      c.width-2.ensures,
-      c.stretched_offset-length.ensures.value,
-      c.stretched_offset-length.ensures.range,
-      width-few c.args.system,
-    )
-
-pub between-requires-in-loop-start-clause-order : goal.between-requires-in-loop-start-clause-order
-between-requires-in-loop-start-clause-order c =
-    omega (
-      arith,
-      c.loop-start-test.true,
-      c.width.ensures,
-      c.width-in-loop-start.ensures,
-      c.stretched_offset-length.ensures.range,
-    )
 
 pub overflow_add-costs : goal.overflow_add-costs
 overflow_add-costs c =
-    let long = starts-long c.args.system c.args.rate c.width.result c.stretched_offset-length.result c.requires.rate.0
+    let long = starts-long c.args.sums.now.system c.args.rate c.width.result c.stretched_offset-length.result c.requires.0
     c.width.ensures c.stretched_offset-length.ensures.value in
     omega (
       arith,
@@ -66,18 +20,18 @@ overflow_add-costs c =
       c.width-in-loop-start.ensures,
       c.stretched_offset-length.ensures.value,
       c.stretched_offset-length.ensures.range,
-      width-few c.args.system,
+      width-few c.args.sums.now.system,
     )
 
 pub loop-start-preserved : goal.loop-start-preserved
 loop-start-preserved c =
-    let sums : Shades = shades c.args.dark.now c.args.light.now in
-    let far : ℕ → ℕ → ℕ = stretched_row_cost sums c.args.system c.args.word in
+    let sums : Shades = shades_of c.args.sums.now in
+    let far : ℕ → ℕ → ℕ = stretched_row_cost sums c.args.sums.now.system c.args.word in
     let start : ℕ = c.loop-start.start in
     let begin : ℕ = start + c.stretched_offset-length.result in
-    let long = starts-long c.args.system c.args.rate c.width.result c.stretched_offset-length.result c.requires.rate.0
+    let long = starts-long c.args.sums.now.system c.args.rate c.width.result c.stretched_offset-length.result c.requires.0
     c.width.ensures c.stretched_offset-length.ensures.value in
-    let row = row-read sums c.args.system c.args.word c.args.rate start (get_or c.word_costs.new.costs start 0) begin
+    let row = row-read sums c.args.sums.now.system c.args.word c.args.rate start (get_or c.word_costs.new.costs start 0) begin
     c.width-in-loop-start.result c.between-in-loop-start.result
     (c.word_costs.ensures.value start (omega (arith, long, c.loop-start-test.true)))
     (ap (λ (n : ℕ). start + n) c.stretched_offset-length.ensures.value) c.width-in-loop-start.ensures
@@ -88,9 +42,9 @@ loop-start-preserved c =
 
 pub returns : goal.returns
 returns c =
-    let sums : Shades = shades c.args.dark.now c.args.light.now in
-    let far : ℕ → ℕ → ℕ = stretched_row_cost sums c.args.system c.args.word in
-    all-starts c.args.system far c.args.rate c.loop-start.start c.loop-start.least
+    let sums : Shades = shades_of c.args.sums.now in
+    let far : ℕ → ℕ → ℕ = stretched_row_cost sums c.args.sums.now.system c.args.word in
+    all-starts c.args.sums.now.system far c.args.rate c.loop-start.start c.loop-start.least
     (omega (
       arith,
       c.loop-start-test.false,

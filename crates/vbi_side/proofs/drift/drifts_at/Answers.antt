@@ -13,44 +13,48 @@ not_false : (b : Bool) → not b ≡ false → b ≡ true
 not_false true e = refl
 not_false false e = absurd cc
 
-pub returns-then-not-goes_on-clause-none : goal.returns-then-not-goes_on-clause-none
-returns-then-not-goes_on-clause-none c = λ e.
+pub returns-then-not-goes_on_by-clause-none : goal.returns-then-not-goes_on_by-clause-none
+returns-then-not-goes_on_by-clause-none c = λ e.
+    let clock = c.args.rule.numbering.clock in
     let pace = c.args.rule.pace in
     let slack = c.args.rule.slack in
-    let spread = subst (IsSpreadBefore pace slack c.args.numbers.now c.args.field) c.in-Some.is c.requires.spread in
-    no_drift_apart pace slack c.args.numbers.now c.args.field _ c.in-Some.on.last spread.last
+    let spread = subst (IsSpreadBefore clock pace slack c.args.numbers.now c.args.field) c.in-Some.is c.requires.spread in
+    no_drift_apart clock pace slack c.args.numbers.now c.args.field _ c.in-Some.on.last spread.last
     (marked_here c.args.numbers.now c.args.field _ c.requires.inside
     (c.is_believed.ensures.0 c.if-not-is_believed.false))
-    (sym c.goes_on.ensures ∙ c.if-not-goes_on.true)
+    (sym c.goes_on_by.ensures ∙ c.if-not-goes_on_by.true)
 
-pub returns-then-not-goes_on-2-clause-drifts : goal.returns-then-not-goes_on-2-clause-drifts
-returns-then-not-goes_on-2-clause-drifts c = λ e.
+pub returns-then-not-goes_on_by-2-clause-drifts : goal.returns-then-not-goes_on_by-2-clause-drifts
+returns-then-not-goes_on_by-2-clause-drifts c = λ e.
+    let clock = c.args.rule.numbering.clock in
     let pace = c.args.rule.pace in
     let slack = c.args.rule.slack in
-    let spread = subst (IsSpreadBefore pace slack c.args.numbers.now c.args.field) c.in-Some.is c.requires.spread in
-    drift_found pace slack c.args.numbers.now c.args.field _ c.in-Some.on c.in-Some.on.low spread
+    let spread = subst (IsSpreadBefore clock pace slack c.args.numbers.now c.args.field) c.in-Some.is c.requires.spread in
+    drift_found clock pace slack c.args.numbers.now c.args.field _ c.in-Some.on c.in-Some.on.low spread
     (marked_here c.args.numbers.now c.args.field _ c.requires.inside
     (c.is_believed.ensures.0 c.if-not-is_believed.false))
-    (sym c.goes_on.ensures ∙ c.if-not-goes_on.false) spread.low spread.low_inside spread.low_before
-    (sym c.goes_on-2.ensures ∙ c.if-not-goes_on-2.true)
+    (sym c.goes_on_by.ensures ∙ c.if-not-goes_on_by.false) spread.low spread.low_inside spread.low_before
+    (sym c.goes_on_by-2.ensures ∙ c.if-not-goes_on_by-2.true)
 
 pub returns-clause-drifts : goal.returns-clause-drifts
 returns-clause-drifts c = λ e.
+    let clock = c.args.rule.numbering.clock in
     let pace = c.args.rule.pace in
     let slack = c.args.rule.slack in
-    let spread = subst (IsSpreadBefore pace slack c.args.numbers.now c.args.field) c.in-Some.is c.requires.spread in
-    drift_found pace slack c.args.numbers.now c.args.field _ c.in-Some.on c.in-Some.on.high spread
+    let spread = subst (IsSpreadBefore clock pace slack c.args.numbers.now c.args.field) c.in-Some.is c.requires.spread in
+    drift_found clock pace slack c.args.numbers.now c.args.field _ c.in-Some.on c.in-Some.on.high spread
     (marked_here c.args.numbers.now c.args.field _ c.requires.inside
     (c.is_believed.ensures.0 c.if-not-is_believed.false))
-    (sym c.goes_on.ensures ∙ c.if-not-goes_on.false) spread.high spread.high_inside spread.high_before
-    (sym c.goes_on-3.ensures ∙ not_true c.goes_on-3.result e)
+    (sym c.goes_on_by.ensures ∙ c.if-not-goes_on_by.false) spread.high spread.high_inside spread.high_before
+    (sym c.goes_on_by-3.ensures ∙ not_true c.goes_on_by-3.result e)
 
 pub returns-clause-none : goal.returns-clause-none
 returns-clause-none c = λ e.
+    let clock = c.args.rule.numbering.clock in
     let pace = c.args.rule.pace in
     let slack = c.args.rule.slack in
-    let spread = subst (IsSpreadBefore pace slack c.args.numbers.now c.args.field) c.in-Some.is c.requires.spread in
-    no_drift_on pace slack c.args.numbers.now c.args.field _ c.in-Some.on spread
+    let spread = subst (IsSpreadBefore clock pace slack c.args.numbers.now c.args.field) c.in-Some.is c.requires.spread in
+    no_drift_on clock pace slack c.args.numbers.now c.args.field _ c.in-Some.on spread
     (marked_here c.args.numbers.now c.args.field _ c.requires.inside
     (c.is_believed.ensures.0 c.if-not-is_believed.false))
-    (sym c.goes_on-2.ensures ∙ c.if-not-goes_on-2.false) (sym c.goes_on-3.ensures ∙ not_false c.goes_on-3.result e)
+    (sym c.goes_on_by-2.ensures ∙ c.if-not-goes_on_by-2.false) (sym c.goes_on_by-3.ensures ∙ not_false c.goes_on_by-3.result e)

@@ -10,7 +10,7 @@ loop-field-preserved c = record {
   spread = c.with_field-stretch.ensures;
   none = λ j less drift. elim (eqb_tells j c.loop-field.field) [
     | inl (t, same) ↦ c.drifts_at.ensures.none c.if-drifts_at.false
-        (subst (IsDrift c.args.rule.pace c.args.rule.slack c.args.numbers.now) same drift)
+        (subst (IsDrift c.args.rule.numbering.clock c.args.rule.pace c.args.rule.slack c.args.numbers.now) same drift)
     | inr (f, other) ↦ c.loop-field.invariant.none j (omega (arith, less, other)) drift
   ];
 }

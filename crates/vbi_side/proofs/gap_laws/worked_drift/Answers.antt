@@ -3,6 +3,7 @@ use Rattle.std.proofs.lemmas.Bool.Decides.{eqb_tells}
 use Rattle.vbi_side.specs.declared.number.Number.{Number}
 use Rattle.vbi_side.specs.declared.pace.Pace.TheVariants.{Video}
 use Rattle.vbi_side.specs.Paces.{nearly}
+use Rattle.vbi_side.specs.Clocks.{kept}
 use Rattle.vbi_side.specs.Numbers.{believed, IsMarked}
 use Rattle.vbi_side.specs.Gaps.{AreNeighbours}
 use Rattle.vbi_side.proofs.GapLaws.{same_number}
@@ -35,6 +36,7 @@ on a m b n from to pair = elim (eqb_tells a 1) [
 ]
 
 pub returns : goal.returns
+unfolding kept
 returns c = (
   3,
   record {

@@ -1,5 +1,8 @@
 use Rattle.std.proofs.Common.{[], false, refl, arith, inr}
 use Rattle.vbi_side.specs.Gaps.{since_end, stills_of, last_still}
+use Rattle.vbi_side.specs.declared.clock.Clock.TheVariants.{Plain}
+use Rattle.vbi_side.specs.Clocks.{kept}
+use Rattle.vbi_side.proofs.Counting.{plain}
 use Rattle.vbi_side.specs.WorkedSides.{cav, worked_ends}
 use Rattle.vbi_side.proofs.Telling.{none_written}
 use Rattle.vbi_side.proofs.WorkedPictures.{answers_are, none_wrong, no_gaps, no_swap, no_drift, marked_is}
@@ -15,19 +18,19 @@ pub returns-clause-low : goal.returns-clause-low
 returns-clause-low c = omega (arith, none_wrong 48)
 
 pub returns-clause-finding : goal.returns-clause-finding
-unfolding since_end stills_of last_still
+unfolding since_end stills_of last_still kept
 returns-clause-finding c = record {
   told = record {
     gaps = [];
     unread = 0;
-    all = no_gaps cav worked_ends 50 (omega arith);
+    all = no_gaps cav (λ n less. plain Plain n refl) worked_ends 50 (omega arith);
     comes_to = refl;
     written = none_written [];
   };
   swapped = false;
-  swap = (refl, λ pace slack. no_swap);
+  swap = (refl, λ pace slack. no_swap Plain);
   drifts = false;
-  drift = no_drift;
+  drift = no_drift Plain (λ n less. plain Plain n refl);
   verdict = refl;
   reasons = inr (
     0,

@@ -4,8 +4,10 @@ use Rattle.std.proofs.lemmas.Option.{slice_get_within}
 use Rattle.vbi_side.specs.declared.number.Number.{Number}
 use Rattle.vbi_side.specs.Numbers.{believed, nothing, IsMarked}
 use Rattle.vbi_side.specs.Gaps.{AreGaps, since_end, stills_of, last_still}
+use Rattle.vbi_side.specs.Clocks.{kept}
 use Rattle.std.proofs.lemmas.Bool.Decides.{eqb_tells}
 use Rattle.vbi_side.specs.declared.pace.Pace.TheVariants.{Video}
+use Rattle.vbi_side.specs.declared.clock.Clock.TheVariants.{Plain}
 use Rattle.vbi_side.specs.Paces.{nearly}
 use Rattle.vbi_side.specs.Drifts.{IsDrift}
 use Rattle.vbi_side.specs.Swaps.{IsSwap, is_stray}
@@ -24,15 +26,17 @@ never j l same at =
     let e : 0 ≡ 1 = ap at_state here in absurd (omega (arith, e))
 
 -- between the two pictures stands a field that shows nothing
-no_swap : (k : ℕ) → IsSwap two_pictures two_answers k → ⊥
+no_swap : (k : ℕ) → IsSwap Plain two_pictures two_answers k → ⊥
+unfolding kept
 no_swap k swap =
     let inside = slice_get_within two_answers swap.j (believed swap.n) swap.neighbours.there in
     let middle : k ≡ 1 = omega (arith, inside, swap.behind, swap.before) in
-    let h : false ≡ true = subst (λ x. is_stray two_answers swap.i swap.m x
+    let h : false ≡ true = subst (λ x. is_stray Plain two_answers swap.i swap.m x
     (slice_get two_pictures x) ≡ true) middle swap.stray in cc
 
 -- the second picture counts to the first
-no_drift : (j : ℕ) → IsDrift Video 0 two_answers j → ⊥
+no_drift : (j : ℕ) → IsDrift Plain Video 0 two_answers j → ⊥
+unfolding kept
 no_drift j drift =
     let inside = slice_get_within two_answers j (believed drift.n) drift.there in
     elim (eqb_tells j 1) [
@@ -45,7 +49,7 @@ no_drift j drift =
           ]
     ]
   where
-    apart : (k : ℕ) → k ≡ 2 → (drift : IsDrift Video 0 two_answers k) → drift.i ≡ 0 → ⊥
+    apart : (k : ℕ) → k ≡ 2 → (drift : IsDrift Plain Video 0 two_answers k) → drift.i ≡ 0 → ⊥
     apart k last drift first =
         let here = subst (λ x. IsMarked two_answers x drift.m) first drift.here in
         let there = subst (λ x. IsMarked two_answers x drift.n) last drift.there in
@@ -57,7 +61,7 @@ no_drift j drift =
         cc
 
 pub returns : goal.returns
-unfolding AreGaps since_end stills_of last_still
+unfolding AreGaps since_end stills_of last_still kept
 returns c = record {
   told = record {
     gaps = [];

@@ -10,7 +10,7 @@ loop-field-init c = record {
   told = let rule = c.args.rule in
       subst (λ (t : Tally). IsTold rule.pace rule.slack rule.numbering c.args.seen.now c.args.numbers.now
       c.args.ends.now 0
-      t c.args.out.now c.args.out.now) (sym c.none-tally.ensures)
+      t c.args.out.now c.args.out.now) (sym (c.none-tally.ensures rule.numbering.clock))
       (told_begins rule.pace rule.slack rule.numbering c.args.seen.now c.args.numbers.now c.args.ends.now
       c.args.out.now);
   last = λ j l less. absurd (omega (arith, less));

@@ -18,7 +18,7 @@ returns-in-None c = λ answers ends old neighbours e told.
     (there.field + 1) t old
     c.args.out.now) (sym (c.with_unread.ensures ∙ ap (with_unread c.args.tally) c.skipped.ensures))
     (subst (λ k. IsTold rule.pace rule.slack rule.numbering c.args.seen.now answers ends k
-    (with_unread c.args.tally (skipped here.number there.number)) old c.args.out.now) next
+    (with_unread c.args.tally (skipped rule.numbering.clock here.number there.number)) old c.args.out.now) next
     (told_on rule.pace rule.slack rule.numbering c.args.seen.now answers ends here.field here.number there.field
     there.number c.args.tally old c.args.out.now neighbours near told))
 
@@ -37,7 +37,7 @@ returns-in-Some c = λ answers ends old neighbours e told.
     (there.field + 1) t old
     c.write.new.out) (sym c.with_gap.ensures)
     (subst (λ k. IsTold rule.pace rule.slack rule.numbering c.args.seen.now answers ends k
-    (with_gap c.args.tally c.in-Some.gap) old c.write.new.out) next
+    (with_gap rule.numbering.clock c.args.tally c.in-Some.gap) old c.write.new.out) next
     (told_gap rule.pace rule.slack rule.numbering c.args.seen.now answers ends here.field here.number there.field
     there.number c.in-Some.gap c.args.tally old c.args.out.now c.write.new.out neighbours found c.write.ensures.there
     c.write.ensures.full told))

@@ -5,29 +5,29 @@ use Rattle.vbi_side.proofs.Telling.{marked_here}
 use Rattle.vbi_side.proofs.Swapping.{none_between, swap_found, none_found}
 use Rattle.vbi_side.proofs.swaps.swap_before.Goals as goal
 
-pub returns-else-goes_on-clause-none : goal.returns-else-goes_on-clause-none
-returns-else-goes_on-clause-none c = λ e k swap same.
-    none_between c.args.seen.now c.args.numbers.now c.args.field _ c.in-Some.here
+pub returns-else-goes_on_by-clause-none : goal.returns-else-goes_on_by-clause-none
+returns-else-goes_on_by-clause-none c = λ e k swap same.
+    none_between c.args.clock c.args.seen.now c.args.numbers.now c.args.field _ c.in-Some.here
     (subst (IsLast c.args.numbers.now c.args.field) c.in-Some.is c.requires.last)
     (marked_here c.args.numbers.now c.args.field _ c.requires.inside
     (c.is_believed.ensures.0 c.if-not-is_believed.false))
-    (sym c.goes_on.ensures ∙ c.if-goes_on.false) k swap same
+    (sym c.goes_on_by.ensures ∙ c.if-goes_on_by.false) k swap same
 
-pub returns-then-goes_on-clause-some : goal.returns-then-goes_on-clause-some
-returns-then-goes_on-clause-some c =
-    swap_found c.args.seen.now c.args.numbers.now c.args.field _ c.in-Some.here c.args.search.stray
+pub returns-then-goes_on_by-clause-some : goal.returns-then-goes_on_by-clause-some
+returns-then-goes_on_by-clause-some c =
+    swap_found c.args.clock c.args.seen.now c.args.numbers.now c.args.field _ c.in-Some.here c.args.search.stray
     (subst (IsLast c.args.numbers.now c.args.field) c.in-Some.is c.requires.last)
     (marked_here c.args.numbers.now c.args.field _ c.requires.inside
     (c.is_believed.ensures.0 c.if-not-is_believed.false))
-    (sym c.goes_on.ensures ∙ c.if-goes_on.true)
-    (subst (λ last. AreStrays c.args.seen.now c.args.numbers.now last c.args.field c.args.search.stray) c.in-Some.is
+    (sym c.goes_on_by.ensures ∙ c.if-goes_on_by.true)
+    (subst (λ last. AreStrays c.args.clock c.args.seen.now c.args.numbers.now last c.args.field c.args.search.stray) c.in-Some.is
     c.requires.strays)
 
-pub returns-then-goes_on-clause-none : goal.returns-then-goes_on-clause-none
-returns-then-goes_on-clause-none c =
-    none_found c.args.seen.now c.args.numbers.now c.args.field _ c.in-Some.here c.args.search.stray
+pub returns-then-goes_on_by-clause-none : goal.returns-then-goes_on_by-clause-none
+returns-then-goes_on_by-clause-none c =
+    none_found c.args.clock c.args.seen.now c.args.numbers.now c.args.field _ c.in-Some.here c.args.search.stray
     (subst (IsLast c.args.numbers.now c.args.field) c.in-Some.is c.requires.last)
     (marked_here c.args.numbers.now c.args.field _ c.requires.inside
     (c.is_believed.ensures.0 c.if-not-is_believed.false))
-    (subst (λ last. AreStrays c.args.seen.now c.args.numbers.now last c.args.field c.args.search.stray) c.in-Some.is
+    (subst (λ last. AreStrays c.args.clock c.args.seen.now c.args.numbers.now last c.args.field c.args.search.stray) c.in-Some.is
     c.requires.strays)

@@ -4,4 +4,4 @@ use Rattle.vbi_side.proofs.gap.Tally.none.Goals as goal
 
 pub returns : goal.returns
 unfolding last_still stills_of
-returns c = refl
+returns c = λ clock. refl

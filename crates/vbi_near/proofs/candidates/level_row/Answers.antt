@@ -1,6 +1,0 @@
-use Rattle.std.proofs.Common.{arith}
-use Rattle.vbi_words.proofs.Sizes.{line_bytes-le}
-use Rattle.vbi_near.proofs.candidates.level_row.Goals as goal
-
-pub slice_bounds-buffer-end : goal.slice_bounds-buffer-end
-slice_bounds-buffer-end c = omega (arith, line_bytes-le c.args.system, c.requires.row)

@@ -1,0 +1,12 @@
+use Rattle.std.proofs.Common.{◌≡◌, ℕ, ◌<◌, ◌*◌, length, get_or}
+use Rattle.vbi_near.specs.Costs.{cell_cost}
+use Rattle.vbi_near.specs.Leads.{IsDigitCost}
+use Rattle.vbi_near.specs.Rows.{shades_of}
+use Rattle.vbi_near.proofs.prices.Prices.at.Given as goal
+
+abbrev pub invariant-loop-place : goal.invariant-loop-place
+invariant-loop-place l = record {
+  room : length l.digits ≡ 96;
+  below : (i : ℕ) → i < 16 * l.place
+      → IsDigitCost (cell_cost (shades_of l.sums) l.fn.sums.system l.fn.start) i (get_or l.digits i 0);
+}

@@ -1,0 +1,293 @@
+-- What a clock leaves out, and where the other numbers stand.
+use Rattle.std.proofs.Common.{◌≡◌, ℕ, zero, suc, ◌+◌, ◌*◌, ◌-◌, ◌/◌, ◌<◌, ◌≤◌, true, refl, arith, ap, sym, ◌∙◌, subst}
+use Rattle.std.proofs.Common.{inl, inr, false, Bool, ◌≢◌}
+use Rattle.std.specs.Prelude.{Option, None, ◌⊎◌, ◌%◌, ◌==◌, ◌&&◌, nat_le, if◌then◌else◌}
+use Rattle.std.proofs.lemmas.Bool.Decides.{leb_tells, eqb_tells}
+use Rattle.std.proofs.Math.Dec.{eqb}
+use Rattle.std.proofs.Math.Nat.{div-lt_iff_lt-mul, div-zero, mul-le-mul_left, div-eq_of_lt, div-eq_of_lt-le}
+use Rattle.vbi_side.specs.declared.gap.Gap.{Gap}
+use Rattle.vbi_side.specs.declared.gap.Numbering.{Numbering}
+use Rattle.vbi_side.specs.Gaps.{lost, open_gap, gap_of, lost_of, undecided_of, skipped}
+use Rattle.vbi_side.specs.declared.clock.Clock.{Clock}
+use Rattle.vbi_side.specs.declared.clock.Clock.TheVariants.{Plain, DropFrame, OneIn}
+use Rattle.vbi_side.specs.declared.pace.Pace.{Pace}
+use Rattle.vbi_side.specs.declared.pace.Pace.TheVariants.{Video, Film}
+use Rattle.vbi_side.specs.Paces.{fits}
+use Rattle.vbi_side.specs.Truth.{IsNear}
+use Rattle.vbi_side.specs.Side.{DiscRuns, DiscCounts}
+use Rattle.vbi_side.specs.Clocks.{passed, left_out, leaves_out, kept, clock_fits, out_between, IsProper, IsClear, out_near}
+use Rattle.vbi_side.specs.Clocks.{DiscCountsBy, DiscNearlyBy}
+use Rattle.vbi_side.proofs.Truth.{video_fits, film_fits}
+
+-- ---- by one period
+
+-- a quotient is less than what it is less than by the divisor
+less_div : (x k y : ℕ) → x < y * suc k → x / suc k < y
+less_div x k y less = (div-lt_iff_lt-mul {k = suc k} {x = x} {y = y} (omega arith)).1 less
+
+div_less : (x k y : ℕ) → x / suc k < y → x < y * suc k
+div_less x k y less = (div-lt_iff_lt-mul {k = suc k} {x = x} {y = y} (omega arith)).0 less
+
+div_up : (k x y : ℕ) → x ≤ y → x / k ≤ y / k
+div_up zero x y le = omega (arith, div-zero x, div-zero y)
+div_up (suc k) x y le =
+    let h : y / suc k < y / suc k + 1 = omega arith in
+    let more = div_less y k (y / suc k + 1) h in
+    let less = less_div x k (y / suc k + 1) (omega (arith, le, more)) in
+    omega (arith, less)
+
+passed_up : (period remainder m n : ℕ) → m ≤ n → passed period remainder m ≤ passed period remainder n
+passed_up period remainder m n le = div_up period (m + (period - 1 - remainder)) (n + (period - 1 - remainder))
+    (omega (arith, le))
+
+passed_most : (period remainder n : ℕ) → passed period remainder n ≤ n
+passed_most zero remainder n = omega (arith, div-zero (n + (zero - 1 - remainder)))
+passed_most (suc k) remainder n =
+    let many : n + (suc k - 1 - remainder) < (n + 1) * suc k = go in
+    let less = less_div (n + (suc k - 1 - remainder)) k (n + 1) many in
+    omega (arith, less)
+  where
+    go : n + (suc k - 1 - remainder) < (n + 1) * suc k
+    go = let h : n * 1 ≤ n * suc k = mul-le-mul_left n (omega arith) in omega (arith, h)
+
+-- ---- by any clock
+
+pub out_up : (clock : Clock) (m n : ℕ) → m ≤ n → left_out clock m ≤ left_out clock n
+unfolding left_out
+out_up Plain m n le = omega arith
+out_up DropFrame m n le = omega (arith, le)
+out_up (OneIn period phase) m n le = passed_up period phase m n le
+
+pub out_most : (clock : Clock) (n : ℕ) → left_out clock n ≤ n
+unfolding left_out
+out_most Plain n = omega arith
+out_most DropFrame n = omega arith
+out_most (OneIn period phase) n = passed_most period phase n
+
+-- each number is left out or kept
+pub kept_is : (clock : Clock) (n : ℕ) → kept clock n + left_out clock n ≡ n
+unfolding kept left_out
+kept_is Plain n = omega arith
+kept_is DropFrame n = omega (arith, out_most DropFrame n)
+kept_is (OneIn period phase) n = omega (arith, out_most (OneIn period phase) n)
+
+-- ---- where no number is left out
+
+clear_same : (clock : Clock) (m n : ℕ) → IsClear clock m → n ≤ m + 12 → m ≤ n + 12 → left_out clock n ≡ left_out clock m
+clear_same clock m n clear before behind = omega (
+  arith,
+  clear,
+  out_up clock (m - 12) m (omega arith),
+  out_up clock m (m + 12) (omega arith),
+  out_up clock (m - 12) n (omega (arith, behind)),
+  out_up clock n (m + 12) before,
+)
+
+-- the places are as far apart as the numbers
+pub clear_apart : (clock : Clock) (m n : ℕ) → IsClear clock m → n ≤ m + 12 → m ≤ n + 12
+    → kept clock n + m ≡ kept clock m + n
+clear_apart clock m n clear before behind =
+    omega (arith, clear_same clock m n clear before behind, kept_is clock m, kept_is clock n)
+
+-- so what fits there fits by the clock
+pub clear_video : (clock : Clock) (i m j n : ℕ) → IsClear clock m → IsNear i j → fits Video i m j n ≡ true
+    → j + 2 * kept clock m ≡ i + 2 * kept clock n
+clear_video clock i m j n clear near fit =
+    let e = video_fits i m j n fit in
+    let p = clear_apart clock m n clear (omega (arith, near.0, near.1, e)) (omega (arith, near.0, near.1, e)) in
+    omega (arith, e, p)
+
+pub clear_film : (clock : Clock) (i m j n : ℕ) → IsClear clock m → IsNear i j → fits Film i m j n ≡ true
+    → (2 * j + 5 * kept clock m ≤ 2 * i + 5 * kept clock n + 2)
+    × (2 * i + 5 * kept clock n ≤ 2 * j + 5 * kept clock m + 2)
+clear_film clock i m j n clear near fit =
+    let e = film_fits i m j n fit in
+    let p = clear_apart clock m n clear (omega (arith, near.0, near.1, e.0, e.1))
+    (omega (arith, near.0, near.1, e.0, e.1)) in
+    (omega (arith, e.0, p), omega (arith, e.1, p))
+
+-- wherever: the places are as far apart as the numbers, but for those that are left out near
+near_apart : (clock : Clock) (m n : ℕ) → n ≤ m + 12 → m ≤ n + 12
+    → (kept clock n + m ≤ kept clock m + n + out_near clock m) × (kept clock m + n ≤ kept clock n + m + out_near clock m)
+near_apart clock m n before behind =
+    let a = out_up clock (m - 12) m (omega arith) in
+    let b = out_up clock m (m + 12) (omega arith) in
+    let c = out_up clock (m - 12) n (omega (arith, behind)) in
+    let d = out_up clock n (m + 12) before in
+    (omega (arith, a, b, c, d, kept_is clock m, kept_is clock n), omega (arith, a, b, c, d, kept_is clock m, kept_is clock n))
+
+pub near_video : (clock : Clock) (i m j n : ℕ) → IsNear i j → fits Video i m j n ≡ true
+    → (j + 2 * kept clock m ≤ i + 2 * kept clock n + 2 * out_near clock m)
+    × (i + 2 * kept clock n ≤ j + 2 * kept clock m + 2 * out_near clock m)
+near_video clock i m j n near fit =
+    let e = video_fits i m j n fit in
+    let p = near_apart clock m n (omega (arith, near.0, near.1, e)) (omega (arith, near.0, near.1, e)) in
+    (omega (arith, e, p.0, p.1), omega (arith, e, p.0, p.1))
+
+-- ---- with no clock all is as it was
+
+kept_plain : (n : ℕ) → kept Plain n ≡ n
+unfolding kept
+kept_plain n = refl
+
+out_plain : (n : ℕ) → left_out Plain n ≡ 0
+unfolding left_out
+out_plain n = refl
+
+pub plain : (clock : Clock) (n : ℕ) → clock ≡ Plain → kept clock n ≡ n
+plain clock n e = ap (λ c. kept c n) e ∙ kept_plain n
+
+pub plain_clear : (clock : Clock) (n : ℕ) → clock ≡ Plain → IsClear clock n
+plain_clear clock n e = ap (λ c. left_out c (n + 12)) e ∙ out_plain (n + 12) ∙ sym (out_plain (n - 12))
+    ∙ sym (ap (λ c. left_out c (n - 12)) e)
+
+pub plain_runs : (clock : Clock) (pace : Pace) (disc : ℕ → Option ℕ) → clock ≡ Plain → DiscRuns pace disc
+    → DiscCountsBy clock pace disc
+plain_runs clock pace disc e runs d f m n here there =
+    subst (λ x. fits pace d x f (kept clock n) ≡ true) (sym (plain clock m e))
+    (subst (λ x. fits pace d m f x ≡ true) (sym (plain clock n e)) (runs d f m n here there))
+
+pub plain_counts : (clock : Clock) (slack : ℕ) (disc : ℕ → Option ℕ) → clock ≡ Plain → DiscCounts slack disc
+    → DiscNearlyBy clock slack disc
+plain_counts clock slack disc e runs d f m n here there =
+    omega (arith, plain clock m e, plain clock n e, runs d f m n here there)
+
+pub runs_plain : (pace : Pace) (disc : ℕ → Option ℕ) → DiscRuns pace disc → DiscCountsBy Plain pace disc
+runs_plain pace disc runs = plain_runs Plain pace disc refl runs
+
+-- ---- the closed forms count what they say
+
+pub out_none : (clock : Clock) → IsProper clock → left_out clock 0 ≡ 0
+unfolding left_out
+out_none Plain proper = refl
+out_none DropFrame proper = refl
+out_none (OneIn zero phase) proper = absurd (omega (arith, proper))
+out_none (OneIn (suc k) phase) proper =
+    let less : 0 + (suc k - 1 - phase) < suc k = omega arith in div-eq_of_lt less
+
+drop_next : (n : ℕ) → left_out DropFrame (n + 1) ≡ left_out DropFrame n + (if leaves_out DropFrame n then 1 else 0)
+unfolding left_out
+drop_next n = go (leb_tells (suc (n % 1800)) 2) (leb_tells 1800 (n % 18000))
+  where
+    go : ((nat_le (suc (n % 1800)) 2 ≡ true) × (suc (n % 1800) ≤ 2)) ⊎ ((nat_le (suc (n % 1800)) 2 ≡ false) × (2 < suc (n % 1800)))
+        → ((nat_le 1800 (n % 18000) ≡ true) × (1800 ≤ n % 18000)) ⊎ ((nat_le 1800 (n % 18000) ≡ false) × (n % 18000 < 1800))
+        → left_out DropFrame (n + 1) ≡ left_out DropFrame n
+        + (if nat_le (suc (n % 1800)) 2 && nat_le 1800 (n % 18000) then 1 else 0)
+    go (inl (t, le)) (inl (u, more)) = rw (t, u) (omega (arith, le, more))
+    go (inl (t, le)) (inr (u, less)) = rw (t, u) (omega (arith, le, less))
+    go (inr (t, lt)) _ = rw t (omega (arith, lt))
+
+-- the quotient of q times the divisor and less than it
+quotient : (k q x : ℕ) → q * suc k ≤ x → x < (q + 1) * suc k → x / suc k ≡ q
+quotient k q x le less = div-eq_of_lt-le (suc k) le less
+
+even_next : (k phase n : ℕ) → phase < suc k → passed (suc k) phase (n + 1)
+    ≡ passed (suc k) phase n + (if (n % suc k) == phase then 1 else 0)
+even_next k phase n proper = go (eqb_tells (n % suc k) phase) (leb_tells (n % suc k) phase)
+  where
+    q : ℕ
+    q = n / suc k
+
+    r : ℕ
+    r = n % suc k
+
+    is : suc k * q + r ≡ n
+    is = omega arith
+
+    below : r < suc k
+    below = omega arith
+
+    go : ((eqb r phase ≡ true) × (r ≡ phase)) ⊎ ((eqb r phase ≡ false) × (r ≢ phase))
+        → ((nat_le r phase ≡ true) × (r ≤ phase)) ⊎ ((nat_le r phase ≡ false) × (phase < r))
+        → passed (suc k) phase (n + 1) ≡ passed (suc k) phase n + (if eqb r phase then 1 else 0)
+    go (inl (t, e)) _ = rw t (
+        let one = quotient k q (n + (suc k - 1 - phase)) (omega (arith, is, below, e)) (omega (arith, is, below, e)) in
+        let two = quotient k (q + 1) (n + 1 + (suc k - 1 - phase)) (omega (arith, is, below, e)) (omega (arith, is, below, e)) in
+        omega (arith, one, two))
+    go (inr (f, other)) (inl (t, le)) = rw f (
+        let one = quotient k q (n + (suc k - 1 - phase)) (omega (arith, is, proper, le)) (omega (arith, is, proper, le, other)) in
+        let two = quotient k q (n + 1 + (suc k - 1 - phase)) (omega (arith, is, proper, le)) (omega (arith, is, proper, le, other)) in
+        omega (arith, one, two))
+    go (inr (f, other)) (inr (t, lt)) = rw f (
+        let one = quotient k (q + 1) (n + (suc k - 1 - phase)) (omega (arith, is, below, lt)) (omega (arith, is, below, lt)) in
+        let two = quotient k (q + 1) (n + 1 + (suc k - 1 - phase)) (omega (arith, is, below, lt)) (omega (arith, is, below, lt)) in
+        omega (arith, one, two))
+
+pub out_next : (clock : Clock) (n : ℕ) → IsProper clock
+    → left_out clock (n + 1) ≡ left_out clock n + (if leaves_out clock n then 1 else 0)
+unfolding left_out
+out_next Plain n proper = omega arith
+out_next DropFrame n proper = drop_next n
+out_next (OneIn zero phase) n proper = absurd (omega (arith, proper))
+out_next (OneIn (suc k) phase) n proper = even_next k phase n proper
+
+-- ---- what is left out isn't lost
+
+-- of each number on at most one is left out
+div_step : (x k : ℕ) → (x + 1) / suc k ≤ x / suc k + 1
+div_step x k =
+    let h : x / suc k < x / suc k + 1 = omega arith in
+    let more = div_less x k (x / suc k + 1) h in
+    let less = less_div (x + 1) k (x / suc k + 2) (omega (arith, more)) in
+    omega (arith, less)
+
+out_step : (clock : Clock) (n : ℕ) → left_out clock (n + 1) ≤ left_out clock n + 1
+unfolding left_out
+out_step Plain n = omega arith
+out_step DropFrame n = omega arith
+out_step (OneIn zero phase) n = omega (arith, div-zero (n + 1 + (zero - 1 - phase)), div-zero (n + (zero - 1 - phase)))
+out_step (OneIn (suc k) phase) n =
+    let same : n + 1 + (suc k - 1 - phase) ≡ n + (suc k - 1 - phase) + 1 = omega arith in
+    subst (λ x. x / suc k ≤ (n + (suc k - 1 - phase)) / suc k + 1) (sym same) (div_step (n + (suc k - 1 - phase)) k)
+
+out_far : (clock : Clock) (m d : ℕ) → left_out clock (m + d) ≤ left_out clock m + d
+out_far clock m zero = let same : m ≡ m + zero = omega arith in
+    subst (λ x. left_out clock x ≤ left_out clock m + zero) same (omega arith)
+out_far clock m (suc d) = let next : m + d + 1 ≡ m + suc d = omega arith in
+    subst (λ x. left_out clock x ≤ left_out clock m + suc d) next
+    (omega (arith, out_step clock (m + d), out_far clock m d))
+
+pub skipped_few : (clock : Clock) (m n : ℕ) → m < n → skipped clock m n + out_between clock m n ≤ n - m - 1
+skipped_few clock m n less =
+    let whole : m + 1 + (n - m - 1) ≡ n = omega (arith, less) in
+    let far = subst (λ x. left_out clock x ≤ left_out clock (m + 1) + (n - m - 1)) whole
+    (out_far clock (m + 1) (n - m - 1)) in
+    omega (
+      arith,
+      less,
+      far,
+      kept_is clock m,
+      kept_is clock n,
+      out_up clock m (m + 1) (omega arith),
+      out_up clock (m + 1) n (omega (arith, less)),
+    )
+
+pub few_lost : (clock : Clock) (gap : Gap) → gap.from < gap.to
+    → lost_of clock gap + undecided_of clock gap + out_between clock gap.from gap.to ≤ gap.to - gap.from - 1
+few_lost clock gap less = go (eqb_tells gap.kind lost) (eqb_tells gap.kind open_gap)
+  where
+    few : skipped clock gap.from gap.to + out_between clock gap.from gap.to ≤ gap.to - gap.from - 1
+    few = skipped_few clock gap.from gap.to less
+
+    go : ((eqb gap.kind lost ≡ true) × (gap.kind ≡ lost)) ⊎ ((eqb gap.kind lost ≡ false) × (gap.kind ≢ lost))
+        → ((eqb gap.kind open_gap ≡ true) × (gap.kind ≡ open_gap))
+        ⊎ ((eqb gap.kind open_gap ≡ false) × (gap.kind ≢ open_gap))
+        → lost_of clock gap + undecided_of clock gap + out_between clock gap.from gap.to ≤ gap.to - gap.from - 1
+    go (inl (t, e)) _ = rw t (omega (arith, few))
+    go (inr (f, other)) (inl (t, e)) = rw (f, t) (omega (arith, few))
+    go (inr (f, other)) (inr (g, more)) = rw (f, g) (omega (arith, few))
+
+near_same : (x y : ℕ) → x ≡ y → (nat_le x (y + 0) && nat_le y (x + 0)) ≡ true
+near_same x y e = elim (leb_tells x (y + 0)) [
+  | inl (t, le) ↦ elim (leb_tells y (x + 0)) [
+    | inl (u, more) ↦ rw (t, u) refl
+    | inr (u, lt) ↦ absurd (omega (arith, e, lt))
+  ]
+  | inr (t, lt) ↦ absurd (omega (arith, e, lt))
+]
+
+pub no_gap : (numbering : Numbering) (ended : Bool) (shown i m k n : ℕ)
+    → clock_fits numbering.clock i m k n ≡ true → gap_of Video 0 numbering ended shown i m k n ≡ None
+no_gap numbering ended shown i m k n fit =
+    rw (near_same (k + 2 * kept numbering.clock m) (i + 2 * kept numbering.clock n)
+    (video_fits i (kept numbering.clock m) k (kept numbering.clock n) fit)) refl

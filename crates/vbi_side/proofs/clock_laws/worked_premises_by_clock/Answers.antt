@@ -1,0 +1,49 @@
+use Rattle.std.proofs.Common.{[], false, refl, arith, inr}
+use Rattle.vbi_side.specs.Gaps.{since_end, stills_of, last_still}
+use Rattle.vbi_side.specs.Clocks.{kept, left_out}
+use Rattle.vbi_side.specs.WorkedSides.{clv_by, worked_ends}
+use Rattle.vbi_side.proofs.ClockDiscs.{thousand_counts}
+use Rattle.vbi_side.proofs.Telling.{none_written}
+use Rattle.vbi_side.proofs.WorkedPictures.{no_gaps, no_swap, no_drift, marked_is}
+use Rattle.vbi_side.proofs.WorkedClock.{clock, same, clear_at, none_wrong}
+use Rattle.vbi_side.proofs.clock_laws.worked_premises_by_clock.Goals as goal
+
+pub returns-clause-runs : goal.returns-clause-runs
+returns-clause-runs c = thousand_counts 500 (omega arith)
+
+pub returns-clause-few : goal.returns-clause-few
+returns-clause-few c = omega (arith, none_wrong 0)
+
+pub returns-clause-low : goal.returns-clause-low
+returns-clause-low c = omega (arith, none_wrong 48)
+
+pub returns-clause-clear : goal.returns-clause-clear
+returns-clause-clear c = (clear_at 0, clear_at 48)
+
+pub returns-clause-finding : goal.returns-clause-finding
+unfolding since_end stills_of last_still kept left_out
+returns-clause-finding c = record {
+  told = record {
+    gaps = [];
+    unread = 0;
+    all = no_gaps (clv_by clock) same worked_ends 50 (omega arith);
+    comes_to = refl;
+    written = none_written [];
+  };
+  swapped = false;
+  swap = (refl, λ pace slack. no_swap clock);
+  drifts = false;
+  drift = no_drift clock same;
+  verdict = refl;
+  reasons = inr (
+    0,
+    24,
+    record {
+      begins = refl;
+      ends = refl;
+      none_before = λ i k less. absurd (omega (arith, less));
+      none_behind = λ i k less at. let p = marked_is i k at in absurd (omega (arith, less, p.0, p.1));
+    },
+    refl,
+  );
+}

@@ -1,0 +1,251 @@
+//! Which clock a disc's numbers keep to, as the believed ones tell: the one that explains most of the places at which
+//! they don't go on.
+
+ghost use Rattle.std.specs.Prelude.{◌≡◌, ◌+◌, ◌*◌, ◌<◌, ◌≤◌, ◌^◌, ◌↔◌, ◌⊎◌, true, length};
+ghost use Rattle.vbi_side.specs.declared.clock.Clock.TheVariants.{DropFrame, OneIn};
+ghost use Rattle.vbi_side.specs.Paces.{nearly};
+ghost use Rattle.vbi_side.specs.Clocks.{nearly_by, IsProper};
+ghost use Rattle.vbi_side.specs.ClocksFound.{explains, opposes, with_pair, ArePairs, AreEnough, IsClockTold};
+ghost use Rattle.vbi_side.specs.ClocksFound.{ExplainsMost};
+ghost use Rattle.vbi_side.specs.Gaps.{IsLast, has_clock};
+
+use crate::clock::Clock;
+use crate::gap::{Place, Rule, goes_on, goes_on_by};
+use crate::gaps::last_at;
+use crate::number::Number;
+
+/// How many neighbouring numbers a clock explains, and against how many it speaks.
+#[derive(Clone, Copy)]
+struct Pairs {
+    /// They go on by the clock, and not without.
+    explained: u64,
+    /// They go on without it, and not by it.
+    opposed: u64,
+}
+
+impl Pairs {
+    /// How many it explains, if that is enough to believe in the clock, else 0.
+    fn told(self) -> u64
+        requires { self.opposed < 2 ^ 60 }
+        ensures { (AreEnough self × (result ≡ self.explained)) ⊎ ((AreEnough self → ⊥) × (result ≡ 0)) }
+    {
+        if self.explained >= 3 && self.explained >= 2 * self.opposed {
+            self.explained
+        } else {
+            0
+        }
+    }
+}
+
+/// The pairs with one more.
+fn with_pair(rule: Rule, clock: Clock, here: Place, there: Place, pairs: Pairs) -> Pairs
+    requires slack { rule.slack ≤ 1 }
+    requires here { here.field < 2 ^ 60 }
+    requires there { there.field < 2 ^ 60 }
+    requires explained { pairs.explained < 2 ^ 60 }
+    requires opposed { pairs.opposed < 2 ^ 60 }
+    ensures value { result ≡ with_pair clock rule.pace rule.slack here.field here.number there.field there.number pairs }
+    ensures explained { result.explained ≤ pairs.explained + 1 }
+    ensures opposed { result.opposed ≤ pairs.opposed + 1 }
+{
+    let on = goes_on(rule.pace, rule.slack, here, there);
+    let by = goes_on_by(clock, rule.pace, rule.slack, here, there);
+    Pairs {
+        explained: pairs.explained + if by && !on { 1 } else { 0 },
+        opposed: pairs.opposed + if on && !by { 1 } else { 0 },
+    }
+}
+
+/// The pairs with the one that ends in a field, if one does.
+fn with_field(
+    numbers: &[Number],
+    rule: Rule,
+    clock: Clock,
+    field: usize,
+    last: Option<Place>,
+    pairs: Pairs,
+) -> Pairs
+    requires slack { rule.slack ≤ 1 }
+    requires inside { field < length numbers.now }
+    requires last { IsLast numbers.now field last }
+    requires explained { pairs.explained ≤ field }
+    requires opposed { pairs.opposed ≤ field }
+    ensures value { ArePairs clock rule.pace rule.slack numbers.now field pairs
+        → ArePairs clock rule.pace rule.slack numbers.now (field + 1) result }
+    ensures explained { result.explained ≤ field + 1 }
+    ensures opposed { result.opposed ≤ field + 1 }
+{
+    let answer = numbers[field];
+    if !answer.is_believed() {
+        return pairs;
+    }
+    match last {
+        None => pairs,
+        Some(here) => {
+            let there = Place {
+                field,
+                number: answer.number,
+            };
+            with_pair(rule, clock, here, there, pairs)
+        }
+    }
+}
+
+/// What a clock says of all neighbouring numbers.
+fn pairs_by(numbers: &[Number], rule: Rule, clock: Clock) -> Pairs
+    requires slack { rule.slack ≤ 1 }
+    ensures value { ArePairs clock rule.pace rule.slack numbers.now (length numbers.now) result }
+    ensures range { result.opposed < 2 ^ 60 }
+{
+    let mut pairs = Pairs {
+        explained: 0,
+        opposed: 0,
+    };
+    let mut last: Option<Place> = None;
+    for field in 0..numbers.len() {
+        pairs = with_field(numbers, rule, clock, field, last, pairs);
+        last = last_at(numbers, field, last);
+    }
+    pairs
+}
+
+/// A phase that leads, and by how many votes.
+#[derive(Clone, Copy)]
+struct Leader {
+    phase: u32,
+    votes: u64,
+}
+
+impl Leader {
+    /// With one vote more.
+    fn with_vote(self, phase: u32) -> Leader
+        requires { self.votes < 2 ^ 60 }
+        ensures phase { (result.phase ≡ phase) ⊎ (result.phase ≡ self.phase) }
+        ensures votes { result.votes ≤ self.votes + 1 }
+    {
+        if self.votes == 0 {
+            Leader { phase, votes: 1 }
+        } else if self.phase == phase {
+            Leader {
+                phase,
+                votes: self.votes + 1,
+            }
+        } else {
+            Leader {
+                phase: self.phase,
+                votes: self.votes - 1,
+            }
+        }
+    }
+}
+
+/// The leader with the vote of a field, if its number is the next but one, and just one is left out before it.
+fn with_vote_of(
+    numbers: &[Number],
+    rule: Rule,
+    period: u32,
+    field: usize,
+    last: Option<Place>,
+    leader: Leader,
+) -> Leader
+    requires slack { rule.slack ≤ 1 }
+    requires period { 0 < period }
+    requires inside { field < length numbers.now }
+    requires last { IsLast numbers.now field last }
+    requires phase { leader.phase < period }
+    requires votes { leader.votes ≤ field }
+    ensures phase { result.phase < period }
+    ensures votes { result.votes ≤ field + 1 }
+{
+    let answer = numbers[field];
+    if !answer.is_believed() {
+        return leader;
+    }
+    let Some(here) = last else {
+        return leader;
+    };
+    let there = Place {
+        field,
+        number: answer.number,
+    };
+    if u64::from(here.number) + 2 != u64::from(there.number)
+        || goes_on(rule.pace, rule.slack, here, there)
+    {
+        return leader;
+    }
+    leader.with_vote((there.number - 1) % period)
+}
+
+/// The phase of more than half of the places at which just one number is left out, if one has so many.
+fn leading(numbers: &[Number], rule: Rule, period: u32) -> u32
+    requires slack { rule.slack ≤ 1 }
+    requires period { 0 < period }
+    ensures { result < period }
+{
+    let mut leader = Leader { phase: 0, votes: 0 };
+    let mut last: Option<Place> = None;
+    for field in 0..numbers.len() {
+        leader = with_vote_of(numbers, rule, period, field, last, leader);
+        last = last_at(numbers, field, last);
+    }
+    leader.phase
+}
+
+/// What is said of all neighbouring numbers by the clock that leaves out one in so many.
+#[derive(Clone, Copy)]
+struct Even {
+    phase: u32,
+    pairs: Pairs,
+}
+
+/// That of the phase that leads.
+fn even_by(numbers: &[Number], rule: Rule, period: u32) -> Even
+    requires slack { rule.slack ≤ 1 }
+    requires period { 0 < period }
+    ensures proper { result.phase < period }
+    ensures value { ArePairs (OneIn period result.phase) rule.pace rule.slack numbers.now (length numbers.now)
+        result.pairs }
+    ensures range { result.pairs.opposed < 2 ^ 60 }
+{
+    let phase = leading(numbers, rule, period);
+    let pairs = pairs_by(numbers, rule, Clock::OneIn { period, phase });
+    Even { phase, pairs }
+}
+
+/// The clock that explains most of the places at which the numbers of an NTSC CLV disc don't go on, of those that explain
+/// at least three, and at least twice as many as they speak against. If drop-frame explains as much as one number in
+/// 1,000 or 1,001 it is drop-frame; if these two explain as much it is neither. One in 1,000 or 1,001 is found only if
+/// more than half of the places at which just one number is missing have its phase. Else, and of another disc, it is
+/// the clock of the rule.
+pub fn find_clock(numbers: &[Number], rule: Rule) -> Clock
+    requires { rule.slack ≤ 1 }
+    ensures told { (result ≡ rule.numbering.clock)
+        ⊎ (IsProper result × IsClockTold result rule.pace rule.slack numbers.now) }
+    ensures drop { has_clock rule.numbering ≡ true → ExplainsMost DropFrame rule.pace rule.slack numbers.now
+        → result ≡ DropFrame }
+{
+    if !rule.numbering.has_clock() {
+        return rule.numbering.clock;
+    }
+    let drop = pairs_by(numbers, rule, Clock::DropFrame).told();
+    let first = even_by(numbers, rule, 1000);
+    let second = even_by(numbers, rule, 1001);
+    let one = first.pairs.told();
+    let other = second.pairs.told();
+    if drop > 0 && drop >= one && drop >= other {
+        return Clock::DropFrame;
+    }
+    if one > other {
+        return Clock::OneIn {
+            period: 1000,
+            phase: first.phase,
+        };
+    }
+    if other > one {
+        return Clock::OneIn {
+            period: 1001,
+            phase: second.phase,
+        };
+    }
+    rule.numbering.clock
+}
