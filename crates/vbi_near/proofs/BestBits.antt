@@ -11,11 +11,7 @@ use Rattle.vbi_near.specs.Best.{IsBits, HasOther, IsBest}
 
 -- the least of two is one of them
 pub min_is : (a b : ℕ) → ((min a b ≡ a) × (a ≤ b)) ⊎ ((min a b ≡ b) × (b < a))
-min_is a b = go (cases_lt b a)
-  where
-    go : (b < a) ⊎ (a ≤ b) → ((min a b ≡ a) × (a ≤ b)) ⊎ ((min a b ≡ b) × (b < a))
-    go (inl less) = let le : b ≤ a = omega arith in inr (min-eq_right le, less)
-    go (inr le) = inl (min-eq_left le, le)
+min_is a b = grind arith
 
 -- the last bit of a number
 abbrev pub last_of : ℕ → Bool

@@ -12,14 +12,15 @@ use Rattle.vbi_near.specs.Pictures.{column_of, half_length, word_length, picture
 use Rattle.vbi_near.specs.Distances.{Shades, distance_from}
 use Rattle.vbi_near.specs.Sums.{span}
 use Rattle.vbi_near.specs.Costs.{half_cost, cell_cost, bits_cost, place_cost}
-use Rattle.vbi_near.specs.Shorter.{begun_later, ended_earlier, row_of_halves, IsCutShort, IsLeastShorter}
+use Rattle.vbi_near.specs.Shorter.{begun_later, ended_earlier, row_of_halves, IsCutShort}
+use Rattle.vbi_near.specs.Longer.{IsLeastRow}
 use Rattle.vbi_near.specs.Shorter.{bit_in_cell, black_cost, IsWithoutCell, IsShorterFound}
 use Rattle.vbi_near.specs.Stretched.{halves_cost}
 use Rattle.vbi_near.proofs.BestBits.{min_is}
 use Rattle.vbi_near.proofs.Columns.{column-first, column-next}
 use Rattle.vbi_near.proofs.Costs.{word-cost}
 use Rattle.vbi_near.specs.Sums.{AreBoth}
-use Rattle.vbi_near.proofs.Halves.{drawn-with, halves_cost-append, row-far}
+use Rattle.vbi_near.proofs.Halves.{drawn-with, halves_cost-append, row-far, row-long}
 
 -- ---- a word's first cells, and its last
 
@@ -104,6 +105,29 @@ one_of_four a b c d least e = go (min_is (min a b) (min c d))
         → (least ≡ a) ⊎ (least ≡ b) ⊎ (least ≡ c) ⊎ (least ≡ d)
     go (inl (m, le)) = front (min_is a b) (e ∙ m)
     go (inr (m, less)) = back (min_is c d) (e ∙ m)
+
+-- ---- how wide
+
+pub row-wide : (system : System) (start : ℕ) (halves levels : List Bool) → start + word_length system ≤ width_of system
+    → length halves ≡ 48 → levels ≡ row_of_halves system start halves → length levels ≡ width_of system
+unfolding row_of_halves
+row-wide system start halves levels room many e =
+    let tail : List Bool = replicate (width_of system - (start + word_length system)) false in
+    ap length e
+    ∙ ap (λ (drawn : List Bool). length (replicate start false ++ (drawn ++ tail))) (drawn-with system 0 halves)
+    ∙ row-long (column_of system start) (half_length system) (column-next system start) (width_of system) start
+    (start + word_length system) halves (sym (column-first system start)) (ap (column_of system start) (sym many)) room
+
+pub length-shorter : (system : System) (w start : ℕ) (levels : List Bool) → start + word_length system ≤ width_of system
+    → IsCutShort system w start levels → length levels ≡ width_of system
+length-shorter system w start levels room (inl e) =
+    row-wide system start (begun_later w 2) levels room (one-later-long w) e
+length-shorter system w start levels room (inr (inl e)) =
+    row-wide system start (begun_later w 4) levels room (two-later-long w) e
+length-shorter system w start levels room (inr (inr (inl e))) =
+    row-wide system start (ended_earlier w 2) levels room (one-earlier-long w) e
+length-shorter system w start levels room (inr (inr (inr e))) =
+    row-wide system start (ended_earlier w 4) levels room (two-earlier-long w) e
 
 -- ---- by sums
 
@@ -284,7 +308,7 @@ module _ (costs sums : Shades) (system : System) (both : AreBoth costs sums (wid
         )
 
     pub least_shorter : (shorter : ℕ) → IsShorterFound sums system found shorter
-        → IsLeastShorter system (distance_from costs 0) found.word start shorter
+        → IsLeastRow (IsCutShort system found.word start) (distance_from costs 0) shorter
     least_shorter shorter (first, second, last, other, a, b, c, d, e) = record { least = least; one = go choices }
       where
         there : place_cost sums system start found.word ≡ found.distance

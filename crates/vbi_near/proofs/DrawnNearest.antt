@@ -21,7 +21,7 @@ use Rattle.vbi_near.specs.Nearest.{IsNearest, far_from}
 use Rattle.vbi_near.specs.Apart.{picture_distance}
 use Rattle.vbi_near.proofs.Columns.{length-picture}
 use Rattle.vbi_near.proofs.DrawnFirst.{levels_from, first-level, later-level, after, before-word, in-word}
-use Rattle.vbi_near.proofs.Chosen.{some_is, none_some, some_none}
+use Rattle.vbi_near.proofs.Certain.{some_is, none_some, some_none}
 use Rattle.vbi_near.proofs.Distinct.{rows, rows_apart, few_misread}
 
 -- ---- distances of lines that are one row

@@ -21,7 +21,7 @@ use Rattle.vbi_near.specs.Halved.{half_of, halved_far, row_cost, halved_cost}
 use Rattle.vbi_near.proofs.Halves.{drawn-with, row-far}
 use Rattle.vbi_near.specs.Sums.{AreBoth}
 use Rattle.vbi_near.proofs.Piles.{levels-same}
-use Rattle.vbi_near.proofs.ShorterRows.{row-wide}
+use Rattle.vbi_near.proofs.CutShort.{row-wide}
 
 -- ---- half cells
 

@@ -7,13 +7,11 @@ use Rattle.vbi_words.specs.declared.system.System.{System}
 use Rattle.vbi_words.specs.Geometry.{width_of}
 use Rattle.vbi_words.specs.Words.{cell_of, halves_of}
 use Rattle.vbi_near.specs.declared.found.Found.{Found}
-use Rattle.vbi_near.specs.declared.near.Near.{Near}
 use Rattle.vbi_near.specs.Pictures.{word_length, drawn_halves, starts}
 use Rattle.vbi_near.specs.Distances.{Shades, distance_from}
 use Rattle.vbi_near.specs.Sums.{AreRowSums, total_in, span}
 use Rattle.vbi_near.specs.Costs.{cell_cost, bits_cost, place_cost}
-use Rattle.vbi_near.specs.Best.{IsChosen}
-use Rattle.vbi_near.specs.Longer.{cell_length, begun_earlier, ended_later, GoesOn, IsLeastLonger, HasLonger}
+use Rattle.vbi_near.specs.Longer.{cell_length, begun_earlier, ended_later, GoesOn, IsLeastRow}
 use Rattle.vbi_near.specs.Longer.{IsBeside, IsWithCell, IsLongerFound}
 use Rattle.vbi_near.proofs.Columns.{column-first, column-drawn, word-drawn, word-fits}
 use Rattle.vbi_near.specs.Sums.{AreBoth}
@@ -199,13 +197,6 @@ module _ (costs sums : Shades) (system : System) (both : AreBoth costs sums (wid
             ),
       )
 
-      pub least_longer : IsLeastLonger system (distance_from costs 0) found.word found.start longer
+      pub least_longer : IsLeastRow (GoesOn system found.word found.start) (distance_from costs 0) longer
       least_longer =
           let o = longest.one in record { least = least; one = one o.0 o.1 o.2 o.3 }
-
-      pub longer_is : (near : Near) (shorter blank : ℕ) → IsChosen found longer shorter blank near
-          → HasLonger system (distance_from costs 0) near.word near
-      longer_is near shorter blank (inl (order, e)) =
-          subst (λ (n : Near). HasLonger system (distance_from costs 0) n.word n) (sym e) refl
-      longer_is near shorter blank (inr (order, e)) =
-          subst (λ (n : Near). HasLonger system (distance_from costs 0) n.word n) (sym e) least_longer
