@@ -1,7 +1,7 @@
 -- The nearest word or none, and the nearest code or none: what is said of the drawn rows at some places, by the best
 -- of what was looked at. near_word and near_code stand on it, one_near and some_near on the places alone.
-use Rattle.std.proofs.Common.{◌≡◌, ◌≢◌, ℕ, ◌≤◌, ◌<◌, ◌+◌, ◌^◌, min, Option, List, [], ◌∷◌, Bool, length}
-use Rattle.std.proofs.Common.{◌⊎◌, inl, inr, refl, arith, ap, sym, subst, ◌∙◌}
+use Rattle.std.proofs.Common.{◌≡◌, ◌≢◌, ℕ, ◌≤◌, ◌<◌, ◌+◌, ◌^◌, min, Option, List, [], ◌∷◌, ◌⊎◌, inl, inr, refl, arith}
+use Rattle.std.proofs.Common.{ap, sym, subst, ◌∙◌}
 use Rattle.std.specs.Prelude.{Some, None, false}
 use Rattle.std.proofs.lemmas.Bool.{cases_lt}
 use Rattle.vbi_words.specs.declared.system.System.{System}

@@ -1,14 +1,13 @@
 -- Of some lines one word is the first of the nearest, from one start on, with one rival, one longer and one shorter
 -- distance.
-use Rattle.std.proofs.Common.{◌≡◌, ℕ, ◌≤◌, inl, inr, Bool, List, refl, sym, ap, ◌∙◌, subst, arith}
+use Rattle.std.proofs.Common.{◌≡◌, ℕ, Bool, List, refl, sym, ◌∙◌, subst, arith}
 use Rattle.std.specs.Prelude.{Option, Some, None}
 use Rattle.vbi_words.specs.declared.system.System.{System}
 use Rattle.vbi_words.specs.Levels.{Slicing}
 use Rattle.vbi_near.specs.declared.near.Near.{Near}
-use Rattle.vbi_near.specs.LineCodes.{codes_of, IsCodePlace}
 use Rattle.vbi_near.specs.Pictures.{IsPlace, drawn_as}
 use Rattle.vbi_near.specs.Distances.{Samples, unit_of, distance_of}
-use Rattle.vbi_near.specs.Nearest.{IsNearest, IsNearestCode, IsFirst, IsFirstCode, Precedes, IsBefore}
+use Rattle.vbi_near.specs.Nearest.{IsNearest, IsNearestCode, IsFirst, IsFirstCode, Precedes}
 use Rattle.vbi_near.specs.Longer.{GoesOn, HasLeastRow, IsLonger}
 use Rattle.vbi_near.specs.Shorter.{IsCutShort, IsShorter}
 use Rattle.vbi_near.specs.Rows.{IsNearOf}
@@ -20,13 +19,8 @@ one_place : (system : System) (a : Option ℕ) (s : ℕ) (b : Option ℕ) (t : �
 one_place system None s None t here there before behind = (refl, here ∙ sym there)
 one_place system None s (Some w) t here there before behind = absurd behind
 one_place system (Some v) s None t here there before behind = absurd before
-one_place system (Some v) s (Some w) t here there before behind = go before behind
-  where
-    go : IsBefore s v t w → IsBefore t w s v → (Some v ≡ Some w) × (s ≡ t)
-    go (inl less) (inl more) = absurd (omega arith)
-    go (inl less) (inr (e, le)) = absurd (omega (arith, e))
-    go (inr (e, le)) (inl more) = absurd (omega (arith, e))
-    go (inr (e, le)) (inr (f, ge)) = let same : v ≡ w = omega arith in (ap Some same, e)
+one_place system (Some v) s (Some w) t here there before behind =
+    grind arith
 
 -- of one word at one start there is one least distance of its rows
 one_row : (IsRow : ℕ → ℕ → List Bool → Type 0) (far : List Bool → ℕ) (word : Option ℕ) (near other : Near) (a b : ℕ)
@@ -44,24 +38,15 @@ module _ (IsThere : Option ℕ → ℕ → Type 0) (system : System)
     (are : IsNearOf IsThere system slicing lines other) where
   distance : near.distance ≡ other.distance
   distance =
-      let a = is.nearest.least other.word other.start are.nearest.place in
-      let b = are.nearest.least near.word near.start is.nearest.place in
-      omega (arith, a, b, is.nearest.exact, are.nearest.exact)
+      grind arith
 
   place : (near.word ≡ other.word) × (near.start ≡ other.start)
   place =
-      one_place system near.word near.start other.word other.start (fits near.word near.start is.nearest.place)
-      (fits other.word other.start are.nearest.place)
-      (is.first.first other.word other.start are.nearest.place (are.nearest.exact ∙ sym distance))
-      (are.first.first near.word near.start is.nearest.place (is.nearest.exact ∙ distance))
+      grind (arith, one_place, distance)
 
   rival : near.rival ≡ other.rival
   rival =
-      let o = are.nearest.other in
-      let p = is.nearest.other in
-      let a = is.nearest.rival o.0 o.1 o.2 (λ e. o.3 (e ∙ place.0)) in
-      let b = are.nearest.rival p.0 p.1 p.2 (λ e. p.3 (e ∙ sym place.0)) in
-      omega (arith, a, b, o.4, p.4)
+      grind (arith, place)
 
   row : (IsRow : ℕ → ℕ → List Bool → Type 0) (far : List Bool → ℕ) (a b : ℕ)
       → HasLeastRow IsRow far near.word near a → HasLeastRow IsRow far other.word other b → a ≡ b
@@ -89,9 +74,7 @@ pub one_near : (system : System) (slicing : Slicing) (lines : List Samples) (nea
     → IsShorter system slicing lines near → IsNearest system slicing lines other → IsFirst system slicing lines other
     → IsLonger system slicing lines other → IsShorter system slicing lines other → near ≡ other
 one_near system slicing lines near other is first longer shorter are first_too longer_too shorter_too =
-    one_near_by (IsPlace system) system (λ word start place. place) slicing lines near other
-    (record { nearest = is; first = first; longer = longer; shorter = shorter })
-    (record { nearest = are; first = first_too; longer = longer_too; shorter = shorter_too })
+    grind (arith, one_near_by, place)
 
 -- of the codes that may stand on a line
 pub one_near_code : (system : System) (line : ℕ) (slicing : Slicing) (lines : List Samples) (near other : Near)
@@ -100,6 +83,4 @@ pub one_near_code : (system : System) (line : ℕ) (slicing : Slicing) (lines : 
     → IsNearestCode system line slicing lines other → IsFirstCode system line slicing lines other
     → IsLonger system slicing lines other → IsShorter system slicing lines other → near ≡ other
 one_near_code system line slicing lines near other is first longer shorter are first_too longer_too shorter_too =
-    one_near_by (IsCodePlace (codes_of system line) system) system (code-place (codes_of system line) system) slicing
-    lines near other (record { nearest = is; first = first; longer = longer; shorter = shorter })
-    (record { nearest = are; first = first_too; longer = longer_too; shorter = shorter_too })
+    grind (arith, one_near_by, code-place)

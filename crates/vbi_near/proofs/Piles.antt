@@ -1,7 +1,8 @@
 -- The distance of lines is the one by what their columns cost.
-use Rattle.std.proofs.Common.{◌≡◌, ℕ, suc, ◌<◌, ◌+◌, List, [], ◌∷◌, Bool, length}
-use Rattle.std.proofs.Common.{get_or, refl, arith, ap, sym, ◌∙◌, Option}
+use Rattle.std.proofs.Common.{◌≡◌, ℕ, suc, ◌<◌, ◌+◌, List, [], ◌∷◌, Bool, length, get_or, refl, arith, ap, sym, ◌∙◌}
+use Rattle.std.proofs.Common.{Option}
 use Rattle.std.specs.List.{All}
+use Rattle.std.specs.Prelude.{None}
 use Rattle.vbi_words.specs.declared.system.System.{System}
 use Rattle.vbi_words.specs.Geometry.{width_of}
 use Rattle.vbi_words.specs.Levels.{Slicing}
@@ -10,7 +11,6 @@ use Rattle.vbi_near.specs.Distances.{Samples, unit_of, off_by, row_distance, dis
 use Rattle.vbi_near.specs.Distances.{distance_from, IsPile}
 use Rattle.vbi_near.specs.Nearest.{far_from}
 use Rattle.vbi_near.specs.Longer.{IsLeastRow}
-use Rattle.std.specs.Prelude.{Some, None}
 use Rattle.vbi_near.proofs.Columns.{length-picture}
 
 -- ---- one line

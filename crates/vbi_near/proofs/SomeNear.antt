@@ -1,8 +1,7 @@
 -- There is a first nearest word of any lines, and a first nearest code.
-use Rattle.std.proofs.Common.{◌≡◌, ◌≢◌, ℕ, zero, suc, ◌+◌, ◌-◌, ◌*◌, ◌/◌, ◌%◌, ◌≤◌, ◌<◌, ◌⊎◌, inl, inr, Bool}
-use Rattle.std.proofs.Common.{true, false}
-use Rattle.std.proofs.Common.{List, [], ◌∷◌, refl, sym, ap, ◌∙◌, subst, arith}
-use Rattle.std.specs.Prelude.{Option, Some, None, ◌==◌, if◌then◌else◌}
+use Rattle.std.proofs.Common.{◌≡◌, ◌≢◌, ℕ, zero, suc, ◌+◌, ◌-◌, ◌*◌, ◌/◌, ◌%◌, ◌≤◌, ◌<◌, ◌⊎◌, inl, inr, Bool, true}
+use Rattle.std.proofs.Common.{false, List, [], ◌∷◌, refl, sym, ap, ◌∙◌, subst, arith}
+use Rattle.std.specs.Prelude.{Option, Some, None}
 use Rattle.std.proofs.lemmas.Bool.{cases_eq, cases_lt}
 use Rattle.vbi_words.specs.declared.system.System.{System}
 use Rattle.vbi_words.specs.declared.system.System.TheVariants.{Ntsc, Pal}
@@ -11,11 +10,11 @@ use Rattle.vbi_words.specs.Levels.{Slicing}
 use Rattle.vbi_words.specs.Words.{IsWord}
 use Rattle.vbi_words.specs.Codes.{digit_of, IsBetween}
 use Rattle.vbi_near.specs.declared.near.Near.{Near}
-use Rattle.vbi_near.specs.LineCodes.{Range, IsIn, IsOneOf, codes_of, codes_of_16, codes_of_17, IsCodePlace}
+use Rattle.vbi_near.specs.LineCodes.{Range, IsIn, IsOneOf, codes_of, IsCodePlace}
 use Rattle.vbi_near.specs.Pictures.{IsPlace, drawn_as, starts, word_length}
 use Rattle.vbi_near.specs.Distances.{Samples, unit_of, distance_of}
-use Rattle.vbi_near.specs.Nearest.{IsNearestBy, IsFirstBy, IsNearest, IsFirst, Precedes, far_from}
-use Rattle.vbi_near.specs.Nearest.{IsNearestCode, IsFirstCode}
+use Rattle.vbi_near.specs.Nearest.{IsNearestBy, IsFirstBy, IsNearest, IsFirst, Precedes, far_from, IsNearestCode}
+use Rattle.vbi_near.specs.Nearest.{IsFirstCode}
 use Rattle.vbi_near.specs.Longer.{GoesOn, IsLeastRow, HasLeastRow, IsLonger, cell_length, begun_earlier, ended_later}
 use Rattle.vbi_near.specs.Shorter.{begun_later, ended_earlier, row_of_halves, IsCutShort, IsShorter}
 use Rattle.vbi_near.proofs.Chosen.{code-place}
@@ -67,11 +66,8 @@ module _ (system : System) where
   unfolding number_of
   precedes None other start at here there le = tt
   precedes (Some w) None start at here there le = absurd (omega arith)
-  precedes (Some w) (Some v) start at ((low, high), room) ((low', high'), room') le = go (cases_lt start at)
-    where
-      go : (start < at) ⊎ (at ≤ start) → (start < at) ⊎ ((start ≡ at) × (w ≤ v))
-      go (inl less) = inl less
-      go (inr more) = inr (omega arith, omega arith)
+  precedes (Some w) (Some v) start at ((low, high), room) ((low', high'), room') le =
+      grind arith
 
 -- a place's number, again
 renumbered : (k : ℕ) → number_of (word_at k) (start_at k) ≡ k
@@ -80,11 +76,8 @@ renumbered zero = refl
 renumbered (suc m) = ap suc (omega arith)
 
 other_word : (a b : Option ℕ) → IsTold (a ≢ b)
-other_word a b = go (same_or_not a b)
-  where
-    go : (a ≡ b) ⊎ (a ≢ b) → IsTold (a ≢ b)
-    go (inl e) = inr (λ differs. differs e)
-    go (inr differs) = inl differs
+other_word a b =
+    grind (arith, same_or_not, IsTold)
 
 -- the first of the nearest of some places, of which none is one, and a word at the first column
 module _ (system : System) (IsThere : Option ℕ → ℕ → Type 0)
@@ -109,9 +102,7 @@ module _ (system : System) (IsThere : Option ℕ → ℕ → Type 0)
 
   has : (word : Option ℕ) (start : ℕ) → IsThere word start → Has (number_of word start)
   has word start place =
-      let n = numbered system word start (fits word start place) in
-      subst (λ (s : ℕ). IsThere (word_at (number_of word start)) s) (sym n.start_is)
-      (subst (λ (w : Option ℕ). IsThere w start) (sym n.word_is) place)
+      grind (arith, numbered, word_at, number_of)
 
   best : Least cost Has (last system)
   unfolding word_at start_at
@@ -311,8 +302,7 @@ word_told w = both_told _ _ (at_most_told 8388608 w) (at_most_told (suc w) 16777
 place_told : (system : System) (word : Option ℕ) (start : ℕ) → IsTold (IsPlace system word start)
 place_told system None start = cases_eq start 0
 place_told system (Some w) start =
-    both_told (IsWord w) (start + word_length system ≤ width_of system) (word_told w)
-    (at_most_told (start + word_length system) (width_of system))
+    grind (arith, both_told, word_told, at_most_told)
 
 -- a digit is in the range of those at its place from 0
 abbrev Fits : ℕ → ℕ → ℕ → ℕ → Type 0
@@ -344,8 +334,7 @@ code_told : (ranges : List Range) (system : System) (word : Option ℕ) (start :
     → IsTold (IsCodePlace ranges system word start)
 code_told ranges system None start = cases_eq start 0
 code_told ranges system (Some w) start =
-    both_told (IsOneOf ranges w) (start + word_length system ≤ width_of system) (one_told ranges w)
-    (at_most_told (start + word_length system) (width_of system))
+    grind (arith, both_told, one_told, at_most_told)
 
 -- picture stop, which may stand on each line
 stop_between : IsBetween 0x82CFFF 0x82CFFF 0x82CFFF
@@ -353,15 +342,8 @@ stop_between place low high = (omega arith, omega arith)
 
 -- it is in each table
 stop_stands : (system : System) (line : ℕ) → IsOneOf (codes_of system line) 0x82CFFF
-stop_stands system line = go (line == 16) refl
-  where
-    go : (b : Bool) → (line == 16) ≡ b → IsOneOf (if b then codes_of_16 system else codes_of_17) 0x82CFFF
-    go true e = on_16 system
-      where
-        on_16 : (system : System) → IsOneOf (codes_of_16 system) 0x82CFFF
-        on_16 Ntsc = inl ((omega arith, omega arith), stop_between)
-        on_16 Pal = inl ((omega arith, omega arith), stop_between)
-    go false e = inr (inr (inr (inl ((omega arith, omega arith), stop_between))))
+stop_stands system line =
+    grind (arith, stop_between)
 
 -- ---- of all words, and of the codes that may stand on a line
 

@@ -1,5 +1,5 @@
 -- Signals that are shorter than a word: rows on which its first one or two cells are black, or its last.
-use Rattle.std.specs.Prelude.{◌≡◌, ◌≤◌, ◌⊎◌, ℕ, suc, ◌+◌, ◌-◌, ◌*◌, Bool, false, List, ◌++◌, replicate, take, drop, min}
+use Rattle.std.specs.Prelude.{◌≡◌, ◌⊎◌, ℕ, suc, ◌+◌, ◌-◌, ◌*◌, Bool, false, List, ◌++◌, replicate, take, drop, min}
 use Rattle.std.specs.Prelude.{nat_eq}
 use Rattle.std.specs.Int.{bit_at}
 use Rattle.vbi_words.specs.declared.system.System.{System}
