@@ -29,11 +29,6 @@ pub column-rises : (system : System) (start j k : ℕ) → j ≤ k → column_of
 column-rises Ntsc start j k l = omega arith
 column-rises Pal start j k l = omega arith
 
-column-step : (system : System) (start j : ℕ) → (column_of system start j ≤ column_of system start (suc j))
-    × (column_of system start (suc j) ≤ column_of system start j + 18)
-column-step Ntsc start j = (omega arith, omega arith)
-column-step Pal start j = (omega arith, omega arith)
-
 pub width-few : (system : System) → width_of system ≤ 1135
 width-few Ntsc = omega arith
 width-few Pal = omega arith

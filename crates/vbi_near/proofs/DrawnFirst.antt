@@ -140,9 +140,6 @@ module _ (system : System) (slicing : Slicing) (w : ℕ) where
   abbrev picture : List Bool
   picture = picture_of system (Some w) (start_of system)
 
-  abbrev behind : ℕ
-  behind = after system (start_of system) w
-
   from-picture : (c : ℕ) → get_or picture c false ≡ true → IsDrawnHigh system w c
   from-picture c high =
       grind (arith, before-word, high-in, in-word, first-start, length-halves)

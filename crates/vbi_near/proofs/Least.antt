@@ -109,10 +109,6 @@ either_told P Q (inr not) (inl q) = inl (inr q)
 either_told P Q (inr not) (inr nor) =
     grind arith
 
-pub not_told : (P : Type 0) → IsTold P → IsTold (P → ⊥)
-not_told P (inl p) = inr (λ not. not p)
-not_told P (inr not) = inl not
-
 -- of an order
 pub at_most_told : (a b : ℕ) → IsTold (a ≤ b)
 at_most_told a b =

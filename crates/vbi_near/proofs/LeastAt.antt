@@ -55,11 +55,6 @@ alone-least far at start distance e = record {
   one = (at, start, (refl, refl), sym e);
 }
 
-pub first-start : (far : ℕ → ℕ → ℕ) (at distance : ℕ) → distance ≡ far at 0
-    → IsLeastAt (IsStartBefore at 1) far distance
-first-start far at distance e =
-    grind (arith, same-least, alone-least)
-
 pub start-more : (far : ℕ → ℕ → ℕ) (at start a b : ℕ) → IsLeastAt (IsStartBefore at start) far a → b ≡ far at start
     → IsLeastAt (IsStartBefore at (start + 1)) far (min a b)
 start-more far at start a b is e =

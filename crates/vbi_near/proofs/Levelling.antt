@@ -163,27 +163,6 @@ pub record FilledTo (slicing : Slicing) (erased : List Bool) (row out : List ℕ
   pub below : WrittenTo (filled_at slicing erased row) out i
   pub behind : (k : ℕ) → i ≤ k → sample_at out k ≡ sample_at row k
 
--- a column more that isn't erased
-pub filled_kept : (slicing : Slicing) (erased : List Bool) (row out : List ℕ) (i : ℕ) → get_or erased i false ≡ false
-    → FilledTo slicing erased row out i → FilledTo slicing erased row out (i + 1)
-filled_kept slicing erased row out i unmarked is = record {
-  below = written_more (filled_at slicing erased row) out out i
-      (is.behind i (omega arith) ∙ ap (λ (b : Bool). cond b (middle_of slicing) (sample_at row i)) (sym unmarked))
-      (λ k other. refl) is.below;
-  behind = λ k le. is.behind k (omega arith);
-}
-
--- a column more that is
-pub filled_more : (slicing : Slicing) (erased : List Bool) (row old new : List ℕ) (i : ℕ)
-    → get_or erased i false ≡ true → sample_at new i ≡ middle_of slicing
-    → ((k : ℕ) → (k ≡ i → ⊥) → sample_at new k ≡ sample_at old k) → FilledTo slicing erased row old i
-    → FilledTo slicing erased row new (i + 1)
-filled_more slicing erased row old new i marked here others is = record {
-  below = written_more (filled_at slicing erased row) old new i
-      (here ∙ ap (λ (b : Bool). cond b (middle_of slicing) (sample_at row i)) (sym marked)) others is.below;
-  behind = λ k le. others k (λ e. omega arith) ∙ is.behind k (omega arith);
-}
-
 length-filled : (slicing : Slicing) (erased : List Bool) (samples : List ℕ) → length erased ≡ length samples
     → length (filled slicing erased samples) ≡ length samples
 length-filled slicing [] [] e = refl

@@ -41,12 +41,6 @@ module _ (system : System) where
   last : ℕ
   last = starts system * 8388608
 
-  is_place : (k : ℕ) → k ≤ last → IsPlace system (word_at k) (start_at k)
-  unfolding word_at start_at last
-  is_place zero le = refl
-  is_place (suc m) le =
-      ((omega arith, omega arith), let l : m / 8388608 < starts system = omega arith in omega (arith, word-fits system))
-
   record Numbered (word : Option ℕ) (start : ℕ) : Type 0 where
     pub within : number_of word start ≤ last
     pub word_is : word_at (number_of word start) ≡ word
