@@ -24,8 +24,7 @@ last-joined a true = eq-eqb ((2 * a + 1) % 2) 1 (omega arith)
 last-joined a false = ne_eqb ((2 * a + 0) % 2) 1 (λ e. omega arith)
 
 joined-again : (v : ℕ) → v ≡ 2 * (v / 2) + bit_of (last_of v)
-joined-again v =
-    grind (arith, bit_of)
+joined-again v = grind (arith, bit_of)
 
 twice : (n : ℕ) → (2 ^ suc n ≡ 2 ^ n * 2) × (2 ^ (n + 1) ≡ 2 ^ n * 2) × (2 ^ (suc n + 1) ≡ 2 ^ n * 4)
 twice n =
@@ -36,14 +35,11 @@ twice n =
     (a, omega (arith, a, b), omega (arith, a, c, d))
 
 IsBits-joined : (n a : ℕ) (b : Bool) → IsBits n a → IsBits (suc n) (2 * a + bit_of b)
-IsBits-joined n a true (low, high) =
-    omega (arith, twice)
-IsBits-joined n a false (low, high) =
-    omega (arith, twice)
+IsBits-joined n a true (low, high) = omega (arith, twice)
+IsBits-joined n a false (low, high) = omega (arith, twice)
 
 IsBits-half : (n v : ℕ) → IsBits (suc n) v → IsBits n (v / 2)
-IsBits-half n v h1 =
-    grind (arith, twice)
+IsBits-half n v h1 = grind (arith, twice)
 
 other_bit : (a b : Bool) → (a ≡ b) ⊎ (a ≡ not b)
 other_bit true true = inl refl
@@ -58,8 +54,7 @@ not_same false e = omega arith
 pub joined-cost : (cost : ℕ → Bool → ℕ) (m a : ℕ) (b : Bool)
     → bits_cost cost (suc m) (2 * a + bit_of b) ≡ bits_cost cost m a + cost m b
 unfolding bits_cost
-joined-cost cost m a b =
-    grind (arith, bit_of, half-joined, last-joined)
+joined-cost cost m a b = grind (arith, bit_of, half-joined, last-joined)
 
 module _ (cost : ℕ → Bool → ℕ) (n : ℕ) (best : Bits) (is : IsBest cost n best) (bit : Bool) (less more : ℕ)
     (cheap : cost (suc n) bit ≡ less) (dear : cost (suc n) (not bit) ≡ more) (order : less ≤ more)
@@ -73,13 +68,11 @@ module _ (cost : ℕ → Bool → ℕ) (n : ℕ) (best : Bits) (is : IsBest cost
   }
 
   least : (b : Bool) → less ≤ cost (suc n) b
-  least b =
-      grind (arith, other_bit)
+  least b = grind (arith, other_bit)
 
   behind : (a : ℕ) (b : Bool) → IsBits n a → 2 * a + bit_of b ≢ chosen.word
       → chosen.distance + chosen.margin ≤ bits_cost cost (suc (suc n)) (2 * a + bit_of b)
-  behind a b bits differs =
-      grind (arith, bit_of, joined-cost, least, other_bit)
+  behind a b bits differs = grind (arith, bit_of, joined-cost, least, other_bit)
 
   -- the other bit in this cell
   flipped : (more - less ≤ best.margin) → HasOther cost (suc n) chosen
@@ -109,19 +102,16 @@ module _ (cost : ℕ → Bool → ℕ) (n : ℕ) (best : Bits) (is : IsBest cost
 
   another : ((n ≡ 0) × (2 ^ 26 ≤ best.margin)) ⊎ HasOther cost n best → HasOther cost (suc n) chosen
   another (inl (first, wide)) = flipped (omega (arith, wide, near))
-  another (inr other) =
-      grind (arith, followed, flipped)
+  another (inr other) = grind (arith, followed, flipped)
 
   -- no bits before this cell cost less
   floor : (a : ℕ) → IsBits n a → best.distance ≤ bits_cost cost (suc n) a
-  floor a bits =
-      grind arith
+  floor a bits = grind arith
 
   -- bits that cost as little are no less
   earliest : (a : ℕ) (b : Bool) → IsBits n a
       → bits_cost cost (suc (suc n)) (2 * a + bit_of b) ≡ chosen.distance → chosen.word ≤ 2 * a + bit_of b
-  earliest a b bits same =
-      grind (arith, other_bit, joined-cost, floor, least, bit_of)
+  earliest a b bits same = grind (arith, other_bit, joined-cost, floor, least, bit_of)
 
   pub with_cell_is : IsBest cost (suc n) chosen
   with_cell_is = record {
@@ -138,8 +128,7 @@ module _ (cost : ℕ → Bool → ℕ) (n : ℕ) (best : Bits) (is : IsBest cost
   -- the same, by its fields
   pub with_cell_by : (word margin : ℕ) → word ≡ 2 * best.word + bit_of bit → margin ≡ min best.margin (more - less)
       → IsBest cost (suc n) (record { word = word; distance = best.distance + less; margin = margin })
-  with_cell_by word margin e m =
-      grind (arith, bit_of, with_cell_is)
+  with_cell_by word margin e m = grind (arith, bit_of, with_cell_is)
 
 -- ---- the first cell
 

@@ -57,34 +57,28 @@ module _ (cost : ℕ → ℕ → ℕ) (base : ℕ) (least greatest : ℕ → ℕ
   cost-joined : (a d : ℕ) → d < 16
       → digits_cost cost base (suc n) (16 * a + d) ≡ digits_cost cost base n a + cost n d
   unfolding digits_cost
-  cost-joined a d l =
-      grind (arith, high, low)
+  cost-joined a d l = grind (arith, high, low)
 
   are-joined : (a d : ℕ) → d < 16 → AreDigits least greatest n a → least n ≤ d → d ≤ greatest n
       → AreDigits least greatest (suc n) (16 * a + d)
   unfolding AreDigits
-  are-joined a d l are from to =
-      grind (arith, high, low)
+  are-joined a d l are from to = grind (arith, high, low)
 
   cheapest : (d : ℕ) → least n ≤ d → d ≤ greatest n → choice.least ≤ cost n d
-  cheapest d from to =
-      grind arith
+  cheapest d from to = grind arith
 
   behind : (a d : ℕ) → d < 16 → AreDigits least greatest n a → least n ≤ d → d ≤ greatest n
       → 16 * a + d ≢ longer.word → longer.distance + longer.margin ≤ digits_cost cost base (suc n) (16 * a + d)
-  behind a d l are from to differs =
-      grind (arith, cost-joined, cheapest)
+  behind a d l are from to differs = grind (arith, cost-joined, cheapest)
 
   -- no digits before this one cost less
   floor : (a : ℕ) → AreDigits least greatest n a → best.distance ≤ digits_cost cost base n a
-  floor a are =
-      grind arith
+  floor a are = grind arith
 
   -- digits that cost as little are no less
   earliest : (a d : ℕ) → d < 16 → AreDigits least greatest n a → least n ≤ d → d ≤ greatest n
       → digits_cost cost base (suc n) (16 * a + d) ≡ longer.distance → longer.word ≤ 16 * a + d
-  earliest a d l are from to same =
-      grind (arith, cheapest, cost-joined, floor)
+  earliest a d l are from to same = grind (arith, cheapest, cost-joined, floor)
 
   small : choice.value < 16
   small = omega (arith, chosen.before)
@@ -118,8 +112,7 @@ module _ (cost : ℕ → ℕ → ℕ) (base : ℕ) (least greatest : ℕ → ℕ
   )
 
   another : AreOther
-  another =
-      grind (arith, min_is, AreOther, followed, turned)
+  another = grind (arith, min_is, AreOther, followed, turned)
 
   parts : (v : ℕ) → AreDigits least greatest (suc n) v
       → AreDigits least greatest n (v / 16) × (least n ≤ v % 16) × (v % 16 ≤ greatest n)

@@ -95,8 +95,7 @@ module _ (system : System) (IsOne : ℕ → Type 0) (IsThere : Option ℕ → �
       → IsBefore at v t (number other) → Precedes word s other t
   precedes None other s t at v here there e f before = tt
   precedes (Some w) None s t at v here there e f (inl less) = absurd (omega (arith, are.place None t there))
-  precedes (Some w) None s t at v here there e f (inr (g, le)) =
-      absurd (omega (arith, (are.place (Some w) s here).0.0))
+  precedes (Some w) None s t at v here there e f (inr (g, le)) = absurd (omega (arith, (are.place (Some w) s here).0.0))
   precedes (Some w) (Some x) s t at v here there e f (inl less) = inl (omega arith)
   precedes (Some w) (Some x) s t at v here there e f (inr (g, le)) = inr (omega arith, omega arith)
 
@@ -222,8 +221,7 @@ module _ (sums : Sums) (slicing : Slicing) (lines : List Samples) (costs : Shade
                 (least_longer costs (shades_of sums) sums.system row.both sums.rows lead l exact longer longest),
             row-same sums.system slicing lines costs row.pile (IsCutShort sums.system lead.word lead.start) shorter
                 (λ levels cut. length-shorter sums.system lead.word lead.start levels room cut)
-                (least_shorter costs (shades_of sums) sums.system row.both lead.start room lead refl exact shorter
-                shortest),
+                (least_shorter costs (shades_of sums) sums.system row.both lead room exact shorter shortest),
           )
 
   pub near-of : (longer shorter : ℕ) (near : Near) → IsCodeChosen lead longer shorter near → Other

@@ -44,8 +44,7 @@ word-fits Pal = omega arith
 pub column-drawn : (system : System) (start j : ℕ) (halves : List Bool)
     → column_of system start j + length (drawn_halves system j halves) ≡ column_of system start (j + length halves)
 unfolding drawn_halves
-column-drawn system start j [] =
-    grind arith
+column-drawn system start j [] = grind arith
 column-drawn system start j (half ∷ halves) =
     let e : suc j + length halves ≡ j + suc (length halves) = omega arith in
     let same : column_of system start (suc j + length halves) ≡ column_of system start (j + suc (length halves))

@@ -19,12 +19,10 @@ use Rattle.vbi_near.proofs.Columns.{length-cells, length-picture}
 
 module _ (system : System) where
   next-boundary : (j : ℕ) → boundary system (suc j) ≡ boundary system j + half_length system j
-  next-boundary j =
-      grind arith
+  next-boundary j = grind arith
 
   later : (i j : ℕ) → i ≤ j → boundary system i ≤ boundary system j
-  later i j l =
-      grind arith
+  later i j l = grind arith
 
   -- a column lies in one of these half cells, of which the first is half cell j of its word, and that one is high
   abbrev IsHighIn : List Bool → ℕ → ℕ → Type 0
@@ -44,13 +42,11 @@ module _ (system : System) where
         (append_assoc (replicate (half_length system j) h) (drawn_halves system (suc j) halves) (replicate after false))
 
     pub first-level : k < half_length system j → get_or (levels_from (h ∷ halves) j after) k false ≡ h
-    first-level l =
-        grind (arith, parts, get_or-append, replicate, length-replicate, get_or-replicate)
+    first-level l = grind (arith, parts, get_or-append, replicate, length-replicate, get_or-replicate)
 
     pub later-level : half_length system j ≤ k → get_or (levels_from (h ∷ halves) j after) k false
         ≡ get_or (levels_from halves (suc j) after) (k - half_length system j) false
-    later-level l =
-        grind (arith, parts, get_or-append_right, replicate, length-replicate)
+    later-level l = grind (arith, parts, get_or-append_right, replicate, length-replicate)
 
     moved : half_length system j ≤ k
         → boundary system (suc j) + (k - half_length system j) ≡ boundary system j + k
@@ -92,8 +88,7 @@ module _ (system : System) where
   high-there : (halves : List Bool) (j after k : ℕ) → IsHighIn halves j (boundary system j + k)
       → get_or (levels_from halves j after) k false ≡ true
   high-there [] j after k (i, inside, low, high, at) = absurd (omega arith)
-  high-there (h ∷ halves) j after k (zero, inside, low, high, at) =
-      grind (arith, first-level, next-boundary)
+  high-there (h ∷ halves) j after k (zero, inside, low, high, at) = grind (arith, first-level, next-boundary)
   high-there (h ∷ halves) j after k (suc i, inside, low, high, at) =
       let here : boundary system (j + suc i) ≡ boundary system (suc j + i) = ap (boundary system) (omega arith) in
       let next : boundary system (j + suc i + 1) ≡ boundary system (suc j + i + 1)
@@ -127,26 +122,22 @@ module _ (system : System) (start w : ℕ) where
 
   pub before-word : (c : ℕ) → c < start → get_or (picture_of system (Some w) start) c false ≡ false
   unfolding picture_of
-  before-word c l =
-      grind (arith, get_or-append, replicate, length-replicate, all_low)
+  before-word c l = grind (arith, get_or-append, replicate, length-replicate, all_low)
 
   pub in-word : (c : ℕ) → start ≤ c → get_or (picture_of system (Some w) start) c false
       ≡ get_or (levels_from system (halves_of w) 0 after) (c - start) false
   unfolding picture_of
-  in-word c l =
-      grind (arith, get_or-append_right, replicate, length-replicate)
+  in-word c l = grind (arith, get_or-append_right, replicate, length-replicate)
 
 module _ (system : System) (slicing : Slicing) (w : ℕ) where
   abbrev picture : List Bool
   picture = picture_of system (Some w) (start_of system)
 
   from-picture : (c : ℕ) → get_or picture c false ≡ true → IsDrawnHigh system w c
-  from-picture c high =
-      grind (arith, before-word, high-in, in-word, first-start, length-halves)
+  from-picture c high = grind (arith, before-word, high-in, in-word, first-start, length-halves)
 
   to-picture : (c : ℕ) → IsDrawnHigh system w c → get_or picture c false ≡ true
-  to-picture c h1 =
-      grind (arith, first-start, later, in-word, high-there, length-halves)
+  to-picture c h1 = grind (arith, first-start, later, in-word, high-there, length-halves)
 
   sample-at : (c : ℕ) (level : Bool) → get_or picture c false ≡ level
       → IsDrawnSample system slicing (Some w) c (sample_of slicing level)
@@ -169,8 +160,7 @@ row-drawn system slicing word long each =
 pub drawn_first : (system : System) (slicing : Slicing) (word : Option ℕ) → IsWordOrNone word
     → drawn_as slicing (picture_of system word (start_of system)) ≡ drawn_row_of system slicing word
 unfolding picture_of
-drawn_first system slicing None is =
-    grind (arith, row-drawn, length-replicate, all_low)
+drawn_first system slicing None is = grind (arith, row-drawn, length-replicate, all_low)
 drawn_first system slicing (Some w) is =
     row-drawn system slicing (Some w) (length-picture system (Some w) (start_of system) (is, first-place system))
     (λ c l. sample-at system slicing w c _ refl)

@@ -84,13 +84,11 @@ module _ (system : System) (w : ℕ) (is : IsWord w) where
 
   low-first : (start c : ℕ) → c < start + half_length system 0
       → get_or (picture_of system (Some w) start) c false ≡ false
-  low-first start c l =
-      grind (arith, get_or, before-word, in-word, level-of, first-level, rest, after)
+  low-first start c l = grind (arith, get_or, before-word, in-word, level-of, first-level, rest, after)
 
   high-then : (start c : ℕ) → c ≡ start + half_length system 0
       → get_or (picture_of system (Some w) start) c false ≡ true
-  high-then start c e =
-      grind (arith, in-word, level-of, later-level, rest, after, first-level, half-some)
+  high-then start c e = grind (arith, in-word, level-of, later-level, rest, after, first-level, half-some)
 
   no_earlier : (s t : ℕ) → picture_of system (Some w) s ≡ picture_of system (Some w) t → s < t → ⊥
   no_earlier s t same l =
@@ -100,8 +98,7 @@ module _ (system : System) (w : ℕ) (is : IsWord w) where
       let both = ap (λ (x : List Bool). get_or x c false) same in cc
 
   one_start : (s t : ℕ) → picture_of system (Some w) s ≡ picture_of system (Some w) t → s ≡ t
-  one_start s t same =
-      grind (arith, no_earlier)
+  one_start s t same = grind (arith, no_earlier)
 
 starts-same : (system : System) (word other : Option ℕ) (s t : ℕ) → other ≡ word → IsPlace system word s
     → IsPlace system other t → picture_of system other t ≡ picture_of system word s → t ≡ s
@@ -131,8 +128,7 @@ module _ (system : System) (slicing : Slicing) (lines : List (List ℕ)) (near :
   unit = slicing.white - slicing.black
 
   whole : All (λ line. length line ≡ width_of system) lines
-  whole k d l =
-      grind (arith, length-map, length-picture)
+  whole k d l = grind (arith, length-map, length-picture)
 
   nothing : far_from system slicing (map known lines) word start ≡ 0
   nothing =
@@ -145,8 +141,7 @@ module _ (system : System) (slicing : Slicing) (lines : List (List ℕ)) (near :
   drawn-distance = let least = is.least word start place in omega (arith, least, nothing)
 
   pub drawn-word : near.word ≡ word
-  drawn-word =
-      grind (arith, few_misread, whole, positive, some-apart, nothing)
+  drawn-word = grind (arith, few_misread, whole, positive, some-apart, nothing)
 
   -- the row answered has the samples of the row drawn, and so its levels
   same-row : row_distance unit (known row) (drawn_as slicing (picture_of system near.word near.start)) ≡ 0

@@ -21,8 +21,7 @@ drawn-with system j (half ∷ halves) =
 pub halves_cost-append : (cost : ℕ → Bool → ℕ) (j : ℕ) (a b : List Bool)
     → halves_cost cost j (a ++ b) ≡ halves_cost cost j a + halves_cost cost (j + length a) b
 unfolding halves_cost
-halves_cost-append cost j [] b =
-    grind arith
+halves_cost-append cost j [] b = grind arith
 halves_cost-append cost j (x ∷ a) b =
     let e : suc j + length a ≡ j + suc (length a) = omega arith in
     let same : halves_cost cost (suc j + length a) b ≡ halves_cost cost (j + suc (length a)) b
@@ -33,8 +32,7 @@ halves_cost-append cost j (x ∷ a) b =
 
 module _ (at columns : ℕ → ℕ) (next : (j : ℕ) → at j + columns j ≡ at (suc j)) where
   pub rises-by : (j n : ℕ) → at j ≤ at (j + n)
-  rises-by j zero =
-      grind arith
+  rises-by j zero = grind arith
   rises-by j (suc n) =
       let e : suc (j + n) ≡ j + suc n = omega arith in
       omega (arith, rises-by j n, next (j + n), ap at e)
@@ -42,8 +40,7 @@ module _ (at columns : ℕ → ℕ) (next : (j : ℕ) → at j + columns j ≡ a
   pub halves-long : (j : ℕ) (halves : List Bool)
       → at j + length (halves_with columns j halves) ≡ at (j + length halves)
   unfolding halves_with
-  halves-long j [] =
-      grind arith
+  halves-long j [] = grind arith
   halves-long j (half ∷ halves) =
       let e : suc j + length halves ≡ j + suc (length halves) = omega arith in
       omega (

@@ -35,5 +35,4 @@ when-not false x y closed = refl
 pub sure-shown : (stands : Stands) (unit : ℕ) (seen : Seen) (both : Candidates) (reading : Reading)
     → seen.reading ≡ reading → IsSureBy reading.outcome reading.pass
     → shown_in stands unit seen both ≡ record { outcome = reading.outcome; pass = reading.pass }
-sure-shown stands unit seen both reading e sure =
-    grind (arith, sure-own, sure-closed, when-not)
+sure-shown stands unit seen both reading e sure = grind (arith, sure-own, sure-closed, when-not)

@@ -88,8 +88,7 @@ module _ (f : ℕ → ℕ) (P : ℕ → Type 0) (tells : (k : ℕ) → P k ⊎ (
 
   -- where one holds
   pub found : (n k : ℕ) → k ≤ n → P k → Least f P n
-  found n k le p =
-      grind (arith, find)
+  found n k le p = grind (arith, find)
 
 -- ---- what can be told
 
@@ -106,13 +105,11 @@ both_told P Q (inr not) told = inr (λ pair. not pair.0)
 pub either_told : (P Q : Type 0) → IsTold P → IsTold Q → IsTold (P ⊎ Q)
 either_told P Q (inl p) told = inl (inl p)
 either_told P Q (inr not) (inl q) = inl (inr q)
-either_told P Q (inr not) (inr nor) =
-    grind arith
+either_told P Q (inr not) (inr nor) = grind arith
 
 -- of an order
 pub at_most_told : (a b : ℕ) → IsTold (a ≤ b)
-at_most_told a b =
-    grind arith
+at_most_told a b = grind arith
 
 -- of all numbers below n
 pub all_told : (P : ℕ → Type 0) → ((k : ℕ) → IsTold (P k)) → (n : ℕ) → IsTold ((k : ℕ) → k < n → P k)

@@ -73,15 +73,13 @@ start-more far at start a b is e =
 pub all-starts : (system : System) (far : ℕ → ℕ → ℕ) (at end distance : ℕ)
     → end + stretched_length system at ≡ width_of system + 1 → IsLeastAt (IsStartBefore at end) far distance
     → IsLeastAt (IsAtRate system at) far distance
-all-starts system far at end distance e is =
-    grind (arith, same-least)
+all-starts system far at end distance e is = grind (arith, same-least)
 
 -- ---- rates
 
 pub first-rate : (system : System) (far : ℕ → ℕ → ℕ) (distance : ℕ) → IsLeastAt (IsAtRate system 98) far distance
     → IsLeastAt (IsRateBefore system 99) far distance
-first-rate system far distance is =
-    grind (arith, same-least)
+first-rate system far distance is = grind (arith, same-least)
 
 pub rate-more : (system : System) (far : ℕ → ℕ → ℕ) (at a b : ℕ) → 98 ≤ at → IsLeastAt (IsRateBefore system at) far a
     → IsLeastAt (IsAtRate system at) far b → IsLeastAt (IsRateBefore system (at + 1)) far (min a b)

@@ -27,19 +27,16 @@ sum-raised d (s ∷ samples) =
 
 part-raised : (d : ℕ) (samples : List ℕ) (i n : ℕ) → i + n ≤ length samples
     → sum_from (raised d samples) i n ≡ sum_from samples i n + n * d
-part-raised d samples i n inside =
-    grind (arith, length-take-le, length-drop, drop-map, take-map, sum-raised)
+part-raised d samples i n inside = grind (arith, length-take-le, length-drop, drop-map, take-map, sum-raised)
 
 window-raised : (system : System) (d : ℕ) (samples : List ℕ) (column : ℕ) → length samples ≡ width_of system
     → window_sum system (raised d samples) column ≡ window_sum system samples column + window_of system * d
-window-raised system d samples column long =
-    grind (arith, part-raised, window_inside)
+window-raised system d samples column long = grind (arith, part-raised, window_inside)
 
 own-raised : (system : System) (d : ℕ) (samples : List ℕ) (column : ℕ) → column < length samples
     → window_of system * get_or (raised d samples) column 0
     ≡ window_of system * get_or samples column 0 + window_of system * d
-own-raised system d samples column inside =
-    grind (arith, get_or, get_or-map)
+own-raised system d samples column inside = grind (arith, get_or, get_or-map)
 
 -- ---- the swing
 
@@ -79,8 +76,7 @@ swing-raised system d samples long =
 sample-raised : (slicing : Slicing) (scale own mean e : ℕ)
     → levelled_sample slicing scale (own + e) (mean + e) ≡ levelled_sample slicing scale own mean
 unfolding levelled_sample
-sample-raised slicing scale own mean e =
-    grind (arith, lt-leb, le-leb)
+sample-raised slicing scale own mean e = grind (arith, lt-leb, le-leb)
 
 at-raised : (system : System) (slicing : Slicing) (scale d : ℕ) (samples : List ℕ) (column : ℕ)
     → length samples ≡ width_of system → column < width_of system

@@ -47,8 +47,7 @@ sum-split samples i n =
 -- the sum of some columns, by two sums
 pub between_sums : (samples sums : List ℕ) (i n : ℕ) → AreSampleSums samples sums → i + n ≤ length samples
     → get_or sums i 0 + sum_from samples i n ≡ get_or sums (i + n) 0
-between_sums samples sums i n are inside =
-    grind (arith, sum-split)
+between_sums samples sums i n are inside = grind (arith, sum-split)
 
 -- a window lies within the line
 pub window_inside : (system : System) (column : ℕ)
@@ -60,8 +59,7 @@ window_inside Pal column = omega arith
 pub window_by_sums : (system : System) (samples sums : List ℕ) (column start n : ℕ) → length samples ≡ width_of system
     → AreSampleSums samples sums → start ≡ window_start system column → n ≡ window_of system
     → get_or sums start 0 + window_sum system samples column ≡ get_or sums (start + n) 0
-window_by_sums system samples sums column start n long are s w =
-    grind (arith, window_inside, get_or, between_sums)
+window_by_sums system samples sums column start n long are s w = grind (arith, window_inside, get_or, between_sums)
 
 -- the windows of the first columns are one, as are those of the last ones
 pub window_before : (system : System) (column : ℕ) → column < first_of system + window_of system / 2
@@ -127,8 +125,7 @@ ordered Pal = omega arith
 pub off_more : (system : System) (samples : List ℕ) (column : ℕ) → first_of system ≤ column
     → off_in system samples (column + 1 - first_of system)
     ≡ off_in system samples (column - first_of system) + off_mean system samples column
-off_more system samples column low =
-    grind (arith, sum_by-map-range_with_len_more)
+off_more system samples column low = grind (arith, sum_by-map-range_with_len_more)
 
 -- ---- lines written sample by sample
 
@@ -139,8 +136,7 @@ WrittenTo f bytes i = (k : ℕ) → k < i → sample_at bytes k ≡ f k
 -- one sample more
 pub written_more : (f : ℕ → ℕ) (old new : List ℕ) (i : ℕ) → sample_at new i ≡ f i
     → ((k : ℕ) → (k ≡ i → ⊥) → sample_at new k ≡ sample_at old k) → WrittenTo f old i → WrittenTo f new (i + 1)
-written_more f old new i here others before k less =
-    grind arith
+written_more f old new i here others before k less = grind arith
 
 read_each : (f : ℕ → ℕ) (bytes : List ℕ) (n : ℕ) → length bytes ≡ 2 * n → WrittenTo f bytes n
     → (k : ℕ) → k < n → get_or (samples_of bytes) k 0 ≡ f k

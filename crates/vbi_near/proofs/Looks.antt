@@ -62,8 +62,7 @@ later ranges first n s w (inr (inr e, one)) = inr (inr e, one)
 
 to-before : (ranges : List Range) (first n s w : ℕ) → IsSeen (looks_before ranges first n) s w
     → Before ranges first n s w
-to-before ranges first zero s w there =
-    grind (arith, to-ranges)
+to-before ranges first zero s w there = grind (arith, to-ranges)
 to-before ranges first (suc n) s w there =
     go (λ before. to-before ranges first n s w before) (to-ranges (looks_before ranges first n) n ranges s w there)
   where

@@ -30,13 +30,11 @@ module _ (cost : ℕ → ℕ → ℕ) (seen more : Places) (near far : Found) (i
   }
 
   order : near.distance ≤ far.distance
-  order =
-      grind arith
+  order = grind arith
 
   -- what the other knows and is as near comes after it
   earliest : (s w : ℕ) → more s w → cost s w ≡ near.distance → IsBefore near.start near.word s w
-  earliest s w there same =
-      grind (arith, before-before)
+  earliest s w there same = grind (arith, before-before)
 
   l : min near.rival behind ≤ near.rival
   l = min-le_left near.rival behind
@@ -45,12 +43,10 @@ module _ (cost : ℕ → ℕ → ℕ) (seen more : Places) (near far : Found) (i
   r = min-le_right near.rival behind
 
   far-order : far.distance ≤ behind
-  far-order =
-      grind arith
+  far-order = grind arith
 
   ahead : (s w : ℕ) → more s w → w ≢ near.word → behind ≤ cost s w
-  ahead s w there other =
-      grind arith
+  ahead s w there other = grind arith
 
   AreOther : Type 0
   AreOther = (2 ^ 31 ≤ merged.rival)
@@ -69,12 +65,10 @@ module _ (cost : ℕ → ℕ → ℕ) (seen more : Places) (near far : Found) (i
   by_far e (inl (same, b)) (inl wide) = inl (omega (arith, e, b, wide))
   by_far e (inl (same, b)) (inr (s, w, there, differs, costs)) =
       inr (s, w, inr there, λ f. differs (f ∙ sym same), costs ∙ sym b ∙ sym e)
-  by_far e (inr (differs, b)) other =
-      inr (far.start, far.word, inr are.there, differs, are.exact ∙ sym b ∙ sym e)
+  by_far e (inr (differs, b)) other = inr (far.start, far.word, inr are.there, differs, are.exact ∙ sym b ∙ sym e)
 
   another : AreOther
-  another =
-      grind (arith, min_is, AreOther, by_near, by_far)
+  another = grind (arith, min_is, AreOther, by_near, by_far)
 
   pub merged_is : IsLead cost (either seen more) merged
   unfolding AreOther
@@ -159,19 +153,16 @@ lead-passed cost seen more lead far after is = record {
 -- these or those, the other way round
 pub turned : (cost : ℕ → ℕ → ℕ) (seen more : Places) (lead : Found) → IsLead cost (either seen more) lead
     → IsLead cost (either more seen) lead
-turned cost seen more lead is =
-    grind (arith, lead-same)
+turned cost seen more lead is = grind (arith, lead-same)
 
 -- the same lead, by its fields
 pub lead-by : (cost : ℕ → ℕ → ℕ) (seen : Places) (word start distance rival : ℕ) (lead : Found)
     → IsLead cost seen (record { word = word; start = start; distance = distance; rival = rival })
     → lead.word ≡ word → lead.start ≡ start → lead.distance ≡ distance → lead.rival ≡ rival → IsLead cost seen lead
-lead-by cost seen word start distance rival lead is w s d e =
-    grind arith
+lead-by cost seen word start distance rival lead is w s d e = grind arith
 
 -- what the other's rival is
 pub behind-by : (near far : Found) → ((far.word ≡ near.word)
     × (cond (eqb far.word near.word) far.rival far.distance ≡ far.rival))
     ⊎ ((far.word ≢ near.word) × (cond (eqb far.word near.word) far.rival far.distance ≡ far.distance))
-behind-by near far =
-    grind arith
+behind-by near far = grind arith

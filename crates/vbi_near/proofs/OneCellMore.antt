@@ -87,8 +87,7 @@ module _ (costs sums : Shades) (system : System) (both : AreBoth costs sums (wid
 
   blank-at : (n : ℕ) (rest : List Bool) → n ≤ width_of system
       → distance_from costs 0 (replicate n false ++ rest) ≡ span sums false 0 n + distance_from costs n rest
-  blank-at n rest room =
-      grind (arith, replicate, length-replicate, distance-append, distance-run)
+  blank-at n rest room = grind (arith, replicate, length-replicate, distance-append, distance-run)
 
   module _ (rises : AreRowSums system sums) where
     earlier : (w start begin : ℕ) (bit : Bool) → begin + cell_length system ≡ start
@@ -147,8 +146,7 @@ module _ (costs sums : Shades) (system : System) (both : AreBoth costs sums (wid
       exact : (begin far : ℕ) (bit : Bool)
           → IsWithCell sums system (place_cost sums system found.start found.word) begin bit far
           → IsWithCell sums system found.distance begin bit far
-      exact begin far bit with_cell =
-          with_cell ∙ ap (λ (d : ℕ). d + cell_cost sums system begin 0 bit) place
+      exact begin far bit with_cell = with_cell ∙ ap (λ (d : ℕ). d + cell_cost sums system begin 0 bit) place
 
       least : (levels : List Bool) → GoesOn system found.word found.start levels → longer ≤ distance_from costs 0 levels
       least levels (bit, inl (room, e)) =
@@ -193,5 +191,4 @@ module _ (costs sums : Shades) (system : System) (both : AreBoth costs sums (wid
       )
 
       pub least_longer : IsLeastRow (GoesOn system found.word found.start) (distance_from costs 0) longer
-      least_longer =
-          let o = longest.one in record { least = least; one = one o.0 o.1 o.2 o.3 }
+      least_longer = let o = longest.one in record { least = least; one = one o.0 o.1 o.2 o.3 }

@@ -19,8 +19,7 @@ one_place : (system : System) (a : Option ℕ) (s : ℕ) (b : Option ℕ) (t : �
 one_place system None s None t here there before behind = (refl, here ∙ sym there)
 one_place system None s (Some w) t here there before behind = absurd behind
 one_place system (Some v) s None t here there before behind = absurd before
-one_place system (Some v) s (Some w) t here there before behind =
-    grind arith
+one_place system (Some v) s (Some w) t here there before behind = grind arith
 
 -- of one word at one start there is one least distance of its rows
 one_row : (IsRow : ℕ → ℕ → List Bool → Type 0) (far : List Bool → ℕ) (word : Option ℕ) (near other : Near) (a b : ℕ)
@@ -37,16 +36,13 @@ module _ (IsThere : Option ℕ → ℕ → Type 0) (system : System)
     (lines : List Samples) (near other : Near) (is : IsNearOf IsThere system slicing lines near)
     (are : IsNearOf IsThere system slicing lines other) where
   distance : near.distance ≡ other.distance
-  distance =
-      grind arith
+  distance = grind arith
 
   place : (near.word ≡ other.word) × (near.start ≡ other.start)
-  place =
-      grind (arith, one_place, distance)
+  place = grind (arith, one_place, distance)
 
   rival : near.rival ≡ other.rival
-  rival =
-      grind (arith, place)
+  rival = grind (arith, place)
 
   row : (IsRow : ℕ → ℕ → List Bool → Type 0) (far : List Bool → ℕ) (a b : ℕ)
       → HasLeastRow IsRow far near.word near a → HasLeastRow IsRow far other.word other b → a ≡ b

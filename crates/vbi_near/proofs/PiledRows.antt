@@ -55,8 +55,7 @@ map-map f g (x ∷ list) = ap (λ rest. f (g x) ∷ rest) (map-map f g list)
 
 -- a swing that is like itself is one of a line with a word
 swings-itself : (unit swing : ℕ) → are_alike_by unit swing swing ≡ true → is_swing unit swing ≡ true
-swings-itself unit swing alike =
-    grind (arith, both)
+swings-itself unit swing alike = grind (arith, both)
 
 -- where all may be levelled together, each may
 pub each-swings : (system : System) (slicing : Slicing) (lines : List ℕ) (erased : List Bool) (n : ℕ)
@@ -93,8 +92,7 @@ bytes-few Pal = omega arith
 -- the first bytes of a buffer that any line fits into are as many as a line's
 pub bytes-long : (system : System) (n : ℕ) → n ≡ line_bytes system
     → length {A = ℕ} (take n (replicate 2270 0)) ≡ line_bytes system
-bytes-long system n e =
-    grind (arith, length-take-le, bytes-few, length-replicate)
+bytes-long system n e = grind (arith, length-take-le, bytes-few, length-replicate)
 
 -- ---- what they say
 

@@ -190,18 +190,15 @@ module _ (system : System) (late room : ℕ) (fits : (j : ℕ) → late ≤ cell
   unlike false one other bits more differ e f = absurd (true≢false (sym e))
 
   behind-long : (j : ℕ) (bit : Bool) → length (levels_behind system late j bit) ≡ late
-  behind-long j bit =
-      grind (arith, length-drop, cell_columns, cell_levels, length-cell)
+  behind-long j bit = grind (arith, length-drop, cell_columns, cell_levels, length-cell)
 
   floors-hold : (n j : ℕ) (bit same : Bool) (bits more : List Bool) → length bits ≡ n → length more ≡ n
       → (same ≡ true → bits ≢ more) → floor (floors system late j n) bit same
       ≤ differences (ones (suc (suc j)) bits) (others (levels_behind system late j bit) (suc (suc j)) more)
   unfolding floors ones others drawn_halves
   floors-hold zero j bit true [] [] e f differ = absurd (differ refl refl)
-  floors-hold zero j false false [] [] e f differ =
-      grind (arith, low-differs, replicate, behind-long)
-  floors-hold zero j true false [] [] e f differ =
-      grind (arith, low-differs, replicate, behind-long)
+  floors-hold zero j false false [] [] e f differ = grind (arith, low-differs, replicate, behind-long)
+  floors-hold zero j true false [] [] e f differ = grind (arith, low-differs, replicate, behind-long)
   floors-hold zero j bit same (one ∷ bits) more e f differ = absurd (omega (arith, e))
   floors-hold zero j bit same [] (other ∷ more) e f differ = absurd (omega (arith, f))
   floors-hold (suc n) j bit same [] more e f differ = absurd (omega (arith, e))

@@ -78,8 +78,7 @@ room Pal n e = omega (arith, e)
 few-swing : (system : System) (samples : List ℕ) → AreShort samples → length samples ≡ width_of system
     → swing_of system samples ≤ 262144
 unfolding swing_of
-few-swing Ntsc samples short long =
-    search (arith, by-ntsc, few-offs, room)
+few-swing Ntsc samples short long = search (arith, by-ntsc, few-offs, room)
 few-swing Pal samples short long =
     by-pal (off_in Pal samples (columns_of Pal)) (columns_of Pal)
     (few-offs Pal samples (columns_of Pal) short (room Pal (length samples) long))
