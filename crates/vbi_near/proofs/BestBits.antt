@@ -70,9 +70,18 @@ module _ (cost : ℕ → Bool → ℕ) (n : ℕ) (best : Bits) (is : IsBest cost
   least : (b : Bool) → less ≤ cost (suc n) b
   least b = grind (arith, other_bit)
 
-  behind : (a : ℕ) (b : Bool) → IsBits n a → 2 * a + bit_of b ≢ chosen.word
-      → chosen.distance + chosen.margin ≤ bits_cost cost (suc (suc n)) (2 * a + bit_of b)
-  behind a b bits differs = grind (arith, bit_of, joined-cost, least, other_bit)
+  -- no bits before this cell cost less
+  floor : (a : ℕ) → IsBits n a → best.distance ≤ bits_cost cost (suc n) a
+  floor a bits = grind arith
+
+  behind : (v a : ℕ) (b : Bool) → v ≡ 2 * a + bit_of b → IsBits n a → v ≢ chosen.word
+      → chosen.distance + chosen.margin ≤ bits_cost cost (suc (suc n)) v
+  behind v a b e bits differs = grind (arith, bit_of, joined-cost, least, other_bit)
+
+  -- bits that cost as little are no less
+  earliest : (v a : ℕ) (b : Bool) → v ≡ 2 * a + bit_of b → IsBits n a
+      → bits_cost cost (suc (suc n)) v ≡ chosen.distance → chosen.word ≤ v
+  earliest v a b e bits same = grind (arith, other_bit, joined-cost, floor, least, bit_of)
 
   -- the other bit in this cell
   flipped : (more - less ≤ best.margin) → HasOther cost (suc n) chosen
@@ -104,24 +113,12 @@ module _ (cost : ℕ → Bool → ℕ) (n : ℕ) (best : Bits) (is : IsBest cost
   another (inl (first, wide)) = flipped (omega (arith, wide, near))
   another (inr other) = grind (arith, followed, flipped)
 
-  -- no bits before this cell cost less
-  floor : (a : ℕ) → IsBits n a → best.distance ≤ bits_cost cost (suc n) a
-  floor a bits = grind arith
-
-  -- bits that cost as little are no less
-  earliest : (a : ℕ) (b : Bool) → IsBits n a
-      → bits_cost cost (suc (suc n)) (2 * a + bit_of b) ≡ chosen.distance → chosen.word ≤ 2 * a + bit_of b
-  earliest a b bits same = grind (arith, other_bit, joined-cost, floor, least, bit_of)
-
   pub with_cell_is : IsBest cost (suc n) chosen
   with_cell_is = record {
     word = IsBits-joined n best.word bit is.word;
     exact = omega (arith, joined-cost cost (suc n) best.word bit, is.exact, cheap);
-    ahead = λ v bits differs. subst (λ (x : ℕ). x ≢ chosen.word
-        → chosen.distance + chosen.margin ≤ bits_cost cost (suc (suc n)) x) (sym (joined-again v))
-        (behind (v / 2) (last_of v) (IsBits-half n v bits)) differs;
-    first = λ v bits same. subst (λ (x : ℕ). bits_cost cost (suc (suc n)) x ≡ chosen.distance → chosen.word ≤ x)
-        (sym (joined-again v)) (earliest (v / 2) (last_of v) (IsBits-half n v bits)) same;
+    ahead = λ v bits differs. behind v (v / 2) (last_of v) (joined-again v) (IsBits-half n v bits) differs;
+    first = λ v bits same. earliest v (v / 2) (last_of v) (joined-again v) (IsBits-half n v bits) same;
     other = inr (another is.other);
   }
 

@@ -18,14 +18,10 @@ use Rattle.vbi_near.specs.Stretched.{halves_cost}
 use Rattle.vbi_near.specs.Halved.{row_cost}
 use Rattle.vbi_near.proofs.BestBits.{min_is}
 use Rattle.vbi_near.proofs.Columns.{column-first, column-next}
-use Rattle.vbi_near.proofs.Costs.{word-cost}
+use Rattle.vbi_near.proofs.Costs.{row-cost, word-row}
 use Rattle.vbi_near.proofs.Halves.{drawn-with, halves_cost-append, row-far, row-long}
 
 -- ---- half cells
-
-pub many-halves : (w : ℕ) → length (halves_of w) ≡ 48
-unfolding lowest_bits
-many-halves w = refl
 
 -- as many as the word has
 cut-long : (w : ℕ) → (length (begun_later w 2) ≡ 48) × (length (begun_later w 4) ≡ 48)
@@ -116,23 +112,6 @@ last-within sums system start w distance exact =
 
 -- ---- rows
 
-module _ (costs sums : Shades) (system : System) (both : AreBoth costs sums (width_of system)) (start : ℕ)
-    (room : start + word_length system ≤ width_of system) where
-  pub row-cost : (halves : List Bool) → length halves ≡ 48
-      → distance_from costs 0 (row_of_halves system start halves) ≡ row_cost sums system start halves
-  unfolding row_of_halves
-  row-cost halves many =
-      let tail : List Bool = replicate (width_of system - (start + word_length system)) false in
-      ap (λ (drawn : List Bool). distance_from costs 0 (replicate start false ++ (drawn ++ tail)))
-      (drawn-with system 0 halves)
-      ∙ row-far (column_of system start) (half_length system) (column-next system start) costs sums (width_of system)
-      both start (start + word_length system) halves (sym (column-first system start))
-      (ap (column_of system start) (sym many)) room
-
-  whole-cost : (w : ℕ) → place_cost sums system start w ≡ row_cost sums system start (halves_of w)
-  unfolding picture_of row_of_halves
-  whole-cost w = sym (word-cost costs sums system both start room w) ∙ row-cost (halves_of w) (many-halves w)
-
 -- what is found by sums is the least distance of the rows on which a word is cut short
 pub least_shorter : (costs sums : Shades) (system : System) → AreBoth costs sums (width_of system) → (found : Found)
     → found.start + word_length system ≤ width_of system
@@ -150,7 +129,7 @@ least_shorter costs sums system both found room exact shorter (first, second, la
         × (distance_from costs 0 (row_of_halves system found.start (ended_earlier found.word 4)) ≡ other)
     rows =
         let long = cut-long found.word in
-        let whole = whole-cost costs sums system both found.start room found.word in
+        let whole = word-row sums system found.start found.word in
         let later = later-cost (half_cost sums system found.start) found.word in
         let earlier = earlier-cost (half_cost sums system found.start) found.word in
         let cost = row-cost costs sums system both found.start room in (

@@ -20,7 +20,8 @@ use Rattle.vbi_near.specs.Halved.{half_of, halved_far, row_cost, halved_cost}
 use Rattle.vbi_near.proofs.Columns.{column-first, column-next}
 use Rattle.vbi_near.proofs.Halves.{drawn-with, row-far}
 use Rattle.vbi_near.proofs.Piles.{levels-same}
-use Rattle.vbi_near.proofs.CutShort.{row-wide, row-cost}
+use Rattle.vbi_near.proofs.CutShort.{row-wide}
+use Rattle.vbi_near.proofs.Costs.{row-cost}
 
 -- ---- half cells
 
@@ -63,11 +64,6 @@ from_half true w h l less = late-shown w h l
 from_half false w h l less = early-low w h l less
 
 -- ---- what they cost
-
-pub half-costs : (sums : Shades) (system : System) (start j : ℕ) (level : Bool) (begin end : ℕ)
-    → begin ≡ column_of system start j → end ≡ column_of system start (suc j)
-    → span sums level begin (end - begin) ≡ half_cost sums system start j level
-half-costs sums system start j level begin end b e = grind (arith, column-next)
 
 pub all-costs : (cost : ℕ → Bool → ℕ) (late : Bool) (w n : ℕ) → n ≡ 48
     → halves_cost cost 0 (take n (half_of late w)) ≡ halves_cost cost 0 (half_of late w)

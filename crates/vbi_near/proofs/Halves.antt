@@ -1,14 +1,48 @@
 -- How far lines are from half cells of any lengths, and from a row on which they are drawn.
 use Rattle.std.proofs.Common.{◌≡◌, ℕ, suc, zero, ◌≤◌, ◌+◌, ◌-◌, List, [], ◌∷◌, ◌++◌, Bool, false, length, refl, arith}
-use Rattle.std.proofs.Common.{ap}
+use Rattle.std.proofs.Common.{ap, get_or}
 use Rattle.std.proofs.Math.ListN.{replicate}
 use Rattle.std.proofs.lemmas.List.{length-append, length-replicate}
 use Rattle.vbi_words.specs.declared.system.System.{System}
 use Rattle.vbi_near.specs.Pictures.{half_length, drawn_halves}
-use Rattle.vbi_near.specs.Distances.{Shades, distance_from}
+use Rattle.vbi_near.specs.Distances.{Shades, shade, distance_from}
 use Rattle.vbi_near.specs.Sums.{span, AreBoth}
 use Rattle.vbi_near.specs.Stretched.{halves_with, halves_cost}
-use Rattle.vbi_near.proofs.Distances.{distance-append, distance-run}
+
+-- ---- levels part by part
+
+pub distance-append : (costs : Shades) (i : ℕ) (a b : List Bool)
+    → distance_from costs i (a ++ b) ≡ distance_from costs i a + distance_from costs (i + length a) b
+unfolding distance_from
+distance-append costs i [] b = grind arith
+distance-append costs i (x ∷ a) b =
+    let e : suc i + length a ≡ i + suc (length a) = omega arith in
+    let same : distance_from costs (suc i + length a) b ≡ distance_from costs (i + suc (length a)) b
+    = ap (λ (j : ℕ). distance_from costs j b) e in
+    omega (arith, distance-append costs (suc i) a b, same)
+
+run : (costs sums : Shades) (width : ℕ) → AreBoth costs sums width → (level : Bool) (i n : ℕ) → i + n ≤ width
+    → get_or (shade sums level) i 0 + distance_from costs i (replicate n level) ≡ get_or (shade sums level) (i + n) 0
+unfolding distance_from
+run costs sums width both level i zero inside = grind (arith, get_or)
+run costs sums width both level i (suc n) inside =
+    let e : suc i + n ≡ i + suc n = omega arith in
+    let same : get_or (shade sums level) (suc i + n) 0 ≡ get_or (shade sums level) (i + suc n) 0
+    = ap (λ (j : ℕ). get_or (shade sums level) j 0) e in
+    let long = both.whole level in
+    omega (
+      arith,
+      both.are level i (omega arith),
+      run costs sums width both level (suc i) n (omega arith),
+      same,
+    )
+
+-- a run of one level is as far as the sums say
+pub distance-run : (costs sums : Shades) (width : ℕ) → AreBoth costs sums width → (level : Bool) (i n : ℕ)
+    → i + n ≤ width → distance_from costs i (replicate n level) ≡ span sums level i n
+distance-run costs sums width both level i n inside = omega (arith, run costs sums width both level i n inside)
+
+-- ---- half cells
 
 -- the half cells of a drawn word have the lengths of its half cells
 pub drawn-with : (system : System) (j : ℕ) (halves : List Bool)

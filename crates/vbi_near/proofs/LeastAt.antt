@@ -12,7 +12,7 @@ use Rattle.vbi_near.specs.Stretched.{stretched_offset, stretched_half, stretched
 use Rattle.vbi_near.specs.Stretched.{stretched_row_cost, IsLeastAt, IsStretched, IsAtRate, IsStartBefore, IsRateBefore}
 use Rattle.vbi_near.specs.Sums.{AreBoth}
 use Rattle.vbi_near.proofs.BestBits.{min_is}
-use Rattle.vbi_near.proofs.CutShort.{many-halves}
+use Rattle.vbi_near.proofs.Costs.{many-halves}
 use Rattle.vbi_near.proofs.Halves.{row-far, row-long}
 use Rattle.vbi_near.proofs.Piles.{levels-same}
 use Rattle.vbi_near.proofs.Stretches.{offset-first, offset-next}

@@ -14,7 +14,7 @@ use Rattle.vbi_near.specs.Sums.{span, total_in}
 use Rattle.vbi_near.specs.Stretched.{stretched_offset, stretched_half, halves_cost, stretched_cost, stretched_length}
 use Rattle.vbi_near.specs.Stretched.{stretched_word_cost, stretched_row_cost}
 use Rattle.vbi_near.proofs.CellsAt.{set-more}
-use Rattle.vbi_near.proofs.CutShort.{many-halves}
+use Rattle.vbi_near.proofs.Costs.{many-halves}
 use Rattle.vbi_near.proofs.Halves.{halves_cost-append}
 
 -- ---- columns
