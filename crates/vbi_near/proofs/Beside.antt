@@ -20,13 +20,11 @@ use Rattle.vbi_near.proofs.Rising.{risen_to}
 -- ---- columns
 
 pub cell-long : (system : System) (start : ℕ) → column_of system start 2 ≡ start + cell_length system
-cell-long Ntsc start = omega arith
-cell-long Pal start = omega arith
+cell-long x1 start = grind arith
 
 pub cell-offset : (system : System) (offset : ℕ) → start_of system + offset ≡ boundary system 2
     → offset ≡ cell_length system
-cell-offset Ntsc offset e = omega arith
-cell-offset Pal offset e = omega arith
+cell-offset x1 offset e = grind arith
 
 pub offset-column : (system : System) (begin offset half : ℕ) → start_of system + offset ≡ boundary system half
     → begin + offset ≡ column_of system begin half
@@ -35,8 +33,7 @@ offset-column system begin offset half e = omega arith
 -- where there is no room before a word, there is after it
 pub room-behind : (system : System) (start : ℕ) → start < cell_length system
     → start + word_length system + cell_length system ≤ width_of system
-room-behind Ntsc start l = omega arith
-room-behind Pal start l = omega arith
+room-behind x1 start l = grind arith
 
 -- ---- sums
 

@@ -16,12 +16,10 @@ abbrev pub last_of : ℕ → Bool
 last_of v = eqb (v % 2) 1
 
 half-joined : (a : ℕ) (b : Bool) → (2 * a + bit_of b) / 2 ≡ a
-half-joined a true = omega arith
-half-joined a false = omega arith
+half-joined a x2 = grind arith
 
 last-joined : (a : ℕ) (b : Bool) → last_of (2 * a + bit_of b) ≡ b
-last-joined a true = eq-eqb ((2 * a + 1) % 2) 1 (omega arith)
-last-joined a false = ne_eqb ((2 * a + 0) % 2) 1 (λ e. omega arith)
+last-joined a x2 = grind (arith, eq-eqb, ne_eqb)
 
 joined-again : (v : ℕ) → v ≡ 2 * (v / 2) + bit_of (last_of v)
 joined-again v = grind (arith, bit_of)
@@ -42,14 +40,10 @@ IsBits-half : (n v : ℕ) → IsBits (suc n) v → IsBits n (v / 2)
 IsBits-half n v h1 = grind (arith, twice)
 
 other_bit : (a b : Bool) → (a ≡ b) ⊎ (a ≡ not b)
-other_bit true true = inl refl
-other_bit true false = inr refl
-other_bit false true = inr refl
-other_bit false false = inl refl
+other_bit x1 x2 = grind arith
 
 not_same : (b : Bool) → bit_of (not b) ≢ bit_of b
-not_same true e = omega arith
-not_same false e = omega arith
+not_same x1 e = grind arith
 
 pub joined-cost : (cost : ℕ → Bool → ℕ) (m a : ℕ) (b : Bool)
     → bits_cost cost (suc m) (2 * a + bit_of b) ≡ bits_cost cost m a + cost m b
@@ -132,10 +126,4 @@ module _ (cost : ℕ → Bool → ℕ) (n : ℕ) (best : Bits) (is : IsBest cost
 pub first_is : (cost : ℕ → Bool → ℕ) (distance margin : ℕ) → distance ≡ cost 0 true → 2 ^ 26 ≤ margin
     → IsBest cost 0 (record { word = 1; distance = distance; margin = margin })
 unfolding bits_cost
-first_is cost distance margin e wide = record {
-  word = (omega arith, omega arith);
-  exact = omega (arith, e);
-  ahead = λ v bits other. absurd (other (omega (arith, bits.0, bits.1)));
-  first = λ v bits same. omega (arith, bits.0);
-  other = inl (refl, wide);
-}
+first_is cost distance margin e wide = grind arith

@@ -9,33 +9,12 @@ use Rattle.vbi_near.proofs.BestBits.{min_is}
 -- the same choice where the values of the digit cost the same
 pub choice-same : (f g : ℕ → ℕ) (low high : ℕ) (choice : Choice) → ((v : ℕ) → v < high → f v ≡ g v)
     → IsChoice f low high choice → IsChoice g low high choice
-choice-same f g low high choice same is = record {
-  from = is.from;
-  before = is.before;
-  exact = sym (same choice.value is.before) ∙ is.exact;
-  order = is.order;
-  ahead = λ v l h differs. omega (arith, is.ahead v l h differs, same v h);
-  first = λ v l h e. is.first v l h (same v h ∙ e);
-  other = go is.other;
-}
-  where
-    go : (choice.second ≡ 4294967295)
-        ⊎ ((v : ℕ) × (low ≤ v) × (v < high) × (v ≢ choice.value) × (f v ≡ choice.second))
-        → (choice.second ≡ 4294967295)
-        ⊎ ((v : ℕ) × (low ≤ v) × (v < high) × (v ≢ choice.value) × (g v ≡ choice.second))
-    go (inl none) = inl none
-    go (inr (v, l, h, differs, e)) = inr (v, l, h, differs, sym (same v h) ∙ e)
+choice-same f g low high choice same is = grind arith
 
 pub first-digits : (cost : ℕ → ℕ → ℕ) (base : ℕ) (least greatest : ℕ → ℕ)
     → AreBest cost base least greatest 0 (record { word = 0; distance = base; margin = 4294967295 })
 unfolding digits_cost AreDigits
-first-digits cost base least greatest = record {
-  word = refl;
-  exact = refl;
-  ahead = λ v is differs. absurd (differs is);
-  first = λ v is same. omega (arith, is);
-  other = inl (omega arith);
-}
+first-digits cost base least greatest = grind arith
 
 module _ (cost : ℕ → ℕ → ℕ) (base : ℕ) (least greatest : ℕ → ℕ) (n : ℕ) (best : Bits)
     (is : AreBest cost base least greatest n best) (choice : Choice)

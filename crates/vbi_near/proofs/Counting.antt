@@ -46,16 +46,7 @@ few-empty n m k = omega (arith, zeros-read n m k)
 pub pile-empty : (system : System) (slicing : Slicing) (n l m : ℕ)
     → IsPile system slicing [] (shades (zeros n m) (zeros l m))
 unfolding column_cost
-pile-empty system slicing n l m = record { whole = whole; exact = exact }
-  where
-    whole : All (λ (line : Samples). length line ≡ width_of system) []
-    whole k d less = absurd (omega arith)
-
-    exact : (k : ℕ) (level : Bool) → k < width_of system
-        → get_or (shade (shades (zeros n m) (zeros l m)) level) k 0
-        ≡ column_cost slicing [] k level
-    exact k true less = zeros-read l m k
-    exact k false less = zeros-read n m k
+pile-empty system slicing n l m = grind (arith, get_or, zeros-read)
 
 -- ---- one line more
 
@@ -127,8 +118,7 @@ pub record IsAdded (bytes : List ℕ) (erased : List Bool) (most level : ℕ) (c
   pub behind : (k : ℕ) → i ≤ k → get_or new k 0 ≡ get_or costs k 0
 
 kept-few : (most : ℕ) (erased : Bool) (sample level : ℕ) → kept most erased sample level ≤ most
-kept-few most true sample level = omega arith
-kept-few most false sample level = min-le_right (abs_diff sample level) most
+kept-few most x2 sample level = grind arith
 
 -- no column costs more than what a sample can be off
 pub added-few : (bytes : List ℕ) (erased : List Bool) (most level : ℕ) (costs new : List ℕ) (i : ℕ) → most ≤ 65535

@@ -116,10 +116,7 @@ one_differs : (slicing : Slicing) (sample : ℕ) (b c : Bool)
     → differs b c * (slicing.white - slicing.black)
     ≤ min (abs_diff sample (sample_of slicing b)) (unit_of slicing)
     + min (abs_diff sample (sample_of slicing c)) (unit_of slicing)
-one_differs slicing sample true true = omega arith
-one_differs slicing sample true false = omega arith
-one_differs slicing sample false true = omega arith
-one_differs slicing sample false false = omega arith
+one_differs slicing sample x3 x4 = grind arith
 
 triangle : (slicing : Slicing) (line : List ℕ) (x y : List Bool) → length line ≡ length x → length line ≡ length y
     → differences x y * (slicing.white - slicing.black)
@@ -176,10 +173,7 @@ rows slicing (p ∷ x) (q ∷ y) a =
 
     one : (b c : Bool) → differs b c * (slicing.white - slicing.black)
         ≤ min (abs_diff (sample_of slicing b) (sample_of slicing c)) (unit_of slicing)
-    one true true = omega arith
-    one true false = omega arith
-    one false true = omega arith
-    one false false = omega arith
+    one x1 x2 = grind arith
 
 pub rows_apart : (system : System) (slicing : Slicing) (one other : Option ℕ) (s t : ℕ) → IsPlace system one s
     → IsPlace system other t → one ≢ other

@@ -103,12 +103,10 @@ module _ (system : System) where
 -- ---- the row
 
 first-start : (system : System) → boundary system 0 ≡ start_of system
-first-start Ntsc = omega arith
-first-start Pal = omega arith
+first-start x1 = grind arith
 
 first-place : (system : System) → start_of system + word_length system ≤ width_of system
-first-place Ntsc = omega arith
-first-place Pal = omega arith
+first-place x1 = grind arith
 
 length-halves : (w : ℕ) → length (halves_of w) ≡ 48
 length-halves w = length-cells (lowest_bits 24 w) ∙ ap (λ (n : ℕ). 2 * n) (length-lowest_bits 24 w)
@@ -141,8 +139,7 @@ module _ (system : System) (slicing : Slicing) (w : ℕ) where
 
   sample-at : (c : ℕ) (level : Bool) → get_or picture c false ≡ level
       → IsDrawnSample system slicing (Some w) c (sample_of slicing level)
-  sample-at c true e = (λ d. refl, λ none. absurd (none (from-picture c e)))
-  sample-at c false e = (λ d. absurd (let high = to-picture c d in cc), λ none. refl)
+  sample-at c x2 e = grind (arith, from-picture, to-picture)
 
 row-drawn : (system : System) (slicing : Slicing) (word : Option ℕ)
     → length (picture_of system word (start_of system)) ≡ width_of system

@@ -56,35 +56,20 @@ pub halves_cost-append : (cost : ℕ → Bool → ℕ) (j : ℕ) (a b : List Boo
     → halves_cost cost j (a ++ b) ≡ halves_cost cost j a + halves_cost cost (j + length a) b
 unfolding halves_cost
 halves_cost-append cost j [] b = grind arith
-halves_cost-append cost j (x ∷ a) b =
-    let e : suc j + length a ≡ j + suc (length a) = omega arith in
-    let same : halves_cost cost (suc j + length a) b ≡ halves_cost cost (j + suc (length a)) b
-    = ap (λ (k : ℕ). halves_cost cost k b) e in
-    omega (arith, halves_cost-append cost (suc j) a b, same)
+halves_cost-append cost j (x ∷ a) b = grind (arith, halves_cost-append cost (suc j) a b)
 
 -- ---- half cells of these lengths, which begin at these columns
 
 module _ (at columns : ℕ → ℕ) (next : (j : ℕ) → at j + columns j ≡ at (suc j)) where
   pub rises-by : (j n : ℕ) → at j ≤ at (j + n)
   rises-by j zero = grind arith
-  rises-by j (suc n) =
-      let e : suc (j + n) ≡ j + suc n = omega arith in
-      omega (arith, rises-by j n, next (j + n), ap at e)
+  rises-by j (suc n) = grind (arith, rises-by j n)
 
   pub halves-long : (j : ℕ) (halves : List Bool)
       → at j + length (halves_with columns j halves) ≡ at (j + length halves)
   unfolding halves_with
   halves-long j [] = grind arith
-  halves-long j (half ∷ halves) =
-      let e : suc j + length halves ≡ j + suc (length halves) = omega arith in
-      omega (
-        arith,
-        length-append (replicate (columns j) half) (halves_with columns (suc j) halves),
-        length-replicate (columns j) half,
-        next j,
-        halves-long (suc j) halves,
-        ap at e,
-      )
+  halves-long j (half ∷ halves) = grind (arith, halves-long (suc j) halves, length-append, replicate, length-replicate)
 
   -- a row of these half cells is as wide as it should be
   pub row-long : (width start end : ℕ) (halves : List Bool) → start ≡ at 0 → end ≡ at (length halves) → end ≤ width

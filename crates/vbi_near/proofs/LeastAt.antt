@@ -20,28 +20,13 @@ use Rattle.vbi_near.proofs.Stretches.{offset-first, offset-next}
 -- the least at the same places
 pub same-least : (A C : ℕ → ℕ → Type 0) (far : ℕ → ℕ → ℕ) (a : ℕ) → ((r s : ℕ) → C r s → A r s)
     → ((r s : ℕ) → A r s → C r s) → IsLeastAt A far a → IsLeastAt C far a
-same-least A C far a to from is = record {
-  least = λ r s there. is.least r s (to r s there);
-  one = (is.one.0, is.one.1, from is.one.0 is.one.1 is.one.2, is.one.3);
-}
+same-least A C far a to from is = grind arith
 
 -- the least at two kinds of places
 min-least : (A B C : ℕ → ℕ → Type 0) (far : ℕ → ℕ → ℕ) (a b : ℕ) → ((r s : ℕ) → C r s → A r s ⊎ B r s)
     → ((r s : ℕ) → A r s → C r s) → ((r s : ℕ) → B r s → C r s) → IsLeastAt A far a → IsLeastAt B far b
     → IsLeastAt C far (min a b)
-min-least A B C far a b split from_a from_b is are = record { least = least; one = one (min_is a b) }
-  where
-    by : (r s : ℕ) → A r s ⊎ B r s → min a b ≤ far r s
-    by r s (inl there) = omega (arith, is.least r s there, min-le_left a b)
-    by r s (inr there) = omega (arith, are.least r s there, min-le_right a b)
-
-    least : (r s : ℕ) → C r s → min a b ≤ far r s
-    least r s there = by r s (split r s there)
-
-    one : ((min a b ≡ a) × (a ≤ b)) ⊎ ((min a b ≡ b) × (b < a))
-        → (r : ℕ) × (s : ℕ) × C r s × (far r s ≡ min a b)
-    one (inl (m, le)) = (is.one.0, is.one.1, from_a is.one.0 is.one.1 is.one.2, is.one.3 ∙ sym m)
-    one (inr (m, less)) = (are.one.0, are.one.1, from_b are.one.0 are.one.1 are.one.2, are.one.3 ∙ sym m)
+min-least A B C far a b split from_a from_b is are = grind (arith, min_is)
 
 -- ---- starts
 
@@ -50,10 +35,7 @@ IsAlone at start r s = (r ≡ at) × (s ≡ start)
 
 alone-least : (far : ℕ → ℕ → ℕ) (at start distance : ℕ) → distance ≡ far at start
     → IsLeastAt (IsAlone at start) far distance
-alone-least far at start distance e = record {
-  least = λ r s there. omega (arith, e, ap (far r) there.1, ap (λ (x : ℕ). far x start) there.0);
-  one = (at, start, (refl, refl), sym e);
-}
+alone-least far at start distance e = grind arith
 
 pub start-more : (far : ℕ → ℕ → ℕ) (at start a b : ℕ) → IsLeastAt (IsStartBefore at start) far a → b ≡ far at start
     → IsLeastAt (IsStartBefore at (start + 1)) far (min a b)

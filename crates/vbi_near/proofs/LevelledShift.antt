@@ -47,15 +47,10 @@ off-raised a b c d e p q = omega arith
 map-same : (f g : ℕ → ℕ) (a n : ℕ) → ((k : ℕ) → a ≤ k → k < a + n → f k ≡ g k)
     → map f (range_with_len a n) ≡ map g (range_with_len a n)
 map-same f g a zero same = refl
-map-same f g a (suc n) same =
-    let rest : map f (range_with_len (a + 1) n) ≡ map g (range_with_len (a + 1) n)
-    = map-same f g (a + 1) n (λ k low high. same k (omega arith) (omega arith)) in
-    ap (λ (x : ℕ). x ∷ map f (range_with_len (a + 1) n)) (same a (omega arith) (omega arith))
-    ∙ ap (λ (l : List ℕ). g a ∷ l) rest
+map-same f g a (suc n) same = grind (arith, map-same f g (a + 1) n (λ k low high. same k (omega arith) (omega arith)))
 
 columns-inside : (system : System) → first_of system + columns_of system ≤ width_of system
-columns-inside Ntsc = omega arith
-columns-inside Pal = omega arith
+columns-inside x1 = grind arith
 
 pub swing-raised : (system : System) (d : ℕ) (samples : List ℕ) → length samples ≡ width_of system
     → swing_of system (raised d samples) ≡ swing_of system samples

@@ -52,8 +52,7 @@ between_sums samples sums i n are inside = grind (arith, sum-split)
 -- a window lies within the line
 pub window_inside : (system : System) (column : ℕ)
     → window_start system column + window_of system ≤ width_of system
-window_inside Ntsc column = omega arith
-window_inside Pal column = omega arith
+window_inside x1 column = grind arith
 
 -- the sum of a window, by the sums at its ends
 pub window_by_sums : (system : System) (samples sums : List ℕ) (column start n : ℕ) → length samples ≡ width_of system
@@ -64,33 +63,28 @@ window_by_sums system samples sums column start n long are s w = grind (arith, w
 -- the windows of the first columns are one, as are those of the last ones
 pub window_before : (system : System) (column : ℕ) → column < first_of system + window_of system / 2
     → window_start system column ≡ window_start system 0
-window_before Ntsc column less = omega (arith, less)
-window_before Pal column less = omega (arith, less)
+window_before x1 column less = grind arith
 
 pub window_behind : (system : System) (column : ℕ)
     → end_of system - window_of system + window_of system / 2 ≤ column
     → window_start system column ≡ window_start system (end_of system - window_of system + window_of system / 2)
-window_behind Ntsc column more = omega (arith, more)
-window_behind Pal column more = omega (arith, more)
+window_behind x1 column more = grind arith
 
 -- the others begin half a window before their columns
 pub window_amid : (system : System) (column : ℕ) → first_of system + window_of system / 2 ≤ column
     → column < end_of system - window_of system + window_of system / 2
     → window_start system column ≡ column - window_of system / 2
-window_amid Ntsc column more less = omega (arith, more, less)
-window_amid Pal column more less = omega (arith, more, less)
+window_amid x1 column more less = grind arith
 
 -- a window is no wider than the columns before its end
 pub wide-fits : (system : System) → window_of system ≤ end_of system
-wide-fits Ntsc = omega arith
-wide-fits Pal = omega arith
+wide-fits x1 = grind arith
 
 -- the columns whose windows begin before them lie within the line
 pub ordered_windows : (system : System)
     → (first_of system + window_of system / 2 ≤ width_of system)
     × (end_of system - window_of system + window_of system / 2 ≤ width_of system)
-ordered_windows Ntsc = (omega arith, omega arith)
-ordered_windows Pal = (omega arith, omega arith)
+ordered_windows x1 = grind arith
 
 -- the sum of such a window, by the sums at its ends
 pub amid_by_sums : (system : System) (samples sums : List ℕ) (column wide : ℕ) → length samples ≡ width_of system
@@ -114,12 +108,10 @@ windows_more system samples windows i v inside is before k less =
     grind (arith, get_or, get_or-set_other, get_or-set_same)
 
 pub inside : (system : System) → end_of system ≤ width_of system
-inside Ntsc = omega arith
-inside Pal = omega arith
+inside x1 = grind arith
 
 pub ordered : (system : System) → first_of system ≤ end_of system
-ordered Ntsc = omega arith
-ordered Pal = omega arith
+ordered x1 = grind arith
 
 -- one column more is off its mean
 pub off_more : (system : System) (samples : List ℕ) (column : ℕ) → first_of system ≤ column

@@ -8,10 +8,7 @@ use Rattle.vbi_near.proofs.BestBits.{min_is}
 
 -- what comes before something comes before what that comes before
 before-before : (s v t w r x : ℕ) → IsBefore s v t w → IsBefore t w r x → IsBefore s v r x
-before-before s v t w r x (inl less) (inl more) = inl (omega arith)
-before-before s v t w r x (inl less) (inr (e, le)) = inl (omega (arith, e))
-before-before s v t w r x (inr (e, le)) (inl more) = inl (omega (arith, e))
-before-before s v t w r x (inr (e, le)) (inr (f, ge)) = inr (e ∙ f, omega arith)
+before-before s v t w r x x7 x8 = grind arith
 
 -- these or those
 abbrev pub either : Places → Places → Places
@@ -55,8 +52,7 @@ module _ (cost : ℕ → ℕ → ℕ) (seen more : Places) (near far : Found) (i
   by_near : min near.rival behind ≡ near.rival
       → (2 ^ 31 ≤ near.rival) ⊎ ((s : ℕ) × (w : ℕ) × seen s w × (w ≢ near.word) × (cost s w ≡ near.rival)) → AreOther
   unfolding AreOther
-  by_near e (inl wide) = inl (omega (arith, e, wide))
-  by_near e (inr (s, w, there, differs, costs)) = inr (s, w, inl there, differs, costs ∙ sym e)
+  by_near e x2 = grind arith
 
   by_far : min near.rival behind ≡ behind → ((far.word ≡ near.word) × (behind ≡ far.rival))
       ⊎ ((far.word ≢ near.word) × (behind ≡ far.distance))
@@ -72,83 +68,19 @@ module _ (cost : ℕ → ℕ → ℕ) (seen more : Places) (near far : Found) (i
 
   pub merged_is : IsLead cost (either seen more) merged
   unfolding AreOther
-  merged_is = record {
-    there = inl is.there;
-    exact = is.exact;
-    order = least-of (min_is near.rival behind);
-    least = λ s w there. least s w there;
-    rival = λ s w there differs. rival s w there differs;
-    first = first;
-    other = another;
-  }
-    where
-      least-of : ((min near.rival behind ≡ near.rival) × (near.rival ≤ behind))
-          ⊎ ((min near.rival behind ≡ behind) × (behind < near.rival)) → near.distance ≤ min near.rival behind
-      least-of (inl (e, le)) = omega (arith, e, is.order)
-      least-of (inr (e, less)) = omega (arith, e, order, far-order)
-
-      least : (s w : ℕ) → either seen more s w → near.distance ≤ cost s w
-      least s w (inl there) = is.least s w there
-      least s w (inr there) = omega (arith, order, are.least s w there)
-
-      rival : (s w : ℕ) → either seen more s w → w ≢ near.word → min near.rival behind ≤ cost s w
-      rival s w (inl there) differs = omega (arith, is.rival s w there differs, l)
-      rival s w (inr there) differs = omega (arith, ahead s w there differs, r)
-
-      first : (s w : ℕ) → either seen more s w → cost s w ≡ near.distance → IsBefore near.start near.word s w
-      first s w (inl there) same = is.first s w there same
-      first s w (inr there) same = earliest s w there same
+  merged_is = grind (arith, order, min_is, another, far-order, l, ahead, r, earliest)
 
 -- the same of places that are looked at in any order
 pub lead-same : (cost : ℕ → ℕ → ℕ) (seen more : Places) (lead : Found) → ((s w : ℕ) → seen s w → more s w)
     → ((s w : ℕ) → more s w → seen s w) → IsLead cost seen lead → IsLead cost more lead
-lead-same cost seen more lead to from is = record {
-  there = to lead.start lead.word is.there;
-  exact = is.exact;
-  order = is.order;
-  least = λ s w there. is.least s w (from s w there);
-  rival = λ s w there differs. is.rival s w (from s w there) differs;
-  first = λ s w there same. is.first s w (from s w there) same;
-  other = go is.other;
-}
-  where
-    go : (2 ^ 31 ≤ lead.rival) ⊎ ((s : ℕ) × (w : ℕ) × seen s w × (w ≢ lead.word) × (cost s w ≡ lead.rival))
-        → (2 ^ 31 ≤ lead.rival) ⊎ ((s : ℕ) × (w : ℕ) × more s w × (w ≢ lead.word) × (cost s w ≡ lead.rival))
-    go (inl wide) = inl wide
-    go (inr (s, w, there, differs, e)) = inr (s, w, to s w there, differs, e)
+lead-same cost seen more lead to from is = grind (arith, order)
 
 -- places none of which is nearer than the rival, or comes first, need no look
 pub lead-passed : (cost : ℕ → ℕ → ℕ) (seen more : Places) (lead : Found)
     → ((s w : ℕ) → more s w → lead.rival ≤ cost s w)
     → ((s w : ℕ) → more s w → cost s w ≡ lead.distance → IsBefore lead.start lead.word s w) → IsLead cost seen lead
     → IsLead cost (either seen more) lead
-lead-passed cost seen more lead far after is = record {
-  there = inl is.there;
-  exact = is.exact;
-  order = is.order;
-  least = least;
-  rival = rival;
-  first = first;
-  other = go is.other;
-}
-  where
-    least : (s w : ℕ) → either seen more s w → lead.distance ≤ cost s w
-    least s w (inl there) = is.least s w there
-    least s w (inr there) = omega (arith, is.order, far s w there)
-
-    rival : (s w : ℕ) → either seen more s w → w ≢ lead.word → lead.rival ≤ cost s w
-    rival s w (inl there) differs = is.rival s w there differs
-    rival s w (inr there) differs = far s w there
-
-    first : (s w : ℕ) → either seen more s w → cost s w ≡ lead.distance → IsBefore lead.start lead.word s w
-    first s w (inl there) same = is.first s w there same
-    first s w (inr there) same = after s w there same
-
-    go : (2 ^ 31 ≤ lead.rival) ⊎ ((s : ℕ) × (w : ℕ) × seen s w × (w ≢ lead.word) × (cost s w ≡ lead.rival))
-        → (2 ^ 31 ≤ lead.rival)
-        ⊎ ((s : ℕ) × (w : ℕ) × either seen more s w × (w ≢ lead.word) × (cost s w ≡ lead.rival))
-    go (inl wide) = inl wide
-    go (inr (s, w, there, differs, e)) = inr (s, w, inl there, differs, e)
+lead-passed cost seen more lead far after is = grind (arith, order)
 
 -- these or those, the other way round
 pub turned : (cost : ℕ → ℕ → ℕ) (seen more : Places) (lead : Found) → IsLead cost (either seen more) lead

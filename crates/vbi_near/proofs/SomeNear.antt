@@ -148,15 +148,8 @@ module _ (system : System) (IsThere : Option ℕ → ℕ → Type 0)
 
   first_near : (longer shorter : ℕ) → IsFirstBy IsThere far (near_with longer shorter)
   unfolding near_with
-  first_near longer shorter = record {
-    first = λ word start place same.
-        let n = numbered system word start (fits word start place) in
-        let le : best.at ≤ number_of word start =
-        best.first (number_of word start) n.within (has word start place) (cost-of word start place ∙ same) in
-        precedes system (word_at best.at) word (start_at best.at) start
-        (fits (word_at best.at) (start_at best.at) best.holds) (fits word start place)
-        (omega (arith, le, renumbered best.at));
-  }
+  first_near longer shorter =
+      grind (arith, numbered, best, number_of, has, cost-of, precedes, word_at, start_at, renumbered)
 
 -- ---- rows on which a word goes on or is cut short
 
@@ -184,8 +177,7 @@ row_of IsRow far (Some w) start distance some =
     let l = some w refl in (l.0, λ near s d. subst (λ (k : ℕ). IsLeastRow (IsRow w k) far l.0) (sym s) l.1)
 
 cells_fit : (system : System) → word_length system + 2 * cell_length system ≤ width_of system
-cells_fit Ntsc = omega arith
-cells_fit Pal = omega arith
+cells_fit x1 = grind arith
 
 module _ (system : System) (far : List Bool → ℕ) (word start : ℕ) where
   levels_at : ℕ → List Bool

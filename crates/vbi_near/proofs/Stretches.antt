@@ -26,8 +26,7 @@ offset-rises Ntsc rate j = grind (arith, add-mul)
 offset-rises Pal rate j = grind (arith, add-mul)
 
 pub offset-first : (system : System) (rate : ℕ) → stretched_offset system rate 0 ≡ 0
-offset-first Ntsc rate = omega arith
-offset-first Pal rate = omega arith
+offset-first x1 rate = grind arith
 
 pub offset-next : (system : System) (rate j : ℕ)
     → stretched_offset system rate j + stretched_half system rate j ≡ stretched_offset system rate (suc j)
@@ -35,8 +34,7 @@ offset-next system rate j = omega (arith, offset-rises system rate j)
 
 -- there are 302 starts at most
 pub few-starts : (system : System) (rate : ℕ) → 98 ≤ rate → width_of system + 1 ≤ stretched_length system rate + 302
-few-starts Ntsc rate le = omega arith
-few-starts Pal rate le = omega arith
+few-starts x1 rate le = grind arith
 
 pub starts-long : (system : System) (rate width length_of : ℕ) → 98 ≤ rate → width ≡ width_of system
     → length_of ≡ stretched_length system rate
@@ -45,8 +43,7 @@ starts-long system rate width length_of le w l = grind (arith, length-take-le, r
 
 -- at 100 hundredths they are those of a drawn word
 pub offset-whole : (system : System) (j : ℕ) → start_of system + stretched_offset system 100 j ≡ boundary system j
-offset-whole Ntsc j = omega arith
-offset-whole Pal j = omega arith
+offset-whole x1 j = grind arith
 
 -- ---- what they cost
 
