@@ -62,15 +62,7 @@ module _ (system : System) where
       go : (get_or (levels_from halves (suc j) after) (k - half_length system j) false ≡ true
           → IsHighIn halves (suc j) (boundary system (suc j) + (k - half_length system j)))
           → (k < half_length system j) ⊎ (half_length system j ≤ k) → IsHighIn (h ∷ halves) j (boundary system j + k)
-      go rest (inl less) =
-          let here : boundary system (j + 0) ≡ boundary system j = ap (boundary system) (omega arith) in
-          let next : boundary system (j + 0 + 1) ≡ boundary system (suc j) = ap (boundary system) (omega arith) in (
-            0,
-            omega arith,
-            omega (arith, here),
-            omega (arith, next, next-boundary j),
-            sym (first-level h halves j after k less) ∙ high,
-          )
+      go rest (inl less) = grind (arith, next-boundary, first-level)
       go rest (inr le) =
           let found = rest (sym (later-level h halves j after k le) ∙ high) in
           let same = moved h halves j after k le in

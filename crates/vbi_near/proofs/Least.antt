@@ -37,11 +37,7 @@ module _ (f : ℕ → ℕ) (P : ℕ → Type 0) (tells : (k : ℕ) → P k ⊎ (
           by (inl less) = inl (here p (λ k le q. omega (arith, less, l.least k le q)))
           by (inr le) = inl (earlier l (λ p. le))
       go (inr none) (inl p) = inl (here p (λ k le q. absurd (none k le q)))
-      go (inr none) (inr not) = inr (λ k le q. either k q (below k le))
-        where
-          either : (k : ℕ) → P k → (k ≡ suc n) ⊎ (k ≤ n) → ⊥
-          either k q (inl e) = not (subst P e q)
-          either k q (inr le) = none k le q
+      go (inr none) (inr not) = grind (arith, below)
 
   -- where one holds
   pub found : (n k : ℕ) → k ≤ n → P k → Least f P n

@@ -19,11 +19,7 @@ use Rattle.vbi_near.proofs.Levelling.{window_inside}
 
 sum-raised : (d : ℕ) (samples : List ℕ) → sum (raised d samples) ≡ sum samples + length samples * d
 sum-raised d [] = omega arith
-sum-raised d (s ∷ samples) =
-    let new : sum (raised d (s ∷ samples)) ≡ s + d + sum (raised d samples)
-    = sum_by-cons (λ (x : ℕ). x) (s + d) (raised d samples) in
-    let old : sum (s ∷ samples) ≡ s + sum samples = sum_by-cons (λ (x : ℕ). x) s samples in
-    omega (arith, new, old, sum-raised d samples)
+sum-raised d (s ∷ samples) = omega (arith, sum-raised d samples, sum_by-cons)
 
 part-raised : (d : ℕ) (samples : List ℕ) (i n : ℕ) → i + n ≤ length samples
     → sum_from (raised d samples) i n ≡ sum_from samples i n + n * d
