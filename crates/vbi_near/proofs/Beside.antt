@@ -20,20 +20,20 @@ use Rattle.vbi_near.proofs.Rising.{risen_to}
 -- ---- columns
 
 pub cell-long : (system : System) (start : ℕ) → column_of system start 2 ≡ start + cell_length system
-cell-long x1 start = grind arith
+cell-long system start = grind arith
 
 pub cell-offset : (system : System) (offset : ℕ) → start_of system + offset ≡ boundary system 2
     → offset ≡ cell_length system
-cell-offset x1 offset e = grind arith
+cell-offset system offset e = grind arith
 
 pub offset-column : (system : System) (begin offset half : ℕ) → start_of system + offset ≡ boundary system half
     → begin + offset ≡ column_of system begin half
 offset-column system begin offset half e = omega arith
 
 -- where there is no room before a word, there is after it
-pub room-behind : (system : System) (start : ℕ) → start < cell_length system
+pub room-after : (system : System) (start : ℕ) → start < cell_length system
     → start + word_length system + cell_length system ≤ width_of system
-room-behind x1 start l = grind arith
+room-after system start l = grind arith
 
 -- ---- sums
 
@@ -52,11 +52,11 @@ module _ (sums : Shades) (system : System) (rises : AreRowSums system sums) wher
       → span sums false 0 begin + total_in sums.dark begin (cell_length system) ≡ span sums false 0 start
   before-split start begin e l = grind (arith, split)
 
-  pub behind-split : (end : ℕ) → end + cell_length system ≤ width_of system
+  pub after-split : (end : ℕ) → end + cell_length system ≤ width_of system
       → total_in sums.dark end (cell_length system)
       + span sums false (end + cell_length system) (width_of system - (end + cell_length system))
       ≡ span sums false end (width_of system - end)
-  behind-split end l = grind (arith, split)
+  after-split end l = grind (arith, split)
 
   -- a cell's columns are black in the row of a word beside it, so its distance has what they cost
   pub black-beside : (found : Found) → found.start < starts system
@@ -66,7 +66,7 @@ module _ (sums : Shades) (system : System) (rises : AreRowSums system sums) wher
   black-beside found before exact begin (inl e) =
       let fits = word-fits system in
       omega (arith, exact, before-split found.start begin e (omega (arith, fits, before)))
-  black-beside found before exact begin (inr (e, room)) = grind (arith, behind-split)
+  black-beside found before exact begin (inr (e, room)) = grind (arith, after-split)
 
 -- ---- the least of the choices
 
@@ -91,10 +91,10 @@ moved : (sums : Shades) (system : System) (distance begin other far : ℕ) (bit 
 moved sums system distance begin other far bit e is = grind arith
 
 module _ (sums : Shades) (system : System) (found : Found) where
-  pub behind-alone : (end value : ℕ) → end ≡ found.start + word_length system
+  pub after-alone : (end value : ℕ) → end ≡ found.start + word_length system
       → found.start < cell_length system → IsNearerCell sums system found.distance end value
       → IsLongerFound sums system found value
-  behind-alone end value e short is = record { least = least; one = one }
+  after-alone end value e short is = record { least = least; one = one }
     where
       least : (begin far : ℕ) (bit : Bool) → IsBeside system found.start begin
           → IsWithCell sums system found.distance begin bit far → value ≤ far
@@ -107,7 +107,7 @@ module _ (sums : Shades) (system : System) (found : Found) where
           × IsWithCell sums system found.distance begin bit value
       one =
           let some = cell-one sums system found.distance end value is in
-          (end, some.0, inr (e, omega (arith, e, room-behind system found.start short)), some.1)
+          (end, some.0, inr (e, omega (arith, e, room-after system found.start short)), some.1)
 
   pub before-alone : (begin value : ℕ) → begin + cell_length system ≡ found.start
       → width_of system < found.start + word_length system + cell_length system

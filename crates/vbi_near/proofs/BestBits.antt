@@ -16,10 +16,10 @@ abbrev pub last_of : ℕ → Bool
 last_of v = eqb (v % 2) 1
 
 half-joined : (a : ℕ) (b : Bool) → (2 * a + bit_of b) / 2 ≡ a
-half-joined a x2 = grind arith
+half-joined a b = grind arith
 
 last-joined : (a : ℕ) (b : Bool) → last_of (2 * a + bit_of b) ≡ b
-last-joined a x2 = grind (arith, eq-eqb, ne_eqb)
+last-joined a b = grind (arith, eq-eqb, ne_eqb)
 
 joined-again : (v : ℕ) → v ≡ 2 * (v / 2) + bit_of (last_of v)
 joined-again v = grind (arith, bit_of)
@@ -37,13 +37,13 @@ IsBits-joined n a true (low, high) = omega (arith, twice)
 IsBits-joined n a false (low, high) = omega (arith, twice)
 
 IsBits-half : (n v : ℕ) → IsBits (suc n) v → IsBits n (v / 2)
-IsBits-half n v h1 = grind (arith, twice)
+IsBits-half n v bits = grind (arith, twice)
 
 other_bit : (a b : Bool) → (a ≡ b) ⊎ (a ≡ not b)
-other_bit x1 x2 = grind arith
+other_bit a b = grind arith
 
 not_same : (b : Bool) → bit_of (not b) ≢ bit_of b
-not_same x1 e = grind arith
+not_same b e = grind arith
 
 pub joined-cost : (cost : ℕ → Bool → ℕ) (m a : ℕ) (b : Bool)
     → bits_cost cost (suc m) (2 * a + bit_of b) ≡ bits_cost cost m a + cost m b
@@ -68,9 +68,9 @@ module _ (cost : ℕ → Bool → ℕ) (n : ℕ) (best : Bits) (is : IsBest cost
   floor : (a : ℕ) → IsBits n a → best.distance ≤ bits_cost cost (suc n) a
   floor a bits = grind arith
 
-  behind : (v a : ℕ) (b : Bool) → v ≡ 2 * a + bit_of b → IsBits n a → v ≢ chosen.word
+  farther : (v a : ℕ) (b : Bool) → v ≡ 2 * a + bit_of b → IsBits n a → v ≢ chosen.word
       → chosen.distance + chosen.margin ≤ bits_cost cost (suc (suc n)) v
-  behind v a b e bits differs = grind (arith, bit_of, joined-cost, least, other_bit)
+  farther v a b e bits differs = grind (arith, bit_of, joined-cost, least, other_bit)
 
   -- bits that cost as little are no less
   earliest : (v a : ℕ) (b : Bool) → v ≡ 2 * a + bit_of b → IsBits n a
@@ -111,7 +111,7 @@ module _ (cost : ℕ → Bool → ℕ) (n : ℕ) (best : Bits) (is : IsBest cost
   with_cell_is = record {
     word = IsBits-joined n best.word bit is.word;
     exact = omega (arith, joined-cost cost (suc n) best.word bit, is.exact, cheap);
-    ahead = λ v bits differs. behind v (v / 2) (last_of v) (joined-again v) (IsBits-half n v bits) differs;
+    ahead = λ v bits differs. farther v (v / 2) (last_of v) (joined-again v) (IsBits-half n v bits) differs;
     first = λ v bits same. earliest v (v / 2) (last_of v) (joined-again v) (IsBits-half n v bits) same;
     other = inr (another is.other);
   }

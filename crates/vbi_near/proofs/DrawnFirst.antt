@@ -95,10 +95,10 @@ module _ (system : System) where
 -- ---- the row
 
 first-start : (system : System) → boundary system 0 ≡ start_of system
-first-start x1 = grind arith
+first-start system = grind arith
 
 first-place : (system : System) → start_of system + word_length system ≤ width_of system
-first-place x1 = grind arith
+first-place system = grind arith
 
 length-halves : (w : ℕ) → length (halves_of w) ≡ 48
 length-halves w = length-cells (lowest_bits 24 w) ∙ ap (λ (n : ℕ). 2 * n) (length-lowest_bits 24 w)
@@ -127,11 +127,11 @@ module _ (system : System) (slicing : Slicing) (w : ℕ) where
   from-picture c high = grind (arith, before-word, high-in, in-word, first-start, length-halves)
 
   to-picture : (c : ℕ) → IsDrawnHigh system w c → get_or picture c false ≡ true
-  to-picture c h1 = grind (arith, first-start, later, in-word, high-there, length-halves)
+  to-picture c drawn = grind (arith, first-start, later, in-word, high-there, length-halves)
 
   sample-at : (c : ℕ) (level : Bool) → get_or picture c false ≡ level
       → IsDrawnSample system slicing (Some w) c (sample_of slicing level)
-  sample-at c x2 e = grind (arith, from-picture, to-picture)
+  sample-at c level e = grind (arith, from-picture, to-picture)
 
 row-drawn : (system : System) (slicing : Slicing) (word : Option ℕ)
     → length (picture_of system word (start_of system)) ≡ width_of system

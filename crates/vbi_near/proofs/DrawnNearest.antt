@@ -62,7 +62,7 @@ all_same (true ∷ x) (false ∷ y) long none = absurd (omega arith)
 all_same (false ∷ x) (true ∷ y) long none = absurd (omega arith)
 
 half-some : (system : System) → 0 < half_length system 1
-half-some x1 = grind arith
+half-some system = grind arith
 
 module _ (system : System) (w : ℕ) (is : IsWord w) where
   -- the half cells after the first two
@@ -98,7 +98,7 @@ module _ (system : System) (w : ℕ) (is : IsWord w) where
 
 starts-same : (system : System) (word other : Option ℕ) (s t : ℕ) → other ≡ word → IsPlace system word s
     → IsPlace system other t → picture_of system other t ≡ picture_of system word s → t ≡ s
-starts-same system x2 x3 s t e p q same = grind (arith, some_none, none_some, one_start, some_is)
+starts-same system word other s t e p q same = grind (arith, some_none, none_some, one_start, some_is)
 
 -- ---- the nearest word
 
@@ -106,7 +106,7 @@ positive : (a b : ℕ) → 0 < a → 0 < b → 0 < a * b
 positive a b l m = omega (arith, mul-le 1 1 a b (omega arith) (omega arith))
 
 some-apart : (system : System) → 0 < picture_distance system
-some-apart x1 = grind arith
+some-apart system = grind arith
 
 module _ (system : System) (slicing : Slicing) (lines : List (List ℕ)) (near : Near) (word : Option ℕ) (start : ℕ)
     (order : slicing.black < slicing.white) (some : 0 < length lines)

@@ -27,7 +27,7 @@ use Rattle.vbi_near.proofs.Costs.{row-cost}
 
 pub half-long : (late : Bool) (w : ℕ) → length (half_of late w) ≡ 48
 unfolding lowest_bits
-half-long x1 w = grind arith
+half-long late w = grind arith
 
 pub late-low : (w h : ℕ) → h < 24 → get_or (half_of true w) h false ≡ false
 late-low w h l = grind (arith, get_or_append_left, replicate, length-replicate, get_or-replicate)
@@ -54,7 +54,7 @@ early-low w h l less =
 
 pub below_half : (late : Bool) (w h : ℕ) → h < 24
     → get_or (half_of late w) h false ≡ (not late && get_or (halves_of w) h false)
-below_half x1 w h l = grind (arith, late-low, early-shown)
+below_half late w h l = grind (arith, late-low, early-shown)
 
 pub from_half : (late : Bool) (w h : ℕ) → 24 ≤ h → h < 48
     → get_or (half_of late w) h false ≡ (late && get_or (halves_of w) h false)

@@ -28,7 +28,7 @@ sure-closed (Hold c) pass one = absurd one
 
 -- the other is taken where it doesn't hold
 when-not : (b : Bool) (x y : Recovered) → b ≡ false → (if b then x else y) ≡ y
-when-not x1 x y closed = grind arith
+when-not b x y closed = grind arith
 
 -- however it stands to another, it is shown as it was read
 pub sure-shown : (stands : Stands) (unit : ℕ) (seen : Seen) (both : Candidates) (reading : Reading)

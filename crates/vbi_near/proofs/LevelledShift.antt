@@ -46,7 +46,7 @@ map-same f g a zero same = refl
 map-same f g a (suc n) same = grind (arith, map-same f g (a + 1) n (λ k low high. same k (omega arith) (omega arith)))
 
 columns-inside : (system : System) → first_of system + columns_of system ≤ width_of system
-columns-inside x1 = grind arith
+columns-inside system = grind arith
 
 pub swing-raised : (system : System) (d : ℕ) (samples : List ℕ) → length samples ≡ width_of system
     → swing_of system (raised d samples) ≡ swing_of system samples

@@ -35,7 +35,7 @@ to-ranges looks at (words ∷ ranges) s w there = go (to-ranges (look at words �
   where
     go : IsSeen (look at words ∷ looks) s w ⊎ ((s ≡ at) × IsOneOf ranges w)
         → IsSeen looks s w ⊎ ((s ≡ at) × IsOneOf (words ∷ ranges) w)
-    go x1 = grind arith
+    go either = grind arith
 
 from-ranges : (looks : List Look) (at : ℕ) (ranges : List Range) (s w : ℕ)
     → IsSeen looks s w ⊎ ((s ≡ at) × IsOneOf ranges w) → IsSeen (with_ranges looks at ranges) s w
@@ -54,7 +54,7 @@ abbrev Before : List Range → ℕ → ℕ → ℕ → ℕ → Type 0
 Before ranges first n s w = ((s ≡ 0) × (w ≡ 0)) ⊎ (((s < n) ⊎ (s ≡ first)) × IsOneOf ranges w)
 
 later : (ranges : List Range) (first n s w : ℕ) → Before ranges first n s w → Before ranges first (suc n) s w
-later ranges first n s w x6 = grind arith
+later ranges first n s w given = grind arith
 
 to-before : (ranges : List Range) (first n s w : ℕ) → IsSeen (looks_before ranges first n) s w
     → Before ranges first n s w
@@ -64,7 +64,7 @@ to-before ranges first (suc n) s w there =
   where
     go : (IsSeen (looks_before ranges first n) s w → Before ranges first n s w)
         → IsSeen (looks_before ranges first n) s w ⊎ ((s ≡ n) × IsOneOf ranges w) → Before ranges first (suc n) s w
-    go known x2 = grind (arith, later)
+    go known either = grind (arith, later)
 
 from-before : (ranges : List Range) (first n s w : ℕ) → Before ranges first n s w
     → IsSeen (looks_before ranges first n) s w
@@ -80,7 +80,7 @@ from-before ranges first (suc n) s w (inr (inl less, one)) =
   where
     go : ((s < n) → IsSeen (looks_before ranges first n) s w) → (s < n) ⊎ (n ≤ s)
         → IsSeen (looks_before ranges first (suc n)) s w
-    go before x2 = grind (arith, from-ranges)
+    go before either = grind (arith, from-ranges)
 
 pub all-looks : (cost : ℕ → ℕ → ℕ) (ranges : List Range) (system : System) (first : ℕ) (lead : Found)
     → first < starts system → IsLead cost (IsSeen (looks_before ranges first (starts system))) lead

@@ -8,7 +8,7 @@ use Rattle.vbi_near.proofs.BestBits.{min_is}
 
 -- what comes before something comes before what that comes before
 before-before : (s v t w r x : ℕ) → IsBefore s v t w → IsBefore t w r x → IsBefore s v r x
-before-before s v t w r x x7 x8 = grind arith
+before-before s v t w r x before earlier = grind arith
 
 -- these or those
 abbrev pub either : Places → Places → Places
@@ -16,14 +16,14 @@ either seen more start word = seen start word ⊎ more start word
 
 -- the nearer lead, whose rival is the nearer of its own and of another word that the other knows
 module _ (cost : ℕ → ℕ → ℕ) (seen more : Places) (near far : Found) (is : IsLead cost seen near)
-    (are : IsLead cost more far) (leads : IsAhead near far) (behind : ℕ)
-    (by : ((far.word ≡ near.word) × (behind ≡ far.rival)) ⊎ ((far.word ≢ near.word) × (behind ≡ far.distance))) where
+    (are : IsLead cost more far) (leads : IsAhead near far) (next : ℕ)
+    (by : ((far.word ≡ near.word) × (next ≡ far.rival)) ⊎ ((far.word ≢ near.word) × (next ≡ far.distance))) where
   abbrev pub merged : Found
   merged = record {
     word = near.word;
     start = near.start;
     distance = near.distance;
-    rival = min near.rival behind;
+    rival = min near.rival next;
   }
 
   order : near.distance ≤ far.distance
@@ -33,29 +33,29 @@ module _ (cost : ℕ → ℕ → ℕ) (seen more : Places) (near far : Found) (i
   earliest : (s w : ℕ) → more s w → cost s w ≡ near.distance → IsBefore near.start near.word s w
   earliest s w there same = grind (arith, before-before)
 
-  l : min near.rival behind ≤ near.rival
-  l = min-le_left near.rival behind
+  l : min near.rival next ≤ near.rival
+  l = min-le_left near.rival next
 
-  r : min near.rival behind ≤ behind
-  r = min-le_right near.rival behind
+  r : min near.rival next ≤ next
+  r = min-le_right near.rival next
 
-  far-order : far.distance ≤ behind
+  far-order : far.distance ≤ next
   far-order = grind arith
 
-  ahead : (s w : ℕ) → more s w → w ≢ near.word → behind ≤ cost s w
+  ahead : (s w : ℕ) → more s w → w ≢ near.word → next ≤ cost s w
   ahead s w there other = grind arith
 
   AreOther : Type 0
   AreOther = (2 ^ 31 ≤ merged.rival)
       ⊎ ((s : ℕ) × (w : ℕ) × either seen more s w × (w ≢ near.word) × (cost s w ≡ merged.rival))
 
-  by_near : min near.rival behind ≡ near.rival
+  by_near : min near.rival next ≡ near.rival
       → (2 ^ 31 ≤ near.rival) ⊎ ((s : ℕ) × (w : ℕ) × seen s w × (w ≢ near.word) × (cost s w ≡ near.rival)) → AreOther
   unfolding AreOther
-  by_near e x2 = grind arith
+  by_near e either = grind arith
 
-  by_far : min near.rival behind ≡ behind → ((far.word ≡ near.word) × (behind ≡ far.rival))
-      ⊎ ((far.word ≢ near.word) × (behind ≡ far.distance))
+  by_far : min near.rival next ≡ next → ((far.word ≡ near.word) × (next ≡ far.rival))
+      ⊎ ((far.word ≢ near.word) × (next ≡ far.distance))
       → (2 ^ 31 ≤ far.rival) ⊎ ((s : ℕ) × (w : ℕ) × more s w × (w ≢ far.word) × (cost s w ≡ far.rival)) → AreOther
   unfolding AreOther
   by_far e (inl (same, b)) (inl wide) = inl (omega (arith, e, b, wide))
@@ -94,7 +94,7 @@ pub lead-by : (cost : ℕ → ℕ → ℕ) (seen : Places) (word start distance 
 lead-by cost seen word start distance rival lead is w s d e = grind arith
 
 -- what the other's rival is
-pub behind-by : (near far : Found) → ((far.word ≡ near.word)
+pub next-by : (near far : Found) → ((far.word ≡ near.word)
     × (cond (eqb far.word near.word) far.rival far.distance ≡ far.rival))
     ⊎ ((far.word ≢ near.word) × (cond (eqb far.word near.word) far.rival far.distance ≡ far.distance))
-behind-by near far = grind arith
+next-by near far = grind arith

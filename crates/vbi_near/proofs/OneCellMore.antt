@@ -16,7 +16,7 @@ use Rattle.vbi_near.specs.Longer.{IsLongerFound}
 use Rattle.vbi_near.proofs.Columns.{column-first, column-drawn, word-drawn, word-fits}
 use Rattle.vbi_near.proofs.Halves.{distance-append, distance-run}
 use Rattle.vbi_near.proofs.Costs.{cell-at, word-at}
-use Rattle.vbi_near.proofs.Beside.{cell-long, before-split, behind-split}
+use Rattle.vbi_near.proofs.Beside.{cell-long, before-split, after-split}
 
 -- ---- how wide
 
@@ -90,7 +90,7 @@ module _ (costs sums : Shades) (system : System) (both : AreBoth costs sums (wid
           ap (λ (k : ℕ). distance_from costs k tail) (cell-long system (start + word_length system)),
           distance-run costs sums (width_of system) both false (start + word_length system + cell_length system) n
               (omega arith),
-          behind-split sums system rises (start + word_length system) room,
+          after-split sums system rises (start + word_length system) room,
         )
 
     module _ (found : Found) (before : found.start < starts system)

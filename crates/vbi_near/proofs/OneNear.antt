@@ -25,7 +25,7 @@ one_place system (Some v) s (Some w) t here there before behind = grind arith
 one_row : (IsRow : ℕ → ℕ → List Bool → Type 0) (far : List Bool → ℕ) (word : Option ℕ) (near other : Near) (a b : ℕ)
     → near.start ≡ other.start → near.distance ≡ other.distance → HasLeastRow IsRow far word near a
     → HasLeastRow IsRow far word other b → a ≡ b
-one_row IsRow far x3 near other a b start distance is are = grind arith
+one_row IsRow far word near other a b start distance is are = grind arith
 
 module _ (IsThere : Option ℕ → ℕ → Type 0) (system : System)
     (fits : (word : Option ℕ) (start : ℕ) → IsThere word start → IsPlace system word start) (slicing : Slicing)

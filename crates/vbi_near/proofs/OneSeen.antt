@@ -32,7 +32,7 @@ not_both can cannot has = cc
 pub one_near_if : (system : System) (number : ℕ) (slicing : Slicing) (can : Bool) (lines : List Samples)
     (near other : Option Nears) → HasNearIf system number slicing can lines near
     → HasNearIf system number slicing can lines other → near ≡ other
-one_near_if system number slicing can lines x6 x7 is are = grind (arith, not_both, one_nears)
+one_near_if system number slicing can lines near other is are = grind (arith, not_both, one_nears)
 
 -- the candidates of a line are fixed
 pub one_candidates : (system : System) (number : ℕ) (slicing : Slicing) (row : Row) (near other : Candidates)

@@ -36,7 +36,7 @@ rows-next f system lines erased n =
 
 -- both of two tests hold
 both : (a b : Bool) → (a && b) ≡ true → (a ≡ true) × (b ≡ true)
-both x1 b e = grind arith
+both a b e = grind arith
 
 -- what holds of all items holds of each
 each_of_all : (test : ℕ → Bool) (list : List ℕ) (i d : ℕ) → list_all test list ≡ true → i < length list
@@ -84,7 +84,7 @@ each-swings system slicing lines erased n alike i inside = subst (λ (s : ℕ). 
 
 -- no line has more bytes than one of PAL
 bytes-few : (system : System) → line_bytes system ≤ 2270
-bytes-few x1 = grind arith
+bytes-few system = grind arith
 
 -- the first bytes of a buffer that any line fits into are as many as a line's
 pub bytes-long : (system : System) (n : ℕ) → n ≡ line_bytes system

@@ -31,7 +31,7 @@ by-digits cost table base (suc n) w same =
 
 pub code-word : (sums : Shades) (system : System) (start w : ℕ) → IsWord w
     → code_cost sums system start w ≡ place_cost sums system start w
-code-word sums system start x4 word = grind arith
+code-word sums system start w word = grind arith
 
 pub priced : (sums : Shades) (system : System) (start base : ℕ) (digits : List ℕ)
     → base ≡ span sums false 0 start

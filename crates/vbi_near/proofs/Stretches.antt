@@ -26,7 +26,7 @@ offset-rises Ntsc rate j = grind (arith, add-mul)
 offset-rises Pal rate j = grind (arith, add-mul)
 
 pub offset-first : (system : System) (rate : ℕ) → stretched_offset system rate 0 ≡ 0
-offset-first x1 rate = grind arith
+offset-first system rate = grind arith
 
 pub offset-next : (system : System) (rate j : ℕ)
     → stretched_offset system rate j + stretched_half system rate j ≡ stretched_offset system rate (suc j)
@@ -34,7 +34,7 @@ offset-next system rate j = omega (arith, offset-rises system rate j)
 
 -- there are 302 starts at most
 pub few-starts : (system : System) (rate : ℕ) → 98 ≤ rate → width_of system + 1 ≤ stretched_length system rate + 302
-few-starts x1 rate le = grind arith
+few-starts system rate le = grind arith
 
 pub starts-long : (system : System) (rate width length_of : ℕ) → 98 ≤ rate → width ≡ width_of system
     → length_of ≡ stretched_length system rate
@@ -43,7 +43,7 @@ starts-long system rate width length_of le w l = grind (arith, length-take-le, r
 
 -- at 100 hundredths they are those of a drawn word
 pub offset-whole : (system : System) (j : ℕ) → start_of system + stretched_offset system 100 j ≡ boundary system j
-offset-whole x1 j = grind arith
+offset-whole system j = grind arith
 
 -- ---- what they cost
 
@@ -78,20 +78,20 @@ half-read sums system rate start j level begin end b e = grind (arith, offset-ri
 pub record IsPaid (sums : List ℕ) (begin end : ℕ) (old new : List ℕ) (i : ℕ) : Type 0 where
   pub below : (k : ℕ) → k < i → get_or new k 0 ≡ get_or old k 0 + total_in sums (k + begin) (end - begin)
   pub few : (k : ℕ) → k < i → get_or new k 0 ≤ 1834980 * (k + end)
-  pub behind : (k : ℕ) → i ≤ k → get_or new k 0 ≡ get_or old k 0
+  pub after : (k : ℕ) → i ≤ k → get_or new k 0 ≡ get_or old k 0
 
 pub paid-more : (sums : List ℕ) (begin end : ℕ) (old new : List ℕ) (i more : ℕ) → i < length new → begin ≤ end
     → get_or old i 0 ≤ 1834980 * (i + begin) → more ≡ total_in sums (i + begin) (end - begin)
     → more ≤ 1834980 * (end - begin) → IsPaid sums begin end old new i
     → IsPaid sums begin end old (set new i (get_or new i 0 + more)) (i + 1)
 paid-more sums begin end old new i more inside order low exact few is =
-    let here : get_or new i 0 ≡ get_or old i 0 = is.behind i (omega arith) in record {
+    let here : get_or new i 0 ≡ get_or old i 0 = is.after i (omega arith) in record {
       below = set-more (λ (j x : ℕ). x ≡ get_or old j 0 + total_in sums (j + begin) (end - begin)) new i
           (get_or new i 0 + more) inside is.below (omega (arith, here, exact));
       few = set-more (λ (j x : ℕ). x ≤ 1834980 * (j + end)) new i (get_or new i 0 + more) inside is.few
           (omega (arith, here, few, low));
-      behind = λ k le. get_or-set_other new i k (get_or new i 0 + more) 0 (λ e. omega arith)
-          ∙ is.behind k (omega arith);
+      after = λ k le. get_or-set_other new i k (get_or new i 0 + more) 0 (λ e. omega arith)
+          ∙ is.after k (omega arith);
     }
 
 -- all of a word's
