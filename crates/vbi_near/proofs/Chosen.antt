@@ -25,7 +25,7 @@ use Rattle.vbi_near.specs.Rows.{shades_of, word_cost_by, code_cost_by, IsRowOf, 
 use Rattle.vbi_near.proofs.Columns.{word-fits, starts-few}
 use Rattle.vbi_near.proofs.Costs.{blank-cost, word-cost}
 use Rattle.vbi_near.proofs.CutShort.{length-shorter, least_shorter}
-use Rattle.vbi_near.proofs.OneCellMore.{length-longer, least_longer}
+use Rattle.vbi_near.proofs.Beside.{length-longer, least_longer}
 use Rattle.vbi_near.proofs.Piles.{far-same, row-same}
 use Rattle.vbi_near.proofs.Priced.{code-word}
 

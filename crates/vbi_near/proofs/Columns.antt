@@ -8,7 +8,6 @@ use Rattle.std.proofs.Math.ListN.{replicate}
 use Rattle.vbi_words.specs.Words.{lowest_bits, cell_of, halves_of}
 use Rattle.vbi_words.proofs.Bits.{length-lowest_bits}
 use Rattle.vbi_words.specs.declared.system.System.{System}
-use Rattle.vbi_words.specs.declared.system.System.TheVariants.{Ntsc, Pal}
 use Rattle.vbi_words.specs.Geometry.{width_of}
 use Rattle.vbi_near.specs.Pictures.{column_of, half_length, word_length, starts, drawn_halves, picture_of, IsPlace}
 

@@ -1,7 +1,6 @@
 -- Adding one line more.
 use Rattle.std.proofs.Common.{◌≡◌, ℕ, suc, zero, ◌≤◌, ◌<◌, ◌+◌, ◌*◌, List, [], ◌∷◌, Bool, true, false, length, ◌++◌}
 use Rattle.std.proofs.Common.{get_or, arith, ap, sym, ◌∙◌, refl, cond}
-use Rattle.std.proofs.Math.Nat.{min-le_right}
 use Rattle.std.proofs.Math.ListN.{replicate, take}
 use Rattle.std.proofs.lemmas.List.{length-take-le, length-replicate, take-replicate}
 use Rattle.std.proofs.lemmas.List.Elements.{All-append}

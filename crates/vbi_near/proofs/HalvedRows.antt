@@ -1,6 +1,6 @@
 -- The rows on which half of a word is black: their half cells, and how far lines are from them.
-use Rattle.std.proofs.Common.{◌≡◌, ℕ, suc, ◌≤◌, ◌<◌, ◌+◌, ◌-◌, List, ◌++◌, Bool, true, false, length, take, drop, min}
-use Rattle.std.proofs.Common.{refl, arith, ap, sym, ◌∙◌, Option, get_or}
+use Rattle.std.proofs.Common.{◌≡◌, ℕ, ◌≤◌, ◌<◌, ◌+◌, ◌-◌, List, Bool, true, false, length, take, drop, min, refl, arith}
+use Rattle.std.proofs.Common.{ap, sym, ◌∙◌, Option, get_or}
 use Rattle.std.proofs.Math.ListN.{replicate}
 use Rattle.std.proofs.lemmas.List.{get_or_append_left, get_or-append_right, get_or-replicate, get_or-drop, get_or-take}
 use Rattle.std.proofs.lemmas.List.{length-replicate, take_all}
@@ -10,18 +10,15 @@ use Rattle.vbi_words.specs.Geometry.{width_of}
 use Rattle.vbi_words.specs.Levels.{Slicing}
 use Rattle.vbi_words.specs.Words.{lowest_bits, halves_of}
 use Rattle.vbi_near.specs.declared.near.Near.{Near}
-use Rattle.vbi_near.specs.Pictures.{IsPlace, column_of, half_length, word_length, drawn_as}
-use Rattle.vbi_near.specs.Sums.{span, AreBoth}
-use Rattle.vbi_near.specs.Costs.{half_cost}
+use Rattle.vbi_near.specs.Pictures.{IsPlace, word_length, drawn_as}
+use Rattle.vbi_near.specs.Sums.{AreBoth}
 use Rattle.vbi_near.specs.Stretched.{halves_cost}
-use Rattle.vbi_near.specs.Distances.{Samples, unit_of, distance_of, Shades, distance_from, IsPile}
+use Rattle.vbi_near.specs.Distances.{Samples, unit_of, distance_of, Shades, IsPile}
 use Rattle.vbi_near.specs.Shorter.{row_of_halves}
 use Rattle.vbi_near.specs.Halved.{half_of, halved_far, row_cost, halved_cost}
-use Rattle.vbi_near.proofs.Columns.{column-first, column-next}
-use Rattle.vbi_near.proofs.Halves.{drawn-with, row-far}
+use Rattle.vbi_near.proofs.Costs.{row-cost}
 use Rattle.vbi_near.proofs.Piles.{levels-same}
 use Rattle.vbi_near.proofs.CutShort.{row-wide}
-use Rattle.vbi_near.proofs.Costs.{row-cost}
 
 -- ---- half cells
 

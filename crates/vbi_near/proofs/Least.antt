@@ -1,6 +1,6 @@
 -- The least of some numbers, where it can be told which of them count.
-use Rattle.std.proofs.Common.{◌≡◌, ℕ, zero, suc, ◌≤◌, ◌<◌, ◌⊎◌, inl, inr, ap, subst, arith}
-use Rattle.std.proofs.lemmas.Bool.{cases_eq, cases_lt}
+use Rattle.std.proofs.Common.{◌≡◌, ℕ, zero, suc, ◌≤◌, ◌<◌, ◌⊎◌, inl, inr, arith}
+use Rattle.std.proofs.lemmas.Bool.{cases_lt}
 
 -- of the numbers up to n of which P holds, the first of those at which f is least
 pub record Least (f : ℕ → ℕ) (P : ℕ → Type 0) (n : ℕ) : Type 0 where

@@ -10,7 +10,6 @@ use Rattle.std.proofs.lemmas.List.{ext_get_or, take-take, drop-take}
 use Rattle.std.proofs.lemmas.List.FromFn.{fill_by_all, sum_by-map-range_with_len_more}
 use Rattle.std.proofs.lemmas.List.Sums.{sum_by-take-drop, sum_by_more}
 use Rattle.vbi_words.specs.declared.system.System.{System}
-use Rattle.vbi_words.specs.declared.system.System.TheVariants.{Ntsc, Pal}
 use Rattle.vbi_words.specs.Geometry.{width_of}
 use Rattle.vbi_words.specs.Levels.{Slicing, samples_of}
 use Rattle.vbi_line.proofs.Slicing.{sample_of, length-samples_of}

@@ -1,11 +1,10 @@
 -- Lines one by one: the next of them, and the swing of each where all may be levelled together.
-use Rattle.std.proofs.Common.{◌≡◌, ℕ, suc, zero, ◌+◌, ◌<◌, List, [], ◌∷◌, ◌++◌, length, map, get_or, Bool, true, false}
-use Rattle.std.proofs.Common.{ap, ◌∙◌, refl, subst, arith, zero-add, ◌≤◌, take, replicate}
+use Rattle.std.proofs.Common.{◌≡◌, ℕ, suc, zero, ◌+◌, ◌<◌, List, [], ◌∷◌, ◌++◌, length, map, get_or, Bool, true, ap}
+use Rattle.std.proofs.Common.{◌∙◌, refl, subst, arith, zero-add, ◌≤◌, take, replicate}
 use Rattle.std.specs.Prelude.{◌&&◌, Option, Some}
 use Rattle.std.proofs.lemmas.List.{length-take-le, length-replicate}
 use Rattle.std.specs.List.{list_all, range_with_len}
 use Rattle.std.proofs.lemmas.List.FromFn.{map-range_with_len_more, length-map-range_with_len, get_or-map-range_with_len}
-use Rattle.vbi_words.specs.declared.system.System.TheVariants.{Ntsc, Pal}
 use Rattle.vbi_words.specs.Geometry.{line_bytes}
 use Rattle.vbi_words.specs.declared.system.System.{System}
 use Rattle.vbi_words.specs.Levels.{Slicing}

@@ -1,9 +1,8 @@
 -- Two words of which one begins some columns later, at most a cell: in how many columns they differ at least. A table
 -- has the least of all words, from the last cell back to the first, which the checker computes.
 use Rattle.std.proofs.Common.{◌≡◌, ◌≢◌, ℕ, suc, zero, ◌≤◌, ◌<◌, ◌+◌, ◌-◌, List, [], ◌∷◌, ◌++◌, Bool, true, false}
-use Rattle.std.proofs.Common.{length, take, drop, min, leb, eqb, ◌&&◌, refl, arith, ap, ap₂, sym, ◌∙◌, ◌⊎◌, inl, inr}
-use Rattle.std.proofs.Common.{true≢false, le_trans, append_assoc, take-append-drop, length-append, length-take-le}
-use Rattle.std.proofs.Common.{length-drop}
+use Rattle.std.proofs.Common.{length, take, drop, min, leb, eqb, ◌&&◌, refl, arith, ap, ap₂, sym, ◌∙◌, ◌⊎◌, le_trans}
+use Rattle.std.proofs.Common.{append_assoc, take-append-drop, length-append, length-take-le, length-drop}
 use Rattle.std.proofs.Math.ListN.{replicate}
 use Rattle.std.proofs.lemmas.List.{length-replicate}
 use Rattle.std.proofs.lemmas.Bool.{leb-true}

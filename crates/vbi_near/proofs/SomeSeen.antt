@@ -3,7 +3,6 @@
 use Rattle.std.proofs.Common.{◌≡◌, ℕ, ◌+◌, ◌≤◌, Bool, true, false, List, [], ◌∷◌, refl, ap, subst, arith, min}
 use Rattle.std.specs.Prelude.{Option, Some, None}
 use Rattle.vbi_words.specs.declared.system.System.{System}
-use Rattle.vbi_words.specs.declared.system.System.TheVariants.{Ntsc, Pal}
 use Rattle.vbi_words.specs.declared.outcome.Outcome.{Outcome}
 use Rattle.vbi_words.specs.declared.outcome.Outcome.TheVariants.{Word}
 use Rattle.vbi_words.specs.Geometry.{width_of}

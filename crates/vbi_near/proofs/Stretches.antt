@@ -1,21 +1,22 @@
 -- Words drawn on cells of other lengths: their columns, and what they cost.
-use Rattle.std.proofs.Common.{◌≡◌, ℕ, suc, ◌≤◌, ◌<◌, ◌+◌, ◌-◌, ◌*◌, List, [], ◌∷◌, Bool, false, length, take, get_or}
-use Rattle.std.proofs.Common.{arith, ap, ◌∙◌, refl, set, get_or-set_other}
-use Rattle.std.proofs.Math.Nat.{add-mul}
+use Rattle.std.proofs.Common.{◌≡◌, ℕ, suc, List, [], ◌∷◌, ◌++◌, Bool, refl, arith, ap, ◌∙◌, ◌≤◌, ◌<◌, ◌+◌, ◌-◌, ◌*◌}
+use Rattle.std.proofs.Common.{false, length, take, get_or, set, get_or-set_other}
 use Rattle.std.proofs.Math.ListN.{replicate}
+use Rattle.std.specs.Prelude.{Some}
+use Rattle.std.proofs.Math.Nat.{add-mul}
 use Rattle.std.proofs.lemmas.List.{length-replicate, length-take-le, take_all, take_more}
 use Rattle.vbi_words.specs.declared.system.System.{System}
 use Rattle.vbi_words.specs.declared.system.System.TheVariants.{Ntsc, Pal}
 use Rattle.vbi_words.specs.Geometry.{start_of, width_of}
 use Rattle.vbi_words.specs.Drawn.{boundary}
 use Rattle.vbi_words.specs.Words.{halves_of}
+use Rattle.vbi_near.specs.Pictures.{half_length, word_length, picture_of}
+use Rattle.vbi_near.specs.Stretched.{stretched_half, stretched_length, stretched_picture, halves_with, stretched_offset}
+use Rattle.vbi_near.specs.Stretched.{halves_cost, stretched_cost, stretched_word_cost, stretched_row_cost}
 use Rattle.vbi_near.specs.Distances.{Shades}
 use Rattle.vbi_near.specs.Sums.{span, total_in}
-use Rattle.vbi_near.specs.Stretched.{stretched_offset, stretched_half, halves_cost, stretched_cost, stretched_length}
-use Rattle.vbi_near.specs.Stretched.{stretched_word_cost, stretched_row_cost}
+use Rattle.vbi_near.proofs.Costs.{drawn-with, many-halves, halves_cost-append}
 use Rattle.vbi_near.proofs.CellsAt.{set-more}
-use Rattle.vbi_near.proofs.Costs.{many-halves}
-use Rattle.vbi_near.proofs.Halves.{halves_cost-append}
 
 -- ---- columns
 
@@ -105,3 +106,25 @@ pub row-read : (sums : Shades) (system : System) (w rate start cost begin width 
     → width ≡ width_of system → tail ≡ span sums false begin (width - begin)
     → cost + tail ≡ stretched_row_cost sums system w rate start
 row-read sums system w rate start cost begin width tail c b wide t = grind arith
+
+-- ---- cells of a hundred hundredths
+
+-- half cells of the same lengths
+halves-same : (a b : ℕ → ℕ) → ((j : ℕ) → a j ≡ b j) → (j : ℕ) (halves : List Bool)
+    → halves_with a j halves ≡ halves_with b j halves
+unfolding halves_with
+halves-same a b same j [] = refl
+halves-same a b same j (half ∷ halves) =
+    ap (λ (n : ℕ). replicate n half ++ halves_with a (suc j) halves) (same j)
+    ∙ ap (λ (rest : List Bool). replicate (b j) half ++ rest) (halves-same a b same (suc j) halves)
+
+half-whole : (system : System) (j : ℕ) → stretched_half system 100 j ≡ half_length system j
+half-whole system j = omega (arith, offset-whole system j, offset-whole system (suc j))
+
+length-whole : (system : System) → stretched_length system 100 ≡ word_length system
+length-whole system = omega (arith, offset-whole system 48)
+
+pub picture-whole : (system : System) (word start : ℕ)
+    → stretched_picture system 100 word start ≡ picture_of system (Some word) start
+unfolding stretched_picture picture_of
+picture-whole system word start = grind (arith, halves-same, half-whole, drawn-with, replicate, length-whole)

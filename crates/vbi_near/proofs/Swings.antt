@@ -12,7 +12,7 @@ use Rattle.vbi_words.specs.declared.system.System.TheVariants.{Ntsc, Pal}
 use Rattle.vbi_words.specs.Geometry.{width_of}
 use Rattle.vbi_words.specs.Levels.{samples_of}
 use Rattle.vbi_line.proofs.Slicing.{sample_of, length-samples_of}
-use Rattle.vbi_near.specs.Levelled.{window_of, first_of, columns_of, window_start, off_mean, off_in, swing_of}
+use Rattle.vbi_near.specs.Levelled.{window_of, first_of, columns_of, off_mean, off_in, swing_of}
 
 -- samples of 16 bits
 abbrev pub AreShort : List ℕ → Type 0

@@ -1,6 +1,6 @@
 use Rattle.std.proofs.Common.{cond, eqb, ℕ}
 use Rattle.vbi_near.specs.Leads.{IsSeen, at_start}
-use Rattle.vbi_near.proofs.Merged.{turned, merged_is, lead-by, next-by}
+use Rattle.vbi_near.proofs.Looks.{turned, merged_is, lead-by, next-by}
 use Rattle.vbi_near.proofs.order.nearer_lead.Goals as goal
 
 pub returns-then-comes_first-clause-lead : goal.returns-then-comes_first-clause-lead
