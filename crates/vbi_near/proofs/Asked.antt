@@ -1,4 +1,5 @@
--- What is searched only where it counts says the same as what is always searched.
+-- What is searched only if it is asked for says the same as what is always searched.
+-- is_confirmed, said_alone, said_by_both, shown_alone and shown_pair stand on it.
 use Rattle.std.proofs.Common.{◌≡◌, ℕ, Bool, true, false, [], ◌∷◌, refl, sym, ap, ◌∙◌, subst}
 use Rattle.std.specs.Prelude.{Option, Some, None, is_some, IsTrue, if◌then◌else◌, ◌||◌, ◌&&◌}
 use Rattle.vbi_words.specs.declared.system.System.{System}
@@ -117,17 +118,17 @@ module _ (system : System) (number : ℕ) (slicing : Slicing) (row other : Row) 
 
 -- ---- open lines
 
--- the first is taken where it holds
+-- the first is taken if it holds
 when-true : (b : Bool) (x y : Recovered) → IsTrue b → x ≡ (if b then x else y)
 when-true true x y is = refl
 when-true false x y is = cc
 
--- the other is taken where it doesn't hold
+-- the other is taken if it doesn't hold
 when-false : (b : Bool) (x y : Stands) → b ≡ false → y ≡ (if b then x else y)
 when-false true x y not = cc
 when-false false x y not = refl
 
--- two lines stand so where both are open
+-- two lines stand so if both are open
 when-holds : (b : Bool) (x y : Stands) → b ≡ true → x ≡ (if b then x else y)
 when-holds true x y is = refl
 when-holds false x y is = cc
@@ -141,7 +142,7 @@ both-hold false b is = cc
 -- a line as it is found, and what it shows by its own levels
 module _ (system : System) (number : ℕ) (slicing : Slicing) (row : Row) (own : Recovered)
     (owns : IsOwn system number slicing row own) where
-  -- it is open where it is seen so
+  -- it is open if it is seen so
   seen-open : (seen : Seen) → IsSeen system number slicing row seen → IsTrue (is_open own.outcome)
       → IsTrue (is_open (own_of (unit_of slicing) seen).outcome)
   seen-open seen is opened = subst (λ (o : Recovered). IsTrue (is_open o.outcome)) (owns seen is) opened
@@ -184,7 +185,7 @@ module _ (system : System) (slicing : Slicing) (row other : Row) (own beside : R
   both-same : (is_open own.outcome && is_open beside.outcome) ≡ are_open (unit_of slicing) second third
   both-same = λ j. is_open (owns second is j).outcome && is_open (has third are j).outcome
 
-  -- where both are open, they stand to each other by their nearest words
+  -- if both are open, they stand to each other by their nearest words
   stands-open : (both : Candidates) → (is_open own.outcome && is_open beside.outcome) ≡ true
       → stands_by (unit_of slicing) second.near third.near both ≡ stands_of (unit_of slicing) second third both
   stands-open both opened =
@@ -198,7 +199,7 @@ module _ (system : System) (slicing : Slicing) (row other : Row) (own beside : R
       when-false (are_open (unit_of slicing) second third)
       (stands_by (unit_of slicing) second.near third.near both) alone (sym both-same ∙ closed)
 
-  -- the nearest words of both together are asked for where both are open
+  -- the nearest words of both together are asked for if both are open
   pub pair-open : (is_open own.outcome && is_open beside.outcome) ≡ true
       → IsTrue (are_open (unit_of slicing) second third)
   pair-open opened = sym both-same ∙ opened

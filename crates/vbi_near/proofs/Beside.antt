@@ -1,4 +1,5 @@
--- One cell more beside a word, by sums.
+-- One cell more beside a word: by sums, and on the rows on which the word goes on.
+-- longer_distance and with_cell_at stand on it, CellsAt on its columns, Chosen on its rows.
 use Rattle.std.proofs.Common.{◌≡◌, ℕ, ◌≤◌, ◌<◌, ◌+◌, ◌-◌, List, ◌++◌, Bool, false, length, inl, inr, refl, arith, ap}
 use Rattle.std.proofs.Common.{sym, ◌∙◌, get_or, true, min, ◌⊎◌}
 use Rattle.std.proofs.Math.ListN.{replicate}
@@ -33,7 +34,7 @@ pub offset-column : (system : System) (begin offset half : ℕ) → start_of sys
     → begin + offset ≡ column_of system begin half
 offset-column system begin offset half e = omega arith
 
--- where there is no room before a word, there is after it
+-- if there is no room before a word, there is after it
 pub room-after : (system : System) (start : ℕ) → start < cell_length system
     → start + word_length system + cell_length system ≤ width_of system
 room-after system start l = grind arith

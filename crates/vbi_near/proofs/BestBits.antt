@@ -1,4 +1,5 @@
--- The best bits of one cell more.
+-- The best bits of one cell more, and the nearest word that begins at one column.
+-- with_cell, found_at and CellsAt stand on it.
 use Rattle.std.proofs.Common.{◌≡◌, ◌≢◌, ℕ, ◌≤◌, ◌<◌, ◌+◌, ◌^◌, ◌⊎◌, inl, inr, arith, ap, ◌∙◌, suc, ◌-◌, ◌*◌, ◌/◌, ◌%◌}
 use Rattle.std.proofs.Common.{Bool, true, false, not, add-one, eqb, eq-eqb, ne_eqb, pow-suc, min}
 use Rattle.std.proofs.Math.Nat.{min-eq_left, min-eq_right}

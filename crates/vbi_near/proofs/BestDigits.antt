@@ -1,11 +1,12 @@
 -- The best digits of one digit more.
+-- best_digits and with_digit stand on it.
 use Rattle.std.proofs.Common.{◌≡◌, ◌≢◌, ℕ, suc, ◌≤◌, ◌<◌, ◌+◌, ◌-◌, ◌*◌, ◌^◌, min, ◌⊎◌, inl, inr, arith}
 use Rattle.vbi_near.specs.declared.bits.Bits.{Bits}
 use Rattle.vbi_near.specs.declared.codes.Choice.{Choice}
 use Rattle.vbi_near.specs.Leads.{digits_cost, AreDigits, IsChoice, AreBest}
 use Rattle.vbi_near.proofs.BestBits.{min_is}
 
--- the same choice where the values of the digit cost the same
+-- the same choice if the values of the digit cost the same
 pub choice-same : (f g : ℕ → ℕ) (low high : ℕ) (choice : Choice) → ((v : ℕ) → v < high → f v ≡ g v)
     → IsChoice f low high choice → IsChoice g low high choice
 choice-same f g low high choice same is = grind arith

@@ -1,5 +1,5 @@
--- The nearest word or none, and the nearest code or none: what is said of the drawn rows at some places, by the best
--- of what was looked at. near_word and near_code stand on it, one_near and some_near on the places alone.
+-- The nearest word or none, and the nearest code or none, by the best of what was looked at: one proof for the
+-- drawn rows at any places. near_word and near_code stand on it; OneNear and SomeNear take the places.
 use Rattle.std.proofs.Common.{◌≡◌, ◌≢◌, ℕ, ◌≤◌, ◌<◌, ◌+◌, ◌^◌, min, Option, List, [], ◌∷◌, ◌⊎◌, inl, inr, refl, arith}
 use Rattle.std.proofs.Common.{ap, sym, subst, ◌∙◌}
 use Rattle.std.specs.Prelude.{Some, None, false}

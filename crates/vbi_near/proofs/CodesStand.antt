@@ -1,4 +1,5 @@
--- The table of a line's codes has the words whose code may stand on the line.
+-- The table of a line's codes has the words whose code may stand on the line, and no others.
+-- codes_stand stands on it.
 use Rattle.std.proofs.Common.{◌≡◌, ℕ, zero, suc, ◌≤◌, ◌<◌, false, List, [], ◌∷◌, ◌⊎◌, inl, inr, refl, sym, ap, ◌∙◌}
 use Rattle.std.proofs.Common.{subst, arith, lit<}
 use Rattle.std.specs.Prelude.{IsTrue, ◌↔◌}
@@ -58,12 +59,12 @@ code-matched word = grind (arith, code_of_is, matched, unmatched)
 
 -- ---- what may stand is in the table
 
--- a code may stand where the one that it is may
+-- a code may stand if the one that it is may
 may : (system : System) (line : ℕ) (code of : Code) → code ≡ of → IsTrue (may_stand system line code)
     → IsTrue (may_stand system line of)
 may system line code of e stands = subst (λ (c : Code). IsTrue (may_stand system line c)) e stands
 
--- a code may not stand where the one that it is may not
+-- a code may not stand if the one that it is may not
 barred : (system : System) (line : ℕ) (code of : Code) → code ≡ of → may_stand system line of ≡ false
     → IsTrue (may_stand system line code) → ⊥
 barred system line code of e denied stands = true≢false (sym (may system line code of e stands) ∙ denied)

@@ -1,4 +1,5 @@
--- The columns of half cells.
+-- The columns of half cells, of a drawn word and of a row.
+-- Most modules here stand on it, and the functions that need to know that a row fits.
 use Rattle.std.proofs.Common.{◌≡◌, ℕ, suc, ◌≤◌, ◌+◌, ◌-◌, ◌*◌, List, [], ◌∷◌, Bool, length, arith, ap, ◌∙◌, refl, sym}
 use Rattle.std.proofs.Common.{◌++◌, false, Option}
 use Rattle.std.specs.Prelude.{Some, None}

@@ -1,4 +1,5 @@
--- Adding one line more.
+-- A pile of lines: none yet, and one line more.
+-- add_line stands on it, and each function that piles lines.
 use Rattle.std.proofs.Common.{◌≡◌, ℕ, suc, zero, ◌≤◌, ◌<◌, ◌+◌, ◌*◌, List, [], ◌∷◌, Bool, true, false, length, ◌++◌}
 use Rattle.std.proofs.Common.{get_or, arith, ap, sym, ◌∙◌, refl, cond}
 use Rattle.std.proofs.Math.ListN.{replicate, take}
@@ -97,7 +98,7 @@ length-known_but (b ∷ erased) [] e = absurd (omega arith)
 length-known_but (true ∷ erased) (s ∷ samples) e = omega (arith, length-known_but erased samples (omega arith))
 length-known_but (false ∷ erased) (s ∷ samples) e = omega (arith, length-known_but erased samples (omega arith))
 
--- where nothing is erased all is known
+-- if nothing is erased all is known
 pub known_but-none : (n : ℕ) (samples : List ℕ) → length samples ≡ n
     → known_but (replicate n false) samples ≡ known samples
 known_but-none zero [] e = refl

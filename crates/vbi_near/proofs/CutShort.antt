@@ -1,4 +1,5 @@
--- The distance of rows on which a word begins later or ends earlier.
+-- How far lines are from the rows on which a word begins later or ends earlier.
+-- shorter_distance, Chosen and HalvedRows stand on it.
 use Rattle.std.proofs.Common.{◌≡◌, ℕ, suc, zero, ◌≤◌, ◌+◌, ◌-◌, ◌*◌, ◌/◌, ◌^◌, List, ◌++◌, Bool, false, not, nat_eq}
 use Rattle.std.proofs.Common.{◌%◌, length, min, ◌⊎◌, inl, inr, refl, arith, ap, sym, ◌∙◌, shr-shr}
 use Rattle.std.proofs.Math.ListN.{replicate}
@@ -25,7 +26,7 @@ cut-long : (w : ℕ) → (length (begun_later w 2) ≡ 48) × (length (begun_lat
 unfolding lowest_bits
 cut-long w = (refl, refl, refl, refl)
 
--- what half cells cost of which a word's first or last are black, beside what the word's own cost
+-- what a word's half cells cost if its first or last cells are black, beside what they cost as they are
 module _ (cost : ℕ → Bool → ℕ) (w : ℕ) where
   -- what a cell costs by the word's bit, and black
   abbrev drawn : ℕ → ℕ

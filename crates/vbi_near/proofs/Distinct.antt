@@ -1,4 +1,5 @@
--- The pictures of different words are apart.
+-- The pictures of different words are apart, and so are their drawn rows.
+-- pictures_apart, rows_apart, few_misread and DrawnNearest stand on it.
 use Rattle.std.proofs.Common.{◌≡◌, ◌≢◌, ℕ, suc, ◌≤◌, ◌<◌, ◌+◌, ◌-◌, ◌*◌, List, [], ◌∷◌, ◌++◌, Bool, true, false, length}
 use Rattle.std.proofs.Common.{map, refl, arith, ap, ap₂, sym, ◌∙◌, subst, Option, ◌⊎◌, inl, inr, suc-mul, append_assoc}
 use Rattle.std.proofs.Common.{append-nil}
@@ -30,7 +31,7 @@ use Rattle.vbi_words.proofs.Bits
 
 -- ---- two words
 
--- so many columns later, or at the same column
+-- some columns later, or at the same column
 apart-by : (system : System) (late room : ℕ) (bits more : List Bool) → length bits ≡ 23 → length more ≡ 23
     → bits ≢ more → picture_distance system
     ≤ differences (bits_levels system 0 (true ∷ bits) ++ replicate (late + room) false)

@@ -1,4 +1,5 @@
--- A drawn row's word is the nearest one of lines that are this row.
+-- A drawn row: from the system's own start on it is the one drawn for its word, and of lines that are all this row its
+-- word is the nearest one. drawn_at_start and drawn_is_nearest stand on it.
 use Rattle.std.proofs.Common.{◌≡◌, ℕ, zero, suc, ◌≤◌, ◌<◌, ◌+◌, ◌-◌, ◌*◌, List, [], ◌∷◌, ◌++◌, Bool, true, false}
 use Rattle.std.proofs.Common.{length, get_or, refl, arith, ap, sym, subst, ◌∙◌, ◌⊎◌, inl, inr, Option, append_assoc}
 use Rattle.std.proofs.Common.{map, suc-mul}
@@ -37,7 +38,7 @@ module _ (system : System) where
   later : (i j : ℕ) → i ≤ j → boundary system i ≤ boundary system j
   later i j l = grind arith
 
-  -- a column lies in one of these half cells, of which the first is half cell j of its word, and that one is high
+  -- a column lies in one of these half cells, the first being half cell j of its word, and that one is high
   abbrev IsHighIn : List Bool → ℕ → ℕ → Type 0
   IsHighIn halves j column =
       (i : ℕ) × (i < length halves) × (boundary system (j + i) ≤ column) × (column < boundary system (j + i + 1))

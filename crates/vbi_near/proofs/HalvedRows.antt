@@ -1,4 +1,5 @@
 -- The rows on which half of a word is black: their half cells, and how far lines are from them.
+-- half_distance and nears_of stand on it.
 use Rattle.std.proofs.Common.{◌≡◌, ℕ, ◌≤◌, ◌<◌, ◌+◌, ◌-◌, List, Bool, true, false, length, take, drop, min, refl, arith}
 use Rattle.std.proofs.Common.{ap, sym, ◌∙◌, Option, get_or}
 use Rattle.std.proofs.Math.ListN.{replicate}

@@ -1,4 +1,5 @@
--- High columns, the cells of a word, and words of which one begins more than a cell later.
+-- High columns, the cells of a word, and words one of which begins more than a cell later.
+-- Shifted and Distinct stand on it.
 use Rattle.std.proofs.Common.{◌≡◌, ℕ, suc, zero, ◌≤◌, ◌<◌, ◌+◌, ◌-◌, ◌*◌, List, [], ◌∷◌, ◌++◌, Bool, true, false, not}
 use Rattle.std.proofs.Common.{length, refl, arith, ap, ap₂, sym, ◌∙◌, append_assoc, length-append, append-nil}
 use Rattle.std.specs.List.{flat_map}
@@ -27,7 +28,7 @@ differences-append [] b (q ∷ x) y e = absurd (omega (arith, e))
 differences-append (p ∷ a) b [] y e = absurd (omega (arith, e))
 differences-append (p ∷ a) b (q ∷ x) y e = omega (arith, differences-append a b x y (omega (arith, e)))
 
--- low columns differ from others where these are high
+-- low columns differ from others in as many as are high there
 pub low-differs : (n : ℕ) (levels more : List Bool) → length levels ≤ n
     → highs levels ≤ differences (replicate n false) (levels ++ more)
 low-differs n [] more l = omega arith
@@ -48,11 +49,11 @@ highs-run (suc n) = omega (arith, highs-run n)
 abbrev pub cell_columns : System → ℕ → ℕ
 cell_columns system j = half_length system j + half_length system (suc j)
 
--- its levels where its bit is this one
+-- its levels if its bit is this one
 abbrev pub cell_levels : System → ℕ → Bool → List Bool
 cell_levels system j bit = replicate (half_length system j) (not bit) ++ replicate (half_length system (suc j)) bit
 
--- the levels of these bits, of which the first begins with half cell j
+-- the levels of these bits, the first of which begins with half cell j
 abbrev pub bits_levels : System → ℕ → List Bool → List Bool
 bits_levels system j bits = drawn_halves system j (flat_map cell_of bits)
 
@@ -85,7 +86,7 @@ half_least Pal = 17
 half-long : (system : System) (j : ℕ) → half_least system ≤ half_length system j
 half-long system j = grind arith
 
--- a cell has so many columns, or one more
+-- a cell has as many columns as pictures differ in, or one more
 pub cell-long : (system : System) (j : ℕ)
     → (picture_distance system ≤ cell_columns system j) × (cell_columns system j ≤ picture_distance system + 1)
 cell-long system j = grind arith
@@ -120,7 +121,7 @@ bits-high system (bit ∷ bits) some =
 
 -- ---- a cell after another word
 
--- where the one levels end low for more than a cell, the last cell of the others lies there, and differs in its high
+-- if the one levels end low for more than a cell, the last cell of the others lies there, and differs in its high
 -- half cell
 last-differs : (system : System) (j : ℕ) (bit : Bool) (bits levels others : List Bool) (low room : ℕ)
     → length levels + low ≡ length others + length (bits_levels system j (bit ∷ bits))
@@ -176,7 +177,7 @@ last-differs system j bit [] levels others low room whole much =
       cell-high system j bit,
     )
 
--- the word that begins first is high in its first cell, where the other is low still
+-- the word that begins first is high in its first cell, while the other is low still
 pub far-apart : (system : System) (late room : ℕ) (bits more : List Bool) → length bits ≡ length more
     → picture_distance system + 1 ≤ late
     → picture_distance system ≤ differences (bits_levels system 0 (true ∷ bits) ++ replicate (late + room) false)

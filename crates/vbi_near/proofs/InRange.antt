@@ -1,4 +1,5 @@
--- The nearest word of a range at one start.
+-- The nearest word of a range of codes at one start.
+-- in_range stands on it.
 use Rattle.std.proofs.Common.{◌≡◌, ◌≢◌, ℕ, ◌≤◌, ◌<◌, ◌+◌, ◌-◌, ◌^◌, min, ◌⊎◌, inl, inr, refl, arith, ap, sym, subst}
 use Rattle.std.proofs.Common.{◌∙◌}
 use Rattle.std.proofs.lemmas.Bool.{cases_lt}

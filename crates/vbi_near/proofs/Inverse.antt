@@ -1,5 +1,5 @@
--- A quotient by a division that was made once: with m, what k is divided by s, x * m divided by k is what x is divided
--- by s, or too small by one.
+-- A quotient by a division that was made once: with m, what k is divided by s, x * m divided by k is what x is
+-- divided by s, or too small by one. quotient and Levelling stand on it.
 use Rattle.std.proofs.Common.{◌≡◌, ℕ, ◌≤◌, ◌<◌, ◌+◌, ◌-◌, ◌*◌, ◌/◌, ◌⊎◌, inl, inr, min, arith, ap, sym, ◌∙◌, subst}
 use Rattle.std.proofs.lemmas.Bool.{cases_lt}
 use Rattle.std.proofs.lemmas.Nat.{le-div}

@@ -1,4 +1,5 @@
 -- A line that has a word of pass 1, or is blank, is shown as it was read.
+-- recover_rows stands on it.
 use Rattle.std.proofs.Common.{◌≡◌, ℕ, Bool, false, refl, arith}
 use Rattle.std.specs.Prelude.{if◌then◌else◌}
 use Rattle.vbi_words.specs.declared.outcome.Outcome.{Outcome}
@@ -26,7 +27,7 @@ sure-closed Unfinished pass one = absurd one
 sure-closed (Change c) pass one = absurd one
 sure-closed (Hold c) pass one = absurd one
 
--- the other is taken where it doesn't hold
+-- the other is taken if it doesn't hold
 when-not : (b : Bool) (x y : Recovered) → b ≡ false → (if b then x else y) ≡ y
 when-not b x y closed = grind arith
 

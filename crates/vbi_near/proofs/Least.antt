@@ -1,8 +1,9 @@
--- The least of some numbers, where it can be told which of them count.
+-- The least of some numbers, if it can be told which of them count.
+-- SomeNear and SomeSeen stand on it.
 use Rattle.std.proofs.Common.{◌≡◌, ℕ, zero, suc, ◌≤◌, ◌<◌, ◌⊎◌, inl, inr, arith}
 use Rattle.std.proofs.lemmas.Bool.{cases_lt}
 
--- of the numbers up to n of which P holds, the first of those at which f is least
+-- the first number at which f is least among the numbers up to n that P holds of
 pub record Least (f : ℕ → ℕ) (P : ℕ → Type 0) (n : ℕ) : Type 0 where
   pub at : ℕ
   pub within : at ≤ n
@@ -39,7 +40,7 @@ module _ (f : ℕ → ℕ) (P : ℕ → Type 0) (tells : (k : ℕ) → P k ⊎ (
       go (inr none) (inl p) = inl (here p (λ k le q. absurd (none k le q)))
       go (inr none) (inr not) = grind (arith, below)
 
-  -- where one holds
+  -- if one holds
   pub found : (n k : ℕ) → k ≤ n → P k → Least f P n
   found n k le p = grind (arith, find)
 

@@ -1,4 +1,5 @@
 -- A line at another level: what it is levelled to stays.
+-- same_at_any_level stands on it.
 use Rattle.std.proofs.Common.{◌≡◌, ℕ, suc, zero, ◌≤◌, ◌<◌, ◌+◌, ◌*◌, ◌/◌, List, [], ◌∷◌, length, get_or, map, arith, ap}
 use Rattle.std.proofs.Common.{◌∙◌, refl}
 use Rattle.std.specs.List.{sum, range_with_len}

@@ -1,4 +1,5 @@
 -- Levelled lines: sums of samples, and lines that are written sample by sample.
+-- The functions of levelled stand on it, and LevelledShift.
 use Rattle.std.proofs.Common.{◌≡◌, ℕ, suc, zero, ◌≤◌, ◌<◌, ◌+◌, ◌-◌, ◌*◌, ◌/◌, List, [], ◌∷◌, Bool, true, false, cond}
 use Rattle.std.proofs.Common.{length, ◌⊎◌, inl, inr, get_or, set, take, drop, map, arith, ap, sym, ◌∙◌, refl}
 use Rattle.std.proofs.Common.{get_or-set_same, get_or-set_other}
@@ -95,7 +96,7 @@ pub amid_by_sums : (system : System) (samples sums : List ℕ) (column wide : �
 amid_by_sums system samples sums column wide long are w more less =
     grind (arith, window_amid, window_inside, window_by_sums)
 
--- so many columns have the sums of their windows
+-- the columns before i have the sums of their windows
 abbrev pub WindowsTo : System → List ℕ → List ℕ → ℕ → Type 0
 WindowsTo system samples windows i = (k : ℕ) → k < i → get_or windows k 0 ≡ window_sum system samples k
 

@@ -1,4 +1,5 @@
--- What was looked at, and what needs no look.
+-- The code that leads: the nearer of two leads, what was looked at, and what needs no look.
+-- nearer_lead, nearest_code, with_codes and with_start_by stand on it.
 use Rattle.std.proofs.Common.{cond, eqb, ◌≡◌, ◌≢◌, ℕ, ◌≤◌, ◌<◌, ◌^◌, min, ◌⊎◌, inl, inr, arith, sym, ◌∙◌, zero, suc}
 use Rattle.std.proofs.Common.{List, [], ◌∷◌, length, get_or, take, refl, ap, subst}
 use Rattle.std.proofs.Math.Nat.{min-le_left, min-le_right}

@@ -1,5 +1,5 @@
--- Of some lines one word is the first of the nearest, from one start on, with one rival, one longer and one shorter
--- distance.
+-- Of some lines one word, or one code, is the first of the nearest: from one start on, with one rival, and one least
+-- distance of its longer and its shorter rows. one_near and OneSeen stand on it.
 use Rattle.std.proofs.Common.{◌≡◌, ℕ, Bool, List, refl, sym, ◌∙◌, arith}
 use Rattle.std.specs.Prelude.{Option, Some, None}
 use Rattle.vbi_words.specs.declared.system.System.{System}

@@ -1,4 +1,5 @@
--- The bytes of three rows, of which some columns are erased, show one thing.
+-- The bytes of three rows, some of whose columns are erased, show one thing.
+-- one_recovered stands on it.
 use Rattle.std.proofs.Common.{◌≡◌, ℕ, Bool, true, false, List, [], ◌∷◌, refl, sym, ap, ◌∙◌, subst}
 use Rattle.std.specs.Prelude.{IsTrue, if◌then◌else◌, ◌&&◌}
 use Rattle.vbi_words.specs.declared.system.System.{System}
@@ -17,12 +18,12 @@ abbrev shown_by : Stands → ℕ → Recovered → Candidates → Candidates →
 shown_by stands unit own near both =
     if is_open own.outcome then recovered_as own (said_by stands unit near both) else own
 
--- either may be used where both are the same when this holds
+-- either may be used if both are the same when this holds
 if_same : (b : Bool) (x y z : Recovered) → (IsTrue b → x ≡ y) → (if b then x else z) ≡ (if b then y else z)
 if_same true x y z h = h refl
 if_same false x y z h = refl
 
--- where lines 17 and 18 aren't both open, their common nearest words are of no account
+-- if lines 17 and 18 aren't both open, their common nearest words are of no account
 alone_same : (unit : ℕ) (own other : Recovered) (near again both too : Candidates) → own ≡ other
     → (IsTrue (is_open own.outcome) → near ≡ again)
     → shown_by alone unit own near both ≡ shown_by alone unit other again too
@@ -72,7 +73,7 @@ module _ (unit : ℕ) (first second third first' second' third' : Seen) (both bo
   abbrev stands_if : Bool → Candidates → Candidates → Candidates → Stands
   stands_if opened near other common = if opened then stands_by unit near other common else alone
 
-  -- a line shows the same where lines 17 and 18 aren't both open
+  -- a line shows the same if lines 17 and 18 aren't both open
   closed_same : (own other : Recovered) (near again : Candidates) → own ≡ other
       → (IsTrue (is_open own.outcome) → near ≡ again) → are_open unit second third ≡ false
       → shown_by (stands_if (are_open unit second third) second.near third.near both) unit own near both

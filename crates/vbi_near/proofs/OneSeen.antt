@@ -1,5 +1,5 @@
--- Lines have one pair of nearest words, and one distance of a stretched word; and what a line shows by its own levels
--- is fixed by its bytes.
+-- Lines have one pair of nearest words and one distance of a stretched word, and their bytes fix what they show by
+-- their own levels. is_confirmed stands on it, and Asked, Kept and OneRecovered.
 use Rattle.std.proofs.Common.{◌≡◌, ◌≢◌, ℕ, Bool, true, false, List, [], ◌∷◌, refl, sym, ap, ◌∙◌, subst, arith, ne_eqb}
 use Rattle.std.specs.Prelude.{Option, IsTrue}
 use Rattle.vbi_words.specs.declared.system.System.{System}
@@ -78,7 +78,7 @@ plain_pass (Hold d) Unfinished opened = refl
 plain_pass (Hold d) (Change c) opened = refl
 plain_pass (Hold d) (Hold c) opened = refl
 
--- the reading of some levels is of no pass where it shows no word and isn't blank
+-- the reading of some levels is of no pass if it shows no word and isn't blank
 pub read_pass : (system : System) (levels : List Bool) → IsTrue (is_open (reading_of system levels).outcome)
     → (reading_of system levels).pass ≡ 0
 read_pass system levels = grind (arith, by_outcomes, plain_pass)
@@ -92,7 +92,7 @@ word_own plain word pass confirms differs = grind (arith, ne_eqb)
 pub asked_word : (word pass : ℕ) → pass ≡ 2 → IsTrue (is_asked (Word word) pass)
 asked_word word pass e = subst (λ (k : ℕ). IsTrue (is_asked (Word word) k)) (sym e) refl
 
--- the nearest words of a line with such a reading are asked for where it is open
+-- the nearest words of a line with such a reading are asked for if it is open
 pub open_asked_by : (o : Outcome) (pass : ℕ) (plain : Outcome) (confirms : ℕ → Bool)
     → (IsTrue (is_open o) → pass ≡ 0) → IsTrue (is_open (own_by plain o pass confirms).outcome)
     → IsTrue (is_asked o pass)
@@ -105,7 +105,7 @@ open_asked_by (Change c) pass plain confirms none opened =
 open_asked_by (Hold c) pass plain confirms none opened =
     subst (λ (k : ℕ). IsTrue (is_asked (Hold c) k)) (sym (none refl)) refl
 
--- a line's reading is of no pass where it shows no word and isn't blank
+-- a line's reading is of no pass if it shows no word and isn't blank
 pub open_pass : (system : System) (number : ℕ) (slicing : Slicing) (row : Row) (seen : Seen)
     → IsSeen system number slicing row seen → IsTrue (is_open seen.reading.outcome) → seen.reading.pass ≡ 0
 open_pass system number slicing row seen is = grind (arith, read_pass)
@@ -120,7 +120,7 @@ open_asked system number slicing row seen unit is opened =
 
 -- ---- what a line shows by its own levels
 
--- two lines of one reading show the same by their own levels, where a word of pass 2 is confirmed of both or of none
+-- two lines of one reading show the same by their own levels, if a word of pass 2 is confirmed of both or of none
 pub own_same : (o : Outcome) (pass : ℕ) (p q : Outcome) (confirms again : ℕ → Bool) → (pass ≡ 2 → p ≡ q)
     → ((word : ℕ) → o ≡ Word word → pass ≡ 2 → confirms word ≡ again word)
     → own_by p o pass confirms ≡ own_by q o pass again
@@ -142,7 +142,7 @@ module _ (system : System) (number : ℕ) (slicing : Slicing) (row : Row) (seen 
       → IsTrue (is_asked again.reading.outcome again.reading.pass)
   asked_again asked = subst (λ (r : Reading). IsTrue (is_asked r.outcome r.pass)) one_reading asked
 
-  -- its nearest words are the same where they are asked for
+  -- its nearest words are the same if they are asked for
   pub one_asked_near : IsTrue (is_asked seen.reading.outcome seen.reading.pass) → seen.near ≡ again.near
   one_asked_near asked =
       one_candidates system number slicing row seen.near again.near (is.near asked) (are.near (asked_again asked))
@@ -164,6 +164,6 @@ module _ (system : System) (number : ℕ) (slicing : Slicing) (row : Row) (seen 
   pub one_own : own_of unit seen ≡ own_of unit again
   one_own = grind (arith, own_same, one_reading, confirms_same)
 
-  -- its nearest words are the same where it is open
+  -- its nearest words are the same if it is open
   pub one_open_near : IsTrue (is_open (own_of unit seen).outcome) → seen.near ≡ again.near
   one_open_near opened = one_asked_near (open_asked system number slicing row seen unit is opened)

@@ -1,4 +1,5 @@
--- Lines one by one: the next of them, and the swing of each where all may be levelled together.
+-- Lines one by one: the next of them, and the swing of each if all may be levelled together.
+-- near_of_all, levelled_near_of_all and recover_pile stand on it.
 use Rattle.std.proofs.Common.{◌≡◌, ℕ, suc, zero, ◌+◌, ◌<◌, List, [], ◌∷◌, ◌++◌, length, map, get_or, Bool, true, ap}
 use Rattle.std.proofs.Common.{◌∙◌, refl, subst, arith, zero-add, ◌≤◌, take, replicate}
 use Rattle.std.specs.Prelude.{◌&&◌, Option, Some}
@@ -54,7 +55,7 @@ map-map f g (x ∷ list) = ap (λ rest. f (g x) ∷ rest) (map-map f g list)
 swings-itself : (unit swing : ℕ) → are_alike_by unit swing swing ≡ true → is_swing unit swing ≡ true
 swings-itself unit swing alike = grind (arith, both)
 
--- where all may be levelled together, each may
+-- if all may be levelled together, each may
 pub each-swings : (system : System) (slicing : Slicing) (lines : List ℕ) (erased : List Bool) (n : ℕ)
     → are_all_alike system slicing (rows_in system lines erased n) ≡ true
     → (i : ℕ) → i < n → has_swing system slicing (row_in system lines erased i) ≡ true

@@ -1,4 +1,5 @@
--- The distance of lines is the one by what their columns cost.
+-- How far lines are from a row is what their columns cost there.
+-- nears_of stands on it, and Chosen, HalvedRows and LeastAt.
 use Rattle.std.proofs.Common.{◌≡◌, ℕ, suc, ◌<◌, ◌+◌, List, [], ◌∷◌, Bool, length, get_or, refl, arith, ap, sym, ◌∙◌}
 use Rattle.std.proofs.Common.{Option}
 use Rattle.std.specs.List.{All}

@@ -1,4 +1,5 @@
 -- The six places of a word's digits.
+-- best_digits, nearest_word and InRange stand on it.
 use Rattle.std.proofs.Common.{◌≡◌, ℕ, ◌≤◌, ◌<◌, ◌+◌, ◌*◌, ◌^◌, arith, ap, ◌∙◌, add-one, pow-suc, get_or, take}
 use Rattle.std.proofs.Math.ListN.{replicate}
 use Rattle.std.proofs.lemmas.List.{get_or-take, get_or-replicate}

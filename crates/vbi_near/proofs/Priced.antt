@@ -1,4 +1,5 @@
 -- What words cost, by their digits.
+-- Prices::at and with_start_by stand on it, and Chosen.
 use Rattle.std.proofs.Common.{◌≡◌, ℕ, zero, suc, ◌<◌, ◌+◌, ◌-◌, ◌*◌, ◌/◌, ◌%◌, Bool, false, List, get_or, arith, ap}
 use Rattle.std.proofs.Common.{◌∙◌}
 use Rattle.vbi_words.specs.declared.system.System.{System}

@@ -1,5 +1,5 @@
--- Two words of which one begins some columns later, at most a cell: in how many columns they differ at least. A table
--- has the least of all words, from the last cell back to the first, which the checker computes.
+-- Two words one of which begins some columns later, at most a cell: in how many columns they differ at least. A table
+-- has the least of all words, from the last cell back to the first, which the checker computes. Distinct stands on it.
 use Rattle.std.proofs.Common.{◌≡◌, ◌≢◌, ℕ, suc, zero, ◌≤◌, ◌<◌, ◌+◌, ◌-◌, List, [], ◌∷◌, ◌++◌, Bool, true, false}
 use Rattle.std.proofs.Common.{length, take, drop, min, leb, eqb, ◌&&◌, refl, arith, ap, ap₂, sym, ◌∙◌, ◌⊎◌, le_trans}
 use Rattle.std.proofs.Common.{append_assoc, take-append-drop, length-append, length-take-le, length-drop}
@@ -15,7 +15,7 @@ use Rattle.vbi_near.specs.Apart.{picture_distance}
 use Rattle.vbi_near.proofs.Highs.{highs, differences-append, low-differs, cell_columns, cell_levels, length-cell}
 use Rattle.vbi_near.proofs.Highs.{bits_levels, bits-begin, cell-long}
 
--- where the cell lies so many columns later: its levels beside the same cell of the other word, and beside what follows
+-- a cell that lies some columns later: its levels beside the same cell of the other word, and beside what follows
 abbrev pub levels_beside : System → ℕ → ℕ → Bool → List Bool
 levels_beside system late j bit = take (cell_columns system j - late) (cell_levels system j bit)
 
@@ -24,7 +24,7 @@ levels_after system late j bit = drop (cell_columns system j - late) (cell_level
 
 -- ---- the table
 
--- in how many columns the cell of the one word differs from the later word's, of which `levels` come first
+-- in how many columns the cell of the one word differs from the later word's, which begin with `levels`
 abbrev pub cell_differences : System → ℕ → ℕ → List Bool → Bool → Bool → ℕ
 cell_differences system late j levels one other =
     differences (cell_levels system j one) (levels ++ levels_beside system late j other)
@@ -68,7 +68,7 @@ floors_with system late j rest = record {
   apart_one = least_floor system late j rest true false;
 }
 
--- where so many cells follow the one that begins with half cell j. Two words that are the same to the end are one word,
+-- if n cells follow the one that begins with half cell j. Two words that are the same to the end are one word,
 -- and nothing is asked of it
 unfoldable pub floors : System → ℕ → ℕ → ℕ → Floors
 floors system late j zero = record {
@@ -84,7 +84,7 @@ unfoldable pub word_floor : System → ℕ → ℕ
 word_floor system late =
     cell_differences system late 0 (replicate late false) true true + floor (floors system late 0 23) true true
 
--- whether words differ in as many columns as a cell has, at so many columns later and at fewer
+-- whether words differ in as many columns as a cell has, at this many columns later and at fewer
 far_until : System → ℕ → Bool
 far_until system zero = leb (picture_distance system) (word_floor system 0)
 far_until system (suc late) = leb (picture_distance system) (word_floor system (suc late)) && far_until system late

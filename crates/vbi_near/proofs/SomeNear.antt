@@ -1,4 +1,5 @@
--- There is a first nearest word of any lines, and a first nearest code.
+-- Any lines have a first nearest word, and a first nearest code.
+-- some_near and SomeSeen stand on it.
 use Rattle.std.proofs.Common.{◌≡◌, ◌≢◌, ℕ, zero, suc, ◌+◌, ◌-◌, ◌*◌, ◌/◌, ◌%◌, ◌≤◌, ◌<◌, ◌⊎◌, inl, inr, Bool, true}
 use Rattle.std.proofs.Common.{false, List, [], ◌∷◌, refl, sym, ap, ◌∙◌, subst, arith}
 use Rattle.std.specs.Prelude.{Option, Some, None}
@@ -70,7 +71,7 @@ renumbered (suc m) = ap suc (omega arith)
 other_word : (a b : Option ℕ) → IsTold (a ≢ b)
 other_word a b = grind (arith, same_or_not, IsTold)
 
--- the first of the nearest of some places, of which none is one, and a word at the first column
+-- the first of the nearest of some places: that of none is one, and so is a word at the first column
 module _ (system : System) (IsThere : Option ℕ → ℕ → Type 0)
     (fits : (word : Option ℕ) (start : ℕ) → IsThere word start → IsPlace system word start)
     (told : (word : Option ℕ) (start : ℕ) → IsTold (IsThere word start)) (none : IsThere None 0) (word : ℕ)
@@ -152,7 +153,7 @@ module _ (system : System) (IsThere : Option ℕ → ℕ → Type 0)
 
 -- ---- rows on which a word goes on or is cut short
 
--- of four rows that there may be, one of which there is, one has the least distance
+-- of four rows that there may be, if there is one, one has the least distance
 some_row : (IsRow : List Bool → Type 0) (far : List Bool → ℕ) (levels : ℕ → List Bool) (Has : ℕ → Type 0)
     → ((k : ℕ) → IsTold (Has k)) → (k : ℕ) → k ≤ 3 → Has k → ((k : ℕ) → Has k → IsRow (levels k))
     → ((x : List Bool) → IsRow x → (k : ℕ) × (k ≤ 3) × Has k × (x ≡ levels k))

@@ -1,4 +1,5 @@
 -- There is something that any three rows show, whichever of their columns are erased.
+-- some_recovered stands on it.
 use Rattle.std.proofs.Common.{ℕ, Bool, List, refl}
 use Rattle.vbi_words.specs.declared.system.System.{System}
 use Rattle.vbi_words.specs.Levels.{Slicing}

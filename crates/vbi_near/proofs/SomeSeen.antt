@@ -1,5 +1,5 @@
--- Any lines have nearest words, levelled and as they are, and a distance of a stretched word; and there is something of
--- any line.
+-- Any lines have nearest words, levelled and as they are, and a distance of a stretched word; and something is seen
+-- of any line. recover_rows, Asked and SomeRecovered stand on it.
 use Rattle.std.proofs.Common.{◌≡◌, ℕ, ◌+◌, ◌≤◌, Bool, true, false, List, [], ◌∷◌, refl, ap, subst, arith, min}
 use Rattle.std.specs.Prelude.{Option, Some, None}
 use Rattle.vbi_words.specs.declared.system.System.{System}
@@ -130,7 +130,7 @@ some_stretched system slicing lines word =
 
 -- ---- lines
 
--- the word that an outcome shows, and 0 where it shows none
+-- the word that an outcome shows, and 0 if it shows none
 abbrev shown_word : Outcome → ℕ
 shown_word (Word word) = word
 shown_word outcome = 0

@@ -1,4 +1,5 @@
--- Words drawn on cells of other lengths: their columns, and what they cost.
+-- Words drawn on cells of other lengths: their columns, and what they cost. At a hundred hundredths they are drawn as
+-- any word is. The functions of stretched stand on it, stretched_by_none and LeastAt.
 use Rattle.std.proofs.Common.{◌≡◌, ℕ, suc, List, [], ◌∷◌, ◌++◌, Bool, refl, arith, ap, ◌∙◌, ◌≤◌, ◌<◌, ◌+◌, ◌-◌, ◌*◌}
 use Rattle.std.proofs.Common.{false, length, take, get_or, set, get_or-set_other}
 use Rattle.std.proofs.Math.ListN.{replicate}

@@ -1,4 +1,5 @@
 -- How much a line swings at most, so that what is divided by it fits.
+-- level stands on it.
 use Rattle.std.proofs.Common.{◌≡◌, ℕ, suc, zero, ◌≤◌, ◌<◌, ◌+◌, ◌*◌, ◌/◌, ◌^◌, List, length, get_or, take, drop, arith}
 use Rattle.std.proofs.Common.{sym, subst}
 use Rattle.std.specs.List.{All, sum}
@@ -27,7 +28,7 @@ short_bytes bytes n long few k d less =
     = omega (arith, sample_of bytes k inside, few (2 * k), few (2 * k + 1)) in
     subst (λ (x : ℕ). x ≤ 65535) (sym (get_or_default (samples_of bytes) k d 0 less)) here
 
--- so many of them sum up to no more
+-- n of them sum up to no more
 few-sum : (samples : List ℕ) (start n : ℕ) → AreShort samples → sum (take n (drop start samples)) ≤ 65535 * n
 few-sum samples start n short =
     let part = take n (drop start samples) in
@@ -40,7 +41,7 @@ few-off : (system : System) (samples : List ℕ) (column : ℕ) → AreShort sam
     → off_mean system samples column ≤ 13959168
 few-off system samples column short less = grind (arith, few-sum)
 
--- nor are so many columns
+-- nor are n columns
 few-offs : (system : System) (samples : List ℕ) (n : ℕ) → AreShort samples → first_of system + n ≤ length samples
     → off_in system samples n ≤ 13959168 * n
 few-offs system samples zero short room = omega arith
