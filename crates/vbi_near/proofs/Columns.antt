@@ -19,12 +19,6 @@ pub column-next : (system : System) (start j : ℕ)
     → column_of system start j + half_length system j ≡ column_of system start (suc j)
 column-next system start j = grind arith
 
-pub column-last : (system : System) (start j : ℕ) → j ≤ 48 → column_of system start j ≤ start + word_length system
-column-last system start j l = grind arith
-
-pub column-rises : (system : System) (start j k : ℕ) → j ≤ k → column_of system start j ≤ column_of system start k
-column-rises system start j k l = grind arith
-
 pub width-few : (system : System) → width_of system ≤ 1135
 width-few system = grind arith
 
