@@ -52,6 +52,7 @@ pub fn chapters_only_near()
 {}
 
 /// What words say: chapters from 0 to 79, which weigh half in passes 2 and 3; no other code is one.
+#[tactic(auto, unfolding(vbi_words::specs::Codes::code_of))]
 pub fn worked_codes()
     ensures chapters { map chapter_of (
         line_of 0x800DDD 1 ∷ line_of 0x807DDD 1 ∷ line_of 0x819DDD 1 ∷ line_of 0x879DDD 1 ∷ line_of 0x887DDD 1 ∷ [])

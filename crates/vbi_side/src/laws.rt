@@ -206,6 +206,7 @@ pub fn misread_words()
 {}
 
 /// The numbers that fields show by the words of their lines 16, 17 and 18, written down by hand; 0 stands for no word.
+#[tactic(auto, unfolding(vbi_words::specs::Codes::code_of))]
 pub fn worked_numbers()
     ensures cav { told_by Ntsc Pictures 0 0xF12345 0xF12345 ∷ told_by Pal Pictures 0 0xF00001 0
         ∷ told_by Pal Pictures 0x8AE712 0 0xFF9999 ∷ told_by Ntsc Pictures 0xF12345 0x82CFFF 0
@@ -316,6 +317,7 @@ pub fn worked_slack()
 
 /// What supports a number: others within 24 fields, on either side, and not further; of a still all but the weight of
 /// one field.
+#[tactic(auto, unfolding(crate::specs::Beliefs::weight_below))]
 pub fn worked_support()
     ensures reach { (support_of Film (apart_by 24) 0 0 ≡ 4) × (support_of Film (apart_by 24) 24 10 ≡ 4)
         × (support_of Film (apart_by 25) 0 0 ≡ 2) × (support_of Film (apart_by 25) 25 10 ≡ 2) }

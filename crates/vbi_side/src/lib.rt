@@ -28,6 +28,7 @@ pub mod laws;
 mod lines;
 mod number;
 mod pace;
+pub mod reason_laws;
 pub mod rule_laws;
 mod seek;
 pub mod side_laws;
