@@ -16,7 +16,7 @@ use Rattle.vbi_side.specs.Numbers.{AreAnswers}
 use Rattle.vbi_side.specs.Side.{DiscRuns, Rises, captured, IsOneRun}
 use Rattle.vbi_side.specs.Gaps.{gap_as, kind_of, ended_between, shown_between, IsGap}
 use Rattle.vbi_side.proofs.Truth.{video_fits, on_the_disc}
-use Rattle.vbi_side.proofs.SideAnswers.{marked_is, anchor}
+use Rattle.vbi_side.proofs.Anchors.{marked_is, anchor}
 use Rattle.vbi_side.proofs.GapLaws.{near_same, none_found}
 
 -- in one run the disc's fields are as far apart as those of the capture

@@ -5,7 +5,7 @@ use Rattle.std.specs.Prelude.{Option, Some, None, nat_le, ◌⊎◌}
 use Rattle.std.proofs.lemmas.Bool.{leb-true}
 use Rattle.std.proofs.lemmas.Bool.Decides.{leb_tells, eqb_tells}
 use Rattle.vbi_side.specs.declared.number.Number.{Number}
-use Rattle.vbi_side.specs.declared.gap.Place.{Place}
+use Rattle.vbi_side.specs.declared.place.Place.{Place}
 use Rattle.vbi_side.specs.declared.drift.Stretch.{Stretch}
 use Rattle.vbi_side.specs.declared.pace.Pace.{Pace}
 use Rattle.vbi_side.specs.declared.pace.Pace.TheVariants.{Video, Film}
@@ -127,7 +127,7 @@ spread_begun clock pace slack answers before first is at apart = record {
   first = at;
   apart = apart;
   last = let next : suc first.field ≡ first.field + 1 = omega arith in
-      subst (λ k. IsLast answers k (Some first)) next (last_new answers first.field first.number at);
+      subst (λ k. IsLast answers k (Some first)) next (last_new answers first at);
   from = omega arith;
   low = at;
   low_inside = omega arith;
@@ -191,7 +191,7 @@ spread_more clock pace slack answers stretch there low high is at near lower hig
   first = is.first;
   apart = is.apart;
   last = let next : suc there.field ≡ there.field + 1 = omega arith in
-      subst (λ k. IsLast answers k (Some there)) next (last_new answers there.field there.number at);
+      subst (λ k. IsLast answers k (Some there)) next (last_new answers there at);
   from = inside;
   low = low_is.0;
   low_inside = low_is.1;

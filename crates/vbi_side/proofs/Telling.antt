@@ -11,7 +11,7 @@ use Rattle.std.proofs.lemmas.Option.{get_or_from_slice_get}
 use Rattle.vbi_side.specs.declared.number.Number.{Number}
 use Rattle.vbi_side.specs.declared.gap.Gap.{Gap}
 use Rattle.vbi_side.specs.declared.gap.Tally.{Tally}
-use Rattle.vbi_side.specs.declared.gap.Place.{Place}
+use Rattle.vbi_side.specs.declared.place.Place.{Place}
 use Rattle.vbi_side.specs.declared.pace.Pace.{Pace}
 use Rattle.vbi_side.specs.declared.clock.Clock.{Clock}
 use Rattle.vbi_side.specs.Clocks.{nearly_by}
@@ -299,9 +299,9 @@ last_kept answers k (Some place) none is = (
   ],
 )
 
-pub last_new : (answers : List Number) (k n : ℕ) → IsMarked answers k n
-    → IsLast answers (suc k) (Some (record { field = k; number = n }))
-last_new answers k n at = (omega arith, at, λ j l behind less. absurd (omega (arith, behind, less)))
+pub last_new : (answers : List Number) (place : Place) → IsMarked answers place.field place.number
+    → IsLast answers (suc place.field) (Some place)
+last_new answers place at = (omega arith, at, λ j l behind less. absurd (omega (arith, behind, less)))
 
 pub neighbours_of : (answers : List Number) (k n : ℕ) (place : Place) → IsLast answers k (Some place)
     → IsMarked answers k n

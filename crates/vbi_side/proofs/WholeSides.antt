@@ -30,7 +30,7 @@ use Rattle.vbi_side.specs.Verdicts.{is_end_unseen, is_begin_unseen, are_doubtful
 use Rattle.vbi_side.proofs.Truth.{both, video_fits, film_fits}
 use Rattle.vbi_side.proofs.Filling.{answer_believed}
 use Rattle.vbi_side.proofs.Sides.{apart, near_one, alone_of, none_lost}
-use Rattle.vbi_side.proofs.SideAnswers.{anchor}
+use Rattle.vbi_side.proofs.Anchors.{anchor}
 use Rattle.vbi_side.proofs.GapLaws.{lost_below}
 
 -- ---- the verdict

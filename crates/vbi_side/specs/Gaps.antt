@@ -12,7 +12,7 @@ use Rattle.vbi_side.specs.declared.gap.Numbering.{Numbering}
 use Rattle.vbi_side.specs.declared.number.Number.{Number}
 use Rattle.vbi_side.specs.declared.gap.Gap.{Gap}
 use Rattle.vbi_side.specs.declared.gap.Tally.{Tally}
-use Rattle.vbi_side.specs.declared.gap.Place.{Place}
+use Rattle.vbi_side.specs.declared.place.Place.{Place}
 use Rattle.vbi_side.specs.declared.pace.Pace.{Pace}
 use Rattle.vbi_side.specs.declared.pace.Pace.TheVariants.{Video, Film}
 use Rattle.vbi_side.specs.Paces.{stays}

@@ -3,7 +3,7 @@
 use Rattle.std.specs.Prelude.{◌≡◌, ℕ, ◌+◌, ◌-◌, ◌*◌, ◌<◌, ◌==◌, nat_lt, not, ◌&&◌, ◌||◌, Bool, true, false, List}
 use Rattle.std.specs.Prelude.{Option, Some, None, slice_get}
 use Rattle.vbi_side.specs.declared.number.Number.{Number}
-use Rattle.vbi_side.specs.declared.gap.Place.{Place}
+use Rattle.vbi_side.specs.declared.place.Place.{Place}
 use Rattle.vbi_side.specs.declared.pace.Pace.{Pace}
 use Rattle.vbi_side.specs.declared.pace.Pace.TheVariants.{Video}
 use Rattle.vbi_side.specs.declared.sighting.Sightings.{Sightings}

@@ -10,9 +10,10 @@ ghost use Rattle.vbi_side.specs.ClocksFound.{ExplainsMost};
 ghost use Rattle.vbi_side.specs.Gaps.{IsLast, has_clock};
 
 use crate::clock::Clock;
-use crate::gap::{Place, Rule, goes_on, goes_on_by};
+use crate::gap::{Rule, goes_on, goes_on_by};
 use crate::gaps::last_at;
 use crate::number::Number;
+use crate::place::Place;
 
 /// How many neighbouring numbers a clock explains, and against how many it speaks.
 #[derive(Clone, Copy)]
@@ -39,9 +40,6 @@ impl Pairs {
 
 /// The pairs with one more.
 fn with_pair(rule: Rule, clock: Clock, here: Place, there: Place, pairs: Pairs) -> Pairs
-    requires slack { rule.slack ≤ 1 }
-    requires here { here.field < 2 ^ 60 }
-    requires there { there.field < 2 ^ 60 }
     requires explained { pairs.explained < 2 ^ 60 }
     requires opposed { pairs.opposed < 2 ^ 60 }
     ensures value { result ≡ with_pair clock rule.pace rule.slack here.field here.number there.field there.number pairs }
@@ -65,7 +63,6 @@ fn with_field(
     last: Option<Place>,
     pairs: Pairs,
 ) -> Pairs
-    requires slack { rule.slack ≤ 1 }
     requires inside { field < length numbers.now }
     requires last { IsLast numbers.now field last }
     requires explained { pairs.explained ≤ field }
@@ -93,7 +90,6 @@ fn with_field(
 
 /// What a clock says of all neighbouring numbers.
 fn pairs_by(numbers: &[Number], rule: Rule, clock: Clock) -> Pairs
-    requires slack { rule.slack ≤ 1 }
     ensures value { ArePairs clock rule.pace rule.slack numbers.now (length numbers.now) result }
     ensures range { result.opposed < 2 ^ 60 }
 {
@@ -148,7 +144,6 @@ fn with_vote_of(
     last: Option<Place>,
     leader: Leader,
 ) -> Leader
-    requires slack { rule.slack ≤ 1 }
     requires period { 0 < period }
     requires inside { field < length numbers.now }
     requires last { IsLast numbers.now field last }
@@ -178,7 +173,6 @@ fn with_vote_of(
 
 /// The phase of more than half of the places at which just one number is left out, if one has so many.
 fn leading(numbers: &[Number], rule: Rule, period: u32) -> u32
-    requires slack { rule.slack ≤ 1 }
     requires period { 0 < period }
     ensures { result < period }
 {
@@ -200,7 +194,6 @@ struct Even {
 
 /// That of the phase that leads.
 fn even_by(numbers: &[Number], rule: Rule, period: u32) -> Even
-    requires slack { rule.slack ≤ 1 }
     requires period { 0 < period }
     ensures proper { result.phase < period }
     ensures value { ArePairs (OneIn period result.phase) rule.pace rule.slack numbers.now (length numbers.now)
@@ -218,7 +211,6 @@ fn even_by(numbers: &[Number], rule: Rule, period: u32) -> Even
 /// more than half of the places at which just one number is missing have its phase. Else, and of another disc, it is
 /// the clock of the rule.
 pub fn find_clock(numbers: &[Number], rule: Rule) -> Clock
-    requires { rule.slack ≤ 1 }
     ensures told { (result ≡ rule.numbering.clock)
         ⊎ (IsProper result × IsClockTold result rule.pace rule.slack numbers.now) }
     ensures drop { has_clock rule.numbering ≡ true → ExplainsMost DropFrame rule.pace rule.slack numbers.now

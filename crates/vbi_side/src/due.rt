@@ -14,9 +14,9 @@ ghost use Rattle.vbi_side.specs.Numbers.{IsMarked};
 ghost use Rattle.vbi_side.specs.Paces.{Count, nearly};
 
 use crate::belief::REACH;
-use crate::gap::Place;
 use crate::number::Number;
 use crate::pace::Pace;
+use crate::place::Place;
 use crate::sighting::Sightings;
 
 /// The fields to which two numbers may be apart that allow one between them to be off by a field.

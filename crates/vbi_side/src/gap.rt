@@ -9,6 +9,7 @@ ghost use Rattle.vbi_side.specs.Clocks.{kept, is_plain, nearly_by};
 use crate::clock::Clock;
 use crate::lines::Counted;
 use crate::pace::Pace;
+use crate::place::{Place, by_clock};
 use std::mem::size_of;
 use vbi_words::System;
 
@@ -122,31 +123,12 @@ pub struct Rule {
     pub slack: u64,
     /// What its numbers are.
     pub numbering: Numbering,
-}
-
-/// A field with the number that is believed of it.
-#[derive(Clone, Copy)]
-pub(crate) struct Place {
-    pub(crate) field: usize,
-    pub(crate) number: u32,
-}
-
-/// Where a number stands among those that the disc has.
-pub(crate) fn by_clock(clock: Clock, here: Place) -> Place
-    ensures field { result.field ≡ here.field }
-    ensures number { result.number ≡ kept clock here.number }
-{
-    Place {
-        field: here.field,
-        number: clock.kept(here.number),
-    }
+    pub ghost at_most_one: { slack ≤ 1 },
 }
 
 /// Whether two numbers go on, to within so many fields.
 pub(crate) fn goes_on(pace: Pace, slack: u64, here: Place, there: Place) -> bool
     requires slack { slack ≤ 1 }
-    requires here { here.field < 2 ^ 60 }
-    requires there { there.field < 2 ^ 60 }
     ensures { result ≡ nearly pace slack here.field here.number there.field there.number }
 {
     let (field, number) = (here.field as u64, u64::from(here.number));
@@ -166,8 +148,6 @@ pub(crate) fn goes_on(pace: Pace, slack: u64, here: Place, there: Place) -> bool
 /// Whether two numbers go on by the clock.
 pub(crate) fn goes_on_by(clock: Clock, pace: Pace, slack: u64, here: Place, there: Place) -> bool
     requires slack { slack ≤ 1 }
-    requires here { here.field < 2 ^ 60 }
-    requires there { there.field < 2 ^ 60 }
     ensures { result ≡ nearly_by clock pace slack here.field here.number there.field there.number }
 {
     goes_on(pace, slack, by_clock(clock, here), by_clock(clock, there))
@@ -175,8 +155,6 @@ pub(crate) fn goes_on_by(clock: Clock, pace: Pace, slack: u64, here: Place, ther
 
 /// Whether two fields are of one still.
 fn is_still(here: Place, there: Place) -> bool
-    requires here { here.field < 2 ^ 60 }
-    requires there { there.field < 2 ^ 60 }
     ensures { result ≡ stays here.field here.number there.field there.number }
 {
     there.number == here.number && (here.field + there.field) % 2 == 0
@@ -184,8 +162,6 @@ fn is_still(here: Place, there: Place) -> bool
 
 /// How many fields at least are too few between two numbers.
 fn lacking(pace: Pace, here: Place, there: Place) -> u64
-    requires here { here.field < 2 ^ 60 }
-    requires there { there.field < 2 ^ 60 }
     ensures { result ≡ lacking pace here.field here.number there.field there.number }
 {
     let (field, number) = (here.field as u64, u64::from(here.number));
@@ -203,8 +179,6 @@ fn lacking(pace: Pace, here: Place, there: Place) -> u64
 
 /// By how many fields too few or too many the two are apart, at least.
 fn off_by(pace: Pace, here: Place, there: Place) -> u64
-    requires here { here.field < 2 ^ 60 }
-    requires there { there.field < 2 ^ 60 }
     ensures { result ≡ off_by pace here.field here.number there.field there.number }
 {
     lacking(pace, here, there) + lacking(pace, there, here)
@@ -212,8 +186,6 @@ fn off_by(pace: Pace, here: Place, there: Place) -> u64
 
 /// Whether the disc itself may skip between two numbers.
 fn is_open(pace: Pace, numbering: Numbering, here: Place, there: Place) -> bool
-    requires here { here.field < 2 ^ 60 }
-    requires there { there.field < 2 ^ 60 }
     ensures { result ≡ is_open pace numbering here.field here.number there.field there.number }
 {
     match pace {
@@ -238,8 +210,6 @@ fn is_open(pace: Pace, numbering: Numbering, here: Place, there: Place) -> bool
 
 /// What lies between two numbers that don't go on.
 fn kind(pace: Pace, numbering: Numbering, ended: bool, here: Place, there: Place) -> u32
-    requires here { here.field < 2 ^ 60 }
-    requires there { there.field < 2 ^ 60 }
     ensures { result ≡ kind_of pace numbering ended here.field here.number there.field there.number }
 {
     if ended {
@@ -264,8 +234,6 @@ fn kind(pace: Pace, numbering: Numbering, ended: bool, here: Place, there: Place
 
 /// By how many fields they don't.
 fn fields(pace: Pace, slack: u64, kind: u32, here: Place, there: Place) -> u64
-    requires here { here.field < 2 ^ 60 }
-    requires there { there.field < 2 ^ 60 }
     requires order { here.field ≤ there.field }
     ensures { result ≡ fields_of pace slack kind here.field here.number there.field there.number }
 {
@@ -284,9 +252,6 @@ fn fields(pace: Pace, slack: u64, kind: u32, here: Place, there: Place) -> u64
 
 /// The gap between two numbers, or none if they go on. `shown` are the fields between that show a number between.
 pub(crate) fn between(rule: Rule, ended: bool, shown: u64, here: Place, there: Place) -> Option<Gap>
-    requires slack { rule.slack ≤ 1 }
-    requires here { here.field < 2 ^ 60 }
-    requires there { there.field < 2 ^ 60 }
     requires order { here.field ≤ there.field }
     ensures { result ≡ gap_of rule.pace rule.slack rule.numbering ended shown here.field here.number there.field
         there.number }

@@ -14,10 +14,9 @@ ghost use Rattle.vbi_side.specs.Gaps.{begins_still};
 
 use crate::clock::Clock;
 use crate::ends::{LEAD_IN, LEAD_OUT};
-use crate::gap::{
-    BACK, Gap, HELD, JOINED, LOST, OPEN, Place, Rule, STILL, Tally, between, skipped,
-};
+use crate::gap::{BACK, Gap, HELD, JOINED, LOST, OPEN, Rule, STILL, Tally, between, skipped};
 use crate::number::Number;
+use crate::place::Place;
 use crate::sighting::Sightings;
 
 impl Tally {
@@ -132,10 +131,8 @@ fn tell(
     tally: Tally,
     out: &mut [Gap],
 ) -> Tally
-    requires slack { rule.slack ≤ 1 }
     requires order { here.field < there.field }
     requires inside { there.field ≤ length seen.now }
-    requires far { there.field < 2 ^ 60 }
     requires few { tally.gaps < 2 ^ 60 }
     ensures { (answers : List Number) (ends : List ℕ) (old : List Gap)
         → AreNeighbours answers here.field here.number there.field there.number
@@ -173,7 +170,6 @@ fn visit(
     tally: Tally,
     out: &mut [Gap],
 ) -> Tally
-    requires slack { rule.slack ≤ 1 }
     requires same { length seen.now ≡ length numbers.now }
     requires inside { walk.field < length numbers.now }
     requires since { walk.since ≤ walk.field }
@@ -248,7 +244,6 @@ pub fn find_gaps(
 ) -> Tally
     requires seen { length seen.now ≡ length numbers.now }
     requires ends { length ends.now ≡ length numbers.now }
-    requires slack { rule.slack ≤ 1 }
     ensures { IsTold rule.pace rule.slack rule.numbering seen.now numbers.now ends.now (length numbers.now) result
         out.old out.new }
 {

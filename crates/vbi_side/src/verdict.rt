@@ -11,11 +11,11 @@ ghost use Rattle.vbi_side.specs.Swaps.{IsSwapTold};
 
 use crate::drift::has_drift;
 use crate::ends::LEAD_OUT;
-use crate::extent::{first_believed, last_believed};
-use crate::gap::{Gap, Place, Rule, Tally, by_clock};
+use crate::gap::{Gap, Rule, Tally};
 use crate::gaps::{find_gaps, since_at};
 use crate::number::{BELIEVED, DOUBTFUL, Number};
 use crate::pace::Pace;
+use crate::place::{Place, by_clock, first_believed, last_believed};
 use crate::sighting::Sightings;
 use crate::swaps::first_swap;
 use std::mem::size_of;
@@ -133,7 +133,6 @@ fn too_few(pace: Pace, fields: usize, number: u32) -> bool
 
 /// Whether no gap is open, and the first and the last number don't count to each other, less the stills.
 fn is_off(rule: Rule, tally: &Tally, first: Place, last: Place) -> bool
-    requires slack { rule.slack ≤ 1 }
     ensures { result ≡ is_off rule.pace rule.slack tally.now first.field first.number last.field last.number }
 {
     let field = first.field as u128 + u128::from(tally.stood);
@@ -197,7 +196,6 @@ fn reasons(
     last: Place,
 ) -> u32
     requires same { length ends.now ≡ length numbers.now }
-    requires slack { rule.slack ≤ 1 }
     requires first { first.field < length numbers.now }
     requires last { last.field < length numbers.now }
     ensures { result ≡ reasons_of rule.numbering.clock rule.pace rule.slack may_end numbers.now ends.now tally.now is_swapped drifts
@@ -263,7 +261,6 @@ pub fn judge_whole(
 ) -> Finding
     requires seen { length seen.now ≡ length numbers.now }
     requires ends { length ends.now ≡ length numbers.now }
-    requires slack { rule.slack ≤ 1 }
     ensures { IsFinding rule.pace rule.slack rule.numbering may_end seen.now numbers.now ends.now result
         out.old out.new }
 {
