@@ -64,7 +64,7 @@ near recorded fields i n b few =
 
 -- a lower chapter is opposed by what stands before it, a higher one by what stands after it
 pub within : (fields : List Sightings) (i n m : ℕ) → BelievedChapter fields i n → IsWithin fields i m → n ≡ m
-within fields i n m b (before, behind) = go (eqb_tells n m) (cases_lt n m)
+within fields i n m b (before, after) = go (eqb_tells n m) (cases_lt n m)
   where
     lower : (j k : ℕ) → n < m → (nat_lt j i && (k == m)) ≡ true → opposes i n j k ≡ true
     lower j k less e =
@@ -94,7 +94,7 @@ within fields i n m b (before, behind) = go (eqb_tells n m) (cases_lt n m)
     go (inr (f, apart)) (inr more) =
         absurd (omega (
           arith,
-          behind,
+          after,
           b.unopposed,
           weight_below-narrower (λ j k. nat_lt i j && (k == m)) (opposes i n) fields i (2 * reach + 1) (omega arith)
               (λ j k near. higher j k (omega (arith, more, apart))),

@@ -77,7 +77,8 @@ gap_not_run disc place fields numbering seen answers ends gap none runs are is f
     let one = video_fits gap.after gap.from p.0 p.1 p.5 in
     let other = video_fits gap.before gap.to q.0 q.1 q.5 in
     none_found (nearly_by numbering.clock Video 0 gap.after gap.from gap.before gap.to)
-    (gap_as numbering.clock Video 0 (kind_of Video numbering (ended_between ends gap.after gap.before) gap.after gap.from gap.before
+    (gap_as numbering.clock Video 0
+    (kind_of Video numbering (ended_between ends gap.after gap.before) gap.after gap.from gap.before
     gap.to)
     (shown_between seen gap.after gap.from gap.before gap.to) gap.after gap.from gap.before gap.to) gap
     (near_same (gap.before + 2 * kept numbering.clock gap.from) (gap.after + 2 * kept numbering.clock gap.to)

@@ -140,11 +140,11 @@ one_left HasNumber pace j m k l g x h y i a b unique one other = go (leb_tells j
     go (inr (f, less)) rest =
         one_count pace j m i a b one.on (nearly_on pace (slack_of g h) i b j m (slack_most g h) one.before
         (whole_on pace j m i a one.before one.on)
-        (other.between j m less (omega (arith, one.before, other.behind)) one.first))
+        (other.between j m less (omega (arith, one.before, other.after)) one.first))
     go (inl (t, le)) (inr (f, less)) =
         one_count pace g x i a b (nearly_on pace (slack_of j k) i a g x (slack_most j k) other.before
         (whole_on pace g x i b other.before other.on)
-        (one.between g x less (omega (arith, other.before, one.behind)) other.first)) other.on
+        (one.between g x less (omega (arith, other.before, one.after)) other.first)) other.on
     go (inl (t, le)) (inl (s, ge)) =
         let here : g ≡ j = omega (arith, le, ge) in
         let same : x ≡ m = unique j x m (subst (λ f. HasNumber f x) here other.first) one.first in
@@ -165,8 +165,8 @@ pub due_sound : (pace : Pace) (recorded : ℕ → Option ℕ) (fields : List Sig
 due_sound pace recorded fields i n regular right due =
     let (j, m, k, l, leaves) = due.left in
     let near : IsNear i j = (leaves.near, omega (arith, leaves.before)) in
-    let far : IsNear i k = (omega (arith, leaves.behind), leaves.far) in
-    regular j m k l n leaves.before leaves.behind near far (right j m near leaves.first)
+    let far : IsNear i k = (omega (arith, leaves.after), leaves.far) in
+    regular j m k l n leaves.before leaves.after near far (right j m near leaves.first)
     (right k l far leaves.last) leaves.on leaves.back
 
 -- ---- the same capture around a field
@@ -207,10 +207,10 @@ due_near pace fields others i n agree due = go due.left
         record {
           before = leaves.before;
           near = leaves.near;
-          behind = leaves.behind;
+          after = leaves.after;
           far = leaves.far;
           first = on j m (leaves.near, omega (arith, leaves.before)) leaves.first;
-          last = on k l (omega (arith, leaves.behind), leaves.far) leaves.last;
+          last = on k l (omega (arith, leaves.after), leaves.far) leaves.last;
           on = leaves.on;
           back = leaves.back;
           between = λ h x more less b. leaves.between h x more less

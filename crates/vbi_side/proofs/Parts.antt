@@ -215,10 +215,10 @@ left_later pace whole part first i n is (j, m, k, l, leaves) = (
   record {
     before = omega (arith, leaves.before);
     near = omega (arith, leaves.near);
-    behind = omega (arith, leaves.behind);
+    after = omega (arith, leaves.after);
     far = omega (arith, leaves.far);
     first = (believed_later pace part whole first j m (seen_near whole part first i j is before)).0 leaves.first;
-    last = (believed_later pace part whole first k l (seen_near whole part first i k is behind)).0 leaves.last;
+    last = (believed_later pace part whole first k l (seen_near whole part first i k is after)).0 leaves.last;
     on = (count_later pace first j m i n).0 leaves.on;
     back = (count_later pace first i n k l).0 leaves.back;
     between = between;
@@ -228,8 +228,8 @@ left_later pace whole part first i n is (j, m, k, l, leaves) = (
     before : IsNear i j
     before = (leaves.near, omega (arith, leaves.before))
 
-    behind : IsNear i k
-    behind = (omega (arith, leaves.behind), leaves.far)
+    after : IsNear i k
+    after = (omega (arith, leaves.after), leaves.far)
 
     between : (h x : ℕ) → first + j < h → h < first + k → Believed pace whole h x
         → nearly pace (slack_of (first + j) (first + k)) (first + i) n h x ≡ true
@@ -248,7 +248,7 @@ left_back : (pace : Pace) (whole part : List Sightings) (first i n : ℕ) → Is
     → IsLeft (Believed pace whole) pace (first + i) n → IsLeft (Believed pace part) pace i n
 left_back pace whole part first i n is (g, m, h, l, leaves) =
     let at : g ≡ first + (g - first) = omega (arith, within_part whole part first i g is leaves.near) in
-    let to : h ≡ first + (h - first) = omega (arith, leaves.behind) in
+    let to : h ≡ first + (h - first) = omega (arith, leaves.after) in
     go (g - first) (h - first)
     (subst (λ f. Leaves (Believed pace whole) pace (first + (g - first)) m f l (first + i) n) to
     (subst (λ f. Leaves (Believed pace whole) pace f m h l (first + i) n) at leaves))
@@ -263,10 +263,10 @@ left_back pace whole part first i n is (g, m, h, l, leaves) =
       record {
         before = omega (arith, leaves.before);
         near = omega (arith, leaves.near);
-        behind = omega (arith, leaves.behind);
+        after = omega (arith, leaves.after);
         far = omega (arith, leaves.far);
         first = (believed_later pace part whole first j m (seen_near whole part first i j is before)).1 leaves.first;
-        last = (believed_later pace part whole first k l (seen_near whole part first i k is behind)).1 leaves.last;
+        last = (believed_later pace part whole first k l (seen_near whole part first i k is after)).1 leaves.last;
         on = (count_later pace first j m i n).1 leaves.on;
         back = (count_later pace first i n k l).1 leaves.back;
         between = λ f x more less b. nearly_later pace (slack_of j k) first i n f x
@@ -280,8 +280,8 @@ left_back pace whole part first i n is (g, m, h, l, leaves) =
         before : IsNear i j
         before = (omega (arith, leaves.near), omega (arith, leaves.before))
 
-        behind : IsNear i k
-        behind = (omega (arith, leaves.behind), omega (arith, leaves.far))
+        after : IsNear i k
+        after = (omega (arith, leaves.after), omega (arith, leaves.far))
 
 due_later : (pace : Pace) (whole part : List Sightings) (first i n : ℕ) → IsPart Sightings whole part first i
     → Due pace part i n ↔ Due pace whole (first + i) n

@@ -27,14 +27,6 @@ apart place i j rises le =
     let whole : i + (j - i) ≡ j = omega (arith, le) in
     subst (λ n. place i + (j - i) ≤ place n) whole (further place i (j - i) rises)
 
--- no two fields of the capture are one of the disc
-one_place : (place : ℕ → ℕ) (i j : ℕ) → Rises place → place i ≡ place j → i ≡ j
-one_place place i j rises same = go (leb_tells i j)
-  where
-    go : ((nat_le i j ≡ true) × (i ≤ j)) ⊎ ((nat_le i j ≡ false) × (j < i)) → i ≡ j
-    go (inl (t, le)) = omega (arith, le, same, apart place i j rises le)
-    go (inr (f, lt)) = omega (arith, lt, same, apart place j i rises (omega (arith, lt)))
-
 -- where the two ends are as far apart on the disc as in the capture, none is lost between
 pub none_lost : (place : ℕ → ℕ) (p q i j : ℕ) → Rises place → p ≤ i → j ≤ q → place q ≡ place p + (q - p)
     → NoneLost place i j

@@ -85,7 +85,8 @@ yes_near pace slack numbering may_end seen answers ends finding old new is verdi
     none = yes_none finding.reasons (sym is.verdict ∙ verdict)
 
     go : IsUntold answers finding ⊎ ((m n : ℕ) × AreEnds answers finding.first m finding.last n
-        × (finding.reasons ≡ reasons_of numbering.clock pace slack may_end answers ends finding.tally is.swapped is.drifts
+        × (finding.reasons ≡ reasons_of numbering.clock pace slack may_end answers ends finding.tally is.swapped
+        is.drifts
         finding.first m finding.last n))
         → (m n : ℕ) × AreEnds answers finding.first m finding.last n
         × (nearly_by numbering.clock pace slack (finding.first + finding.tally.stood) m finding.last n ≡ true)
@@ -352,7 +353,8 @@ whole_lost pace slack disc place answers numbering may_end seen ends finding old
     sum = ap (λ (t : Tally). t.lost) is.told.comes_to
 
     go : IsUntold answers finding ⊎ ((m n : ℕ) × AreEnds answers finding.first m finding.last n
-        × (finding.reasons ≡ reasons_of numbering.clock pace slack may_end answers ends finding.tally is.swapped is.drifts
+        × (finding.reasons ≡ reasons_of numbering.clock pace slack may_end answers ends finding.tally is.swapped
+        is.drifts
         finding.first m finding.last n))
         → LostAtLeast place finding.first finding.last finding.tally.lost
     go (inl (never, e, first, last)) = absurd (some never)
@@ -360,7 +362,7 @@ whole_lost pace slack disc place answers numbering may_end seen ends finding old
         let p = lost_below pace slack disc place numbering seen answers ends runs rises right finding.first
         are.none_before
         (length answers) is.told.gaps is.told.unread is.told.all finding.last n are.ends
-        (slice_get_within answers finding.last (believed n) are.ends) (λ j l lt less. are.none_behind j l lt) in
+        (slice_get_within answers finding.last (believed n) are.ends) (λ j l lt less. are.none_after j l lt) in
         omega (arith, p.1, sum)
 
 -- ---- nothing is known
@@ -372,7 +374,8 @@ pub none_known : (pace : Pace) (slack : ℕ) (numbering : Numbering) (may_end : 
 none_known pace slack numbering may_end seen answers ends finding old new is never = go is.reasons
   where
     go : IsUntold answers finding ⊎ ((m n : ℕ) × AreEnds answers finding.first m finding.last n
-        × (finding.reasons ≡ reasons_of numbering.clock pace slack may_end answers ends finding.tally is.swapped is.drifts
+        × (finding.reasons ≡ reasons_of numbering.clock pace slack may_end answers ends finding.tally is.swapped
+        is.drifts
         finding.first m finding.last n))
         → finding.verdict ≡ cannot_tell
     go (inl (always, e, first, last)) = is.verdict ∙ ap verdict_of e

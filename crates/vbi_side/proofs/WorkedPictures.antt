@@ -207,7 +207,7 @@ no_swap clock k swap =
     let here = marked_is swap.i swap.m swap.neighbours.here in
     let there = marked_is swap.j swap.n swap.neighbours.there in
     let two = apart_by_two swap.i swap.m swap.j swap.n swap.neighbours in
-    let place : k ≡ 2 * swap.m + 1 = omega (arith, here.0, two, swap.behind, swap.before) in
+    let place : k ≡ 2 * swap.m + 1 = omega (arith, here.0, two, swap.after, swap.before) in
     let dark = blank_at 25 0 swap.m here.1 in
     let at : slice_get worked_side k ≡ Some blank = subst (λ j. slice_get worked_side j ≡ Some blank)
     (sym place) dark in
@@ -215,7 +215,8 @@ no_swap clock k swap =
     cc
 
 -- in a field with no number none ends, and each other number goes on
-pub no_gaps : (numbering : Numbering) → ((n : ℕ) → n < 25 → kept numbering.clock n ≡ n) → (ends : List ℕ) (k : ℕ) → k ≤ 50
+pub no_gaps : (numbering : Numbering) → ((n : ℕ) → n < 25 → kept numbering.clock n ≡ n) → (ends : List ℕ) (k : ℕ)
+    → k ≤ 50
     → AreGaps Video 0 numbering worked_side worked_answers ends k [] 0
 unfolding AreGaps
 no_gaps numbering same ends zero le = (refl, refl)

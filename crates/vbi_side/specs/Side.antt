@@ -48,10 +48,6 @@ pub record IsAnchor (pace : Pace) (recorded : ℕ → Option ℕ) (fields : List
 
 -- ---- what a capture has
 
--- picture n is captured: a field of the capture is the disc's field that has its number
-abbrev pub IsCaptured : (ℕ → Option ℕ) → (ℕ → ℕ) → ℕ → Type 0
-IsCaptured disc place n = (i : ℕ) × (captured disc place i ≡ Some n)
-
 -- picture n is lost: the disc has its number, and the capture lacks each field that has it
 abbrev pub IsLost : (ℕ → Option ℕ) → (ℕ → ℕ) → ℕ → Type 0
 IsLost disc place n = ((d : ℕ) × (disc d ≡ Some n)) × ((d : ℕ) → disc d ≡ Some n → Lacks place d)
@@ -63,4 +59,4 @@ pub record AreEnds (answers : List Number) (first m last n : ℕ) : Type 0 where
   pub begins : IsMarked answers first m
   pub ends : IsMarked answers last n
   pub none_before : (i k : ℕ) → i < first → IsMarked answers i k → ⊥
-  pub none_behind : (i k : ℕ) → last < i → IsMarked answers i k → ⊥
+  pub none_after : (i k : ℕ) → last < i → IsMarked answers i k → ⊥

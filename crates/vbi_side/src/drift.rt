@@ -82,8 +82,6 @@ fn begun(numbers: &[Number], rule: Rule, before: Option<Place>, first: Place) ->
     requires apart { IsApart rule.numbering.clock rule.pace rule.slack before first }
     ensures { IsSpread rule.numbering.clock rule.pace rule.slack numbers.now (first.field + 1) result }
 {
-    let _numbers = numbers;
-    let _rule = rule;
     Stretch {
         before,
         first,
@@ -97,10 +95,10 @@ fn begun(numbers: &[Number], rule: Rule, before: Option<Place>, first: Place) ->
 fn extended(numbers: &[Number], rule: Rule, stretch: Stretch, there: Place) -> Stretch
     requires spread { IsSpread rule.numbering.clock rule.pace rule.slack numbers.now there.field stretch }
     requires there { IsMarked numbers.now there.field there.number }
-    requires on { nearly_by rule.numbering.clock rule.pace rule.slack stretch.last.field stretch.last.number there.field there.number ≡ true }
+    requires on { nearly_by rule.numbering.clock rule.pace rule.slack stretch.last.field stretch.last.number there.field
+        there.number ≡ true }
     ensures { IsSpread rule.numbering.clock rule.pace rule.slack numbers.now (there.field + 1) result }
 {
-    let _numbers = numbers;
     let low = earlier(rule.numbering.clock, rule.pace, stretch.low, there);
     let high = later(rule.numbering.clock, rule.pace, stretch.high, there);
     Stretch {

@@ -1,4 +1,17 @@
 //! What lies between two neighbouring numbers of a capture: nothing, if they go on, else a gap.
+//!
+//! `Gap` and `Tally` are what include/ldvbi.h hands out, with the numbers of its kinds. `Rule` says how a disc counts,
+//! `between` judges two `Neighbours` by it, and the methods of `Gap` count which numbers are lost in one.
+//!
+//! Numbers go on if they are as far apart as their fields: two to a picture of video, five to two pictures of film. On
+//! a disc with a number on both fields of a picture they may be one field off, the `slack`. Film is asked to within a
+//! field always, since its pictures of two and three fields needn't begin where their numbers say. Places are compared
+//! by sums and products, with nothing to divide or to round, and by the numbers that the disc's clock leaves
+//! (clock.rt).
+//!
+//! gaps.rt walks over a capture and asks this file of each pair, drift.rt, swaps.rt and clock_found.rt ask whether
+//! numbers go on. A change of a kind or a bound changes `specs/Gaps.antt`, `gap_laws`, include/ldvbi.h and
+//! docs/SIDES.md.
 
 ghost use Rattle.std.specs.Prelude.{◌≡◌, ◌+◌, ◌*◌, ◌<◌, ◌≤◌, ◌^◌};
 ghost use Rattle.vbi_side.specs.Paces.{nearly, stays};
@@ -126,6 +139,14 @@ pub struct Rule {
     pub ghost at_most_one: { slack ≤ 1 },
 }
 
+/// Two neighbouring numbers: none is believed of a field between them.
+#[derive(Clone, Copy)]
+pub(crate) struct Neighbours {
+    pub(crate) here: Place,
+    pub(crate) there: Place,
+    ghost order: { here.field < there.field },
+}
+
 /// Whether two numbers go on, to within so many fields.
 pub(crate) fn goes_on(pace: Pace, slack: u64, here: Place, there: Place) -> bool
     requires slack { slack ≤ 1 }
@@ -195,6 +216,7 @@ fn is_open(pace: Pace, numbering: Numbering, here: Place, there: Place) -> bool
                 by_clock(numbering.clock, here),
                 by_clock(numbering.clock, there),
             );
+            // The clock leaves out one number in 1,000, or two at the start of a minute, of two fields each.
             numbering.has_clock() && (few == 2 || few == 4)
         }
         Pace::Film => {
@@ -203,6 +225,7 @@ fn is_open(pace: Pace, numbering: Numbering, here: Place, there: Place) -> bool
                 by_clock(numbering.clock, here),
                 by_clock(numbering.clock, there),
             );
+            // Where film is cut the turns of two and three fields begin anew, which moves a number by one field.
             u64::from(here.number) + 1 < u64::from(there.number) && off == 1
         }
     }
@@ -251,26 +274,25 @@ fn fields(pace: Pace, slack: u64, kind: u32, here: Place, there: Place) -> u64
 }
 
 /// The gap between two numbers, or none if they go on. `shown` are the fields between that show a number between.
-pub(crate) fn between(rule: Rule, ended: bool, shown: u64, here: Place, there: Place) -> Option<Gap>
-    requires order { here.field ≤ there.field }
-    ensures { result ≡ gap_of rule.pace rule.slack rule.numbering ended shown here.field here.number there.field
-        there.number }
+pub(crate) fn between(rule: Rule, ended: bool, shown: u64, pair: Neighbours) -> Option<Gap>
+    ensures { result ≡ gap_of rule.pace rule.slack rule.numbering ended shown pair.here.field pair.here.number
+        pair.there.field pair.there.number }
 {
     let (first, last) = (
-        by_clock(rule.numbering.clock, here),
-        by_clock(rule.numbering.clock, there),
+        by_clock(rule.numbering.clock, pair.here),
+        by_clock(rule.numbering.clock, pair.there),
     );
     if goes_on(rule.pace, rule.slack, first, last) {
         return None;
     }
-    let kind = kind(rule.pace, rule.numbering, ended, here, there);
+    let kind = kind(rule.pace, rule.numbering, ended, pair.here, pair.there);
     Some(Gap {
-        after: here.field,
-        before: there.field,
+        after: pair.here.field,
+        before: pair.there.field,
         fields: fields(rule.pace, rule.slack, kind, first, last),
         shown,
-        from: here.number,
-        to: there.number,
+        from: pair.here.number,
+        to: pair.there.number,
         kind,
     })
 }

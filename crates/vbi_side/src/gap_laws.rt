@@ -1,4 +1,14 @@
 //! Laws of the gaps and of the verdict. A function here does nothing: its contract is a law.
+//!
+//! First the gaps: all are told, in order, and what one says is so on the disc (`all_told` to `cut_found`). Then the
+//! verdict: what `yes` means of video, of numbers on both fields and of film (`whole_yes`, `nearly_whole`), and that
+//! lost fields are lost (`lost_sound`). They speak of a disc that counts by a clock, with the case of none beside it.
+//! Where the clock leaves numbers out within 12 of an end, as many pictures as the 24 fields of the reach last, they
+//! say less: a believed number may fit others there that are one off.
+//!
+//! The functions `worked_..` are rows written down by hand at the edges of each rule, and captures that meet the
+//! premises. A change in `specs/Gaps.antt`, `Verdicts.antt`, `Swaps.antt` or `Drifts.antt` changes rows here, and
+//! docs/PROMISES.md.
 
 ghost use Rattle.std.specs.Prelude.{◌≡◌, ◌≢◌, ℕ, ◌+◌, ◌*◌, ◌-◌, ◌<◌, ◌≤◌, Bool, List, [], ◌∷◌, ◌++◌, Option, Some};
 ghost use Rattle.std.specs.Prelude.{None, slice_get, map, true, false};
@@ -57,8 +67,9 @@ pub fn all_count()
         → CountTo numbering.clock i m j n }
 {}
 
-/// In a gap whose numbers are right so many fields are lost as it says, if the disc counts on by the clock: of video just so many,
-/// at either pace so many at least. And a gap of video of any kind is one: its fields aren't one run of the disc.
+/// In a gap whose numbers are right so many fields are lost as it says, if the disc counts on by the clock: of video
+/// just so many, at either pace so many at least. And a gap of video of any kind is one: its fields aren't one run of
+/// the disc.
 pub fn gap_is_so()
     ensures exact { (disc : ℕ → Option ℕ) (place : ℕ → ℕ) (numbering : Numbering) (seen : List Sightings)
         (answers : List Number) (ends : List ℕ) (gap : Gap)
@@ -122,8 +133,8 @@ pub fn whole_yes()
 {}
 
 /// The same of a disc with a number on both fields of its pictures, and of film: between two fields of which one is
-/// within 24 fields of each end at most two fields are lost, of film at most four. By a clock, wherever the ends are, at
-/// most twice as many as numbers are left out near them.
+/// within 24 fields of each end at most two fields are lost, of film at most four. By a clock, wherever the ends are,
+/// at most twice as many as numbers are left out near them.
 pub fn nearly_whole()
     ensures both { (slack : ℕ) (disc : ℕ → Option ℕ) (place : ℕ → ℕ) (fields : List Sightings) (answers : List Number)
         (numbering : Numbering) (may_end : Bool) (seen : List Sightings) (ends : List ℕ) (finding : Finding)
@@ -311,14 +322,14 @@ pub fn worked_reasons()
     ensures swapped { reasons_of Plain Video 0 true (believed 1 ∷ []) [] (tally_of Plain [] 0) true false 0 1 0 1 ≡ 32 }
     ensures drifts { reasons_of Plain Video 0 true (believed 1 ∷ []) [] (tally_of Plain [] 0) false true 0 1 0 1 ≡ 64 }
     ensures off { reasons_of Plain Video 0 true (believed 1 ∷ []) [] (tally_of Plain [] 0) false false 0 1 2 1 ≡ 64 }
-    ensures stood { reasons_of Plain Video 0 true (believed 1 ∷ []) [] (tally_of Plain (gap_made 0 1 2 1 still 2 0 ∷ []) 0)
-        false false 0 1 2 1 ≡ 0 }
-    ensures left_open { reasons_of Plain Video 0 true (believed 1 ∷ []) [] (tally_of Plain (gap_made 0 1 2 1 open_gap 2 0 ∷ []) 0)
-        false false 0 1 2 1 ≡ 2048 }
+    ensures stood { reasons_of Plain Video 0 true (believed 1 ∷ []) []
+        (tally_of Plain (gap_made 0 1 2 1 still 2 0 ∷ []) 0) false false 0 1 2 1 ≡ 0 }
+    ensures left_open { reasons_of Plain Video 0 true (believed 1 ∷ []) []
+        (tally_of Plain (gap_made 0 1 2 1 open_gap 2 0 ∷ []) 0) false false 0 1 2 1 ≡ 2048 }
     ensures end { reasons_of Plain Video 0 false (believed 1 ∷ []) [] (tally_of Plain [] 0) false false 0 1 0 1 ≡ 256 }
     ensures begin { map (λ n. is_begin_unseen (replicate n 0) n 2) (100 ∷ 101 ∷ []) ≡ false ∷ true ∷ [] }
-    ensures begin_bit { reasons_of Plain Video 0 true (believed 2 ∷ []) (replicate 101 0) (tally_of Plain [] 0) false false
-        101 2 101 2 ≡ 512 }
+    ensures begin_bit { reasons_of Plain Video 0 true (believed 2 ∷ []) (replicate 101 0) (tally_of Plain [] 0) false
+        false 101 2 101 2 ≡ 512 }
     ensures doubtful { map are_doubtful ((replicate 9 (believed 1) ++ doubtful 1 ∷ [])
         ∷ (replicate 10 (believed 1) ++ doubtful 1 ∷ []) ∷ []) ≡ true ∷ false ∷ [] }
     ensures outs { map (λ pass. out_weight (shown_in pass 0x80EEEE)) (1 ∷ 2 ∷ 3 ∷ []) ≡ 2 ∷ 1 ∷ 1 ∷ [] }

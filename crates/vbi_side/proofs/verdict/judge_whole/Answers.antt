@@ -49,7 +49,7 @@ returns c =
           begins = c.in-Some.ensures.some.1;
           ends = last.0;
           none_before = c.in-Some.ensures.some.2;
-          none_behind = last.1;
+          none_after = last.1;
         },
         c.reasons-reasons.ensures,
       );
