@@ -1,6 +1,6 @@
 -- What answers say of the disc, which pictures a capture has that lacks no field, and discs that count so.
 use Rattle.std.proofs.Common.{◌≡◌, ◌≢◌, ℕ, suc, ◌+◌, ◌*◌, ◌-◌, ◌/◌, ◌<◌, ◌≤◌, true, false, List, refl, arith, ap, inl}
-use Rattle.std.proofs.Common.{inr}
+use Rattle.std.proofs.Common.{inr, eq-eqb}
 use Rattle.std.specs.Prelude.{Option, Some, ◌⊎◌, nat_le, if◌then◌else◌, unwrap_or}
 use Rattle.std.proofs.Math.Dec.{eqb}
 use Rattle.std.proofs.lemmas.Bool.Decides.{eqb_tells, leb_tells}
@@ -34,16 +34,9 @@ pictures_there disc place i j d n none le from to has gone = none_lacks place i 
 
 -- ---- there are such discs and captures
 
-counts_video : (d e m n : ℕ) → video_disc d ≡ Some m → video_disc e ≡ Some n → fits Video d m e n ≡ true
-counts_video d e m n here there = go (eqb_tells (e + 2 * m) (d + 2 * n))
-  where
-    go : ((eqb (e + 2 * m) (d + 2 * n) ≡ true) × (e + 2 * m ≡ d + 2 * n))
-        ⊎ ((eqb (e + 2 * m) (d + 2 * n) ≡ false) × (e + 2 * m ≢ d + 2 * n)) → fits Video d m e n ≡ true
-    go (inl (t, same)) = t
-    go (inr (f, other)) = absurd (other (omega (arith, video_is d m here, video_is e n there)))
-
 pub video_runs_on : DiscRuns Video video_disc
-video_runs_on = counts_video
+video_runs_on d e m n here there =
+    eq-eqb (e + 2 * m) (d + 2 * n) (omega (arith, video_is d m here, video_is e n there))
 
 pub both_count : DiscCounts 1 (λ j. Some (j / 2))
 both_count d e m n here there =

@@ -15,7 +15,7 @@ use Rattle.vbi_side.specs.Clocks.{kept, nearly_by}
 use Rattle.vbi_side.specs.Numbers.{IsMarked}
 use Rattle.vbi_side.specs.Gaps.{AreNeighbours, IsLast}
 use Rattle.vbi_side.specs.Drifts.{leads, leads_by, IsStretch, IsDrift, IsApart, IsSpread}
-use Rattle.vbi_side.proofs.Truth.{both, and_so}
+use Rattle.std.proofs.lemmas.Bool.{and_parts, and_from}
 use Rattle.vbi_side.proofs.Telling.{last_new, neighbours_of}
 use Rattle.vbi_side.proofs.GapLaws.{same_before, same_number}
 
@@ -50,19 +50,19 @@ leads_on Film i m j n k o one other = le_so (2 * i + 5 * o) (2 * k + 5 * m) (ome
 squeezed : (pace : Pace) (slack l o i m h q k n : ℕ) → leads pace l o i m ≡ true → leads pace i m h q ≡ true
     → nearly pace slack l o k n ≡ true → nearly pace slack h q k n ≡ true → nearly pace slack i m k n ≡ true
 squeezed Video slack l o i m h q k n low high one other =
-    let a = both (nat_le (k + 2 * o) (l + 2 * n + slack)) (nat_le (l + 2 * n) (k + 2 * o + slack)) one in
-    let b = both (nat_le (k + 2 * q) (h + 2 * n + slack)) (nat_le (h + 2 * n) (k + 2 * q + slack)) other in
+    let a = and_parts (nat_le (k + 2 * o) (l + 2 * n + slack)) (nat_le (l + 2 * n) (k + 2 * o + slack)) one in
+    let b = and_parts (nat_le (k + 2 * q) (h + 2 * n + slack)) (nat_le (h + 2 * n) (k + 2 * q + slack)) other in
     let first = leb-true (l + 2 * m) (i + 2 * o) low in
     let last = leb-true (i + 2 * q) (h + 2 * m) high in
-    and_so (nat_le (k + 2 * m) (i + 2 * n + slack)) (nat_le (i + 2 * n) (k + 2 * m + slack))
+    and_from (nat_le (k + 2 * m) (i + 2 * n + slack)) (nat_le (i + 2 * n) (k + 2 * m + slack))
     (le_so (k + 2 * m) (i + 2 * n + slack) (omega (arith, leb-true (k + 2 * o) (l + 2 * n + slack) a.0, first)))
     (le_so (i + 2 * n) (k + 2 * m + slack) (omega (arith, leb-true (h + 2 * n) (k + 2 * q + slack) b.1, last)))
 squeezed Film slack l o i m h q k n low high one other =
-    let a = both (nat_le (2 * k + 5 * o) (2 * l + 5 * n + 2)) (nat_le (2 * l + 5 * n) (2 * k + 5 * o + 2)) one in
-    let b = both (nat_le (2 * k + 5 * q) (2 * h + 5 * n + 2)) (nat_le (2 * h + 5 * n) (2 * k + 5 * q + 2)) other in
+    let a = and_parts (nat_le (2 * k + 5 * o) (2 * l + 5 * n + 2)) (nat_le (2 * l + 5 * n) (2 * k + 5 * o + 2)) one in
+    let b = and_parts (nat_le (2 * k + 5 * q) (2 * h + 5 * n + 2)) (nat_le (2 * h + 5 * n) (2 * k + 5 * q + 2)) other in
     let first = leb-true (2 * l + 5 * m) (2 * i + 5 * o) low in
     let last = leb-true (2 * i + 5 * q) (2 * h + 5 * m) high in
-    and_so (nat_le (2 * k + 5 * m) (2 * i + 5 * n + 2)) (nat_le (2 * i + 5 * n) (2 * k + 5 * m + 2))
+    and_from (nat_le (2 * k + 5 * m) (2 * i + 5 * n + 2)) (nat_le (2 * i + 5 * n) (2 * k + 5 * m + 2))
     (le_so (2 * k + 5 * m) (2 * i + 5 * n + 2) (omega (arith, leb-true (2 * k + 5 * o) (2 * l + 5 * n + 2) a.0, first)))
     (le_so (2 * i + 5 * n) (2 * k + 5 * m + 2) (omega (arith, leb-true (2 * h + 5 * n) (2 * k + 5 * q + 2) b.1, last)))
 

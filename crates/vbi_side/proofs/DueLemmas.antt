@@ -14,7 +14,8 @@ use Rattle.vbi_side.specs.Due.{slack_of, Leaves, IsLeft, Due}
 use Rattle.vbi_side.specs.Nearest.{are_whole}
 use Rattle.vbi_side.specs.Truth.{IsNear, IsRegular}
 use Rattle.vbi_side.proofs.Ahead.{one_believed}
-use Rattle.vbi_side.proofs.Truth.{both, and_so, film_fits, only_near}
+use Rattle.std.proofs.lemmas.Bool.{and_parts, and_from}
+use Rattle.vbi_side.proofs.Truth.{film_fits, only_near}
 
 -- ---- how far a number may be off
 
@@ -40,14 +41,14 @@ slack_grows j k b c first last = go (leb_tells k (j + 8))
 pub video_nearly : (slack i m j n : ℕ) → nearly Video slack i m j n ≡ true
     → (j + 2 * m ≤ i + 2 * n + slack) × (i + 2 * n ≤ j + 2 * m + slack)
 video_nearly slack i m j n e =
-    let p = both (nat_le (j + 2 * m) (i + 2 * n + slack)) (nat_le (i + 2 * n) (j + 2 * m + slack)) e in
+    let p = and_parts (nat_le (j + 2 * m) (i + 2 * n + slack)) (nat_le (i + 2 * n) (j + 2 * m + slack)) e in
     (leb-true (j + 2 * m) (i + 2 * n + slack) p.0, leb-true (i + 2 * n) (j + 2 * m + slack) p.1)
 
 pub nearly_more : (pace : Pace) (slack more i m j n : ℕ) → slack ≤ more → nearly pace slack i m j n ≡ true
     → nearly pace more i m j n ≡ true
 nearly_more Video slack more i m j n less e =
     let p = video_nearly slack i m j n e in
-    and_so (nat_le (j + 2 * m) (i + 2 * n + more)) (nat_le (i + 2 * n) (j + 2 * m + more))
+    and_from (nat_le (j + 2 * m) (i + 2 * n + more)) (nat_le (i + 2 * n) (j + 2 * m + more))
     (le-leb (j + 2 * m) (i + 2 * n + more) (omega (arith, less, p.0)))
     (le-leb (i + 2 * n) (j + 2 * m + more) (omega (arith, less, p.1)))
 nearly_more Film slack more i m j n less e = e

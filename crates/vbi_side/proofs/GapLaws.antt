@@ -20,7 +20,8 @@ use Rattle.vbi_side.specs.Gaps.{lost, held, back, still, joined, open_gap, has_s
 use Rattle.vbi_side.specs.Gaps.{kind_of}
 use Rattle.vbi_side.specs.Gaps.{fields_of, ended_between, shown_between, AreNeighbours, IsFree, IsGap, AreGaps}
 use Rattle.vbi_side.specs.Gaps.{fields_if, CountTo, HasRightEnds, LostAtLeast}
-use Rattle.vbi_side.proofs.Truth.{both, video_fits, film_fits}
+use Rattle.std.proofs.lemmas.Bool.{and_parts}
+use Rattle.vbi_side.proofs.Truth.{video_fits, film_fits}
 use Rattle.vbi_side.proofs.Sides.{apart}
 use Rattle.vbi_side.proofs.Telling.{gap_is, some_is}
 
@@ -143,7 +144,7 @@ no_push xs y e = absurd (omega (arith, ap (λ (zs : List Gap). length zs) e, len
 
 pub on_video : (i m k n : ℕ) → nearly Video 0 i m k n ≡ true → k + 2 * m ≡ i + 2 * n
 on_video i m k n is =
-    let p = both (nat_le (k + 2 * m) (i + 2 * n + 0)) (nat_le (i + 2 * n) (k + 2 * m + 0)) is in
+    let p = and_parts (nat_le (k + 2 * m) (i + 2 * n + 0)) (nat_le (i + 2 * n) (k + 2 * m + 0)) is in
     let a = leb_tells (k + 2 * m) (i + 2 * n + 0) in
     let b = leb_tells (i + 2 * n) (k + 2 * m + 0) in
     elim a [

@@ -18,7 +18,8 @@ use Rattle.vbi_side.specs.Numbers.{due, IsAnswer}
 use Rattle.vbi_side.specs.Parts.{IsPart}
 use Rattle.vbi_side.specs.Truth.{IsNear}
 use Rattle.vbi_side.proofs.DueLemmas.{equal_true, video_nearly}
-use Rattle.vbi_side.proofs.Truth.{and_so, video_fits, film_fits, stays_is}
+use Rattle.std.proofs.lemmas.Bool.{and_from}
+use Rattle.vbi_side.proofs.Truth.{video_fits, film_fits, stays_is}
 
 -- ---- what fits, so many fields later
 
@@ -35,12 +36,12 @@ fits_later Video first i m j n =
 fits_later Film first i m j n =
     same_truth (fits Film i m j n) (fits Film (first + i) m (first + j) n)
     (λ e. let p = film_fits i m j n e in
-    and_so (nat_le (2 * (first + j) + 5 * m) (2 * (first + i) + 5 * n + 2))
+    and_from (nat_le (2 * (first + j) + 5 * m) (2 * (first + i) + 5 * n + 2))
     (nat_le (2 * (first + i) + 5 * n) (2 * (first + j) + 5 * m + 2))
     (le-leb (2 * (first + j) + 5 * m) (2 * (first + i) + 5 * n + 2) (omega (arith, p.0)))
     (le-leb (2 * (first + i) + 5 * n) (2 * (first + j) + 5 * m + 2) (omega (arith, p.1))))
     (λ e. let p = film_fits (first + i) m (first + j) n e in
-    and_so (nat_le (2 * j + 5 * m) (2 * i + 5 * n + 2)) (nat_le (2 * i + 5 * n) (2 * j + 5 * m + 2))
+    and_from (nat_le (2 * j + 5 * m) (2 * i + 5 * n + 2)) (nat_le (2 * i + 5 * n) (2 * j + 5 * m + 2))
     (le-leb (2 * j + 5 * m) (2 * i + 5 * n + 2) (omega (arith, p.0)))
     (le-leb (2 * i + 5 * n) (2 * j + 5 * m + 2) (omega (arith, p.1))))
 
@@ -48,10 +49,10 @@ stays_later : (first i m j n : ℕ) → stays i m j n ≡ stays (first + i) m (f
 stays_later first i m j n =
     same_truth (stays i m j n) (stays (first + i) m (first + j) n)
     (λ e. let p = stays_is i m j n e in
-    and_so (n == m) ((first + i + (first + j)) % 2 == 0) (equal_true n m p.0)
+    and_from (n == m) ((first + i + (first + j)) % 2 == 0) (equal_true n m p.0)
     (equal_true ((first + i + (first + j)) % 2) 0 (omega (arith, p.1))))
     (λ e. let p = stays_is (first + i) m (first + j) n e in
-    and_so (n == m) ((i + j) % 2 == 0) (equal_true n m p.0)
+    and_from (n == m) ((i + j) % 2 == 0) (equal_true n m p.0)
     (equal_true ((i + j) % 2) 0 (omega (arith, p.1))))
 
 -- ---- what is read around a field
@@ -172,12 +173,12 @@ nearly_later : (pace : Pace) (slack first i m j n : ℕ)
 nearly_later Video slack first i m j n =
     same_truth (nearly Video slack i m j n) (nearly Video slack (first + i) m (first + j) n)
     (λ e. let p = video_nearly slack i m j n e in
-    and_so (nat_le (first + j + 2 * m) (first + i + 2 * n + slack))
+    and_from (nat_le (first + j + 2 * m) (first + i + 2 * n + slack))
     (nat_le (first + i + 2 * n) (first + j + 2 * m + slack))
     (le-leb (first + j + 2 * m) (first + i + 2 * n + slack) (omega (arith, p.0)))
     (le-leb (first + i + 2 * n) (first + j + 2 * m + slack) (omega (arith, p.1))))
     (λ e. let p = video_nearly slack (first + i) m (first + j) n e in
-    and_so (nat_le (j + 2 * m) (i + 2 * n + slack)) (nat_le (i + 2 * n) (j + 2 * m + slack))
+    and_from (nat_le (j + 2 * m) (i + 2 * n + slack)) (nat_le (i + 2 * n) (j + 2 * m + slack))
     (le-leb (j + 2 * m) (i + 2 * n + slack) (omega (arith, p.0)))
     (le-leb (i + 2 * n) (j + 2 * m + slack) (omega (arith, p.1))))
 nearly_later Film slack first i m j n = fits_later Film first i m j n

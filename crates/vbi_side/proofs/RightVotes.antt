@@ -17,7 +17,8 @@ use Rattle.vbi_side.specs.Truth.{is_recorded}
 use Rattle.vbi_side.specs.Beliefs.{field_most}
 use Rattle.vbi_side.specs.Votes.{votes, votes_as, votes_cast, votes_for, IsElected, IsVotedSoundly, IsVotedRightly}
 use Rattle.vbi_side.specs.Votes.{RunsFromBy, RanAround, right_votes, wrong_votes}
-use Rattle.vbi_side.proofs.Truth.{video_fits, recorded_is, wrong_or_right}
+use Rattle.vbi_side.proofs.Recorded.{recorded_is, wrong_or_right}
+use Rattle.vbi_side.proofs.Truth.{video_fits}
 use Rattle.vbi_side.proofs.Voting.{first_narrower, first_split, first_apart, votes_near}
 
 -- no vote is for two numbers

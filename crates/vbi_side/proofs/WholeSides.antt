@@ -27,7 +27,8 @@ use Rattle.vbi_side.specs.Verdicts.{yes, no, cannot_tell, verdict_of, reason, se
 use Rattle.vbi_side.specs.Verdicts.{IsUntold}
 use Rattle.vbi_side.specs.Verdicts.{IsFinding}
 use Rattle.vbi_side.specs.Verdicts.{is_end_unseen, is_begin_unseen, are_doubtful}
-use Rattle.vbi_side.proofs.Truth.{both, video_fits, film_fits}
+use Rattle.std.proofs.lemmas.Bool.{and_parts}
+use Rattle.vbi_side.proofs.Truth.{video_fits, film_fits}
 use Rattle.vbi_side.proofs.Filling.{answer_believed}
 use Rattle.vbi_side.proofs.Sides.{apart, near_one, alone_of, none_lost}
 use Rattle.vbi_side.proofs.Anchors.{anchor}
@@ -117,7 +118,7 @@ yes_near pace slack numbering may_end seen answers ends finding old new is verdi
 within : (slack i m j n : ℕ) → nearly Video slack i m j n ≡ true
     → (j + 2 * m ≤ i + 2 * n + slack) × (i + 2 * n ≤ j + 2 * m + slack)
 within slack i m j n e =
-    let p = both (nat_le (j + 2 * m) (i + 2 * n + slack)) (nat_le (i + 2 * n) (j + 2 * m + slack)) e in
+    let p = and_parts (nat_le (j + 2 * m) (i + 2 * n + slack)) (nat_le (i + 2 * n) (j + 2 * m + slack)) e in
     elim (leb_tells (j + 2 * m) (i + 2 * n + slack)) [
       | inl (t, le) ↦ elim (leb_tells (i + 2 * n) (j + 2 * m + slack)) [
         | inl (u, more) ↦ (le, more)

@@ -20,7 +20,8 @@ use Rattle.vbi_side.specs.Swaps.{IsSwap, is_stray}
 use Rattle.vbi_side.specs.Drifts.{IsDrift}
 use Rattle.vbi_side.specs.Worked.{field_of, blank}
 use Rattle.vbi_side.specs.WorkedSides.{pictures_from, answers_from, worked_side, worked_answers}
-use Rattle.vbi_side.proofs.Truth.{both, complete}
+use Rattle.std.proofs.lemmas.Bool.{and_parts}
+use Rattle.vbi_side.proofs.Truth.{complete}
 use Rattle.vbi_side.proofs.Discs.{video_runs, video_has}
 use Rattle.vbi_side.proofs.Whole.{none_misread}
 use Rattle.vbi_side.proofs.GapLaws.{near_same}
@@ -127,7 +128,7 @@ below : (test : ℕ → Bool) (n t : ℕ) → all_below test n ≡ true → t < 
 unfolding all_below
 below test zero t all less = absurd (omega (arith, less))
 below test (suc n) t all less =
-    let p = both (test n) (all_below test n) all in
+    let p = and_parts (test n) (all_below test n) all in
     elim (eqb_tells t n) [
       | inl (u, same) ↦ subst (λ k. test k ≡ true) (sym same) p.0
       | inr (f, other) ↦ below test n t p.1 (omega (arith, less, other))
