@@ -1,4 +1,14 @@
 //! Laws of the gaps and of the verdict. A function here does nothing: its contract is a law.
+//!
+//! First the gaps: all are told, in order, and what one says is so on the disc (`all_told` to `cut_found`). Then the
+//! verdict: what `yes` means of video, of numbers on both fields and of film (`whole_yes`, `nearly_whole`), and that
+//! lost fields are lost (`lost_sound`). They speak of a disc that counts by a clock, with the case of none beside it.
+//! Where the clock leaves numbers out within 12 of an end, as many pictures as the 24 fields of the reach last, they
+//! say less: a believed number may fit others there that are one off.
+//!
+//! The functions `worked_..` are rows written down by hand at the edges of each rule, and captures that meet the
+//! premises. A change in `specs/Gaps.antt`, `Verdicts.antt`, `Swaps.antt` or `Drifts.antt` changes rows here, and
+//! docs/PROMISES.md.
 
 ghost use Rattle.std.specs.Prelude.{◌≡◌, ◌≢◌, ℕ, ◌+◌, ◌*◌, ◌-◌, ◌<◌, ◌≤◌, Bool, List, [], ◌∷◌, ◌++◌, Option, Some};
 ghost use Rattle.std.specs.Prelude.{None, slice_get, map, true, false};
@@ -120,8 +130,8 @@ pub fn whole_yes()
 {}
 
 /// The same of a disc with a number on both fields of its pictures, and of film: between two fields of which one is
-/// within 24 fields of each end at most two fields are lost, of film at most four. By a clock, wherever the ends are, at
-/// most twice as many as numbers are left out near them.
+/// within 24 fields of each end at most two fields are lost, of film at most four. By a clock, wherever the ends are,
+/// at most twice as many as numbers are left out near them.
 pub fn nearly_whole()
     ensures both { (slack : ℕ) (disc : ℕ → Option ℕ) (place : ℕ → ℕ) (fields : List Sightings) (answers : List Number)
         (numbering : Numbering) (may_end : Bool) (seen : List Sightings) (ends : List ℕ) (finding : Finding)

@@ -1,5 +1,14 @@
 //! Laws of the definitions in `specs/`. A function here does nothing: its contract is a law, which holds of every
 //! capture.
+//!
+//! First what is right: if less than enough was misread around a field, a believed number is the disc's (`sound`,
+//! `sound_still`, `due_sound`), and what the disc has is believed if enough supports it (`complete`). Then what there
+//! is only one of, what an answer depends on, and the same said of words. The functions `worked_..` are rows written
+//! down by hand: each number of a rule is pinned at its edge, so that code and definition can't be wrong alike.
+//!
+//! The laws of chapters, stops, clocks, votes, gaps and sides stand in files of their own. docs/PROMISES.md says what
+//! they promise in plain words: a law that changes changes its row there. The `.._alike` edits of `must-fail` turn a
+//! definition with its code, and are refused here.
 
 ghost use Rattle.std.specs.Prelude.{◌≡◌, ◌≢◌, ◌↔◌, ◌⊎◌, ℕ, ◌+◌, ◌<◌, ◌≤◌, true, false, List, [], ◌∷◌, map};
 ghost use Rattle.std.specs.Prelude.{Option, Some, None, slice_get};

@@ -1,22 +1,20 @@
--- What the answers of a capture say of the fields that it lacks.
+-- What answers say of the disc, which pictures a capture has that lacks no field, and discs that count so.
 use Rattle.std.proofs.Common.{◌≡◌, ◌≢◌, ℕ, suc, ◌+◌, ◌*◌, ◌-◌, ◌/◌, ◌<◌, ◌≤◌, true, false, List, refl, arith, ap, inl}
-use Rattle.std.proofs.Common.{inr}
+use Rattle.std.proofs.Common.{inr, eq-eqb}
 use Rattle.std.specs.Prelude.{Option, Some, ◌⊎◌, nat_le, if◌then◌else◌, unwrap_or}
 use Rattle.std.proofs.Math.Dec.{eqb}
 use Rattle.std.proofs.lemmas.Bool.Decides.{eqb_tells, leb_tells}
 use Rattle.vbi_side.specs.declared.number.Number.{Number}
-use Rattle.vbi_side.specs.declared.extent.Extent.{Extent}
 use Rattle.vbi_side.specs.declared.sighting.Sightings.{Sightings}
 use Rattle.vbi_side.specs.declared.pace.Pace.TheVariants.{Video}
 use Rattle.vbi_side.specs.Paces.{fits}
-use Rattle.vbi_side.specs.Beliefs.{reach, enough, Believed}
+use Rattle.vbi_side.specs.Beliefs.{enough, Believed}
 use Rattle.vbi_side.specs.Numbers.{believed, AreAnswers, IsMarked}
-use Rattle.vbi_side.specs.Truth.{IsNear, wrong_weight, video_disc}
-use Rattle.vbi_side.specs.Side.{DiscRuns, DiscCounts, Rises, captured, NoneLost, AreLost, IsAnchor, IsLost}
-use Rattle.vbi_side.specs.Side.{IsExtent, AreFew}
+use Rattle.vbi_side.specs.Truth.{wrong_weight, video_disc}
+use Rattle.vbi_side.specs.Side.{DiscRuns, DiscCounts, Rises, NoneLost, IsAnchor, IsLost}
 use Rattle.vbi_side.proofs.Discs.{video_is}
 use Rattle.vbi_side.proofs.Filling.{answer_believed}
-use Rattle.vbi_side.proofs.Sides.{whole, lost, none_lacks}
+use Rattle.vbi_side.proofs.Sides.{none_lacks}
 
 pub marked_is : (fields : List Sightings) (answers : List Number) (i n : ℕ) → AreAnswers Video fields answers
     → IsMarked answers i n → Believed Video fields i n
@@ -29,26 +27,6 @@ pub anchor : (recorded : ℕ → Option ℕ) (fields : List Sightings) (answers 
 anchor recorded fields answers i n are marked few = record
     { believed = marked_is fields answers i n are marked; few = few }
 
-pub answers_whole : (disc : ℕ → Option ℕ) (place : ℕ → ℕ) (fields : List Sightings) (answers : List Number)
-    (extent : Extent) → DiscRuns Video disc → Rises place → AreAnswers Video fields answers → IsExtent answers extent
-    → AreFew (captured disc place) fields extent → extent.first + 2 * reach ≤ extent.last → extent.lost ≡ 0
-    → NoneLost place (extent.first + reach) (extent.last - reach)
-answers_whole disc place fields answers extent runs rises are (m, n, ends, counts) (first, last) far none =
-    whole disc place fields runs rises extent.first m extent.last n
-    (anchor (captured disc place) fields answers extent.first m are ends.begins first)
-    (anchor (captured disc place) fields answers extent.last n are ends.ends last)
-    far (omega (arith, counts, none))
-
-pub answers_lost : (disc : ℕ → Option ℕ) (place : ℕ → ℕ) (fields : List Sightings) (answers : List Number)
-    (extent : Extent) → DiscRuns Video disc → Rises place → AreAnswers Video fields answers → IsExtent answers extent
-    → AreFew (captured disc place) fields extent → extent.first + 2 * reach ≤ extent.last
-    → (p q : ℕ) × IsNear extent.first p × IsNear extent.last q × AreLost place p q extent.lost
-answers_lost disc place fields answers extent runs rises are (m, n, ends, counts) (first, last) far =
-    lost disc place fields runs rises extent.first m extent.last n extent.lost
-    (anchor (captured disc place) fields answers extent.first m are ends.begins first)
-    (anchor (captured disc place) fields answers extent.last n are ends.ends last)
-    far counts
-
 -- no picture is lost whose number the disc has between two fields of the capture between which none is lost
 pub pictures_there : (disc : ℕ → Option ℕ) (place : ℕ → ℕ) (i j d n : ℕ) → NoneLost place i j → i ≤ j → place i ≤ d
     → d ≤ place j → disc d ≡ Some n → IsLost disc place n → ⊥
@@ -56,16 +34,9 @@ pictures_there disc place i j d n none le from to has gone = none_lacks place i 
 
 -- ---- there are such discs and captures
 
-counts_video : (d e m n : ℕ) → video_disc d ≡ Some m → video_disc e ≡ Some n → fits Video d m e n ≡ true
-counts_video d e m n here there = go (eqb_tells (e + 2 * m) (d + 2 * n))
-  where
-    go : ((eqb (e + 2 * m) (d + 2 * n) ≡ true) × (e + 2 * m ≡ d + 2 * n))
-        ⊎ ((eqb (e + 2 * m) (d + 2 * n) ≡ false) × (e + 2 * m ≢ d + 2 * n)) → fits Video d m e n ≡ true
-    go (inl (t, same)) = t
-    go (inr (f, other)) = absurd (other (omega (arith, video_is d m here, video_is e n there)))
-
 pub video_runs_on : DiscRuns Video video_disc
-video_runs_on = counts_video
+video_runs_on d e m n here there =
+    eq-eqb (e + 2 * m) (d + 2 * n) (omega (arith, video_is d m here, video_is e n there))
 
 pub both_count : DiscCounts 1 (λ j. Some (j / 2))
 both_count d e m n here there =

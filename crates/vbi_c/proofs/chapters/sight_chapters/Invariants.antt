@@ -1,6 +1,6 @@
 use Rattle.std.proofs.Common.{◌≡◌, length, map, take}
 use Rattle.vbi_c.specs.Chapters.{chapters_in}
-use Rattle.vbi_c.proofs.chapters.see_all.Given as goal
+use Rattle.vbi_c.proofs.chapters.sight_chapters.Given as goal
 
 abbrev pub invariant-loop-i : goal.invariant-loop-i
 invariant-loop-i l = record {
