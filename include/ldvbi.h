@@ -255,7 +255,7 @@ LDVBI_RESULT LDVBI_POINTER(10) uint32_t ldvbi_recover_pile(uint32_t system, uint
 
 /* ---- What words say */
 enum LdvbiKind {
-    /* from codes/classes.txt: kinds */
+    /* from texts/classes.txt: kinds */
     LDVBI_OTHER = 0,
     LDVBI_PICTURE = 1,       /* first: the number of a picture of a CAV disc, 0 to 79999 */
     LDVBI_CHAPTER = 2,       /* first: the chapter, 0 to 79 */
@@ -595,7 +595,7 @@ static inline const char *ldvbi_cause_text(uint32_t cause) {
 
 static inline const char *ldvbi_kind_text(uint32_t kind) {
     static const char *const texts[] = {
-        /* from codes/classes.txt: texts */
+        /* from texts/classes.txt: texts */
         "other", "picture", "chapter", "time", "clv picture", "cx on", "cx off", "users", "lead-in", "lead-out",
         "picture stop", "clv"
         /* to here */
