@@ -264,7 +264,7 @@ bench: ldvbi lib rust
 	sh bench/all.sh ./ldvbi
 
 peers:
-	sh peers/compare.sh $(PROGRAM) 200 docs/measured/peers.txt
+	sh bench/peers/compare.sh $(PROGRAM) 200 docs/measured/peers.txt
 
 # The library beside the program, or the one at the top
 channel:
