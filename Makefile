@@ -147,7 +147,7 @@ install: places said-from $(BUILT)ldvbi $(if $(wildcard $(BUILT)libldvbi.a),inst
 	install -d $(patsubst %/,$(ROOT)/share/ldvbi/%,$(sort $(dir $(PYTHON))))
 	$(foreach module,$(PYTHON),install -m 644 $(module) $(ROOT)/share/ldvbi/$(module) &&) :
 	install -d $(DOCUMENTS)/docs/pictures $(DOCUMENTS)/examples/rust/src
-	install -m 644 README.md CHANGELOG.md $(DOCUMENTS)
+	install -m 644 README.md CHANGELOG.md LICENSE $(DOCUMENTS)
 	install -m 644 $(wildcard docs/*.md) $(DOCUMENTS)/docs
 	install -m 644 $(wildcard docs/pictures/*.svg docs/pictures/*.png) $(DOCUMENTS)/docs/pictures
 	install -m 644 $(wildcard examples/*.*) $(DOCUMENTS)/examples
