@@ -95,7 +95,7 @@ check 'its name has version and tag' [ "$(ls wheels)" = "$wheel" ]
 {
     (cd "$top/python" && find ldvbi ldvbi_side -name '*.py')
     echo ldvbi-$version.data/data/share/man/man1/ldvbi-side.1
-    printf "ldvbi-$version.dist-info/%s\n" METADATA RECORD WHEEL entry_points.txt
+    printf "ldvbi-$version.dist-info/%s\n" LICENSE METADATA RECORD WHEEL entry_points.txt
 } | sed 's/^/100644 /' > files
 echo 100755 ldvbi/libldvbi.so.1 >> files
 sort files > wanted

@@ -1,22 +1,13 @@
-#!/usr/bin/env python3
-"""Writes what the repository says of the classes of code words in many places, from the one table of them,
-classes.txt: in each file what stands between `from codes/classes.txt: PART` and `to here`, and in the schema, which has
-no comments, the list of kinds.
+"""What the repository says of the classes of code words in many places, from the one table of them, classes.txt: parts
+of files between marks, and in the schema, which has no comments, the list of kinds."""
 
-usage: python3 codes/write.py [--check]     (--check writes nothing: it names what would change, with status 1)"""
-
-import os
 import re
-import sys
 import textwrap
 
 from classes import digits_of, read_classes
 
-TOP = os.path.dirname(os.path.dirname(os.path.abspath(__file__)))
+TABLE = "texts/classes.txt"
 WIDTH = 120
-# What stands between these two lines is written here; each is a comment of its file's language.
-PART = re.compile(r"^([ \t]*[^\w\s]+ from codes/classes\.txt: (\w+)\b[^\n]*\n)(.*?)(^[ \t]*[^\w\s]+ to here\b)",
-                  re.M | re.S)
 SCHEMA = "share/schema/ldvbi-side.schema.json"
 KINDS_OF_SCHEMA = re.compile(r'("kind": \{\n( +)"enum": \[\n).*?(\n +\]\n)', re.S)
 PLACES = ("first", "second", "third", "fourth", "fifth", "sixth")
@@ -161,44 +152,25 @@ def kinds_of_schema(classes, indent):
     return wrapped(kinds, indent + "  ", ", ").rstrip("\n")
 
 
-# The files with their parts
-PARTS = {
-    "include/ldvbi.h": {"kinds": kinds_in_c, "texts": texts_in_c},
-    "bench/plain.h": {"code": code_in_c},
-    "python/ldvbi/classes.py": {"kinds": kinds_in_python, "classes": classes_in_python,
-                                "code": code_in_python},
-    "share/man/ldvbi.1": {"texts": texts_of_page},
-    "docs/FORMATS.md": {"patterns": patterns_of_document, "lines": lines_of_document},
-}
-
-
-def written(path, text, classes):
-    """The text of a file with its parts as the table has them."""
-    if path == SCHEMA:
-        if len(KINDS_OF_SCHEMA.findall(text)) != 1:
-            raise SystemExit("write: %s has not one list of kinds" % path)
-        return KINDS_OF_SCHEMA.sub(lambda found: found[1] + kinds_of_schema(classes, found[2]) + found[3], text)
-    parts = [found[1] for found in PART.findall(text)]
-    if sorted(parts) != sorted(PARTS[path]):
-        raise SystemExit("write: %s has the parts %s, and not %s" % (path, parts, sorted(PARTS[path])))
-    return PART.sub(lambda found: found[1] + PARTS[path][found[2]](classes) + found[4], text)
-
-
-def main():
+def with_kinds(text):
+    """The text of the schema with the list of kinds as the table has it."""
+    if len(KINDS_OF_SCHEMA.findall(text)) != 1:
+        raise SystemExit("write: %s has not one list of kinds" % SCHEMA)
     classes = read_classes()
-    status = 0
-    for path in [*PARTS, SCHEMA]:
-        with open(os.path.join(TOP, path), encoding="utf-8") as file:
-            text = file.read()
-        wanted = written(path, text, classes)
-        if wanted != text and sys.argv[1:] == ["--check"]:
-            print("write: %s isn't what codes/classes.txt says: python3 codes/write.py" % path, file=sys.stderr)
-            status = 1
-        elif wanted != text:
-            with open(os.path.join(TOP, path), "w", encoding="utf-8") as file:
-                file.write(wanted)
-    return status
+    return KINDS_OF_SCHEMA.sub(lambda found: found[1] + kinds_of_schema(classes, found[2]) + found[3], text)
 
 
-if __name__ == "__main__":
-    sys.exit(main())
+def of_classes(make):
+    """A part with its source and what makes it."""
+    return TABLE, lambda: make(read_classes())
+
+
+# The parts of each file
+PARTS = {
+    "include/ldvbi.h": {"kinds": of_classes(kinds_in_c), "texts": of_classes(texts_in_c)},
+    "bench/plain.h": {"code": of_classes(code_in_c)},
+    "python/ldvbi/classes.py": {"kinds": of_classes(kinds_in_python), "classes": of_classes(classes_in_python),
+                                "code": of_classes(code_in_python)},
+    "share/man/ldvbi.1": {"texts": of_classes(texts_of_page)},
+    "docs/FORMATS.md": {"patterns": of_classes(patterns_of_document), "lines": of_classes(lines_of_document)},
+}

@@ -1,17 +1,17 @@
 #!/usr/bin/env python3
 """Has several readers read the same lines, which `ldvbi draw` draws, and which are then worsened by random numbers with
-fixed seeds. The readers are `ldvbi extract`, its library, which recovers the words of worn lines (by
-peers/recovered.c), MAME's decoder (by `chdman`, of mame-tools), a reader by edges (peers/edges.c), and libzvbi's bit
-slicer (by peers/zvbi.c). Tables say how many words each of them read right, read wrong, and didn't read, of
+fixed seeds. The readers are `ldvbi extract`, its library, which recovers the words of worn lines (by recovered.c),
+MAME's decoder (by `chdman`, of mame-tools), a reader by edges (edges.c), and libzvbi's bit slicer (by zvbi.c). Tables
+say how many words each of them read right, read wrong, and didn't read, of
 
 1. lines that are worn in many ways;
 2. lines with dropouts, of DROPOUT_ROUNDS times as many words, since wrong ones are few;
 3. lines at the limits of what can be recovered.
 
 For the column `both lines` each word stands on two lines, and each of them is worsened by itself. The other readers see
-the first of the two alone. Behind each table stand the words of `ldvbi` and the recovered ones by their passes.
+the first of the two alone. After each table come the words of `ldvbi` and the recovered ones by their passes.
 
-usage: compare.py PROGRAM READERS FIELDS, where READERS is the folder of the three programs that peers/compare.sh builds
+usage: compare.py PROGRAM READERS FIELDS, where READERS is the folder of the three programs that compare.sh builds
 
 Before that, MAME's `ldverify` looks at a drawn CAV disc of 100 pictures.
 

@@ -1,4 +1,4 @@
-"""The table of the classes of code words, classes.txt, as Python reads it. `python3 codes/classes.py` prints of each
+"""The table of the classes of code words, classes.txt, as Python reads it. `python3 texts/classes.py` prints of each
 word on standard input, six hexadecimal digits, the text that the table has for it."""
 
 import os

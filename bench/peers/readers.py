@@ -88,13 +88,13 @@ def by_mame(lines, rate=avi.NTSC_RATE):
 
 
 def by_edges(folder, lines, white=WHITE, system="NTSC"):
-    """The words of peers/edges.c."""
+    """The words of edges.c."""
     command = [os.path.join(folder, "edges"), str(BLACK), str(white)] + ([] if system == "NTSC" else [system])
     return [int(answer, 16) for answer in answers_of(command, lines)]
 
 
 def by_zvbi(folder, lines):
-    """The words of peers/zvbi.c."""
+    """The words of zvbi.c."""
     return [int(answer, 16) for answer in answers_of([os.path.join(folder, "zvbi")], lines)]
 
 
