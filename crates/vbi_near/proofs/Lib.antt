@@ -44,3 +44,4 @@ pub mod Swings
 pub mod Tables
 pub mod DrawnFirst
 pub mod DrawnNearest
+pub mod PileOf
