@@ -1,6 +1,6 @@
 -- Runs of equal bits, found by the bits that are set where the level changes.
 use Rattle.std.proofs.Common.{◌≡◌, ◌≢◌, ℕ, zero, suc, ◌+◌, ◌-◌, ◌/◌, ◌%◌, ◌^◌, ◌<◌, ◌≤◌, ◌⊎◌, false}
-use Rattle.std.proofs.Common.{inl, inr, nat_eq, sym, ap, subst, ◌∙◌, arith, bit_xor, add-zero}
+use Rattle.std.proofs.Common.{inl, inr, sym, ap, subst, ◌∙◌, arith, bit_xor, add-zero}
 use Rattle.std.specs.Int.{bit_at}
 use Rattle.std.proofs.lemmas.Bool.{cases_lt}
 use Rattle.std.proofs.lemmas.Nat.Bits.{bit_at-lt, bit_at_xor}
@@ -23,10 +23,10 @@ bit_change word i =
 
 module _ (word i : ℕ) where
   pub same_level : level_of_bit (changes_of word) i ≡ false → level_of_bit word (i + 1) ≡ level_of_bit word i
-  same_level e = grind (arith, low_bit, bit_change, bit_at-lt, nat_eq)
+  same_level e = grind (arith, low_bit, bit_change, bit_at-lt)
 
   pub other_level : (level_of_bit (changes_of word) i ≡ false → ⊥) → level_of_bit word (i + 1) ≢ level_of_bit word i
-  other_level differs e = grind (arith, bit_at-lt, nat_eq, bit_change)
+  other_level differs e = grind (arith, bit_at-lt, bit_change)
 
 -- bits without a change before the last
 run_of_bits : (word place count : ℕ) → 0 < count

@@ -35,12 +35,10 @@ module _ (system : System) where
 
   limit_high : (n : ℕ) (bits : List Bool) → length bits ≡ 24
       → limit_of system (second true n bits) ≡ Some (half_max system)
-  limit_high n bits full = limit_cases (sizes_of system) (λ o. o ≡ Some (half_max system)) true n bits
-      (λ few. absurd (omega arith)) (λ _ _. refl) (λ _ low. let e : true ≡ false = low in cc)
+  limit_high n bits full = grind (arith, limit_cases)
 
   limit_low : (n : ℕ) (bits : List Bool) → length bits ≡ 24 → limit_of system (second false n bits) ≡ None
-  limit_low n bits full = limit_cases (sizes_of system) (λ o. o ≡ None) false n bits
-      (λ few. absurd (omega arith)) (λ _ high. let e : false ≡ true = high in cc) (λ _ _. refl)
+  limit_low n bits full = grind (arith, limit_cases)
 
   -- ---- a change of level
 
@@ -99,8 +97,7 @@ module _ (system : System) where
     behind_lows = omega arith
 
     pub first_high : level_at levels n ≡ true
-    first_high = other false (level_at levels n)
-        (λ e. run.ends (omega (arith, inside)) (ap (level_at levels) behind_lows ∙ e))
+    first_high = grind (arith, other, behind_lows)
 
     pub first_is : IsMiddle system levels n (true ∷ [])
     first_is =

@@ -33,7 +33,7 @@ other_bit word i true small l e same =
     let none : bit_at word i ≡ 0 = omega (arith, bit_at_not w64 word i small l, bit_at-lt word i) in
     let low : level_of_bit word i ≡ false = bit_low word i none in
     cc
-other_bit word i false small l e same = grind (arith, nat_eq)
+other_bit word i false small l e same = grind arith
 
 module _ (word place : ℕ) (level : Bool) (small : word < 2 ^ 64) (within : place < 64) where
   -- the bits from the place on, set where the level is another

@@ -39,7 +39,7 @@ two_words here next place = bit_or (here / 2 ^ place) (next * 2 ^ (64 - place) %
 
 module _ (here next place : ℕ) (small : here < 2 ^ 64) (within : place < 64) where
   pub in_first : (i : ℕ) → place + i < 64 → level_of_bit (two_words here next place) i ≡ level_of_bit here (place + i)
-  in_first i l = grind (arith, bit_moved_low, nat_eq, bit_at_or, max, max-zero, bit_behind)
+  in_first i l = grind (arith, bit_moved_low, bit_at_or, max-zero, bit_behind)
 
   pub in_second : (i : ℕ) → 64 ≤ place + i → i < 64
       → level_of_bit (two_words here next place) i ≡ level_of_bit next (place + i - 64)
@@ -58,7 +58,7 @@ module _ (words : List ℕ) (width column : ℕ)
   pub window_one : column ≤ 1088 → column % 64 ≡ 0 → (i : ℕ) → i < 64
       → level_of_bit (slice_index words (column / 64) / 2 ^ (column % 64)) i
       ≡ level_at (unpacked words width) (column + i)
-  window_one room first i l = grind (arith, slice_index, nat_eq, bit_behind, level_packed)
+  window_one room first i l = grind (arith, slice_index, bit_behind, level_packed)
 
   -- where it isn't
   pub window_two : column ≤ 1088 → (column % 64 ≡ 0 → ⊥) → slice_index words (column / 64) < 2 ^ 64 → (i : ℕ) → i < 64
