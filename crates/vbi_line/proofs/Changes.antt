@@ -8,7 +8,7 @@ use Rattle.vbi_words.specs.declared.system.System.{System}
 use Rattle.vbi_words.specs.Geometry.{half_max}
 use Rattle.vbi_line.specs.Packing.{level_of_bit, EqualBits}
 use Rattle.vbi_line.specs.Straight.{IsBitRun, IsHalf, IsOneRun, IsTwoRuns, ReachesMiddle}
-use Rattle.vbi_line.proofs.Packs.{bit_behind, low_bit}
+use Rattle.vbi_line.proofs.Packs.{bit_after, low_bit}
 
 -- a bit of it is set where the word's level changes after that bit
 abbrev pub changes_of : ℕ → ℕ
@@ -19,7 +19,7 @@ bit_change : (word i : ℕ) → bit_at (changes_of word) i ≡ (bit_at word i + 
 bit_change word i =
     let next : 1 + i ≡ i + 1 = omega arith in
     bit_at_xor word (word / 2 ^ 1) i
-    ∙ ap (λ (x : ℕ). (bit_at word i + x) % 2) (bit_behind word 1 i ∙ ap (bit_at word) next)
+    ∙ ap (λ (x : ℕ). (bit_at word i + x) % 2) (bit_after word 1 i ∙ ap (bit_at word) next)
 
 module _ (word i : ℕ) where
   pub same_level : level_of_bit (changes_of word) i ≡ false → level_of_bit word (i + 1) ≡ level_of_bit word i

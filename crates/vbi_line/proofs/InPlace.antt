@@ -10,7 +10,7 @@ use Rattle.std.proofs.lemmas.Nat.Bits.{bit_at_above}
 use Rattle.vbi_words.specs.Levels.{Slicing, is_high_of, level_at}
 use Rattle.vbi_line.specs.Line.{sample_at}
 use Rattle.vbi_line.specs.Packing.{level_of_bit, levels_in, TellsAbove}
-use Rattle.vbi_line.proofs.Packs.{bit_behind, joined, joined_below, joined_inside}
+use Rattle.vbi_line.proofs.Packs.{bit_after, joined, joined_below, joined_inside}
 use Rattle.vbi_line.proofs.Slicing.{Sliced, above, sliced_more}
 
 -- ---- more bits after those of the first samples
@@ -59,7 +59,7 @@ block_tells low bytes column samples bits long each are i l =
 -- the last bits of a block that ends with its samples
 pub last_tells : (low : ℕ) (bytes : List ℕ) (column count bits : ℕ) → 16 ≤ column + count → count < 16
     → TellsAbove low bytes (column + count - 16) 16 bits → TellsAbove low bytes column count (bits / 2 ^ (16 - count))
-last_tells low bytes column count bits block few tells i l = grind (arith, bit_behind)
+last_tells low bytes column count bits block few tells i l = grind (arith, bit_after)
 
 -- no bit is left above them
 pub last-lt : (count bits : ℕ) → count < 16 → bits < 2 ^ 16 → bits / 2 ^ (16 - count) < 2 ^ count

@@ -24,8 +24,8 @@ pub bit_low : (n i : ℕ) → bit_at n i ≡ 0 → level_of_bit n i ≡ false
 bit_low n i e = ap (λ (x : ℕ). nat_eq x 1) e
 
 -- the bits of a word from a place on
-pub bit_behind : (word place i : ℕ) → bit_at (word / 2 ^ place) i ≡ bit_at word (place + i)
-bit_behind word place i = grind (arith, div-div-eq-div-mul, pow-add)
+pub bit_after : (word place i : ℕ) → bit_at (word / 2 ^ place) i ≡ bit_at word (place + i)
+bit_after word place i = grind (arith, div-div-eq-div-mul, pow-add)
 
 -- ---- lists of levels
 

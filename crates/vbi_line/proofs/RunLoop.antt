@@ -91,10 +91,6 @@ module _ {levels : List Bool} {column : ℕ} {v : Bool} {count : ℕ} (run : IsR
         gone : state_at system levels (column + 1) ≡ dead
         gone = sym (after_levels 1 (omega (arith, run.some))) ∙ at_once
 
-        -- the first level doesn't end the lows before a word, of which there are none
-        start : column ≡ 0 → GoesOn system levels column → ⊥
-        start e same = grind arith
-
         differs : GoesOn system levels column → ⊥
         differs same = grind arith
 
