@@ -134,3 +134,5 @@ film_turns i m j k l n near others first second here one two e f =
     go (inl (zero, a)) (inr (two, b)) = absurd (omega (arith, zero, two))
     go (inr (two, a)) (inl (zero, b)) = absurd (omega (arith, zero, two))
     go (inr (two, a)) (inr (both, b)) = omega (arith, a, b)
+
+pub ruleset regular_discs = (video_runs, video_regular, film_runs, film_regular, film_turns)

@@ -50,6 +50,7 @@ pub fn left_out_is_not_lost()
 
 /// Within 240 fields these clocks leave out four numbers at most: what `RunsFromBy` asks for beside the places. Of 24
 /// numbers they leave out two at most, by drop-frame, or one.
+#[tactic(auto, using(crate::proofs::FewLeftOut::few_numbers))]
 pub fn few_left_out()
     ensures drop { (i m j n : ℕ) → IsVoter i j → clock_fits DropFrame i m j n ≡ true
         → left_out DropFrame n ≤ left_out DropFrame m + 4 }

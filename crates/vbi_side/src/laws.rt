@@ -86,6 +86,7 @@ pub fn complete()
 {}
 
 /// There are discs that run on and are regular, at either pace, with a number in the first field of each picture.
+#[tactic(auto, using(crate::proofs::Discs::regular_discs))]
 pub fn discs_run()
     ensures video { (i : ℕ) → RunsOn Video video_disc i }
     ensures video_regular { (i : ℕ) → IsRegular Video video_disc i }

@@ -102,6 +102,7 @@ pub fn worked_votes()
 /// Whom these votes elect: two right minutes are more than half against one wrong, two against two aren't, nor are four
 /// in pass 2 against two in pass 1. Two lines of one field are enough by themselves, but not if one of them is of
 /// pass 2, and a weight of 3 isn't enough against 1 either.
+#[tactic(auto, using(crate::proofs::WorkedElections::elections))]
 pub fn worked_elections()
     ensures two { IsElected (minute_of Ntsc) two_to_one 4 700 4300 }
     ensures none { (m : ℕ) → IsElected (minute_of Ntsc) two_to_two 4 700 m → ⊥ }
