@@ -66,11 +66,7 @@ module _ (system : System) (levels : List Bool) where
 
   only_plain : (o : Outcome) (pass : ℕ) → NoWord o
       → (pass ≡ 0) × IsOutcome system levels o × ShowsNone system (smooth_of levels) → with_pass o pass ≡ from_both
-  only_plain o pass free (p, is, none) =
-      let second : NoWord smooth
-      = no_word system (smooth_of levels) smooth (is_outcome system (smooth_of levels)) none in
-      ap (with_pass o) p ∙ sym (reads_plain o smooth free second)
-      ∙ ap (λ (x : Outcome). reading_from x smooth) (same_outcome system levels o is)
+  only_plain o pass free (p, is, none) = grind (arith, no_word, is_outcome, reads_plain, same_outcome)
 
   only : (o : Outcome) (pass : ℕ) → Reads system levels o pass → with_pass o pass ≡ from_both
   only (Word w) pass (inl (p, shows)) =

@@ -1,6 +1,6 @@
 -- Levels as the bits of words, and more levels added to them.
-use Rattle.std.proofs.Common.{◌≡◌, ℕ, zero, suc, ◌+◌, ◌-◌, ◌*◌, ◌/◌, ◌%◌, ◌^◌, ◌<◌, ◌≤◌}
-use Rattle.std.proofs.Common.{Bool, false, List, ◌∷◌, ◌++◌, inl, inr, map}
+use Rattle.std.proofs.Common.{◌≡◌, ℕ, zero, suc, ◌+◌, ◌*◌, ◌/◌, ◌%◌, ◌^◌, ◌<◌, ◌≤◌}
+use Rattle.std.proofs.Common.{Bool, false, List, ◌∷◌, ◌++◌, map}
 use Rattle.std.proofs.Common.{length, max, nat_eq, slice_index, refl, sym, ap, ◌∙◌, arith, add-zero, lit<, bit_or}
 use Rattle.std.specs.List.{range_with_len}
 use Rattle.std.specs.Int.{bit_at}
@@ -50,10 +50,7 @@ same_levels f g a b (suc n) same =
 
 -- a list of levels in two parts
 two_parts : (f : ℕ → Bool) (a m n : ℕ) → levels_from f a (m + n) ≡ levels_from f a m ++ levels_from f (a + m) n
-two_parts f a zero n =
-    let none : zero + n ≡ n = omega arith in
-    let place : a ≡ a + zero = omega arith in
-    ap (levels_from f a) none ∙ ap (λ (k : ℕ). levels_from f k n) place
+two_parts f a zero n = grind arith
 two_parts f a (suc m) n =
     let more : suc m + n ≡ suc (m + n) = omega arith in
     let place : (a + 1) + m ≡ a + suc m = omega arith in
@@ -100,23 +97,15 @@ module _ (word bits place count : ℕ) (fits : place + count ≤ 64) (few : bits
   bit_new i none = bit_joined i ∙ ap (λ (x : ℕ). max x (bit_at moved i)) none ∙ zero-max (bit_at moved i)
 
   pub joined_below : (i : ℕ) → i < place → level_of_bit (joined word bits place) i ≡ level_of_bit word i
-  joined_below i l =
-      let none : bit_at moved i ≡ 0 = bit_at_cat_low bits place 0 i l ∙ bit_at-zero i in
-      ap (λ (x : ℕ). nat_eq x 1)
-      (bit_joined i ∙ ap (λ (x : ℕ). max (bit_at word i) x) none ∙ max-zero (bit_at word i))
+  joined_below i l = grind (arith, bit_at_cat_low, bit_at-zero, nat_eq, bit_joined, max, max-zero)
 
   pub joined_inside : (i : ℕ) → bit_at word (place + i) ≡ 0
       → level_of_bit (joined word bits place) (place + i) ≡ level_of_bit bits i
-  joined_inside i none =
-      let back : (place + i) - place ≡ i = omega arith in
-      ap (λ (x : ℕ). nat_eq x 1) (bit_new (place + i) none
-      ∙ bit_at_cat_high bits place 0 (place + i) (pow_pos place) (omega arith) ∙ ap (bit_at bits) back)
+  joined_inside i none = grind (arith, nat_eq, bit_new, bit_at_cat_high, pow_pos)
 
   pub joined_above : (i : ℕ) → place + count ≤ i → bit_at word i ≡ 0
       → level_of_bit (joined word bits place) i ≡ false
-  joined_above i l none = ap (λ (x : ℕ). nat_eq x 1) (bit_new i none
-      ∙ bit_at_cat_high bits place 0 i (pow_pos place) (omega arith)
-      ∙ bit_at_above bits count (i - place) few (omega arith))
+  joined_above i l none = grind (arith, nat_eq, bit_new, bit_at_cat_high, pow_pos, bit_at_above)
 
 -- ---- more levels in a line
 
@@ -162,12 +151,7 @@ module _ {words : List ℕ} {width bits count : ℕ} (has : HasRoom words width 
   empty column past inside e = grind arith
 
   kept : (column : ℕ) → column < width → packed_level pushed column ≡ packed_level words column
-  kept column l = elim (cases_eq (column / 64) (width / 64)) [
-    | inl e ↦
-        same_word column e ∙ joined_below word bits place count has.within has.few (column % 64) (omega arith)
-        ∙ ap (λ (j : ℕ). level_of_bit (get_or words j 0) (column % 64)) (sym e)
-    | inr ne ↦ other_word column ne
-  ]
+  kept column l = grind (arith, cases_eq, same_word, joined_below, other_word)
 
   added : (i : ℕ) → i < count → packed_level pushed (width + i) ≡ level_of_bit bits i
   added i l =
@@ -179,12 +163,7 @@ module _ {words : List ℕ} {width bits count : ℕ} (has : HasRoom words width 
       ∙ joined_inside word bits place count has.within has.few i none
 
   pub pushed_rest : (column : ℕ) → width + count ≤ column → column < 1152 → packed_level pushed column ≡ false
-  pushed_rest column past inside = elim (cases_eq (column / 64) (width / 64)) [
-    | inl e ↦
-        same_word column e ∙ joined_above word bits place count has.within has.few (column % 64) (omega arith)
-        (empty column (omega arith) inside e)
-    | inr ne ↦ other_word column ne ∙ has.rest column (omega arith) inside
-  ]
+  pushed_rest column past inside = grind (arith, cases_eq, same_word, joined_above, empty, inside, other_word)
 
   pub pushed_levels : unpacked pushed (width + count) ≡ unpacked words width ++ levels_in count bits
   pushed_levels =

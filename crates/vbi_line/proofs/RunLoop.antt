@@ -58,9 +58,7 @@ module _ {levels : List Bool} {column : ℕ} {v : Bool} {count : ℕ} (run : IsR
   -- the decoder has read the levels before the run
   module _ (system : System) (decoder : Decoder) (so_far : state_of decoder ≡ state_at system levels column) where
     after_levels : (k : ℕ) → k ≤ count → after_run system (state_of decoder) k v ≡ state_at system levels (column + k)
-    after_levels k l = ap (λ (s : State). after_run system s k v) so_far
-        ∙ sym (after_append system (take column levels) (replicate k v))
-        ∙ ap (state_after system) (sym (run_levels k l))
+    after_levels k l = grind (arith, after_append, replicate, state_after, run_levels)
 
     pub goes_on : (new : State) → new ≡ after_of system (state_of decoder) (replicate count v)
         → new ≡ state_at system levels (column + count)
@@ -69,9 +67,7 @@ module _ {levels : List Bool} {column : ℕ} {v : Bool} {count : ℕ} (run : IsR
     -- the next run has the other level
     pub turned : (next : Decoder) → state_of next ≡ after_of system (state_of decoder) (replicate count v)
         → column + count < length levels → level_at levels (column + count) ≡ level_of (state_of next) → ⊥
-    turned next e l same =
-        let last = last_level system (state_of decoder) v count run.some (λ d. alive next (e ∙ d)) in
-        run.ends l (same ∙ ap level_of e ∙ last)
+    turned next e l same = grind (arith, last_level, alive, level_of)
 
     pub changes : (0 < column → column < length levels → level_at levels column ≡ level_of (state_of decoder) → ⊥)
         → (lived : ℕ) → lived ≡ 0 → DiesAfter system (state_of decoder) v lived

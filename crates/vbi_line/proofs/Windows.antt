@@ -1,8 +1,7 @@
 -- The levels of 64 columns in one word.
-use Rattle.std.proofs.Common.{◌≡◌, ℕ, ◌+◌, ◌-◌, ◌*◌, ◌/◌, ◌%◌, ◌^◌, ◌<◌, ◌≤◌, false, List, inl, inr}
+use Rattle.std.proofs.Common.{◌≡◌, ℕ, ◌+◌, ◌-◌, ◌*◌, ◌/◌, ◌%◌, ◌^◌, ◌<◌, ◌≤◌, false, List}
 use Rattle.std.proofs.Common.{max, nat_eq, slice_index, sym, ap, ◌∙◌, arith, add-zero, bit_or}
 use Rattle.std.specs.Int.{bit_at}
-use Rattle.std.proofs.Math.ListN.{get_or}
 use Rattle.std.proofs.Math.Nat.{max-zero, zero-max}
 use Rattle.std.proofs.lemmas.Nat.{div-add-mod', pow_pos}
 use Rattle.std.proofs.lemmas.Bool.{cases_lt}
@@ -16,12 +15,7 @@ use Rattle.vbi_line.proofs.Packs.{bit_behind, length-unpacked, level_unpacked}
 pub level_packed : (words : List ℕ) (width column : ℕ) → column < 1152
     → ((k : ℕ) → width ≤ k → k < 1152 → packed_level words k ≡ false)
     → level_at (unpacked words width) column ≡ packed_level words column
-level_packed words width column room rest = elim (cases_lt column width) [
-  | inl inside ↦ level_unpacked words width column inside
-  | inr past ↦
-      get_or_past (unpacked words width) column false (omega (arith, length-unpacked words width))
-      ∙ sym (rest column past room)
-]
+level_packed words width column room rest = grind (arith, cases_lt, level_unpacked, get_or_past, length-unpacked)
 
 -- a bit of a word that was cut to 64 bits
 bit_cut : (n i : ℕ) → i < 64 → bit_at (n % 2 ^ 64) i ≡ bit_at n i
@@ -45,12 +39,7 @@ two_words here next place = bit_or (here / 2 ^ place) (next * 2 ^ (64 - place) %
 
 module _ (here next place : ℕ) (small : here < 2 ^ 64) (within : place < 64) where
   pub in_first : (i : ℕ) → place + i < 64 → level_of_bit (two_words here next place) i ≡ level_of_bit here (place + i)
-  in_first i l =
-      let none : bit_at (next * 2 ^ (64 - place) % 2 ^ 64) i ≡ 0
-      = bit_moved_low next (64 - place) i (omega arith) (omega arith) in
-      ap (λ (x : ℕ). nat_eq x 1) (bit_at_or (here / 2 ^ place) (next * 2 ^ (64 - place) % 2 ^ 64) i
-      ∙ ap (λ (x : ℕ). max (bit_at (here / 2 ^ place) i) x) none ∙ max-zero (bit_at (here / 2 ^ place) i)
-      ∙ bit_behind here place i)
+  in_first i l = grind (arith, bit_moved_low, nat_eq, bit_at_or, max, max-zero, bit_behind)
 
   pub in_second : (i : ℕ) → 64 ≤ place + i → i < 64
       → level_of_bit (two_words here next place) i ≡ level_of_bit next (place + i - 64)
@@ -69,34 +58,11 @@ module _ (words : List ℕ) (width column : ℕ)
   pub window_one : column ≤ 1088 → column % 64 ≡ 0 → (i : ℕ) → i < 64
       → level_of_bit (slice_index words (column / 64) / 2 ^ (column % 64)) i
       ≡ level_at (unpacked words width) (column + i)
-  window_one room first i l =
-      let word : ℕ = slice_index words (column / 64) in
-      let index : column / 64 ≡ (column + i) / 64 = omega (arith, first) in
-      let at : column % 64 + i ≡ (column + i) % 64 = omega (arith, first) in
-      ap (λ (x : ℕ). nat_eq x 1) (bit_behind word (column % 64) i) ∙ ap (level_of_bit word) at
-      ∙ ap (λ (j : ℕ). level_of_bit (get_or words j 0) ((column + i) % 64)) index
-      ∙ sym (level_packed words width (column + i) (omega arith) rest)
+  window_one room first i l = grind (arith, slice_index, nat_eq, bit_behind, level_packed)
 
   -- where it isn't
   pub window_two : column ≤ 1088 → (column % 64 ≡ 0 → ⊥) → slice_index words (column / 64) < 2 ^ 64 → (i : ℕ) → i < 64
       → level_of_bit
       (two_words (slice_index words (column / 64)) (slice_index words (column / 64 + 1)) (column % 64)) i
       ≡ level_at (unpacked words width) (column + i)
-  window_two room later small i l =
-      let here : ℕ = slice_index words (column / 64) in
-      let next : ℕ = slice_index words (column / 64 + 1) in
-      let place : ℕ = column % 64 in
-      let within : column % 64 < 64 = omega arith in
-      let known = sym (level_packed words width (column + i) (omega (arith, later)) rest) in
-      elim (cases_lt (column % 64 + i) 64) [
-        | inl first ↦
-            let index : column / 64 ≡ (column + i) / 64 = omega (arith, first) in
-            let at : column % 64 + i ≡ (column + i) % 64 = omega (arith, first) in
-            in_first here next (column % 64) small within i first ∙ ap (level_of_bit here) at
-            ∙ ap (λ (j : ℕ). level_of_bit (get_or words j 0) ((column + i) % 64)) index ∙ known
-        | inr second ↦
-            let index : column / 64 + 1 ≡ (column + i) / 64 = omega (arith, second, l) in
-            let at : column % 64 + i - 64 ≡ (column + i) % 64 = omega (arith, second, l) in
-            in_second here next (column % 64) small within i second l ∙ ap (level_of_bit next) at
-            ∙ ap (λ (j : ℕ). level_of_bit (get_or words j 0) ((column + i) % 64)) index ∙ known
-      ]
+  window_two room later small i l = grind (arith, slice_index, level_packed, cases_lt, in_first, in_second)

@@ -9,11 +9,11 @@ use Rattle.vbi_near.specs.declared.recovery.Line.{Line}
 use Rattle.vbi_near.specs.declared.recovery.Recovered.{Recovered}
 use Rattle.vbi_near.specs.Distances.{unit_of}
 use Rattle.vbi_near.specs.Said.{said_if, said_in, stand_of, first_said, lone_margins, is_said}
-use Rattle.vbi_near.specs.Candidates.{Candidates, Row, HasNear, HasNearIf, has_swing, levelled_samples}
-use Rattle.vbi_near.specs.Candidates.{given_samples, are_alike, AreOf, AreOfBoth}
-use Rattle.vbi_near.specs.Recovery.{said_alone, said_by, stands_by, stands_of, alone, is_confirmed, is_stretched}
-use Rattle.vbi_near.specs.Recovery.{Seen, IsSeen, IsLine, IsOwn, own_of, is_open, is_asked, are_open, recovered_as}
-use Rattle.vbi_near.specs.Recovery.{shown_in, Stands}
+use Rattle.vbi_near.specs.Candidates.{Candidates, Row, HasNear, HasNearIf, has_swing, levelled_samples, given_samples}
+use Rattle.vbi_near.specs.Candidates.{are_alike, AreOf, AreOfBoth}
+use Rattle.vbi_near.specs.Recovery.{said_alone, said_by, stands_by, stands_of, alone, is_confirmed, is_stretched, Seen}
+use Rattle.vbi_near.specs.Recovery.{IsSeen, IsLine, IsOwn, own_of, is_open, is_asked, are_open, recovered_as, shown_in}
+use Rattle.vbi_near.specs.Recovery.{Stands}
 use Rattle.vbi_near.proofs.OneSeen.{one_nears, one_near_if, open_asked}
 use Rattle.vbi_near.proofs.SomeSeen.{some_seen}
 

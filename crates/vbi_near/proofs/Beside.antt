@@ -1,6 +1,6 @@
 -- One cell more beside a word, by sums.
-use Rattle.std.proofs.Common.{◌≡◌, ℕ, ◌≤◌, ◌<◌, ◌+◌, ◌-◌, ◌*◌, List, length, get_or, Bool, true, false, min}
-use Rattle.std.proofs.Common.{◌⊎◌, inl, inr, arith, ap, sym, ◌∙◌}
+use Rattle.std.proofs.Common.{◌≡◌, ℕ, ◌≤◌, ◌<◌, ◌+◌, ◌-◌, List, length, get_or, Bool, true, false, min, ◌⊎◌, inl, inr}
+use Rattle.std.proofs.Common.{arith, ap, sym, ◌∙◌}
 use Rattle.std.proofs.Math.Nat.{min-le_left, min-le_right}
 use Rattle.vbi_words.specs.declared.system.System.{System}
 use Rattle.vbi_words.specs.declared.system.System.TheVariants.{Ntsc, Pal}
@@ -54,29 +54,14 @@ module _ (sums : Shades) (system : System) (rises : AreRowSums system sums) wher
   pub before-split : (start begin : ℕ) → begin + cell_length system ≡ start → start ≤ width_of system
       → span sums false 0 begin + total_in sums.dark begin (cell_length system) ≡ span sums false 0 start
   before-split start begin e l =
-      let long = rises.dark_whole in
-      let z : 0 + begin ≡ begin = omega arith in
-      let moved : total_in sums.dark (0 + begin) (cell_length system) ≡ total_in sums.dark begin (cell_length system)
-      = ap (λ (k : ℕ). total_in sums.dark k (cell_length system)) z in
-      let whole : span sums false 0 (begin + cell_length system) ≡ span sums false 0 start = ap (span sums false 0) e in
-      omega (arith, split sums.dark rises.dark_rises 0 begin (cell_length system) (omega (arith, long)), moved, whole)
+      grind (arith, split)
 
   pub behind-split : (end : ℕ) → end + cell_length system ≤ width_of system
       → total_in sums.dark end (cell_length system)
       + span sums false (end + cell_length system) (width_of system - (end + cell_length system))
       ≡ span sums false end (width_of system - end)
   behind-split end l =
-      let long = rises.dark_whole in
-      let n : cell_length system + (width_of system - (end + cell_length system)) ≡ width_of system - end
-      = omega arith in
-      let whole : span sums false end (cell_length system + (width_of system - (end + cell_length system)))
-      ≡ span sums false end (width_of system - end) = ap (span sums false end) n in
-      omega (
-        arith,
-        split sums.dark rises.dark_rises end (cell_length system) (width_of system - (end + cell_length system))
-            (omega (arith, long)),
-        whole,
-      )
+      grind (arith, split)
 
   -- a cell's columns are black in the row of a word beside it, so its distance has what they cost
   pub black-beside : (found : Found) → found.start < starts system
@@ -87,11 +72,7 @@ module _ (sums : Shades) (system : System) (rises : AreRowSums system sums) wher
       let fits = word-fits system in
       omega (arith, exact, before-split found.start begin e (omega (arith, fits, before)))
   black-beside found before exact begin (inr (e, room)) =
-      let split = behind-split begin room in
-      let same : span sums false begin (width_of system - begin)
-      ≡ span sums false (found.start + word_length system) (width_of system - (found.start + word_length system))
-      = ap (λ (k : ℕ). span sums false k (width_of system - k)) e in
-      omega (arith, exact, split, same)
+      grind (arith, behind-split)
 
 -- ---- the least of the choices
 
@@ -105,39 +86,19 @@ module _ (sums : Shades) (system : System) (distance begin value : ℕ)
     (is : IsNearerCell sums system distance begin value) where
   cell-least : (far : ℕ) (bit : Bool) → IsWithCell sums system distance begin bit far → value ≤ far
   cell-least far true with_cell =
-      omega (
-        arith,
-        is,
-        with_cell,
-        min-le_left (cell_cost sums system begin 0 true) (cell_cost sums system begin 0 false),
-      )
+      grind arith
   cell-least far false with_cell =
-      omega (
-        arith,
-        is,
-        with_cell,
-        min-le_right (cell_cost sums system begin 0 true) (cell_cost sums system begin 0 false),
-      )
+      grind arith
 
   cell-one : (bit : Bool) × IsWithCell sums system distance begin bit value
-  cell-one = go (min_is (cell_cost sums system begin 0 true) (cell_cost sums system begin 0 false))
-    where
-      go : ((min (cell_cost sums system begin 0 true) (cell_cost sums system begin 0 false)
-          ≡ cell_cost sums system begin 0 true)
-          × (cell_cost sums system begin 0 true ≤ cell_cost sums system begin 0 false))
-          ⊎ ((min (cell_cost sums system begin 0 true) (cell_cost sums system begin 0 false)
-          ≡ cell_cost sums system begin 0 false)
-          × (cell_cost sums system begin 0 false < cell_cost sums system begin 0 true))
-          → (bit : Bool) × IsWithCell sums system distance begin bit value
-      go (inl (m, le)) = (true, omega (arith, is, m))
-      go (inr (m, less)) = (false, omega (arith, is, m))
+  cell-one =
+      grind (arith, min_is)
 
 -- the same, of a column that is equal
 moved : (sums : Shades) (system : System) (distance begin other far : ℕ) (bit : Bool) → other ≡ begin
     → IsWithCell sums system distance other bit far → IsWithCell sums system distance begin bit far
 moved sums system distance begin other far bit e is =
-    ap (λ (k : ℕ). far + total_in sums.dark k (cell_length system)) (sym e) ∙ is
-    ∙ ap (λ (k : ℕ). distance + cell_cost sums system k 0 bit) e
+    grind arith
 
 module _ (sums : Shades) (system : System) (found : Found) where
   pub behind-alone : (end value : ℕ) → end ≡ found.start + word_length system
@@ -219,17 +180,4 @@ pub nearer-cell : (sums : Shades) (system : System) (distance begin middle end o
     → total_in sums.dark begin (cell_length system) ≤ distance
     → IsNearerCell sums system distance begin (distance - black + min one null)
 nearer-cell sums system distance begin middle end one null black m e o z b le =
-    let first : begin ≡ column_of system begin (2 * 0) = column-begins system begin in
-    let a : one ≡ cell_cost sums system begin 0 true
-    = cell-read sums system begin 0 true begin middle end one first m e o in
-    let c : null ≡ cell_cost sums system begin 0 false
-    = cell-read sums system begin 0 false begin middle end null first m e z in
-    let long : end - begin ≡ cell_length system = omega (arith, e, cell-long system begin) in
-    let d : black ≡ total_in sums.dark begin (cell_length system) = b ∙ ap (total_in sums.dark begin) long in
-    let least : min one null ≡ min (cell_cost sums system begin 0 true) (cell_cost sums system begin 0 false)
-    = ap (λ (x : ℕ). min x null) a ∙ ap (min (cell_cost sums system begin 0 true)) c in
-    omega (arith, d, least, le)
-  where
-    column-begins : (system : System) (begin : ℕ) → begin ≡ column_of system begin (2 * 0)
-    column-begins Ntsc begin = omega arith
-    column-begins Pal begin = omega arith
+    grind (arith, cell-read, cell-long)

@@ -1,8 +1,6 @@
 -- The best digits of one digit more.
-use Rattle.std.proofs.Common.{◌≡◌, ◌≢◌, ℕ, suc, ◌≤◌, ◌<◌, ◌+◌, ◌-◌, ◌*◌, ◌/◌, ◌%◌, ◌^◌, min}
-use Rattle.std.proofs.Common.{◌⊎◌, inl, inr, refl, arith, ap, sym, subst, ◌∙◌}
-use Rattle.std.proofs.lemmas.Bool.{cases_eq}
-use Rattle.std.proofs.Math.Nat.{min-le_left, min-le_right}
+use Rattle.std.proofs.Common.{◌≡◌, ◌≢◌, ℕ, suc, ◌≤◌, ◌<◌, ◌+◌, ◌-◌, ◌*◌, ◌/◌, ◌%◌, ◌^◌, min, ◌⊎◌, inl, inr, refl, arith}
+use Rattle.std.proofs.Common.{sym, subst, ◌∙◌}
 use Rattle.vbi_near.specs.declared.bits.Bits.{Bits}
 use Rattle.vbi_near.specs.declared.codes.Choice.{Choice}
 use Rattle.vbi_near.specs.Leads.{digits_cost, AreDigits, IsChoice, AreBest}
@@ -60,69 +58,33 @@ module _ (cost : ℕ → ℕ → ℕ) (base : ℕ) (least greatest : ℕ → ℕ
       → digits_cost cost base (suc n) (16 * a + d) ≡ digits_cost cost base n a + cost n d
   unfolding digits_cost
   cost-joined a d l =
-      let first = ap (digits_cost cost base n) (high a d l) in
-      let second = ap (cost n) (low a d l) in
-      omega (arith, first, second)
+      grind (arith, high, low)
 
   are-joined : (a d : ℕ) → d < 16 → AreDigits least greatest n a → least n ≤ d → d ≤ greatest n
       → AreDigits least greatest (suc n) (16 * a + d)
   unfolding AreDigits
-  are-joined a d l are from to = (
-    subst (AreDigits least greatest n) (sym (high a d l)) are,
-    omega (arith, low a d l, from),
-    omega (arith, low a d l, to),
-  )
+  are-joined a d l are from to =
+      grind (arith, high, low)
 
   cheapest : (d : ℕ) → least n ≤ d → d ≤ greatest n → choice.least ≤ cost n d
-  cheapest d from to = go (cases_eq d choice.value)
-    where
-      go : (d ≡ choice.value) ⊎ (d ≡ choice.value → ⊥) → choice.least ≤ cost n d
-      go (inl e) = omega (arith, ap (cost n) e, chosen.exact)
-      go (inr differs) = omega (arith, chosen.order, chosen.ahead d from (omega arith) differs)
+  cheapest d from to =
+      grind arith
 
   behind : (a d : ℕ) → d < 16 → AreDigits least greatest n a → least n ≤ d → d ≤ greatest n
       → 16 * a + d ≢ longer.word → longer.distance + longer.margin ≤ digits_cost cost base (suc n) (16 * a + d)
-  behind a d l are from to differs = go (cases_eq a best.word) (cases_eq d choice.value)
-    where
-      m : min best.margin (choice.second - choice.least) ≤ best.margin
-      m = min-le_left best.margin (choice.second - choice.least)
-
-      k : min best.margin (choice.second - choice.least) ≤ choice.second - choice.least
-      k = min-le_right best.margin (choice.second - choice.least)
-
-      go : (a ≡ best.word) ⊎ (a ≡ best.word → ⊥) → (d ≡ choice.value) ⊎ (d ≡ choice.value → ⊥)
-          → longer.distance + longer.margin ≤ digits_cost cost base (suc n) (16 * a + d)
-      go (inr other) any = omega (arith, cost-joined a d l, is.ahead a are other, cheapest d from to, m)
-      go (inl same) (inl e) = absurd (differs (omega arith))
-      go (inl same) (inr other) =
-          let x = ap (digits_cost cost base n) same in
-          omega (
-            arith,
-            cost-joined a d l,
-            x,
-            is.exact,
-            chosen.ahead d from (omega arith) other,
-            chosen.order,
-            k,
-          )
+  behind a d l are from to differs =
+      grind (arith, cost-joined, cheapest)
 
   -- no digits before this one cost less
   floor : (a : ℕ) → AreDigits least greatest n a → best.distance ≤ digits_cost cost base n a
-  floor a are = go (cases_eq a best.word)
-    where
-      go : (a ≡ best.word) ⊎ (a ≡ best.word → ⊥) → best.distance ≤ digits_cost cost base n a
-      go (inl e) = omega (arith, is.exact, ap (digits_cost cost base n) e)
-      go (inr other) = omega (arith, is.ahead a are other)
+  floor a are =
+      grind arith
 
   -- digits that cost as little are no less
   earliest : (a d : ℕ) → d < 16 → AreDigits least greatest n a → least n ≤ d → d ≤ greatest n
       → digits_cost cost base (suc n) (16 * a + d) ≡ longer.distance → longer.word ≤ 16 * a + d
   earliest a d l are from to same =
-      let low : choice.least ≤ cost n d = cheapest d from to in
-      let begun : best.word ≤ a = is.first a are (omega (arith, cost-joined a d l, floor a are, low, same)) in
-      let ended : choice.value ≤ d =
-      chosen.first d from (omega arith) (omega (arith, cost-joined a d l, floor a are, low, same)) in
-      omega (arith, begun, ended)
+      grind (arith, cheapest, cost-joined, floor)
 
   small : choice.value < 16
   small = omega (arith, chosen.before)
@@ -156,14 +118,8 @@ module _ (cost : ℕ → ℕ → ℕ) (base : ℕ) (least greatest : ℕ → ℕ
   )
 
   another : AreOther
-  another = go (min_is best.margin (choice.second - choice.least))
-    where
-      go : ((min best.margin (choice.second - choice.least) ≡ best.margin)
-          × (best.margin ≤ choice.second - choice.least))
-          ⊎ ((min best.margin (choice.second - choice.least) ≡ choice.second - choice.least)
-          × (choice.second - choice.least < best.margin)) → AreOther
-      go (inl (e, le)) = followed e is.other
-      go (inr (e, less)) = turned e chosen.other
+  another =
+      grind (arith, min_is, AreOther, followed, turned)
 
   parts : (v : ℕ) → AreDigits least greatest (suc n) v
       → AreDigits least greatest n (v / 16) × (least n ≤ v % 16) × (v % 16 ≤ greatest n)

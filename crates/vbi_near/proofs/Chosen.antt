@@ -1,212 +1,419 @@
--- The nearest word or none: by costs, and so by pictures.
-use Rattle.std.proofs.Common.{◌≡◌, ◌≢◌, ℕ, ◌≤◌, ◌<◌, ◌+◌, min, Option, false}
-use Rattle.std.proofs.Common.{◌⊎◌, inl, inr, refl, arith, ap, sym, subst, ◌∙◌}
-use Rattle.std.specs.Prelude.{Some, None}
-use Rattle.std.proofs.Math.Nat.{min-le_left, min-le_right}
+-- The nearest word or none, and the nearest code or none: what is said of the drawn rows at some places, by the best
+-- of what was looked at. near_word and near_code stand on it, one_near and some_near on the places alone.
+use Rattle.std.proofs.Common.{◌≡◌, ◌≢◌, ℕ, ◌≤◌, ◌<◌, ◌+◌, ◌^◌, min, Option, List, [], ◌∷◌, ◌⊎◌, inl, inr, refl, arith}
+use Rattle.std.proofs.Common.{ap, sym, subst, ◌∙◌}
+use Rattle.std.specs.Prelude.{Some, None, false}
+use Rattle.std.proofs.lemmas.Bool.{cases_lt}
 use Rattle.vbi_words.specs.declared.system.System.{System}
 use Rattle.vbi_words.specs.Geometry.{width_of}
+use Rattle.vbi_words.specs.Levels.{Slicing}
 use Rattle.vbi_words.specs.Words.{IsWord}
 use Rattle.vbi_near.specs.declared.found.Found.{Found}
 use Rattle.vbi_near.specs.declared.near.Near.{Near}
-use Rattle.vbi_near.specs.Pictures.{IsPlace, picture_of, starts, word_length}
-use Rattle.vbi_near.specs.Distances.{Shades, distance_from}
+use Rattle.vbi_near.specs.declared.sums.Sums.{Sums}
+use Rattle.vbi_near.specs.Pictures.{IsPlace, picture_of, starts, word_length, drawn_as}
+use Rattle.vbi_near.specs.Distances.{Samples, unit_of, distance_of, Shades, distance_from}
 use Rattle.vbi_near.specs.Sums.{span}
 use Rattle.vbi_near.specs.Costs.{place_cost}
 use Rattle.vbi_near.specs.Best.{IsFound, IsChosen}
-use Rattle.vbi_near.specs.Nearest.{IsNearestBy, IsFirstBy, Precedes}
-use Rattle.vbi_near.proofs.BestBits.{min_is}
+use Rattle.vbi_near.specs.Nearest.{IsBefore, Precedes, far_from}
+use Rattle.vbi_near.specs.Longer.{IsLongerFound, HasLeastRow, GoesOn}
+use Rattle.vbi_near.specs.Shorter.{IsShorterFound, IsCutShort}
+use Rattle.vbi_near.specs.LineCodes.{Range, IsOneOf, codes_of, IsCodePlace}
+use Rattle.vbi_near.specs.Leads.{Places, all_codes, code_cost, IsLead, IsClose, IsCodeChosen}
+use Rattle.vbi_near.specs.Rows.{shades_of, word_cost_by, code_cost_by, IsRowOf, IsNearOf, IsNearWord, IsNearCode}
 use Rattle.vbi_near.proofs.Columns.{word-fits, starts-few}
 use Rattle.vbi_near.proofs.Costs.{blank-cost, word-cost}
-use Rattle.vbi_near.specs.Sums.{AreBoth}
+use Rattle.vbi_near.proofs.CutShort.{length-shorter, least_shorter}
+use Rattle.vbi_near.proofs.OneCellMore.{length-longer, least_longer}
+use Rattle.vbi_near.proofs.Piles.{far-same, row-same}
+use Rattle.vbi_near.proofs.Priced.{code-word}
 
--- how far the lines are from a picture, by their columns' costs
-abbrev pub far : System → Shades → Option ℕ → ℕ → ℕ
-far system costs word start = distance_from costs 0 (picture_of system word start)
+-- ---- places
 
-pub some_is : (v w : ℕ) → Some v ≡ Some w → v ≡ w
-some_is v w e = cc
+-- a word's number, and 0 for none
+abbrev number : Option ℕ → ℕ
+number None = 0
+number (Some w) = w
 
-pub some_differs : (v w : ℕ) → v ≢ w → Some v ≢ Some w
-some_differs v w differs e = differs (some_is v w e)
+-- none, and words of some kind at each start
+abbrev pub all_of : (ℕ → Type 0) → System → Places
+all_of IsOne system start word = ((start ≡ 0) × (word ≡ 0)) ⊎ ((start < starts system) × IsOne word)
 
-pub none_some : (w : ℕ) → None ≡ Some w → ⊥
-none_some w e = cc
+-- the places of the drawn rows of these words and of none
+pub record ArePlaces (system : System) (IsOne : ℕ → Type 0) (IsThere : Option ℕ → ℕ → Type 0) : Type 0 where
+  pub place : (word : Option ℕ) (s : ℕ) → IsThere word s → IsPlace system word s
+  pub is : (w s : ℕ) → IsThere (Some w) s → IsOne w
+  pub none : IsThere None 0
+  pub some : (w s : ℕ) → IsOne w → s + word_length system ≤ width_of system → IsThere (Some w) s
 
-pub some_none : (w : ℕ) → Some w ≡ None → ⊥
-some_none w e = cc
+pub word-places : (system : System) → ArePlaces system IsWord (IsPlace system)
+word-places system = record {
+  place = λ word s there. there;
+  is = λ w s there. there.0;
+  none = refl;
+  some = λ w s word room. (word, room);
+}
 
-pub chosen-place : (system : System) (found : Found) → IsWord found.word → found.start < starts system
-    → (longer shorter blank : ℕ) (near : Near) → IsChosen found longer shorter blank near
-    → IsPlace system near.word near.start
-chosen-place system found word before longer shorter blank near (inl (order, e)) =
-    subst (λ (n : Near). IsPlace system n.word n.start) (sym e) refl
-chosen-place system found word before longer shorter blank near (inr (order, e)) =
-    subst (λ (n : Near). IsPlace system n.word n.start) (sym e) (word, omega (arith, before, word-fits system))
+code-is_word : (ranges : List Range) (w : ℕ) → IsOneOf ranges w → IsWord w
+code-is_word [] w none = absurd none
+code-is_word (words ∷ ranges) w (inl one) = one.0
+code-is_word (words ∷ ranges) w (inr one) = code-is_word ranges w one
+
+pub code-place : (ranges : List Range) (system : System) (word : Option ℕ) (start : ℕ)
+    → IsCodePlace ranges system word start → IsPlace system word start
+code-place ranges system None start place = place
+code-place ranges system (Some w) start place = (code-is_word ranges w place.0, place.1)
+
+pub code-places : (ranges : List Range) (system : System)
+    → ArePlaces system (IsOneOf ranges) (IsCodePlace ranges system)
+code-places ranges system = record {
+  place = code-place ranges system;
+  is = λ w s there. there.0;
+  none = refl;
+  some = λ w s one room. (one, room);
+}
+
+module _ (system : System) (IsOne : ℕ → Type 0) (IsThere : Option ℕ → ℕ → Type 0)
+    (are : ArePlaces system IsOne IsThere) where
+  looked : (word : Option ℕ) (s : ℕ) → IsThere word s → all_of IsOne system s (number word)
+  looked None s there = inl (are.place None s there, refl)
+  looked (Some w) s there = inr (let room = (are.place (Some w) s there).1 in omega arith, are.is w s there)
+
+  placed : (s w : ℕ) → all_of IsOne system s w → (word : Option ℕ) × IsThere word s × (number word ≡ w)
+  placed s w (inl (e, none)) = (None, subst (IsThere None) (sym e) are.none, sym none)
+  placed s w (inr (l, one)) = (Some w, are.some w s one (omega (arith, word-fits system)), refl)
+
+  one-number : (word other : Option ℕ) (s t : ℕ) → IsThere word s → IsThere other t
+      → number word ≡ number other → word ≡ other
+  one-number None None s t here there e = refl
+  one-number None (Some w) s t here there e = absurd (omega (arith, (are.place (Some w) t there).0.0))
+  one-number (Some v) None s t here there e = absurd (omega (arith, (are.place (Some v) s here).0.0))
+  one-number (Some v) (Some w) s t here there e = ap Some e
+
+  precedes : (word other : Option ℕ) (s t at v : ℕ) → IsThere word s → IsThere other t → s ≡ at → number word ≡ v
+      → IsBefore at v t (number other) → Precedes word s other t
+  precedes None other s t at v here there e f before = tt
+  precedes (Some w) None s t at v here there e f (inl less) = absurd (omega (arith, are.place None t there))
+  precedes (Some w) None s t at v here there e f (inr (g, le)) =
+      absurd (omega (arith, (are.place (Some w) s here).0.0))
+  precedes (Some w) (Some x) s t at v here there e f (inl less) = inl (omega arith)
+  precedes (Some w) (Some x) s t at v here there e f (inr (g, le)) = inr (omega arith, omega arith)
+
+  -- a place at which one of these words was looked at, or none
+  begun : (cost : ℕ → ℕ → ℕ) (lead : Found) → IsLead cost (all_of IsOne system) lead
+      → ((lead.word ≡ 0) × (lead.start ≡ 0))
+      ⊎ ((lead.start < starts system) × IsOne lead.word × IsThere (Some lead.word) lead.start × IsWord lead.word)
+  begun cost lead is = go is.there
+    where
+      go : all_of IsOne system lead.start lead.word → ((lead.word ≡ 0) × (lead.start ≡ 0))
+          ⊎ ((lead.start < starts system) × IsOne lead.word × IsThere (Some lead.word) lead.start × IsWord lead.word)
+      go (inl none) = inl (none.1, none.0)
+      go (inr (l, one)) =
+          let there = are.some lead.word lead.start one (omega (arith, word-fits system)) in
+          inr (l, one, there, (are.place (Some lead.word) lead.start there).0)
+
+-- a word that was found begins where one may, and costs as much as is found
+pub lead-found : (sums : Shades) (system : System) (ranges : List Range) (lead : Found)
+    → IsLead (code_cost sums system) (all_of (IsOneOf ranges) system) lead → lead.word ≢ 0
+    → (lead.start < starts system) × IsWord lead.word
+    × (place_cost sums system lead.start lead.word ≡ lead.distance)
+lead-found sums system ranges lead is some =
+    go (begun system (IsOneOf ranges) (IsCodePlace ranges system) (code-places ranges system) (code_cost sums system)
+    lead is)
+  where
+    go : ((lead.word ≡ 0) × (lead.start ≡ 0))
+        ⊎ ((lead.start < starts system) × IsOneOf ranges lead.word × IsCodePlace ranges system (Some lead.word) lead.start
+        × IsWord lead.word)
+        → (lead.start < starts system) × IsWord lead.word
+        × (place_cost sums system lead.start lead.word ≡ lead.distance)
+    go (inl none) = absurd (some none.0)
+    go (inr (l, one, there, word)) = (l, word, sym (code-word sums system lead.start lead.word word) ∙ is.exact)
+
+-- ---- what is answered
+
+-- what was found is what is answered
+record Shows (IsThere : Option ℕ → ℕ → Type 0) (lead : Found) (near : Near) : Type 0 where
+  pub place : IsThere near.word near.start
+  pub word : number near.word ≡ lead.word
+  pub start : near.start ≡ lead.start
+  pub distance : near.distance ≡ lead.distance
+  pub rival : near.rival ≡ lead.rival
+
+module _ (sums : Sums) (slicing : Slicing) (lines : List Samples) (costs : Shades)
+    (row : IsRowOf sums slicing lines costs) (IsOne : ℕ → Type 0) (IsThere : Option ℕ → ℕ → Type 0)
+    (are : ArePlaces sums.system IsOne IsThere) (lead : Found)
+    (is : IsLead (code_cost_by sums) (all_of IsOne sums.system) lead) where
+  -- another word was looked at, which is as far as the rival
+  abbrev Other : Type 0
+  Other = (s : ℕ) × (w : ℕ) × all_of IsOne sums.system s w × (w ≢ lead.word) × (code_cost_by sums s w ≡ lead.rival)
+
+  cost-of : (word : Option ℕ) (s : ℕ) → IsThere word s
+      → far_from sums.system slicing lines word s ≡ code_cost_by sums s (number word)
+  cost-of word s there =
+      sym (far-same sums.system slicing lines costs row.pile word s (are.place word s there))
+      ∙ priced word (are.place word s there)
+    where
+      priced : (word : Option ℕ) → IsPlace sums.system word s
+          → distance_from costs 0 (picture_of sums.system word s) ≡ code_cost_by sums s (number word)
+      priced None e =
+          ap (λ (k : ℕ). distance_from costs 0 (picture_of sums.system None k)) e
+          ∙ blank-cost costs (shades_of sums) sums.system row.both
+      priced (Some w) (word, room) =
+          word-cost costs (shades_of sums) sums.system row.both s room w
+          ∙ sym (code-word (shades_of sums) sums.system s w word)
+
+  shown : (longer shorter : ℕ) (near : Near) → IsCodeChosen lead longer shorter near → Shows IsThere lead near
+  shown longer shorter near chosen = go chosen (begun sums.system IsOne IsThere are (code_cost_by sums) lead is)
+    where
+      go : IsCodeChosen lead longer shorter near → ((lead.word ≡ 0) × (lead.start ≡ 0))
+          ⊎ ((lead.start < starts sums.system) × IsOne lead.word × IsThere (Some lead.word) lead.start
+          × IsWord lead.word)
+          → Shows IsThere lead near
+      go (inl (none, e)) (inl (zero, at)) = subst (Shows IsThere lead) (sym e) (record {
+        place = are.none;
+        word = sym none;
+        start = sym at;
+        distance = refl;
+        rival = refl;
+      })
+      go (inl (none, e)) (inr (l, one, there, word)) = absurd (omega (arith, word.0, none))
+      go (inr (some, e)) (inl (zero, at)) = absurd (omega arith)
+      go (inr (some, e)) (inr (l, one, there, word)) = subst (Shows IsThere lead) (sym e) (record {
+        place = there;
+        word = refl;
+        start = refl;
+        distance = refl;
+        rival = refl;
+      })
+
+  -- the rows that there are of the word answered
+  beyond : (longer shorter : ℕ) (near : Near) → IsCodeChosen lead longer shorter near
+      → (lead.word ≡ 0) ⊎ (IsLongerFound (shades_of sums) sums.system lead longer
+      × IsShorterFound (shades_of sums) sums.system lead shorter)
+      → HasLeastRow (GoesOn sums.system) (λ levels. distance_of (unit_of slicing) lines (drawn_as slicing levels))
+      near.word near near.longer
+      × HasLeastRow (IsCutShort sums.system) (λ levels. distance_of (unit_of slicing) lines (drawn_as slicing levels))
+      near.word near near.shorter
+  beyond longer shorter near chosen found =
+      go chosen found (begun sums.system IsOne IsThere are (code_cost_by sums) lead is)
+    where
+      Has : Near → Type 0
+      Has n = HasLeastRow (GoesOn sums.system)
+          (λ levels. distance_of (unit_of slicing) lines (drawn_as slicing levels)) n.word n n.longer
+          × HasLeastRow (IsCutShort sums.system)
+          (λ levels. distance_of (unit_of slicing) lines (drawn_as slicing levels)) n.word n n.shorter
+
+      go : IsCodeChosen lead longer shorter near
+          → (lead.word ≡ 0) ⊎ (IsLongerFound (shades_of sums) sums.system lead longer
+          × IsShorterFound (shades_of sums) sums.system lead shorter)
+          → ((lead.word ≡ 0) × (lead.start ≡ 0))
+          ⊎ ((lead.start < starts sums.system) × IsOne lead.word × IsThere (Some lead.word) lead.start
+          × IsWord lead.word) → Has near
+      go (inl (none, e)) any at = subst Has (sym e) (refl, refl)
+      go (inr (some, e)) (inl none) at = absurd (omega arith)
+      go (inr (some, e)) (inr most) (inl (zero, at)) = absurd (omega arith)
+      go (inr (some, e)) (inr (longest, shortest)) (inr (l, one, there, word)) =
+          let room = (are.place (Some lead.word) lead.start there).1 in
+          let exact = sym (code-word (shades_of sums) sums.system lead.start lead.word word) ∙ is.exact in
+          subst Has (sym e) (
+            row-same sums.system slicing lines costs row.pile (GoesOn sums.system lead.word lead.start) longer
+                (λ levels on. length-longer sums.system lead.word lead.start levels room on)
+                (least_longer costs (shades_of sums) sums.system row.both sums.rows lead l exact longer longest),
+            row-same sums.system slicing lines costs row.pile (IsCutShort sums.system lead.word lead.start) shorter
+                (λ levels cut. length-shorter sums.system lead.word lead.start levels room cut)
+                (least_shorter costs (shades_of sums) sums.system row.both lead.start room lead refl exact shorter
+                shortest),
+          )
+
+  pub near-of : (longer shorter : ℕ) (near : Near) → IsCodeChosen lead longer shorter near → Other
+      → (lead.word ≡ 0) ⊎ (IsLongerFound (shades_of sums) sums.system lead longer
+      × IsShorterFound (shades_of sums) sums.system lead shorter) → IsNearOf IsThere sums.system slicing lines near
+  near-of longer shorter near chosen (t, v, there, differs, cost) found =
+      let s = shown longer shorter near chosen in
+      let o = placed sums.system IsOne IsThere are t v there in
+      let ends = beyond longer shorter near chosen found in
+      record {
+        nearest = record {
+          place = s.place;
+          exact = cost-of near.word near.start s.place ∙ (λ j. code_cost_by sums (s.start j) (s.word j)) ∙ is.exact
+              ∙ sym s.distance;
+          least = λ word at here. omega (
+            arith,
+            cost-of word at here,
+            is.least at (number word) (looked sums.system IsOne IsThere are word at here),
+            s.distance,
+          );
+          rival = λ word at here other. omega (
+            arith,
+            cost-of word at here,
+            is.rival at (number word) (looked sums.system IsOne IsThere are word at here)
+                (λ e. other (one-number sums.system IsOne IsThere are word near.word at near.start here s.place
+                (e ∙ sym s.word))),
+            s.rival,
+          );
+          other = (
+            o.0,
+            t,
+            o.1,
+            λ e. differs (sym o.2 ∙ ap number e ∙ s.word),
+            cost-of o.0 t o.1 ∙ ap (code_cost_by sums t) o.2 ∙ cost ∙ sym s.rival,
+          );
+        };
+        first = record {
+          first = λ word at here same. precedes sums.system IsOne IsThere are near.word word near.start at lead.start
+              lead.word s.place here s.start s.word
+              (is.first at (number word) (looked sums.system IsOne IsThere are word at here)
+              (sym (cost-of word at here) ∙ same ∙ s.distance));
+        };
+        longer = ends.0;
+        shorter = ends.1;
+      }
+
+-- ---- of all words
+
+-- the nearest word that was found, and none
+module _ (sums : Sums) (found : Found) (is : IsFound (word_cost_by sums) 0 (starts sums.system) found) where
+  blank : ℕ
+  blank = span (shades_of sums) false 0 (width_of sums.system)
+
+  cost-is : (s w : ℕ) → IsWord w → code_cost_by sums s w ≡ word_cost_by sums s w
+  cost-is s w word = code-word (shades_of sums) sums.system s w word
+
+  -- it costs as much as none, or as a word
+  Costs : ℕ → ℕ → Type 0
+  Costs s w = ((w ≡ 0) × (code_cost_by sums s w ≡ blank))
+      ⊎ ((s < starts sums.system) × IsWord w × (code_cost_by sums s w ≡ word_cost_by sums s w))
+
+  costs-are : (s w : ℕ) → all_of IsWord sums.system s w → Costs s w
+  unfolding blank Costs
+  costs-are s w (inl (e, none)) = inl (none, ap (code_cost_by sums s) none)
+  costs-are s w (inr (l, word)) = inr (l, word, cost-is s w word)
+
+  module _ (order : span (shades_of sums) false 0 (width_of sums.system) ≤ found.distance) where
+    abbrev none-lead : Found
+    none-lead = record {
+      word = 0;
+      start = 0;
+      distance = span (shades_of sums) false 0 (width_of sums.system);
+      rival = found.distance;
+    }
+
+    none-other : (s : ℕ) × (w : ℕ) × all_of IsWord sums.system s w × (w ≢ 0)
+        × (code_cost_by sums s w ≡ found.distance)
+    none-other = (
+      found.start,
+      found.word,
+      inr (is.before, is.word),
+      λ e. omega (arith, is.word, e),
+      cost-is found.start found.word is.word ∙ is.exact,
+    )
+
+    none-leads : IsLead (code_cost_by sums) (all_of IsWord sums.system) none-lead
+    unfolding blank Costs
+    none-leads = record {
+      there = inl (refl, refl);
+      exact = refl;
+      order = order;
+      least = λ s w there. least s w (costs-are s w there);
+      rival = λ s w there other. rival s w other (costs-are s w there);
+      first = λ s w there same. grind arith;
+      other = inr none-other;
+    }
+      where
+        least : (s w : ℕ) → Costs s w → span (shades_of sums) false 0 (width_of sums.system) ≤ code_cost_by sums s w
+        least s w (inl (none, e)) = omega (arith, e)
+        least s w (inr (l, word, e)) = omega (arith, e, is.least s w (omega arith) l word, order)
+
+        rival : (s w : ℕ) → w ≢ 0 → Costs s w → found.distance ≤ code_cost_by sums s w
+        rival s w other (inl (none, e)) = absurd (other none)
+        rival s w other (inr (l, word, e)) = omega (arith, e, is.least s w (omega arith) l word)
+
+  module _ (order : found.distance < span (shades_of sums) false 0 (width_of sums.system)) where
+    abbrev word-lead : Found
+    word-lead = record found { rival = min found.rival (span (shades_of sums) false 0 (width_of sums.system)) }
+
+    word-other : (s : ℕ) × (w : ℕ) × all_of IsWord sums.system s w × (w ≢ found.word)
+        × (code_cost_by sums s w ≡ word-lead.rival)
+    word-other = go (cases_lt (span (shades_of sums) false 0 (width_of sums.system)) found.rival) is.other
+      where
+        go : (span (shades_of sums) false 0 (width_of sums.system) < found.rival)
+            ⊎ (found.rival ≤ span (shades_of sums) false 0 (width_of sums.system))
+            → (s : ℕ) × (w : ℕ) × (0 ≤ s) × (s < starts sums.system) × IsWord w × (w ≢ found.word)
+            × (word_cost_by sums s w ≡ found.rival)
+            → (s : ℕ) × (w : ℕ) × all_of IsWord sums.system s w × (w ≢ found.word)
+            × (code_cost_by sums s w ≡ word-lead.rival)
+        go (inl less) other = (0, 0, inl (refl, refl), λ e. omega (arith, is.word, e), omega arith)
+        go (inr le) (s, w, from, l, word, differs, e) =
+            (s, w, inr (l, word), differs, omega (arith, cost-is s w word, e))
+
+    word-leads : IsLead (code_cost_by sums) (all_of IsWord sums.system) word-lead
+    unfolding blank Costs
+    word-leads = record {
+      there = inr (is.before, is.word);
+      exact = cost-is found.start found.word is.word ∙ is.exact;
+      order = let o = is.other in omega (arith, is.least o.0 o.1 o.2 o.3 o.4, o.6, order);
+      least = λ s w there. least s w (costs-are s w there);
+      rival = λ s w there other. rival s w other (costs-are s w there);
+      first = λ s w there same. first s w same (costs-are s w there);
+      other = inr word-other;
+    }
+      where
+        least : (s w : ℕ) → Costs s w → found.distance ≤ code_cost_by sums s w
+        least s w (inl (none, e)) = omega (arith, e, order)
+        least s w (inr (l, word, e)) = omega (arith, e, is.least s w (omega arith) l word)
+
+        rival : (s w : ℕ) → w ≢ found.word → Costs s w → word-lead.rival ≤ code_cost_by sums s w
+        rival s w other (inl (none, e)) = omega (arith, e)
+        rival s w other (inr (l, word, e)) = omega (arith, e, is.rival s w (omega arith) l word other)
+
+        first : (s w : ℕ) → code_cost_by sums s w ≡ found.distance → Costs s w
+            → IsBefore found.start found.word s w
+        first s w same (inl (none, e)) = absurd (omega (arith, e, order, same))
+        first s w same (inr (l, word, e)) = is.first s w (omega arith) l word (sym e ∙ same)
+
+pub near-word : (sums : Sums) (found : Found) → IsFound (word_cost_by sums) 0 (starts sums.system) found
+    → (longer shorter blank : ℕ) (near : Near) → blank ≡ span (shades_of sums) false 0 (width_of sums.system)
+    → IsChosen found longer shorter blank near
+    → IsLongerFound (shades_of sums) sums.system found longer → IsShorterFound (shades_of sums) sums.system found shorter
+    → (slicing : Slicing) (lines : List Samples) (costs : Shades) → IsRowOf sums slicing lines costs
+    → IsNearWord sums.system slicing lines near
+near-word sums found is longer shorter blank near value chosen longest shortest slicing lines costs row =
+    go (subst (λ (x : ℕ). IsChosen found longer shorter x near) value chosen)
+  where
+    go : IsChosen found longer shorter (span (shades_of sums) false 0 (width_of sums.system)) near
+        → IsNearWord sums.system slicing lines near
+    go (inl (order, e)) =
+        near-of sums slicing lines costs row IsWord (IsPlace sums.system) (word-places sums.system)
+        (none-lead sums found is order) (none-leads sums found is order) longer shorter near (inl (refl, e))
+        (none-other sums found is order) (inl refl)
+    go (inr (order, e)) =
+        near-of sums slicing lines costs row IsWord (IsPlace sums.system) (word-places sums.system)
+        (word-lead sums found is order) (word-leads sums found is order) longer shorter near
+        (inr (omega (arith, is.word), e)) (word-other sums found is order)
+        (inr (record { least = longest.least; one = longest.one }, shortest))
 
 pub start-few : (system : System) (found : Found) → found.start < starts system → (longer shorter blank : ℕ)
     (near : Near) → IsChosen found longer shorter blank near → near.start < 285
-start-few system found before longer shorter blank near (inl (order, e)) = omega (arith, ap (λ (n : Near). n.start) e)
-start-few system found before longer shorter blank near (inr (order, e)) =
-    omega (arith, ap (λ (n : Near). n.start) e, before, starts-few system)
+start-few system found before longer shorter blank near chosen = grind (arith, starts-few)
 
-module _ (costs sums : Shades) (system : System) (both : AreBoth costs sums (width_of system)) (found : Found)
-    (is : IsFound (place_cost sums system) 0 (starts system) found) where
-  fits : (start : ℕ) → start < starts system → start + word_length system ≤ width_of system
-  fits start l = omega (arith, word-fits system)
+-- ---- of the codes that may stand on a line
 
-  starting : (start : ℕ) → start + word_length system ≤ width_of system → start < starts system
-  starting start l = omega arith
+pub near-code : (sums : Sums) (line : ℕ) (lead : Found)
+    → IsLead (code_cost_by sums) (all_codes (codes_of sums.system line) sums.system) lead → IsClose lead
+    → (longer shorter : ℕ) (near : Near) → IsCodeChosen lead longer shorter near
+    → (lead.word ≡ 0) ⊎ (IsLongerFound (shades_of sums) sums.system lead longer
+    × IsShorterFound (shades_of sums) sums.system lead shorter)
+    → (slicing : Slicing) (lines : List Samples) (costs : Shades) → IsRowOf sums slicing lines costs
+    → IsNearCode sums.system line slicing lines near
+near-code sums line lead is close longer shorter near chosen found slicing lines costs row = go is.other
+  where
+    ranges : List Range
+    ranges = codes_of sums.system line
 
-  blank_far : (start : ℕ) → start ≡ 0
-      → far system costs None start ≡ span sums false 0 (width_of system)
-  blank_far start e =
-      ap (far system costs None) e ∙ blank-cost costs sums system both
-
-  word_far : (start w : ℕ) → start + word_length system ≤ width_of system
-      → far system costs (Some w) start ≡ place_cost sums system start w
-  word_far start w room = word-cost costs sums system both start room w
-
-  found_far : far system costs (Some found.word) found.start ≡ found.distance
-  found_far = word_far found.start found.word (fits found.start is.before) ∙ is.exact
-
-  least_far : (start w : ℕ) → IsPlace system (Some w) start → found.distance ≤ far system costs (Some w) start
-  least_far start w (word, room) =
-      omega (arith, word_far start w room, is.least start w (omega arith) (starting start room) word)
-
-  rival_far : (start w : ℕ) → IsPlace system (Some w) start → Some w ≢ Some found.word
-      → found.rival ≤ far system costs (Some w) start
-  rival_far start w (word, room) differs =
-      omega (
-        arith,
-        word_far start w room,
-        is.rival start w (omega arith) (starting start room) word
-            (λ e. differs (ap Some e)),
-      )
-
-  blank : ℕ
-  blank = span sums false 0 (width_of system)
-
-  module _ (order : span sums false 0 (width_of system) ≤ found.distance) where
-    none_near : Near
-    none_near = record {
-      word = None;
-      start = 0;
-      distance = span sums false 0 (width_of system);
-      rival = found.distance;
-      longer = span sums false 0 (width_of system);
-      shorter = span sums false 0 (width_of system);
-    }
-
-    none_is : IsNearestBy (IsPlace system) (far system costs) none_near
-    unfolding none_near
-    none_is = record {
-      place = refl;
-      exact = blank_far 0 refl;
-      least = least;
-      rival = rival;
-      other = (
-        Some found.word,
-        found.start,
-        (is.word, fits found.start is.before),
-        some_none found.word,
-        found_far,
-      );
-    }
-      where
-        least : (word : Option ℕ) (start : ℕ) → IsPlace system word start
-            → span sums false 0 (width_of system) ≤ far system costs word start
-        least None start place = omega (arith, blank_far start place)
-        least (Some w) start place = omega (arith, least_far start w place, order)
-
-        rival : (word : Option ℕ) (start : ℕ) → IsPlace system word start → word ≢ None
-            → found.distance ≤ far system costs word start
-        rival None start place differs = absurd (differs refl)
-        rival (Some w) start place differs = least_far start w place
-
-    none_first : IsFirstBy (IsPlace system) (far system costs) none_near
-    unfolding none_near
-    none_first = record { first = λ word start place same. tt }
-
-  module _ (longer shorter : ℕ) (order : found.distance < span sums false 0 (width_of system)) where
-    word_near : Near
-    word_near = record {
-      word = Some found.word;
-      start = found.start;
-      distance = found.distance;
-      rival = min found.rival (span sums false 0 (width_of system));
-      longer = longer;
-      shorter = shorter;
-    }
-
-    word_is : IsNearestBy (IsPlace system) (far system costs) word_near
-    unfolding word_near
-    word_is = record {
-      place = (is.word, fits found.start is.before);
-      exact = found_far;
-      least = least;
-      rival = rival;
-      other = another (min_is found.rival (span sums false 0 (width_of system)));
-    }
-      where
-        least : (word : Option ℕ) (start : ℕ) → IsPlace system word start
-            → found.distance ≤ far system costs word start
-        least None start place = omega (arith, blank_far start place, order)
-        least (Some w) start place = least_far start w place
-
-        rival : (word : Option ℕ) (start : ℕ) → IsPlace system word start → word ≢ Some found.word
-            → min found.rival (span sums false 0 (width_of system)) ≤ far system costs word start
-        rival None start place differs =
-            omega (arith, blank_far start place, min-le_right found.rival (span sums false 0 (width_of system)))
-        rival (Some w) start place differs =
-            omega (
-              arith,
-              rival_far start w place differs,
-              min-le_left found.rival
-                  (span sums false 0 (width_of system)),
-            )
-
-        another : ((min found.rival (span sums false 0 (width_of system)) ≡ found.rival)
-            × (found.rival ≤ span sums false 0 (width_of system)))
-            ⊎ ((min found.rival (span sums false 0 (width_of system))
-            ≡ span sums false 0 (width_of system))
-            × (span sums false 0 (width_of system) < found.rival))
-            → (word : Option ℕ) × (start : ℕ) × IsPlace system word start × (word ≢ Some found.word)
-            × (far system costs word start
-            ≡ min found.rival (span sums false 0 (width_of system)))
-        another (inl (m, le)) =
-            let o = is.other in (
-              Some o.1,
-              o.0,
-              (o.4, fits o.0 o.3),
-              some_differs o.1 found.word o.5,
-              word_far o.0 o.1 (fits o.0 o.3) ∙ o.6 ∙ sym m,
-            )
-        another (inr (m, less)) = (None, 0, refl, none_some found.word, blank_far 0 refl ∙ sym m)
-
-    word_first : IsFirstBy (IsPlace system) (far system costs) word_near
-    unfolding word_near
-    word_first = record { first = first }
-      where
-        first : (word : Option ℕ) (start : ℕ) → IsPlace system word start
-            → far system costs word start ≡ found.distance → Precedes (Some found.word) found.start word start
-        first None start place same = absurd (omega (arith, blank_far start place, order, same))
-        first (Some w) start (word, room) same =
-            is.first start w (omega arith) (starting start room) word (sym (word_far start w room) ∙ same)
-
-  pub first_is : (longer shorter : ℕ) (near : Near)
-      → IsChosen found longer shorter (span sums false 0 (width_of system)) near
-      → IsFirstBy (IsPlace system) (far system costs) near
-  unfolding none_near word_near
-  first_is longer shorter near (inl (order, e)) =
-      subst (IsFirstBy (IsPlace system) (far system costs)) (sym e) (none_first order)
-  first_is longer shorter near (inr (order, e)) =
-      subst (IsFirstBy (IsPlace system) (far system costs)) (sym e) (word_first longer shorter order)
-
-  pub nearest_is : (longer shorter : ℕ) (near : Near)
-      → IsChosen found longer shorter (span sums false 0 (width_of system)) near
-      → IsNearestBy (IsPlace system) (far system costs) near
-  unfolding none_near word_near
-  nearest_is longer shorter near (inl (order, e)) =
-      subst (IsNearestBy (IsPlace system) (far system costs)) (sym e) (none_is order)
-  nearest_is longer shorter near (inr (order, e)) =
-      subst (IsNearestBy (IsPlace system) (far system costs)) (sym e) (word_is longer shorter order)
+    go : (2 ^ 31 ≤ lead.rival) ⊎ ((s : ℕ) × (w : ℕ) × all_codes ranges sums.system s w × (w ≢ lead.word)
+        × (code_cost_by sums s w ≡ lead.rival)) → IsNearCode sums.system line slicing lines near
+    go (inl wide) = absurd (omega (arith, close))
+    go (inr other) =
+        near-of sums slicing lines costs row (IsOneOf ranges) (IsCodePlace ranges sums.system)
+        (code-places ranges sums.system) lead is longer shorter near chosen other found

@@ -1,17 +1,16 @@
 -- The table of a line's codes has the words whose code may stand on the line.
-use Rattle.std.proofs.Common.{◌≡◌, ℕ, zero, suc, ◌≤◌, ◌<◌, false, List, [], ◌∷◌, ◌⊎◌, inl, inr}
-use Rattle.std.proofs.Common.{refl, sym, ap, ◌∙◌, subst, arith, lit<}
+use Rattle.std.proofs.Common.{◌≡◌, ℕ, zero, suc, ◌≤◌, ◌<◌, false, List, [], ◌∷◌, ◌⊎◌, inl, inr, refl, sym, ap, ◌∙◌}
+use Rattle.std.proofs.Common.{subst, arith, lit<}
 use Rattle.std.specs.Prelude.{IsTrue, ◌↔◌}
 use Rattle.std.proofs.lemmas.Bool.{cases_lt, cases_eq, ltb-true, lt-ltb, true≢false}
 use Rattle.vbi_words.specs.declared.system.System.{System}
 use Rattle.vbi_words.specs.declared.system.System.TheVariants.{Ntsc, Pal}
 use Rattle.vbi_words.specs.declared.code.Code.{Code}
-use Rattle.vbi_words.specs.declared.code.Code.TheVariants.{Picture, Chapter, Time, ClvPicture, CxOn, CxOff}
-use Rattle.vbi_words.specs.declared.code.Code.TheVariants.{Users, LeadIn, LeadOut, PictureStop, ClvMark, Other}
+use Rattle.vbi_words.specs.declared.code.Code.TheVariants.{Picture, Chapter, Time, ClvPicture, CxOn, CxOff, Users}
+use Rattle.vbi_words.specs.declared.code.Code.TheVariants.{LeadIn, LeadOut, PictureStop, ClvMark, Other}
 use Rattle.vbi_words.specs.Words.{IsWord}
-use Rattle.vbi_words.specs.Codes.{digit_of, IsBetween, Pattern, patterns_of, HasPattern, HasCodeOf, IsCode, code_of}
-use Rattle.vbi_words.specs.Codes.{may_stand, last_two, picture_of, chapter_of, seconds_of, last_three}
-use Rattle.vbi_words.specs.Codes.{pictures_in_second}
+use Rattle.vbi_words.specs.Codes.{digit_of, IsBetween, Pattern, patterns_of, HasPattern, HasCodeOf, code_of, may_stand}
+use Rattle.vbi_words.specs.Codes.{last_two, picture_of, chapter_of, seconds_of, last_three, pictures_in_second}
 use Rattle.vbi_words.proofs.OneCode.{code_of_is, only_code_of}
 use Rattle.vbi_near.specs.LineCodes.{IsOneOf, codes_of, codes_of_16, codes_of_17}
 
@@ -56,11 +55,8 @@ unmatched word (r ∷ patterns) code e = inr (unmatched word patterns code e)
 
 -- the code of a word
 code-matched : (word : ℕ) → Matched word (patterns_of word) (code_of word)
-code-matched word = go (code_of_is word)
-  where
-    go : IsCode word (code_of word) → Matched word (patterns_of word) (code_of word)
-    go (inl x) = matched word (patterns_of word) (code_of word) x
-    go (inr (none, e)) = unmatched word (patterns_of word) (code_of word) e
+code-matched word =
+    grind (arith, code_of_is, matched, unmatched)
 
 -- ---- what may stand is in the table
 
@@ -96,70 +92,38 @@ module _ (w : ℕ) where
   -- times of an hour's 60 minutes
   time-in : IsBetween 0xF0DD00 0xF9DD99 w → last_two w < 60 → IsBetween 0xF0DD00 0xF9DD59 w
   time-in x few =
-      between 0xF0DD00 0xF9DD59 w (x 1 (omega arith) (omega arith)) (x 2 (omega arith) (omega arith))
-      (x 3 (omega arith) (omega arith)) (x 4 (omega arith) (omega arith))
-      ((x 5 (omega arith) (omega arith)).0, omega (arith, few))
-      (x 6 (omega arith) (omega arith))
+      grind (arith, between)
 
   time-of : IsBetween 0xF0DD00 0xF9DD59 w → IsBetween 0xF0DD00 0xF9DD99 w × (last_two w < 60)
-  time-of x = (
-    between 0xF0DD00 0xF9DD99 w (x 1 (omega arith) (omega arith)) (x 2 (omega arith) (omega arith))
-        (x 3 (omega arith) (omega arith)) (x 4 (omega arith) (omega arith))
-        ((x 5 (omega arith) (omega arith)).0, omega (arith, (x 5 (omega arith) (omega arith)).1))
-        (x 6 (omega arith) (omega arith)),
-    omega (arith, (x 5 (omega arith) (omega arith)).1, (x 6 (omega arith) (omega arith)).1),
-  )
+  time-of x =
+      grind (arith, between)
 
   -- CLV pictures of a second's 30
   clv-in_30 : IsBetween 0x8AE000 0x8FE999 w → last_two w < 30 → IsBetween 0x8AE000 0x8FE929 w
   clv-in_30 x few =
-      between 0x8AE000 0x8FE929 w (x 1 (omega arith) (omega arith)) (x 2 (omega arith) (omega arith))
-      (x 3 (omega arith) (omega arith)) (x 4 (omega arith) (omega arith))
-      ((x 5 (omega arith) (omega arith)).0, omega (arith, few))
-      (x 6 (omega arith) (omega arith))
+      grind (arith, between)
 
   clv-of_30 : IsBetween 0x8AE000 0x8FE929 w → IsBetween 0x8AE000 0x8FE999 w × (last_two w < 30)
-  clv-of_30 x = (
-    between 0x8AE000 0x8FE999 w (x 1 (omega arith) (omega arith)) (x 2 (omega arith) (omega arith))
-        (x 3 (omega arith) (omega arith)) (x 4 (omega arith) (omega arith))
-        ((x 5 (omega arith) (omega arith)).0, omega (arith, (x 5 (omega arith) (omega arith)).1))
-        (x 6 (omega arith) (omega arith)),
-    omega (arith, (x 5 (omega arith) (omega arith)).1, (x 6 (omega arith) (omega arith)).1),
-  )
+  clv-of_30 x =
+      grind (arith, between)
 
   -- the first 20 of a second's 25
   clv-in_20 : IsBetween 0x8AE000 0x8FE999 w → last_two w < 20 → IsBetween 0x8AE000 0x8FE919 w
   clv-in_20 x few =
-      between 0x8AE000 0x8FE919 w (x 1 (omega arith) (omega arith)) (x 2 (omega arith) (omega arith))
-      (x 3 (omega arith) (omega arith)) (x 4 (omega arith) (omega arith))
-      ((x 5 (omega arith) (omega arith)).0, omega (arith, few))
-      (x 6 (omega arith) (omega arith))
+      grind (arith, between)
 
   clv-of_20 : IsBetween 0x8AE000 0x8FE919 w → IsBetween 0x8AE000 0x8FE999 w × (last_two w < 25)
-  clv-of_20 x = (
-    between 0x8AE000 0x8FE999 w (x 1 (omega arith) (omega arith)) (x 2 (omega arith) (omega arith))
-        (x 3 (omega arith) (omega arith)) (x 4 (omega arith) (omega arith))
-        ((x 5 (omega arith) (omega arith)).0, omega (arith, (x 5 (omega arith) (omega arith)).1))
-        (x 6 (omega arith) (omega arith)),
-    omega (arith, (x 5 (omega arith) (omega arith)).1, (x 6 (omega arith) (omega arith)).1),
-  )
+  clv-of_20 x =
+      grind (arith, between)
 
   -- the others of a second's 25
   clv-in_25 : IsBetween 0x8AE000 0x8FE999 w → 20 ≤ last_two w → last_two w < 25 → IsBetween 0x8AE020 0x8FE924 w
   clv-in_25 x many few =
-      between 0x8AE020 0x8FE924 w (x 1 (omega arith) (omega arith)) (x 2 (omega arith) (omega arith))
-      (x 3 (omega arith) (omega arith)) (x 4 (omega arith) (omega arith))
-      (omega (arith, many, (x 6 (omega arith) (omega arith)).1), omega (arith, few))
-      ((x 6 (omega arith) (omega arith)).0, omega (arith, many, few, (x 6 (omega arith) (omega arith)).1))
+      grind (arith, between)
 
   clv-of_25 : IsBetween 0x8AE020 0x8FE924 w → IsBetween 0x8AE000 0x8FE999 w × (last_two w < 25)
-  clv-of_25 x = (
-    between 0x8AE000 0x8FE999 w (x 1 (omega arith) (omega arith)) (x 2 (omega arith) (omega arith))
-        (x 3 (omega arith) (omega arith)) (x 4 (omega arith) (omega arith))
-        (omega (arith, (x 5 (omega arith) (omega arith)).0), omega (arith, (x 5 (omega arith) (omega arith)).1))
-        ((x 6 (omega arith) (omega arith)).0, omega (arith, (x 6 (omega arith) (omega arith)).1)),
-    omega (arith, (x 5 (omega arith) (omega arith)).1, (x 6 (omega arith) (omega arith)).1),
-  )
+  clv-of_25 x =
+      grind (arith, between)
 
 -- ---- the words of a line
 
@@ -173,8 +137,7 @@ module _ (system : System) (w : ℕ) (is : IsWord w) where
   in_17 code (inr (inr (inr (inr (inl (x, e)))))) stands = inr (inr (inr (inr (inl (is, x)))))
   in_17 code (inr (inr (inr (inr (inr (inl (x, e))))))) stands = inr (inr (inr (inr (inr (inl (is, x))))))
   in_17 code (inr (inr (inr (inr (inr (inr (inl (x, e)))))))) stands =
-      let few = ltb-true (last_two w) 60 (may system 17 code (Time (digit_of w 2) (last_two w)) e stands) in
-      inr (inr (inr (inr (inr (inr (inl (is, time-in w x few)))))))
+      grind (arith, ltb-true, may, time-in)
   in_17 code (inr (inr (inr (inr (inr (inr (inr (inl (x, e))))))))) stands =
       absurd (barred system 17 code (ClvPicture (seconds_of w) (last_two w)) e refl stands)
   in_17 code (inr (inr (inr (inr (inr (inr (inr (inr (inl (x, e)))))))))) stands =
@@ -229,8 +192,7 @@ module _ (system : System) (w : ℕ) (is : IsWord w) where
   in_16 code (inr (inr (inr (inr (inr (inr (inl (x, e)))))))) stands =
       absurd (barred system 16 code (Time (digit_of w 2) (last_two w)) e refl stands)
   in_16 code (inr (inr (inr (inr (inr (inr (inr (inl (x, e))))))))) stands =
-      clv_16 system x (ltb-true (last_two w) (pictures_in_second system)
-      (may system 16 code (ClvPicture (seconds_of w) (last_two w)) e stands))
+      grind (arith, clv_16, ltb-true, may)
   in_16 code (inr (inr (inr (inr (inr (inr (inr (inr (inl (x, e)))))))))) stands = cx_on_16 system x
   in_16 code (inr (inr (inr (inr (inr (inr (inr (inr (inr (inl (x, e))))))))))) stands = cx_off_16 system x
   in_16 code (inr (inr (inr (inr (inr (inr (inr (inr (inr (inr (inl (x, e)))))))))))) stands = users_16 system x

@@ -1,12 +1,12 @@
 -- The columns of half cells.
-use Rattle.std.proofs.Common.{◌≡◌, ℕ, suc, ◌≤◌, ◌+◌, ◌-◌, ◌*◌, List, [], ◌∷◌, Bool, length, arith, ap, ◌∙◌}
-use Rattle.std.proofs.Common.{refl, sym, ◌++◌, false, Option}
+use Rattle.std.proofs.Common.{◌≡◌, ℕ, suc, ◌≤◌, ◌+◌, ◌-◌, ◌*◌, List, [], ◌∷◌, Bool, length, arith, ap, ◌∙◌, refl, sym}
+use Rattle.std.proofs.Common.{◌++◌, false, Option}
 use Rattle.std.specs.Prelude.{Some, None}
 use Rattle.std.specs.List.{flat_map}
 use Rattle.std.proofs.lemmas.List.{length-append, length-replicate}
+use Rattle.std.proofs.Math.ListN.{replicate}
 use Rattle.vbi_words.specs.Words.{lowest_bits, cell_of, halves_of}
 use Rattle.vbi_words.proofs.Bits.{length-lowest_bits}
-use Rattle.std.proofs.Math.ListN.{replicate}
 use Rattle.vbi_words.specs.declared.system.System.{System}
 use Rattle.vbi_words.specs.declared.system.System.TheVariants.{Ntsc, Pal}
 use Rattle.vbi_words.specs.Geometry.{width_of}
@@ -29,11 +29,6 @@ pub column-rises : (system : System) (start j k : ℕ) → j ≤ k → column_of
 column-rises Ntsc start j k l = omega arith
 column-rises Pal start j k l = omega arith
 
-column-step : (system : System) (start j : ℕ) → (column_of system start j ≤ column_of system start (suc j))
-    × (column_of system start (suc j) ≤ column_of system start j + 18)
-column-step Ntsc start j = (omega arith, omega arith)
-column-step Pal start j = (omega arith, omega arith)
-
 pub width-few : (system : System) → width_of system ≤ 1135
 width-few Ntsc = omega arith
 width-few Pal = omega arith
@@ -50,9 +45,7 @@ pub column-drawn : (system : System) (start j : ℕ) (halves : List Bool)
     → column_of system start j + length (drawn_halves system j halves) ≡ column_of system start (j + length halves)
 unfolding drawn_halves
 column-drawn system start j [] =
-    let e : j ≡ j + 0 = omega arith in
-    let same : column_of system start j ≡ column_of system start (j + 0) = ap (column_of system start) e in
-    omega (arith, same)
+    grind arith
 column-drawn system start j (half ∷ halves) =
     let e : suc j + length halves ≡ j + suc (length halves) = omega arith in
     let same : column_of system start (suc j + length halves) ≡ column_of system start (j + suc (length halves))

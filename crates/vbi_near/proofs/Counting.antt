@@ -1,8 +1,7 @@
 -- Adding one line more.
-use Rattle.std.proofs.Common.{◌≡◌, ℕ, suc, zero, ◌≤◌, ◌<◌, ◌+◌, ◌*◌, List, [], ◌∷◌, Bool, true, false, length}
-use Rattle.std.proofs.Common.{◌++◌, ◌⊎◌, inl, inr, get_or, arith, ap, sym, ◌∙◌, refl, cond, subst}
+use Rattle.std.proofs.Common.{◌≡◌, ℕ, suc, zero, ◌≤◌, ◌<◌, ◌+◌, ◌*◌, List, [], ◌∷◌, Bool, true, false, length, ◌++◌}
+use Rattle.std.proofs.Common.{get_or, arith, ap, sym, ◌∙◌, refl, cond}
 use Rattle.std.proofs.Math.Nat.{min-le_right}
-use Rattle.std.proofs.lemmas.Bool.{cases_lt}
 use Rattle.std.proofs.Math.ListN.{replicate, take}
 use Rattle.std.proofs.lemmas.List.{length-take-le, length-replicate, take-replicate}
 use Rattle.std.proofs.lemmas.List.Elements.{All-append}
@@ -16,9 +15,9 @@ use Rattle.vbi_words.specs.Levels.{Slicing, samples_of}
 use Rattle.vbi_line.proofs.Slicing.{length-samples_of}
 use Rattle.vbi_line.specs.Line.{sample_at}
 use Rattle.vbi_near.specs.Pictures.{sample_of}
+use Rattle.vbi_near.specs.Distances.{Samples, unit_of, off_by, known, known_but, shade, shades, column_cost, IsPile}
+use Rattle.vbi_near.specs.Distances.{AreFew}
 use Rattle.vbi_near.proofs.Columns.{width-few}
-use Rattle.vbi_near.specs.Distances.{Samples, unit_of, off_by, known, known_but, shade, shades, column_cost}
-use Rattle.vbi_near.specs.Distances.{IsPile, AreFew}
 
 -- ---- no line yet
 
@@ -34,8 +33,7 @@ zeros-read (suc n) (suc m) (suc k) = zeros-read n m k
 
 pub zeros-long : (system : System) (n : ℕ) → n ≡ width_of system → length (zeros n 1135) ≡ width_of system
 zeros-long system n e =
-    length-take-le n (replicate 1135 0)
-    (omega (arith, e, width-few system, length-replicate {A = ℕ} 1135 0)) ∙ e
+    grind (arith, length-take-le, replicate, width-few, length-replicate)
 
 pub nothing-erased : (system : System) (n : ℕ) → n ≡ width_of system
     → take n (replicate 1135 false) ≡ replicate (width_of system) false
@@ -137,27 +135,15 @@ kept-few most false sample level = min-le_right (abs_diff sample level) most
 -- no column costs more than what a sample can be off
 pub added-few : (bytes : List ℕ) (erased : List Bool) (most level : ℕ) (costs new : List ℕ) (i : ℕ) → most ≤ 65535
     → (lines : ℕ) → AreFew lines costs → IsAdded bytes erased most level costs new i → AreFew (lines + 1) new
-added-few bytes erased most level costs new i low lines few is k = go (cases_lt k i)
-  where
-    go : (k < i) ⊎ (i ≤ k) → get_or new k 0 ≤ 65535 * (lines + 1)
-    go (inl l) =
-        omega (
-          arith,
-          is.below k l,
-          few k,
-          kept-few most (get_or erased k false) (sample_at bytes k) level,
-        )
-    go (inr le) = omega (arith, is.behind k le, few k)
+added-few bytes erased most level costs new i low lines few is k =
+    grind (arith, get_or, kept-few)
 
 -- a line that is cut to as long as it is
 pub added_whole : (cut bytes : List ℕ) (marks erased : List Bool) (most level : ℕ) (costs new : List ℕ) (i n : ℕ)
     → cut ≡ bytes → marks ≡ erased → i ≡ n → IsAdded cut marks most level costs new i
     → IsAdded bytes erased most level costs new n
 added_whole cut bytes marks erased most level costs new i n same are end is =
-    let whole : IsAdded bytes marks most level costs new i
-    = subst (λ (l : List ℕ). IsAdded l marks most level costs new i) same is in
-    subst (IsAdded bytes erased most level costs new) end
-    (subst (λ (m : List Bool). IsAdded bytes m most level costs new i) are whole)
+    grind arith
 
 pub pile-added : (system : System) (slicing : Slicing) (bytes : List ℕ) (erased : List Bool) (lines : List Samples)
     (darks lights dark light : List ℕ) → length bytes ≡ 2 * length darks → length erased ≡ length darks

@@ -1,7 +1,6 @@
 -- The distance of rows on which a word begins later or ends earlier.
-use Rattle.std.proofs.Common.{◌≡◌, ℕ, suc, zero, ◌≤◌, ◌<◌, ◌+◌, ◌-◌, ◌*◌, ◌/◌, ◌^◌, List, [], ◌∷◌, ◌++◌, Bool, false}
-use Rattle.std.proofs.Common.{not, nat_eq, ◌%◌, length, take, drop, min, ◌⊎◌, inl, inr, refl, arith, ap, sym, ◌∙◌}
-use Rattle.std.proofs.Common.{shr-shr}
+use Rattle.std.proofs.Common.{◌≡◌, ℕ, suc, zero, ◌≤◌, ◌+◌, ◌-◌, ◌*◌, ◌/◌, ◌^◌, List, [], ◌∷◌, ◌++◌, Bool, false, not}
+use Rattle.std.proofs.Common.{nat_eq, ◌%◌, length, take, drop, min, ◌⊎◌, inl, inr, refl, arith, ap, sym, ◌∙◌, shr-shr}
 use Rattle.std.proofs.Math.ListN.{replicate}
 use Rattle.std.proofs.Math.Nat.{min-le_left, min-le_right}
 use Rattle.vbi_words.specs.declared.system.System.{System}
@@ -10,16 +9,16 @@ use Rattle.vbi_words.specs.Words.{lowest_bits, halves_of}
 use Rattle.vbi_near.specs.declared.found.Found.{Found}
 use Rattle.vbi_near.specs.Pictures.{column_of, half_length, word_length, picture_of}
 use Rattle.vbi_near.specs.Distances.{Shades, distance_from}
-use Rattle.vbi_near.specs.Sums.{span}
+use Rattle.vbi_near.specs.Sums.{span, AreBoth}
 use Rattle.vbi_near.specs.Costs.{half_cost, cell_cost, bits_cost, place_cost}
-use Rattle.vbi_near.specs.Shorter.{begun_later, ended_earlier, row_of_halves, IsCutShort, IsLeastShorter}
-use Rattle.vbi_near.specs.Shorter.{bit_in_cell, black_cost, IsWithoutCell, IsShorterFound}
+use Rattle.vbi_near.specs.Shorter.{begun_later, ended_earlier, row_of_halves, IsCutShort, bit_in_cell, IsWithoutCell}
+use Rattle.vbi_near.specs.Shorter.{IsShorterFound}
+use Rattle.vbi_near.specs.Longer.{IsLeastRow}
 use Rattle.vbi_near.specs.Stretched.{halves_cost}
 use Rattle.vbi_near.proofs.BestBits.{min_is}
 use Rattle.vbi_near.proofs.Columns.{column-first, column-next}
 use Rattle.vbi_near.proofs.Costs.{word-cost}
-use Rattle.vbi_near.specs.Sums.{AreBoth}
-use Rattle.vbi_near.proofs.Halves.{drawn-with, halves_cost-append, row-far}
+use Rattle.vbi_near.proofs.Halves.{drawn-with, halves_cost-append, row-far, row-long}
 
 -- ---- a word's first cells, and its last
 
@@ -87,23 +86,31 @@ two-earlier-long w = refl
 -- the least of four numbers is one of them
 one_of_four : (a b c d least : ℕ) → least ≡ min (min a b) (min c d)
     → (least ≡ a) ⊎ (least ≡ b) ⊎ (least ≡ c) ⊎ (least ≡ d)
-one_of_four a b c d least e = go (min_is (min a b) (min c d))
-  where
-    front : ((min a b ≡ a) × (a ≤ b)) ⊎ ((min a b ≡ b) × (b < a)) → least ≡ min a b
-        → (least ≡ a) ⊎ (least ≡ b) ⊎ (least ≡ c) ⊎ (least ≡ d)
-    front (inl (m, le)) is = inl (is ∙ m)
-    front (inr (m, less)) is = inr (inl (is ∙ m))
+one_of_four a b c d least e =
+    grind (arith, min_is)
 
-    back : ((min c d ≡ c) × (c ≤ d)) ⊎ ((min c d ≡ d) × (d < c)) → least ≡ min c d
-        → (least ≡ a) ⊎ (least ≡ b) ⊎ (least ≡ c) ⊎ (least ≡ d)
-    back (inl (m, le)) is = inr (inr (inl (is ∙ m)))
-    back (inr (m, less)) is = inr (inr (inr (is ∙ m)))
+-- ---- how wide
 
-    go : ((min (min a b) (min c d) ≡ min a b) × (min a b ≤ min c d))
-        ⊎ ((min (min a b) (min c d) ≡ min c d) × (min c d < min a b))
-        → (least ≡ a) ⊎ (least ≡ b) ⊎ (least ≡ c) ⊎ (least ≡ d)
-    go (inl (m, le)) = front (min_is a b) (e ∙ m)
-    go (inr (m, less)) = back (min_is c d) (e ∙ m)
+pub row-wide : (system : System) (start : ℕ) (halves levels : List Bool) → start + word_length system ≤ width_of system
+    → length halves ≡ 48 → levels ≡ row_of_halves system start halves → length levels ≡ width_of system
+unfolding row_of_halves
+row-wide system start halves levels room many e =
+    let tail : List Bool = replicate (width_of system - (start + word_length system)) false in
+    ap length e
+    ∙ ap (λ (drawn : List Bool). length (replicate start false ++ (drawn ++ tail))) (drawn-with system 0 halves)
+    ∙ row-long (column_of system start) (half_length system) (column-next system start) (width_of system) start
+    (start + word_length system) halves (sym (column-first system start)) (ap (column_of system start) (sym many)) room
+
+pub length-shorter : (system : System) (w start : ℕ) (levels : List Bool) → start + word_length system ≤ width_of system
+    → IsCutShort system w start levels → length levels ≡ width_of system
+length-shorter system w start levels room (inl e) =
+    row-wide system start (begun_later w 2) levels room (one-later-long w) e
+length-shorter system w start levels room (inr (inl e)) =
+    row-wide system start (begun_later w 4) levels room (two-later-long w) e
+length-shorter system w start levels room (inr (inr (inl e))) =
+    row-wide system start (ended_earlier w 2) levels room (one-earlier-long w) e
+length-shorter system w start levels room (inr (inr (inr e))) =
+    row-wide system start (ended_earlier w 4) levels room (two-earlier-long w) e
 
 -- ---- by sums
 
@@ -111,9 +118,7 @@ one_of_four a b c d least e = go (min_is (min a b) (min c d))
 bits-above : (cost : ℕ → Bool → ℕ) (m n w : ℕ) → bits_cost cost m (w / 2 ^ n) ≤ bits_cost cost (m + n) w
 unfolding bits_cost
 bits-above cost m zero w =
-    let q : w / 2 ^ 0 ≡ w = omega arith in
-    let e : m ≡ m + zero = omega arith in
-    omega (arith, ap (bits_cost cost m) q, ap (λ (k : ℕ). bits_cost cost k w) e)
+    grind arith
 bits-above cost m (suc n) w =
     let q : w / 2 / 2 ^ n ≡ w / 2 ^ suc n = shr-shr w 1 n ∙ ap (λ (k : ℕ). w / 2 ^ k) (omega arith) in
     let e : suc (m + n) ≡ m + suc n = omega arith in
@@ -129,10 +134,7 @@ pub first-within : (sums : Shades) (system : System) (start w distance : ℕ)
     → cell_cost sums system start 0 (bit_in_cell w 0) + cell_cost sums system start 1 (bit_in_cell w 1) ≤ distance
 unfolding place_cost bits_cost
 first-within sums system start w distance exact =
-    let cost : ℕ → Bool → ℕ = cell_cost sums system start in
-    let top : w / 2 ^ 22 / 2 ≡ w / 2 ^ 23 = shr-shr w 22 1 in
-    let above : bits_cost cost 2 (w / 2 ^ 22) ≤ bits_cost cost 24 w = bits-above cost 2 22 w in
-    omega (arith, exact, above, ap (λ (v : ℕ). cost 0 (nat_eq (v % 2) 1)) top)
+    grind (arith, shr-shr, bits-above, nat_eq)
 
 pub last-within : (sums : Shades) (system : System) (start w distance : ℕ)
     → place_cost sums system start w ≡ distance
@@ -184,12 +186,7 @@ module _ (costs sums : Shades) (system : System) (both : AreBoth costs sums (wid
         ≡ halves_cost cost 0 (take 44 (halves_of w)) + cost 44 a + cost 45 b + cost 46 c + cost 47 d
     unfolding halves_cost
     last-cost a b c d =
-        let e : 0 + length (take 44 (halves_of w)) ≡ 44 = omega (arith, many-first w) in
-        let split : halves_cost cost 0 (take 44 (halves_of w) ++ (a ∷ b ∷ c ∷ d ∷ []))
-        ≡ halves_cost cost 0 (take 44 (halves_of w)) + halves_cost cost 44 (a ∷ b ∷ c ∷ d ∷ [])
-        = halves_cost-append cost 0 (take 44 (halves_of w)) (a ∷ b ∷ c ∷ d ∷ [])
-        ∙ ap (λ (k : ℕ). halves_cost cost 0 (take 44 (halves_of w)) + halves_cost cost k (a ∷ b ∷ c ∷ d ∷ [])) e in
-        omega (arith, split)
+        grind (arith, many-first, cost, halves_cost-append)
 
     -- a distance with what the half cells cost, as they are and black
     abbrev AreBlack : ℕ → ℕ → Bool → ℕ → ℕ → Type 0
@@ -203,34 +200,14 @@ module _ (costs sums : Shades) (system : System) (both : AreBoth costs sums (wid
         → AreBlack 0 1 (bit_in_cell w 0) distance first → far_cut (begun_later w 2) ≡ first
     unfolding halves_cost
     one-later-far distance first exact is =
-        let row = row-cost (begun_later w 2) (one-later-long w) in
-        omega (
-          arith,
-          exact,
-          is,
-          whole-cost,
-          ap (halves_cost cost 0) (begins-so w),
-          first-cost,
-          row,
-          ap (halves_cost cost 0) (one-later w),
-        )
+        grind (arith, row-cost, one-later-long, whole-cost, cost, begins-so, first-cost, one-later)
 
     two-later-far : (distance first second : ℕ) → place_cost sums system start w ≡ distance
         → AreBlack 0 1 (bit_in_cell w 0) distance first → AreBlack 2 3 (bit_in_cell w 1) first second
         → far_cut (begun_later w 4) ≡ second
     unfolding halves_cost
     two-later-far distance first second exact is are =
-        omega (
-          arith,
-          exact,
-          is,
-          are,
-          whole-cost,
-          ap (halves_cost cost 0) (begins-so w),
-          first-cost,
-          row-cost (begun_later w 4) (two-later-long w),
-          ap (halves_cost cost 0) (two-later w),
-        )
+        grind (arith, whole-cost, cost, begins-so, first-cost, row-cost, two-later-long, two-later)
 
     one-earlier-far : (distance last : ℕ) → place_cost sums system start w ≡ distance
         → AreBlack 46 47 (bit_in_cell w 23) distance last → far_cut (ended_earlier w 2) ≡ last
@@ -272,19 +249,10 @@ module _ (costs sums : Shades) (system : System) (both : AreBoth costs sums (wid
         → AreBlack found.word low high (bit_in_cell found.word cell) distance far
     unfolding cost
     black cell low high l h distance far is =
-        omega (
-          arith,
-          is,
-          ap (λ (s : ℕ). cell_cost sums system s cell (bit_in_cell found.word cell)) at,
-          ap (λ (s : ℕ). black_cost sums system s cell) at,
-          ap (λ (j : ℕ). half_cost sums system start j (not (bit_in_cell found.word cell))) l,
-          ap (λ (j : ℕ). half_cost sums system start j (bit_in_cell found.word cell)) h,
-          ap (λ (j : ℕ). half_cost sums system start j false) l,
-          ap (λ (j : ℕ). half_cost sums system start j false) h,
-        )
+        grind arith
 
     pub least_shorter : (shorter : ℕ) → IsShorterFound sums system found shorter
-        → IsLeastShorter system (distance_from costs 0) found.word start shorter
+        → IsLeastRow (IsCutShort system found.word start) (distance_from costs 0) shorter
     least_shorter shorter (first, second, last, other, a, b, c, d, e) = record { least = least; one = go choices }
       where
         there : place_cost sums system start found.word ≡ found.distance

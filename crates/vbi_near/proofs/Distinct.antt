@@ -1,7 +1,7 @@
 -- The pictures of different words are apart.
-use Rattle.std.proofs.Common.{◌≡◌, ◌≢◌, ℕ, suc, ◌≤◌, ◌<◌, ◌+◌, ◌-◌, ◌*◌, List, [], ◌∷◌, ◌++◌, Bool, true, false}
-use Rattle.std.proofs.Common.{length, map, refl, arith, ap, ap₂, sym, ◌∙◌, subst, Option, ◌⊎◌, inl, inr, suc-mul}
-use Rattle.std.proofs.Common.{append_assoc, append-nil}
+use Rattle.std.proofs.Common.{◌≡◌, ◌≢◌, ℕ, suc, ◌≤◌, ◌<◌, ◌+◌, ◌-◌, ◌*◌, List, [], ◌∷◌, ◌++◌, Bool, true, false, length}
+use Rattle.std.proofs.Common.{map, refl, arith, ap, ap₂, sym, ◌∙◌, subst, Option, ◌⊎◌, inl, inr, suc-mul, append_assoc}
+use Rattle.std.proofs.Common.{append-nil}
 use Rattle.std.specs.Prelude.{Some, None, min}
 use Rattle.std.specs.List.{All}
 use Rattle.std.specs.Int.{abs_diff}
@@ -9,13 +9,11 @@ use Rattle.std.proofs.Math.ListN.{replicate}
 use Rattle.std.proofs.Math.Nat.{add-mul}
 use Rattle.std.proofs.lemmas.Nat.{mul-le}
 use Rattle.std.proofs.lemmas.List.{replicate-append-replicate}
-use Rattle.std.proofs.lemmas.Bool.{cases_lt}
 use Rattle.vbi_words.specs.declared.system.System.{System}
 use Rattle.vbi_words.specs.Geometry.{width_of}
 use Rattle.vbi_words.specs.Levels.{Slicing}
 use Rattle.vbi_words.specs.Words.{IsWord, halves_of}
 use Rattle.vbi_words.specs.Jitter.{differs, differences}
-use Rattle.vbi_words.proofs.Bits
 use Rattle.vbi_words.proofs.Shown.{word_bits}
 use Rattle.vbi_words.proofs.Apart.{differences_sym}
 use Rattle.vbi_near.specs.declared.near.Near.{Near}
@@ -28,6 +26,7 @@ use Rattle.vbi_near.proofs.Certain.{same_or_not}
 use Rattle.vbi_near.proofs.Highs.{highs, differences-append, low-differs, highs-append, bits_levels, bits-high}
 use Rattle.vbi_near.proofs.Highs.{far-apart}
 use Rattle.vbi_near.proofs.Shifted.{within-cell}
+use Rattle.vbi_words.proofs.Bits
 
 -- ---- two words
 
@@ -36,17 +35,8 @@ apart-by : (system : System) (late room : ℕ) (bits more : List Bool) → lengt
     → bits ≢ more → picture_distance system
     ≤ differences (bits_levels system 0 (true ∷ bits) ++ replicate (late + room) false)
     (replicate late false ++ (bits_levels system 0 (true ∷ more) ++ replicate room false))
-apart-by system late room bits more e f differ = go (cases_lt (picture_distance system) late)
-  where
-    x : List Bool
-    x = bits_levels system 0 (true ∷ bits) ++ replicate (late + room) false
-
-    y : List Bool
-    y = replicate late false ++ (bits_levels system 0 (true ∷ more) ++ replicate room false)
-
-    go : (picture_distance system < late) ⊎ (late ≤ picture_distance system) → picture_distance system ≤ differences x y
-    go (inl far) = omega (arith, far-apart system late room bits more (e ∙ sym f) (omega (arith, far)))
-    go (inr near) = within-cell system late room near bits more e f differ
+apart-by system late room bits more e f differ =
+    grind (arith, bits_levels, replicate, far-apart, within-cell)
 
 words_later : (system : System) (s t v w : ℕ) → IsPlace system (Some v) s → IsPlace system (Some w) t → v ≢ w → s ≤ t
     → picture_distance system ≤ differences (picture_of system (Some v) s) (picture_of system (Some w) t)
@@ -79,17 +69,8 @@ words_later system s t v w one two differ later =
 
 words_apart : (system : System) (s t v w : ℕ) → IsPlace system (Some v) s → IsPlace system (Some w) t → v ≢ w
     → picture_distance system ≤ differences (picture_of system (Some v) s) (picture_of system (Some w) t)
-words_apart system s t v w one two differ = go (cases_lt t s)
-  where
-    go : (t < s) ⊎ (s ≤ t)
-        → picture_distance system ≤ differences (picture_of system (Some v) s) (picture_of system (Some w) t)
-    go (inr later) = words_later system s t v w one two differ later
-    go (inl earlier) =
-        omega (
-          arith,
-          words_later system t s w v two one (λ e. differ (sym e)) (omega (arith, earlier)),
-          differences_sym (picture_of system (Some v) s) (picture_of system (Some w) t),
-        )
+words_apart system s t v w one two differ =
+    grind (arith, words_later, differences_sym)
 
 -- ---- a word and none
 
@@ -129,11 +110,7 @@ pub pictures_apart : (system : System) (one other : Option ℕ) (s t : ℕ) → 
 pictures_apart system None None s t p q differ = absurd (differ refl)
 pictures_apart system None (Some w) s t p q differ = none_apart system t w s q
 pictures_apart system (Some v) None s t p q differ =
-    omega (
-      arith,
-      none_apart system s v t p,
-      differences_sym (picture_of system None t) (picture_of system (Some v) s),
-    )
+    grind (arith, none_apart, differences_sym)
 pictures_apart system (Some v) (Some w) s t p q differ = words_apart system s t v w p q (λ e. differ (ap Some e))
 
 -- ---- lines between two drawn rows

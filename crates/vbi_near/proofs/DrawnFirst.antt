@@ -2,10 +2,9 @@
 use Rattle.std.proofs.Common.{◌≡◌, ℕ, zero, suc, ◌≤◌, ◌<◌, ◌+◌, ◌-◌, ◌*◌, List, [], ◌∷◌, ◌++◌, Bool, true, false}
 use Rattle.std.proofs.Common.{length, get_or, refl, arith, ap, sym, subst, ◌∙◌, ◌⊎◌, inl, inr, Option, append_assoc}
 use Rattle.std.specs.Prelude.{Some, None}
-use Rattle.std.proofs.Math.ListN.{replicate}
+use Rattle.std.proofs.Math.ListN.{replicate, get_or-append}
 use Rattle.std.proofs.lemmas.Bool.{cases_lt}
 use Rattle.std.proofs.lemmas.List.{length-replicate, get_or-replicate, get_or-append_right, get_or-map, length-map}
-use Rattle.std.proofs.Math.ListN.{get_or-append}
 use Rattle.vbi_words.specs.declared.system.System.{System}
 use Rattle.vbi_words.specs.declared.system.System.TheVariants.{Ntsc, Pal}
 use Rattle.vbi_words.specs.Geometry.{width_of, start_of}
@@ -20,18 +19,12 @@ use Rattle.vbi_near.proofs.Columns.{length-cells, length-picture}
 
 module _ (system : System) where
   next-boundary : (j : ℕ) → boundary system (suc j) ≡ boundary system j + half_length system j
-  next-boundary j = go system
-    where
-      go : (s : System) → boundary s (suc j) ≡ boundary s j + half_length s j
-      go Ntsc = omega arith
-      go Pal = omega arith
+  next-boundary j =
+      grind arith
 
   later : (i j : ℕ) → i ≤ j → boundary system i ≤ boundary system j
-  later i j l = go system
-    where
-      go : (s : System) → boundary s i ≤ boundary s j
-      go Ntsc = omega arith
-      go Pal = omega arith
+  later i j l =
+      grind arith
 
   -- a column lies in one of these half cells, of which the first is half cell j of its word, and that one is high
   abbrev IsHighIn : List Bool → ℕ → ℕ → Type 0
@@ -52,17 +45,12 @@ module _ (system : System) where
 
     pub first-level : k < half_length system j → get_or (levels_from (h ∷ halves) j after) k false ≡ h
     first-level l =
-        parts
-        ∙ get_or-append (replicate (half_length system j) h) (levels_from halves (suc j) after) false k
-        (omega (arith, length-replicate (half_length system j) h))
-        ∙ get_or-replicate (half_length system j) k h false l
+        grind (arith, parts, get_or-append, replicate, length-replicate, get_or-replicate)
 
     pub later-level : half_length system j ≤ k → get_or (levels_from (h ∷ halves) j after) k false
         ≡ get_or (levels_from halves (suc j) after) (k - half_length system j) false
     later-level l =
-        parts
-        ∙ get_or-append_right (replicate (half_length system j) h) (levels_from halves (suc j) after)
-        (half_length system j) k false (length-replicate (half_length system j) h) l
+        grind (arith, parts, get_or-append_right, replicate, length-replicate)
 
     moved : half_length system j ≤ k
         → boundary system (suc j) + (k - half_length system j) ≡ boundary system j + k
@@ -105,8 +93,7 @@ module _ (system : System) where
       → get_or (levels_from halves j after) k false ≡ true
   high-there [] j after k (i, inside, low, high, at) = absurd (omega arith)
   high-there (h ∷ halves) j after k (zero, inside, low, high, at) =
-      let next : boundary system (j + 0 + 1) ≡ boundary system (suc j) = ap (boundary system) (omega arith) in
-      first-level h halves j after k (omega (arith, next, next-boundary j, high)) ∙ at
+      grind (arith, first-level, next-boundary)
   high-there (h ∷ halves) j after k (suc i, inside, low, high, at) =
       let here : boundary system (j + suc i) ≡ boundary system (suc j + i) = ap (boundary system) (omega arith) in
       let next : boundary system (j + suc i + 1) ≡ boundary system (suc j + i + 1)
@@ -141,56 +128,25 @@ module _ (system : System) (start w : ℕ) where
   pub before-word : (c : ℕ) → c < start → get_or (picture_of system (Some w) start) c false ≡ false
   unfolding picture_of
   before-word c l =
-      get_or-append (replicate start false) (levels_from system (halves_of w) 0 after) false c
-      (omega (arith, length-replicate start false)) ∙ all_low start c
+      grind (arith, get_or-append, replicate, length-replicate, all_low)
 
   pub in-word : (c : ℕ) → start ≤ c → get_or (picture_of system (Some w) start) c false
       ≡ get_or (levels_from system (halves_of w) 0 after) (c - start) false
   unfolding picture_of
   in-word c l =
-      get_or-append_right (replicate start false) (levels_from system (halves_of w) 0 after) start c false
-      (length-replicate start false) l
+      grind (arith, get_or-append_right, replicate, length-replicate)
 
 module _ (system : System) (slicing : Slicing) (w : ℕ) where
   abbrev picture : List Bool
   picture = picture_of system (Some w) (start_of system)
 
-  abbrev behind : ℕ
-  behind = after system (start_of system) w
-
   from-picture : (c : ℕ) → get_or picture c false ≡ true → IsDrawnHigh system w c
-  from-picture c high = go (cases_lt c (start_of system))
-    where
-      go : (c < start_of system) ⊎ (start_of system ≤ c) → IsDrawnHigh system w c
-      go (inl less) = absurd (let low = before-word system (start_of system) w c less in cc)
-      go (inr le) =
-          let found = high-in system (halves_of w) 0 behind (c - start_of system)
-          (sym (in-word system (start_of system) w c le) ∙ high) in
-          let same : boundary system 0 + (c - start_of system) ≡ c = omega (arith, first-start system) in
-          let here : boundary system (0 + found.0) ≡ boundary system found.0 = ap (boundary system) (omega arith) in
-          let next : boundary system (0 + found.0 + 1) ≡ boundary system (found.0 + 1)
-          = ap (boundary system) (omega arith) in (
-            found.0,
-            omega (arith, found.1, length-halves w),
-            omega (arith, here, same, found.2),
-            omega (arith, next, same, found.3),
-            found.4,
-          )
+  from-picture c high =
+      grind (arith, before-word, high-in, in-word, first-start, length-halves)
 
   to-picture : (c : ℕ) → IsDrawnHigh system w c → get_or picture c false ≡ true
-  to-picture c (j, inside, low, high, at) =
-      let le : start_of system ≤ c = omega (arith, first-start system, later system 0 j (omega arith), low) in
-      let same : boundary system 0 + (c - start_of system) ≡ c = omega (arith, first-start system) in
-      let here : boundary system (0 + j) ≡ boundary system j = ap (boundary system) (omega arith) in
-      let next : boundary system (0 + j + 1) ≡ boundary system (j + 1) = ap (boundary system) (omega arith) in
-      in-word system (start_of system) w c le
-      ∙ high-there system (halves_of w) 0 behind (c - start_of system) (
-        j,
-        omega (arith, inside, length-halves w),
-        omega (arith, here, same, low),
-        omega (arith, next, same, high),
-        at,
-      )
+  to-picture c h1 =
+      grind (arith, first-start, later, in-word, high-there, length-halves)
 
   sample-at : (c : ℕ) (level : Bool) → get_or picture c false ≡ level
       → IsDrawnSample system slicing (Some w) c (sample_of slicing level)
@@ -214,8 +170,7 @@ pub drawn_first : (system : System) (slicing : Slicing) (word : Option ℕ) → 
     → drawn_as slicing (picture_of system word (start_of system)) ≡ drawn_row_of system slicing word
 unfolding picture_of
 drawn_first system slicing None is =
-    row-drawn system slicing None (length-replicate (width_of system) false)
-    (λ c l. ap (sample_of slicing) (all_low (width_of system) c))
+    grind (arith, row-drawn, length-replicate, all_low)
 drawn_first system slicing (Some w) is =
     row-drawn system slicing (Some w) (length-picture system (Some w) (start_of system) (is, first-place system))
     (λ c l. sample-at system slicing w c _ refl)

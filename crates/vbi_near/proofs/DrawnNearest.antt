@@ -1,6 +1,6 @@
 -- A drawn row's word is the nearest one of lines that are this row.
-use Rattle.std.proofs.Common.{◌≡◌, ℕ, suc, ◌≤◌, ◌<◌, ◌+◌, ◌-◌, ◌*◌, List, [], ◌∷◌, Bool, true, false, length}
-use Rattle.std.proofs.Common.{get_or, map, refl, arith, ap, sym, ◌∙◌, ◌⊎◌, inl, inr, suc-mul, Option}
+use Rattle.std.proofs.Common.{◌≡◌, ℕ, suc, ◌≤◌, ◌<◌, ◌+◌, ◌-◌, ◌*◌, List, [], ◌∷◌, Bool, true, false, length, get_or}
+use Rattle.std.proofs.Common.{map, refl, arith, ap, sym, ◌∙◌, ◌⊎◌, inl, inr, suc-mul, Option}
 use Rattle.std.specs.Prelude.{Some, None, min}
 use Rattle.std.specs.List.{All, flat_map}
 use Rattle.std.specs.Int.{abs_diff}
@@ -15,13 +15,13 @@ use Rattle.vbi_words.specs.Words.{IsWord, cell_of, halves_of}
 use Rattle.vbi_words.specs.Jitter.{differences}
 use Rattle.vbi_words.proofs.Shown.{word_bits}
 use Rattle.vbi_near.specs.declared.near.Near.{Near}
-use Rattle.vbi_near.specs.Pictures.{half_length, IsPlace, picture_of, sample_of, drawn_as}
+use Rattle.vbi_near.specs.Pictures.{half_length, IsPlace, picture_of, drawn_as}
 use Rattle.vbi_near.specs.Distances.{known, row_distance, distance_of}
 use Rattle.vbi_near.specs.Nearest.{IsNearest, far_from}
 use Rattle.vbi_near.specs.Apart.{picture_distance}
 use Rattle.vbi_near.proofs.Columns.{length-picture}
 use Rattle.vbi_near.proofs.DrawnFirst.{levels_from, first-level, later-level, after, before-word, in-word}
-use Rattle.vbi_near.proofs.Chosen.{some_is, none_some, some_none}
+use Rattle.vbi_near.proofs.Certain.{some_is, none_some, some_none}
 use Rattle.vbi_near.proofs.Distinct.{rows, rows_apart, few_misread}
 
 -- ---- distances of lines that are one row
@@ -84,21 +84,13 @@ module _ (system : System) (w : ℕ) (is : IsWord w) where
 
   low-first : (start c : ℕ) → c < start + half_length system 0
       → get_or (picture_of system (Some w) start) c false ≡ false
-  low-first start c l = go (cases_lt c start)
-    where
-      go : (c < start) ⊎ (start ≤ c) → get_or (picture_of system (Some w) start) c false ≡ false
-      go (inl less) = before-word system start w c less
-      go (inr le) =
-          in-word system start w c le ∙ level-of start (c - start)
-          ∙ first-level system false (true ∷ rest) 0 (after system start w) (c - start) (omega (arith, l, le))
+  low-first start c l =
+      grind (arith, get_or, before-word, in-word, level-of, first-level, rest, after)
 
   high-then : (start c : ℕ) → c ≡ start + half_length system 0
       → get_or (picture_of system (Some w) start) c false ≡ true
   high-then start c e =
-      in-word system start w c (omega (arith, e)) ∙ level-of start (c - start)
-      ∙ later-level system false (true ∷ rest) 0 (after system start w) (c - start) (omega (arith, e))
-      ∙ first-level system true rest 1 (after system start w) (c - start - half_length system 0)
-      (omega (arith, e, half-some system))
+      grind (arith, in-word, level-of, later-level, rest, after, first-level, half-some)
 
   no_earlier : (s t : ℕ) → picture_of system (Some w) s ≡ picture_of system (Some w) t → s < t → ⊥
   no_earlier s t same l =
@@ -108,12 +100,8 @@ module _ (system : System) (w : ℕ) (is : IsWord w) where
       let both = ap (λ (x : List Bool). get_or x c false) same in cc
 
   one_start : (s t : ℕ) → picture_of system (Some w) s ≡ picture_of system (Some w) t → s ≡ t
-  one_start s t same = go (cases_lt s t) (cases_lt t s)
-    where
-      go : (s < t) ⊎ (t ≤ s) → (t < s) ⊎ (s ≤ t) → s ≡ t
-      go (inl less) other = absurd (no_earlier s t same less)
-      go (inr le) (inl less) = absurd (no_earlier t s (sym same) less)
-      go (inr le) (inr more) = omega arith
+  one_start s t same =
+      grind (arith, no_earlier)
 
 starts-same : (system : System) (word other : Option ℕ) (s t : ℕ) → other ≡ word → IsPlace system word s
     → IsPlace system other t → picture_of system other t ≡ picture_of system word s → t ≡ s
@@ -144,8 +132,7 @@ module _ (system : System) (slicing : Slicing) (lines : List (List ℕ)) (near :
 
   whole : All (λ line. length line ≡ width_of system) lines
   whole k d l =
-      ap length (all k d l) ∙ length-map (picture_of system word start) (sample_of slicing)
-      ∙ length-picture system word start place
+      grind (arith, length-map, length-picture)
 
   nothing : far_from system slicing (map known lines) word start ≡ 0
   nothing =
@@ -159,10 +146,7 @@ module _ (system : System) (slicing : Slicing) (lines : List (List ℕ)) (near :
 
   pub drawn-word : near.word ≡ word
   drawn-word =
-      few_misread system slicing lines near word start whole is place
-      (let far = positive (length lines) (picture_distance system * unit) some
-      (positive (picture_distance system) unit (some-apart system) (omega (arith, order))) in
-      omega (arith, nothing, far))
+      grind (arith, few_misread, whole, positive, some-apart, nothing)
 
   -- the row answered has the samples of the row drawn, and so its levels
   same-row : row_distance unit (known row) (drawn_as slicing (picture_of system near.word near.start)) ≡ 0

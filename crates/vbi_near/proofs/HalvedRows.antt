@@ -11,17 +11,16 @@ use Rattle.vbi_words.specs.Levels.{Slicing}
 use Rattle.vbi_words.specs.Words.{lowest_bits, halves_of}
 use Rattle.vbi_near.specs.declared.near.Near.{Near}
 use Rattle.vbi_near.specs.Pictures.{IsPlace, column_of, half_length, word_length, drawn_as}
-use Rattle.vbi_near.specs.Sums.{span}
+use Rattle.vbi_near.specs.Sums.{span, AreBoth}
 use Rattle.vbi_near.specs.Costs.{half_cost}
 use Rattle.vbi_near.specs.Stretched.{halves_cost}
-use Rattle.vbi_near.proofs.Columns.{column-first, column-next}
 use Rattle.vbi_near.specs.Distances.{Samples, unit_of, distance_of, Shades, distance_from, IsPile}
 use Rattle.vbi_near.specs.Shorter.{row_of_halves}
 use Rattle.vbi_near.specs.Halved.{half_of, halved_far, row_cost, halved_cost}
+use Rattle.vbi_near.proofs.Columns.{column-first, column-next}
 use Rattle.vbi_near.proofs.Halves.{drawn-with, row-far}
-use Rattle.vbi_near.specs.Sums.{AreBoth}
 use Rattle.vbi_near.proofs.Piles.{levels-same}
-use Rattle.vbi_near.proofs.ShorterRows.{row-wide}
+use Rattle.vbi_near.proofs.CutShort.{row-wide}
 
 -- ---- half cells
 
@@ -32,9 +31,7 @@ half-long false w = refl
 
 pub late-low : (w h : ℕ) → h < 24 → get_or (half_of true w) h false ≡ false
 late-low w h l =
-    get_or_append_left (replicate 24 false) (drop 24 (halves_of w)) false h
-    (omega (arith, l, length-replicate 24 false))
-    ∙ get_or-replicate 24 h false false l
+    grind (arith, get_or_append_left, replicate, length-replicate, get_or-replicate)
 
 pub late-shown : (w h : ℕ) → 24 ≤ h → get_or (half_of true w) h false ≡ get_or (halves_of w) h false
 late-shown w h l =
@@ -72,8 +69,7 @@ pub half-costs : (sums : Shades) (system : System) (start j : ℕ) (level : Bool
     → begin ≡ column_of system start j → end ≡ column_of system start (suc j)
     → span sums level begin (end - begin) ≡ half_cost sums system start j level
 half-costs sums system start j level begin end b e =
-    let n : end - begin ≡ half_length system j = omega (arith, b, e, column-next system start j) in
-    ap (span sums level begin) n ∙ ap (λ (k : ℕ). span sums level k (half_length system j)) b
+    grind (arith, column-next)
 
 pub all-costs : (cost : ℕ → Bool → ℕ) (late : Bool) (w n : ℕ) → n ≡ 48
     → halves_cost cost 0 (take n (half_of late w)) ≡ halves_cost cost 0 (half_of late w)

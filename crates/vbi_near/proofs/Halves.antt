@@ -1,14 +1,13 @@
 -- How far lines are from half cells of any lengths, and from a row on which they are drawn.
-use Rattle.std.proofs.Common.{◌≡◌, ℕ, suc, zero, ◌≤◌, ◌+◌, ◌-◌, List, [], ◌∷◌, ◌++◌, Bool, false, length}
-use Rattle.std.proofs.Common.{refl, arith, ap}
+use Rattle.std.proofs.Common.{◌≡◌, ℕ, suc, zero, ◌≤◌, ◌+◌, ◌-◌, List, [], ◌∷◌, ◌++◌, Bool, false, length, refl, arith}
+use Rattle.std.proofs.Common.{ap}
 use Rattle.std.proofs.Math.ListN.{replicate}
 use Rattle.std.proofs.lemmas.List.{length-append, length-replicate}
 use Rattle.vbi_words.specs.declared.system.System.{System}
 use Rattle.vbi_near.specs.Pictures.{half_length, drawn_halves}
 use Rattle.vbi_near.specs.Distances.{Shades, distance_from}
-use Rattle.vbi_near.specs.Sums.{span}
+use Rattle.vbi_near.specs.Sums.{span, AreBoth}
 use Rattle.vbi_near.specs.Stretched.{halves_with, halves_cost}
-use Rattle.vbi_near.specs.Sums.{AreBoth}
 use Rattle.vbi_near.proofs.Distances.{distance-append, distance-run}
 
 -- the half cells of a drawn word have the lengths of its half cells
@@ -23,9 +22,7 @@ pub halves_cost-append : (cost : ℕ → Bool → ℕ) (j : ℕ) (a b : List Boo
     → halves_cost cost j (a ++ b) ≡ halves_cost cost j a + halves_cost cost (j + length a) b
 unfolding halves_cost
 halves_cost-append cost j [] b =
-    let e : j ≡ j + 0 = omega arith in
-    let same : halves_cost cost j b ≡ halves_cost cost (j + 0) b = ap (λ (k : ℕ). halves_cost cost k b) e in
-    omega (arith, same)
+    grind arith
 halves_cost-append cost j (x ∷ a) b =
     let e : suc j + length a ≡ j + suc (length a) = omega arith in
     let same : halves_cost cost (suc j + length a) b ≡ halves_cost cost (j + suc (length a)) b
@@ -37,8 +34,7 @@ halves_cost-append cost j (x ∷ a) b =
 module _ (at columns : ℕ → ℕ) (next : (j : ℕ) → at j + columns j ≡ at (suc j)) where
   pub rises-by : (j n : ℕ) → at j ≤ at (j + n)
   rises-by j zero =
-      let e : j ≡ j + zero = omega arith in
-      omega (arith, ap at e)
+      grind arith
   rises-by j (suc n) =
       let e : suc (j + n) ≡ j + suc n = omega arith in
       omega (arith, rises-by j n, next (j + n), ap at e)
@@ -47,8 +43,7 @@ module _ (at columns : ℕ → ℕ) (next : (j : ℕ) → at j + columns j ≡ a
       → at j + length (halves_with columns j halves) ≡ at (j + length halves)
   unfolding halves_with
   halves-long j [] =
-      let e : j ≡ j + 0 = omega arith in
-      omega (arith, ap at e)
+      grind arith
   halves-long j (half ∷ halves) =
       let e : suc j + length halves ≡ j + suc (length halves) = omega arith in
       omega (
@@ -64,17 +59,7 @@ module _ (at columns : ℕ → ℕ) (next : (j : ℕ) → at j + columns j ≡ a
   pub row-long : (width start end : ℕ) (halves : List Bool) → start ≡ at 0 → end ≡ at (length halves) → end ≤ width
       → length (replicate start false ++ (halves_with columns 0 halves ++ replicate (width - end) false)) ≡ width
   row-long width start end halves first last room =
-      let D : List Bool = halves_with columns 0 halves in
-      let z : 0 + length halves ≡ length halves = omega arith in
-      omega (
-        arith,
-        length-append (replicate start false) (D ++ replicate (width - end) false),
-        length-append D (replicate (width - end) false),
-        length-replicate start false,
-        length-replicate (width - end) false,
-        halves-long 0 halves,
-        ap at z,
-      )
+      grind (arith, length-append, replicate, length-replicate, halves-long)
 
   module _ (costs sums : Shades) (width : ℕ) (both : AreBoth costs sums width) where
     -- what a half cell of this level costs

@@ -58,19 +58,13 @@ bits_levels system j bits = drawn_halves system j (flat_map cell_of bits)
 
 pub length-cell : (system : System) (j : ℕ) (bit : Bool) → length (cell_levels system j bit) ≡ cell_columns system j
 length-cell system j bit =
-    omega (
-      arith,
-      length-append (replicate (half_length system j) (not bit)) (replicate (half_length system (suc j)) bit),
-      length-replicate (half_length system j) (not bit),
-      length-replicate (half_length system (suc j)) bit,
-    )
+    grind (arith, length-append, replicate, length-replicate)
 
 pub bits-begin : (system : System) (j : ℕ) (bit : Bool) (bits : List Bool)
     → bits_levels system j (bit ∷ bits) ≡ cell_levels system j bit ++ bits_levels system (suc (suc j)) bits
 unfolding drawn_halves
 bits-begin system j bit bits =
-    sym (append_assoc (replicate (half_length system j) (not bit)) (replicate (half_length system (suc j)) bit)
-    (bits_levels system (suc (suc j)) bits))
+    grind (arith, append_assoc, replicate)
 
 -- bits as many have columns as many
 pub as-long : (system : System) (j : ℕ) (bits more : List Bool) → length bits ≡ length more
@@ -103,19 +97,9 @@ cell-long Pal j = (omega arith, omega arith)
 -- one half cell of a cell is high
 pub cell-high : (system : System) (j : ℕ) (bit : Bool) → half_least system ≤ highs (cell_levels system j bit)
 cell-high system j true =
-    omega (
-      arith,
-      highs-append (replicate (half_length system j) false) (replicate (half_length system (suc j)) true),
-      highs-run (half_length system (suc j)),
-      half-long system (suc j),
-    )
+    grind (arith, highs-append, replicate, highs-run, half-long)
 cell-high system j false =
-    omega (
-      arith,
-      highs-append (replicate (half_length system j) true) (replicate (half_length system (suc j)) false),
-      highs-run (half_length system j),
-      half-long system j,
-    )
+    grind (arith, highs-append, replicate, highs-run, half-long)
 
 -- the first cell, which is a one, and one half cell more are high in as many columns as a cell has
 pub first-high : (system : System)

@@ -1,7 +1,7 @@
 -- The nearest word of a range at one start.
-use Rattle.std.proofs.Common.{◌≡◌, ◌≢◌, ℕ, ◌≤◌, ◌<◌, ◌+◌, ◌-◌, ◌^◌, min}
-use Rattle.std.proofs.Common.{◌⊎◌, inl, inr, refl, arith, ap, sym, subst, ◌∙◌}
-use Rattle.std.proofs.lemmas.Bool.{cases_eq, cases_lt}
+use Rattle.std.proofs.Common.{◌≡◌, ◌≢◌, ℕ, ◌≤◌, ◌<◌, ◌+◌, ◌-◌, ◌^◌, min, ◌⊎◌, inl, inr, refl, arith, ap, sym, subst}
+use Rattle.std.proofs.Common.{◌∙◌}
+use Rattle.std.proofs.lemmas.Bool.{cases_lt}
 use Rattle.vbi_words.specs.Words.{IsWord}
 use Rattle.vbi_words.specs.Codes.{digit_of, IsBetween}
 use Rattle.vbi_near.specs.declared.bits.Bits.{Bits}
@@ -73,11 +73,8 @@ module _ (least greatest : ℕ) (is_range : IsRange least greatest) where
     there s w (e, inside) = ap (λ (k : ℕ). cost k w) e ∙ priced w inside.0
 
     cheapest : (w : ℕ) → Are w → best.distance ≤ digits_cost table base 6 w
-    cheapest w are = go (cases_eq w best.word)
-      where
-        go : (w ≡ best.word) ⊎ (w ≡ best.word → ⊥) → best.distance ≤ digits_cost table base 6 w
-        go (inl e) = omega (arith, is.exact, ap (digits_cost table base 6) e)
-        go (inr other) = omega (arith, is.ahead w are other)
+    cheapest w are =
+        grind arith
 
     pub in_range_is : (rival : ℕ) → rival ≡ min (best.distance + best.margin) 4294967295 → best.distance < 2 ^ 31
         → IsLead cost (at_start start (range least greatest)) (record {

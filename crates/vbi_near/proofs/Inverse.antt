@@ -3,9 +3,9 @@
 use Rattle.std.proofs.Common.{◌≡◌, ℕ, ◌≤◌, ◌<◌, ◌+◌, ◌-◌, ◌*◌, ◌/◌, ◌⊎◌, inl, inr, min, arith, ap, sym, ◌∙◌, subst}
 use Rattle.std.proofs.lemmas.Bool.{cases_lt}
 use Rattle.std.proofs.lemmas.Nat.{le-div}
-use Rattle.std.proofs.Math.Nat.{mul-le-mul_left, mul-le-mul_right, le_of_mul-le-mul_right}
-use Rattle.std.proofs.Math.Nat.{lt_of_mul-lt-mul_right, div-mul-le_self, lt-div-mul-add, div-eq_of_lt-le}
-use Rattle.std.proofs.Math.Nat.{div-le_of_le-mul, mul-div_cancel, add-mul-div_right}
+use Rattle.std.proofs.Math.Nat.{mul-le-mul_left, mul-le-mul_right, le_of_mul-le-mul_right, lt_of_mul-lt-mul_right}
+use Rattle.std.proofs.Math.Nat.{div-mul-le_self, lt-div-mul-add, div-eq_of_lt-le, div-le_of_le-mul, mul-div_cancel}
+use Rattle.std.proofs.Math.Nat.{add-mul-div_right}
 
 below : (k s m x q : ℕ) → 0 < k → m * s ≤ k → q * k ≤ x * m → q * s ≤ x
 below k s m x q some less is =
@@ -43,18 +43,8 @@ quotient_low q s x low high = div-eq_of_lt-le s low high
 
 -- a dividend that is cut has the quotient cut
 pub quotient_cut : (x s most : ℕ) → 0 < s → min x (most * s) / s ≡ min (x / s) most
-quotient_cut x s most some = go (cases_lt (most * s) x)
-  where
-    go : (most * s < x) ⊎ (x ≤ most * s) → min x (most * s) / s ≡ min (x / s) most
-    go (inl more) =
-        let e : min x (most * s) ≡ most * s = omega arith in
-        let least : most ≤ x / s = le-div most x s some (omega arith) in
-        ap (λ (n : ℕ). n / s) e ∙ mul-div_cancel most some ∙ omega (arith, least)
-    go (inr less) =
-        let e : min x (most * s) ≡ x = omega arith in
-        let few : x ≤ s * most = omega (arith, less) in
-        let greatest : x / s ≤ most = div-le_of_le-mul s few in
-        ap (λ (n : ℕ). n / s) e ∙ omega (arith, greatest)
+quotient_cut x s most some =
+    grind (arith, le-div, mul-div_cancel, div-le_of_le-mul)
 
 -- the product that is divided stays below 2 ^ 64
 pub product_fits : (k s x most : ℕ) → x ≤ most * s → x * (k / s) ≤ most * k

@@ -1,13 +1,12 @@
 -- A line that has a word of pass 1, or is blank, is shown as it was read.
-use Rattle.std.proofs.Common.{◌≡◌, ℕ, Bool, true, false, refl, sym, ap, ◌∙◌, subst, arith}
+use Rattle.std.proofs.Common.{◌≡◌, ℕ, Bool, true, false, refl, arith}
 use Rattle.std.specs.Prelude.{if◌then◌else◌}
 use Rattle.vbi_words.specs.declared.outcome.Outcome.{Outcome}
 use Rattle.vbi_words.specs.declared.outcome.Outcome.TheVariants.{Word, Blank, Unfinished, Change, Hold}
 use Rattle.vbi_words.specs.declared.outcome.Reading.{Reading}
 use Rattle.vbi_near.specs.declared.recovery.Recovered.{Recovered}
 use Rattle.vbi_near.specs.Candidates.{Candidates}
-use Rattle.vbi_near.specs.Recovery.{Seen, Stands, IsSureBy, own_by, own_of, is_open, is_confirmed, shown_in, said_by}
-use Rattle.vbi_near.specs.Recovery.{recovered_as}
+use Rattle.vbi_near.specs.Recovery.{Seen, Stands, IsSureBy, own_by, is_open, shown_in}
 use Rattle.vbi_near.proofs.OneSeen.{word_own}
 
 -- by its own levels it shows what was read
@@ -37,13 +36,4 @@ pub sure-shown : (stands : Stands) (unit : ℕ) (seen : Seen) (both : Candidates
     → seen.reading ≡ reading → IsSureBy reading.outcome reading.pass
     → shown_in stands unit seen both ≡ record { outcome = reading.outcome; pass = reading.pass }
 sure-shown stands unit seen both reading e sure =
-    let was : IsSureBy seen.reading.outcome seen.reading.pass =
-    subst (λ (r : Reading). IsSureBy r.outcome r.pass) (sym e) sure in
-    let own = sure-own seen.reading.outcome seen.reading.pass seen.plain
-    (is_confirmed unit seen.near seen.stretched) was in
-    let closed : is_open (own_of unit seen).outcome ≡ false =
-    ap (λ (o : Recovered). is_open o.outcome) own ∙ sure-closed seen.reading.outcome seen.reading.pass was in
-    when-not (is_open (own_of unit seen).outcome)
-    (recovered_as (own_of unit seen) (said_by stands unit seen.near both)) (own_of unit seen) closed
-    ∙ own
-    ∙ (λ j. record { outcome = (e j).outcome; pass = (e j).pass })
+    grind (arith, sure-own, sure-closed, when-not)

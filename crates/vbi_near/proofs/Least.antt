@@ -88,11 +88,8 @@ module _ (f : ℕ → ℕ) (P : ℕ → Type 0) (tells : (k : ℕ) → P k ⊎ (
 
   -- where one holds
   pub found : (n k : ℕ) → k ≤ n → P k → Least f P n
-  found n k le p = go (find n)
-    where
-      go : Least f P n ⊎ ((k : ℕ) → k ≤ n → P k → ⊥) → Least f P n
-      go (inl l) = l
-      go (inr none) = absurd (none k le p)
+  found n k le p =
+      grind (arith, find)
 
 -- ---- what can be told
 
@@ -109,23 +106,13 @@ both_told P Q (inr not) told = inr (λ pair. not pair.0)
 pub either_told : (P Q : Type 0) → IsTold P → IsTold Q → IsTold (P ⊎ Q)
 either_told P Q (inl p) told = inl (inl p)
 either_told P Q (inr not) (inl q) = inl (inr q)
-either_told P Q (inr not) (inr nor) = inr (λ one. go one)
-  where
-    go : P ⊎ Q → ⊥
-    go (inl p) = not p
-    go (inr q) = nor q
-
-pub not_told : (P : Type 0) → IsTold P → IsTold (P → ⊥)
-not_told P (inl p) = inr (λ not. not p)
-not_told P (inr not) = inl not
+either_told P Q (inr not) (inr nor) =
+    grind arith
 
 -- of an order
 pub at_most_told : (a b : ℕ) → IsTold (a ≤ b)
-at_most_told a b = go (cases_lt b a)
-  where
-    go : (b < a) ⊎ (a ≤ b) → IsTold (a ≤ b)
-    go (inl less) = inr (λ le. omega arith)
-    go (inr le) = inl le
+at_most_told a b =
+    grind arith
 
 -- of all numbers below n
 pub all_told : (P : ℕ → Type 0) → ((k : ℕ) → IsTold (P k)) → (n : ℕ) → IsTold ((k : ℕ) → k < n → P k)

@@ -1,6 +1,5 @@
 -- The least distance at some rates and starts, from one to all.
-use Rattle.std.proofs.Common.{◌≡◌, ℕ, suc, ◌≤◌, ◌<◌, ◌+◌, List, length, min}
-use Rattle.std.proofs.Common.{arith, ap, sym, ◌∙◌, ◌⊎◌, inl, inr, refl}
+use Rattle.std.proofs.Common.{◌≡◌, ℕ, suc, ◌≤◌, ◌<◌, ◌+◌, List, length, min, arith, ap, sym, ◌∙◌, ◌⊎◌, inl, inr, refl}
 use Rattle.std.proofs.Math.Nat.{min-le_left, min-le_right}
 use Rattle.std.proofs.lemmas.Bool.{cases_lt}
 use Rattle.vbi_words.specs.declared.system.System.{System}
@@ -10,11 +9,10 @@ use Rattle.vbi_words.specs.Words.{halves_of}
 use Rattle.vbi_near.specs.Pictures.{drawn_as}
 use Rattle.vbi_near.specs.Distances.{Samples, unit_of, distance_of, Shades, distance_from, IsPile}
 use Rattle.vbi_near.specs.Stretched.{stretched_offset, stretched_half, stretched_length, stretched_picture}
-use Rattle.vbi_near.specs.Stretched.{stretched_row_cost, IsLeastAt, IsStretched, IsAtRate}
-use Rattle.vbi_near.specs.Stretched.{IsStartBefore, IsRateBefore}
+use Rattle.vbi_near.specs.Stretched.{stretched_row_cost, IsLeastAt, IsStretched, IsAtRate, IsStartBefore, IsRateBefore}
+use Rattle.vbi_near.specs.Sums.{AreBoth}
 use Rattle.vbi_near.proofs.BestBits.{min_is}
 use Rattle.vbi_near.proofs.CutShort.{many-halves}
-use Rattle.vbi_near.specs.Sums.{AreBoth}
 use Rattle.vbi_near.proofs.Halves.{row-far, row-long}
 use Rattle.vbi_near.proofs.Piles.{levels-same}
 use Rattle.vbi_near.proofs.Stretches.{offset-first, offset-next}
@@ -57,12 +55,6 @@ alone-least far at start distance e = record {
   one = (at, start, (refl, refl), sym e);
 }
 
-pub first-start : (far : ℕ → ℕ → ℕ) (at distance : ℕ) → distance ≡ far at 0
-    → IsLeastAt (IsStartBefore at 1) far distance
-first-start far at distance e =
-    same-least (IsAlone at 0) (IsStartBefore at 1) far distance (λ r s there. (there.0, omega arith))
-    (λ r s there. (there.0, omega arith)) (alone-least far at 0 distance e)
-
 pub start-more : (far : ℕ → ℕ → ℕ) (at start a b : ℕ) → IsLeastAt (IsStartBefore at start) far a → b ≡ far at start
     → IsLeastAt (IsStartBefore at (start + 1)) far (min a b)
 start-more far at start a b is e =
@@ -82,17 +74,14 @@ pub all-starts : (system : System) (far : ℕ → ℕ → ℕ) (at end distance 
     → end + stretched_length system at ≡ width_of system + 1 → IsLeastAt (IsStartBefore at end) far distance
     → IsLeastAt (IsAtRate system at) far distance
 all-starts system far at end distance e is =
-    same-least (IsStartBefore at end) (IsAtRate system at) far distance
-    (λ r s there. (there.0, omega (arith, e, there.1, ap (stretched_length system) there.0)))
-    (λ r s there. (there.0, omega (arith, e, there.1, ap (stretched_length system) there.0))) is
+    grind (arith, same-least)
 
 -- ---- rates
 
 pub first-rate : (system : System) (far : ℕ → ℕ → ℕ) (distance : ℕ) → IsLeastAt (IsAtRate system 98) far distance
     → IsLeastAt (IsRateBefore system 99) far distance
 first-rate system far distance is =
-    same-least (IsAtRate system 98) (IsRateBefore system 99) far distance (λ r s there. (omega arith, there.2))
-    (λ r s there. (omega arith, omega arith, there.1)) is
+    grind (arith, same-least)
 
 pub rate-more : (system : System) (far : ℕ → ℕ → ℕ) (at a b : ℕ) → 98 ≤ at → IsLeastAt (IsRateBefore system at) far a
     → IsLeastAt (IsAtRate system at) far b → IsLeastAt (IsRateBefore system (at + 1)) far (min a b)

@@ -1,18 +1,17 @@
 -- A line at another level: what it is levelled to stays.
-use Rattle.std.proofs.Common.{◌≡◌, ℕ, suc, zero, ◌≤◌, ◌<◌, ◌+◌, ◌-◌, ◌*◌, ◌/◌, List, [], ◌∷◌, true, false, length}
-use Rattle.std.proofs.Common.{◌⊎◌, inl, inr, get_or, take, drop, map, arith, ap, ◌∙◌, refl}
-use Rattle.std.specs.Prelude.{nat_le}
+use Rattle.std.proofs.Common.{◌≡◌, ℕ, suc, zero, ◌≤◌, ◌<◌, ◌+◌, ◌*◌, ◌/◌, List, [], ◌∷◌, length, get_or, map, arith, ap}
+use Rattle.std.proofs.Common.{◌∙◌, refl}
 use Rattle.std.specs.List.{sum, range_with_len}
 use Rattle.std.specs.Int.{abs_diff}
-use Rattle.std.proofs.lemmas.Bool.{cases_lt, le-leb, lt-leb}
+use Rattle.std.proofs.lemmas.Bool.{le-leb, lt-leb}
 use Rattle.std.proofs.lemmas.List.{take-map, drop-map, get_or-map, length-take-le, length-drop}
 use Rattle.std.proofs.lemmas.List.Sums.{sum_by-cons}
 use Rattle.vbi_words.specs.declared.system.System.{System}
 use Rattle.vbi_words.specs.declared.system.System.TheVariants.{Ntsc, Pal}
 use Rattle.vbi_words.specs.Geometry.{width_of}
 use Rattle.vbi_words.specs.Levels.{Slicing}
-use Rattle.vbi_near.specs.Levelled.{window_of, first_of, columns_of, window_start, window_sum, sum_from, off_mean}
-use Rattle.vbi_near.specs.Levelled.{off_in, swing_of, levelled_sample, levelled_at, levelled}
+use Rattle.vbi_near.specs.Levelled.{window_of, first_of, columns_of, window_sum, sum_from, off_mean, off_in, swing_of}
+use Rattle.vbi_near.specs.Levelled.{levelled_sample, levelled_at, levelled}
 use Rattle.vbi_near.specs.WorkedLevels.{raised}
 use Rattle.vbi_near.proofs.Levelling.{window_inside}
 
@@ -29,27 +28,18 @@ sum-raised d (s ∷ samples) =
 part-raised : (d : ℕ) (samples : List ℕ) (i n : ℕ) → i + n ≤ length samples
     → sum_from (raised d samples) i n ≡ sum_from samples i n + n * d
 part-raised d samples i n inside =
-    let f : ℕ → ℕ = λ s. s + d in
-    let long : length (take n (drop i samples)) ≡ n
-    = length-take-le n (drop i samples) (omega (arith, length-drop i samples)) in
-    ap (λ (l : List ℕ). sum (take n l)) (drop-map f i samples)
-    ∙ ap (λ (l : List ℕ). sum l) (take-map f n (drop i samples))
-    ∙ sum-raised d (take n (drop i samples))
-    ∙ ap (λ (k : ℕ). sum_from samples i n + k * d) long
+    grind (arith, length-take-le, length-drop, drop-map, take-map, sum-raised)
 
 window-raised : (system : System) (d : ℕ) (samples : List ℕ) (column : ℕ) → length samples ≡ width_of system
     → window_sum system (raised d samples) column ≡ window_sum system samples column + window_of system * d
 window-raised system d samples column long =
-    part-raised d samples (window_start system column) (window_of system)
-    (omega (arith, long, window_inside system column))
+    grind (arith, part-raised, window_inside)
 
 own-raised : (system : System) (d : ℕ) (samples : List ℕ) (column : ℕ) → column < length samples
     → window_of system * get_or (raised d samples) column 0
     ≡ window_of system * get_or samples column 0 + window_of system * d
 own-raised system d samples column inside =
-    let e : get_or (raised d samples) column 0 ≡ get_or samples column 0 + d
-    = get_or-map (λ (s : ℕ). s + d) samples column 0 0 inside in
-    ap (λ (k : ℕ). window_of system * k) e ∙ omega arith
+    grind (arith, get_or, get_or-map)
 
 -- ---- the swing
 
@@ -89,36 +79,14 @@ swing-raised system d samples long =
 sample-raised : (slicing : Slicing) (scale own mean e : ℕ)
     → levelled_sample slicing scale (own + e) (mean + e) ≡ levelled_sample slicing scale own mean
 unfolding levelled_sample
-sample-raised slicing scale own mean e = go (cases_lt own mean)
-  where
-    up : own + e - (mean + e) ≡ own - mean
-    up = omega arith
-
-    down : mean + e - (own + e) ≡ mean - own
-    down = omega arith
-
-    go : (own < mean) ⊎ (mean ≤ own)
-        → levelled_sample slicing scale (own + e) (mean + e) ≡ levelled_sample slicing scale own mean
-    go (inl less) =
-        let new : nat_le (mean + e) (own + e) ≡ false = lt-leb (mean + e) (own + e) (omega arith) in
-        let old : nat_le mean own ≡ false = lt-leb mean own less in
-        rw (new, old, down) refl
-    go (inr more) =
-        let new : nat_le (mean + e) (own + e) ≡ true = le-leb (mean + e) (own + e) (omega arith) in
-        let old : nat_le mean own ≡ true = le-leb mean own more in
-        rw (new, old, up) refl
+sample-raised slicing scale own mean e =
+    grind (arith, lt-leb, le-leb)
 
 at-raised : (system : System) (slicing : Slicing) (scale d : ℕ) (samples : List ℕ) (column : ℕ)
     → length samples ≡ width_of system → column < width_of system
     → levelled_at system slicing scale (raised d samples) column ≡ levelled_at system slicing scale samples column
 at-raised system slicing scale d samples column long inside =
-    ap (λ (k : ℕ). levelled_sample slicing scale k (window_sum system (raised d samples) column))
-    (own-raised system d samples column (omega (arith, long)))
-    ∙ ap
-    (λ (k : ℕ). levelled_sample slicing scale (window_of system * get_or samples column 0 + window_of system * d) k)
-    (window-raised system d samples column long)
-    ∙ sample-raised slicing scale (window_of system * get_or samples column 0) (window_sum system samples column)
-    (window_of system * d)
+    grind (arith, own-raised, get_or, window-raised, sample-raised)
 
 -- a line at another level is levelled to the same samples
 pub levelled-raised : (system : System) (slicing : Slicing) (d : ℕ) (samples : List ℕ)

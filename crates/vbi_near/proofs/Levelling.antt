@@ -1,8 +1,7 @@
 -- Levelled lines: sums of samples, and lines that are written sample by sample.
-use Rattle.std.proofs.Common.{◌≡◌, ℕ, suc, zero, ◌≤◌, ◌<◌, ◌+◌, ◌-◌, ◌*◌, ◌/◌, List, [], ◌∷◌, Bool, true, false}
-use Rattle.std.proofs.Common.{cond, length}
-use Rattle.std.proofs.Common.{◌⊎◌, inl, inr, get_or, set, take, drop, map, arith, ap, sym, ◌∙◌, refl, get_or-set_same}
-use Rattle.std.proofs.Common.{get_or-set_other}
+use Rattle.std.proofs.Common.{◌≡◌, ℕ, suc, zero, ◌≤◌, ◌<◌, ◌+◌, ◌-◌, ◌*◌, ◌/◌, List, [], ◌∷◌, Bool, true, false, cond}
+use Rattle.std.proofs.Common.{length, ◌⊎◌, inl, inr, get_or, set, take, drop, map, arith, ap, sym, ◌∙◌, refl}
+use Rattle.std.proofs.Common.{get_or-set_same, get_or-set_other}
 use Rattle.std.specs.List.{sum, range_with_len}
 use Rattle.std.specs.Prelude.{nat_le, min}
 use Rattle.std.proofs.lemmas.Bool.{cases_lt, le-leb, lt-leb}
@@ -30,20 +29,8 @@ SumsTo samples sums i = (k : ℕ) → k ≤ i → get_or sums k 0 ≡ sum (take 
 -- one sum more
 pub sums_more : (samples sums : List ℕ) (i v : ℕ) → i < length samples → i + 1 < length sums
     → v ≡ get_or sums i 0 + get_or samples i 0 → SumsTo samples sums i → SumsTo samples (set sums (i + 1) v) (i + 1)
-sums_more samples sums i v inside room is before k le = go (cases_lt k (i + 1))
-  where
-    go : (k < i + 1) ⊎ (i + 1 ≤ k) → get_or (set sums (i + 1) v) k 0 ≡ sum (take k samples)
-    go (inl below) =
-        get_or-set_other sums (i + 1) k v 0 (λ e. omega arith) ∙ before k (omega arith)
-    go (inr above) =
-        let e : k ≡ i + 1 = omega arith in
-        let last : get_or sums i 0 ≡ sum (take i samples) = before i (omega arith) in
-        let more : sum (take (i + 1) samples) ≡ sum (take i samples) + get_or samples i 0
-        = sum_by_more (λ (x : ℕ). x) samples i 0 inside in
-        ap (λ (j : ℕ). get_or (set sums (i + 1) v) j 0) e
-        ∙ get_or-set_same sums (i + 1) v 0 room
-        ∙ omega (arith, last, more, is)
-        ∙ ap (λ (j : ℕ). sum (take j samples)) (sym e)
+sums_more samples sums i v inside room is before k le =
+    grind (arith, get_or, get_or-set_other, sum_by_more, get_or-set_same)
 
 -- what stands before a column and the next ones sum up to what stands before the last of them
 sum-split : (samples : List ℕ) (i n : ℕ)
@@ -61,9 +48,7 @@ sum-split samples i n =
 pub between_sums : (samples sums : List ℕ) (i n : ℕ) → AreSampleSums samples sums → i + n ≤ length samples
     → get_or sums i 0 + sum_from samples i n ≡ get_or sums (i + n) 0
 between_sums samples sums i n are inside =
-    let low = are.each i (omega arith) in
-    let high = are.each (i + n) inside in
-    omega (arith, low, high, sum-split samples i n)
+    grind (arith, sum-split)
 
 -- a window lies within the line
 pub window_inside : (system : System) (column : ℕ)
@@ -76,12 +61,7 @@ pub window_by_sums : (system : System) (samples sums : List ℕ) (column start n
     → AreSampleSums samples sums → start ≡ window_start system column → n ≡ window_of system
     → get_or sums start 0 + window_sum system samples column ≡ get_or sums (start + n) 0
 window_by_sums system samples sums column start n long are s w =
-    let i = window_start system column in
-    let inside : i + window_of system ≤ length samples = omega (arith, long, window_inside system column) in
-    let end : start + n ≡ i + window_of system = omega (arith, s, w) in
-    ap (λ (k : ℕ). get_or sums k 0 + window_sum system samples column) s
-    ∙ between_sums samples sums i (window_of system) are inside
-    ∙ ap (λ (k : ℕ). get_or sums k 0) (sym end)
+    grind (arith, window_inside, get_or, between_sums)
 
 -- the windows of the first columns are one, as are those of the last ones
 pub window_before : (system : System) (column : ℕ) → column < first_of system + window_of system / 2
@@ -122,11 +102,7 @@ pub amid_by_sums : (system : System) (samples sums : List ℕ) (column wide : �
     × (get_or sums (column - wide / 2) 0 + window_sum system samples column
     ≡ get_or sums (column - wide / 2 + wide) 0)
 amid_by_sums system samples sums column wide long are w more less =
-    let start : column - wide / 2 ≡ window_start system column
-    = ap (λ (n : ℕ). column - n / 2) w ∙ sym (window_amid system column more less) in (
-      omega (arith, start, w, window_inside system column, long, are.room),
-      window_by_sums system samples sums column (column - wide / 2) wide long are start w,
-    )
+    grind (arith, window_amid, window_inside, window_by_sums)
 
 -- so many columns have the sums of their windows
 abbrev pub WindowsTo : System → List ℕ → List ℕ → ℕ → Type 0
@@ -136,14 +112,8 @@ WindowsTo system samples windows i = (k : ℕ) → k < i → get_or windows k 0 
 pub windows_more : (system : System) (samples windows : List ℕ) (i v : ℕ) → i < length windows
     → v ≡ window_sum system samples i → WindowsTo system samples windows i
     → WindowsTo system samples (set windows i v) (i + 1)
-windows_more system samples windows i v inside is before k less = go (cases_lt k i)
-  where
-    go : (k < i) ⊎ (i ≤ k) → get_or (set windows i v) k 0 ≡ window_sum system samples k
-    go (inl below) = get_or-set_other windows i k v 0 (λ e. omega arith) ∙ before k below
-    go (inr above) =
-        let e : k ≡ i = omega arith in
-        ap (λ (j : ℕ). get_or (set windows i v) j 0) e ∙ get_or-set_same windows i v 0 inside ∙ is
-        ∙ ap (window_sum system samples) (sym e)
+windows_more system samples windows i v inside is before k less =
+    grind (arith, get_or, get_or-set_other, get_or-set_same)
 
 pub inside : (system : System) → end_of system ≤ width_of system
 inside Ntsc = omega arith
@@ -158,12 +128,7 @@ pub off_more : (system : System) (samples : List ℕ) (column : ℕ) → first_o
     → off_in system samples (column + 1 - first_of system)
     ≡ off_in system samples (column - first_of system) + off_mean system samples column
 off_more system samples column low =
-    let f : ℕ → ℕ = off_mean system samples in
-    let first = first_of system in
-    let n = column - first in
-    let e : column + 1 - first ≡ n + 1 = omega arith in
-    ap (off_in system samples) e
-    ∙ sum_by-map-range_with_len_more (λ (x : ℕ). x) f first n column (omega arith)
+    grind (arith, sum_by-map-range_with_len_more)
 
 -- ---- lines written sample by sample
 
@@ -174,13 +139,8 @@ WrittenTo f bytes i = (k : ℕ) → k < i → sample_at bytes k ≡ f k
 -- one sample more
 pub written_more : (f : ℕ → ℕ) (old new : List ℕ) (i : ℕ) → sample_at new i ≡ f i
     → ((k : ℕ) → (k ≡ i → ⊥) → sample_at new k ≡ sample_at old k) → WrittenTo f old i → WrittenTo f new (i + 1)
-written_more f old new i here others before k less = go (cases_lt k i)
-  where
-    go : (k < i) ⊎ (i ≤ k) → sample_at new k ≡ f k
-    go (inl below) = others k (λ e. omega arith) ∙ before k below
-    go (inr above) =
-        let e : k ≡ i = omega arith in
-        ap (sample_at new) e ∙ here ∙ ap f (sym e)
+written_more f old new i here others before k less =
+    grind arith
 
 read_each : (f : ℕ → ℕ) (bytes : List ℕ) (n : ℕ) → length bytes ≡ 2 * n → WrittenTo f bytes n
     → (k : ℕ) → k < n → get_or (samples_of bytes) k 0 ≡ f k
@@ -202,27 +162,6 @@ filled_at slicing erased row k = cond (get_or erased k false) (middle_of slicing
 pub record FilledTo (slicing : Slicing) (erased : List Bool) (row out : List ℕ) (i : ℕ) : Type 0 where
   pub below : WrittenTo (filled_at slicing erased row) out i
   pub behind : (k : ℕ) → i ≤ k → sample_at out k ≡ sample_at row k
-
--- a column more that isn't erased
-pub filled_kept : (slicing : Slicing) (erased : List Bool) (row out : List ℕ) (i : ℕ) → get_or erased i false ≡ false
-    → FilledTo slicing erased row out i → FilledTo slicing erased row out (i + 1)
-filled_kept slicing erased row out i unmarked is = record {
-  below = written_more (filled_at slicing erased row) out out i
-      (is.behind i (omega arith) ∙ ap (λ (b : Bool). cond b (middle_of slicing) (sample_at row i)) (sym unmarked))
-      (λ k other. refl) is.below;
-  behind = λ k le. is.behind k (omega arith);
-}
-
--- a column more that is
-pub filled_more : (slicing : Slicing) (erased : List Bool) (row old new : List ℕ) (i : ℕ)
-    → get_or erased i false ≡ true → sample_at new i ≡ middle_of slicing
-    → ((k : ℕ) → (k ≡ i → ⊥) → sample_at new k ≡ sample_at old k) → FilledTo slicing erased row old i
-    → FilledTo slicing erased row new (i + 1)
-filled_more slicing erased row old new i marked here others is = record {
-  below = written_more (filled_at slicing erased row) old new i
-      (here ∙ ap (λ (b : Bool). cond b (middle_of slicing) (sample_at row i)) (sym marked)) others is.below;
-  behind = λ k le. others k (λ e. omega arith) ∙ is.behind k (omega arith);
-}
 
 length-filled : (slicing : Slicing) (erased : List Bool) (samples : List ℕ) → length erased ≡ length samples
     → length (filled slicing erased samples) ≡ length samples

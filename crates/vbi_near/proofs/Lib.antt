@@ -13,7 +13,6 @@ pub mod InRange
 pub mod Merged
 pub mod Priced
 pub mod Looks
-pub mod ChosenCode
 pub mod Chosen
 pub mod Piles
 pub mod Certain
@@ -31,7 +30,6 @@ pub mod OneCellMore
 pub mod CellsAt
 pub mod Halves
 pub mod CutShort
-pub mod ShorterRows
 pub mod HalvedRows
 pub mod Stretches
 pub mod LeastAt
@@ -46,3 +44,4 @@ pub mod Swings
 pub mod Tables
 pub mod DrawnFirst
 pub mod DrawnNearest
+pub mod PileOf

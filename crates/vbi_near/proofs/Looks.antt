@@ -1,6 +1,6 @@
 -- What was looked at, and what needs no look.
-use Rattle.std.proofs.Common.{◌≡◌, ℕ, zero, suc, ◌≤◌, ◌<◌, List, [], ◌∷◌}
-use Rattle.std.proofs.Common.{length, get_or, take, ◌⊎◌, inl, inr, refl, arith, ap, sym, subst}
+use Rattle.std.proofs.Common.{◌≡◌, ℕ, zero, suc, ◌≤◌, ◌<◌, List, [], ◌∷◌, length, get_or, take, ◌⊎◌, inl, inr, refl}
+use Rattle.std.proofs.Common.{arith, ap, sym, subst}
 use Rattle.std.proofs.lemmas.Bool.{cases_lt}
 use Rattle.vbi_words.specs.declared.system.System.{System}
 use Rattle.vbi_words.specs.Words.{IsWord}
@@ -8,8 +8,7 @@ use Rattle.vbi_near.specs.declared.found.Found.{Found}
 use Rattle.vbi_near.specs.Pictures.{starts}
 use Rattle.vbi_near.specs.LineCodes.{Range, range, IsOneOf}
 use Rattle.vbi_near.specs.Priced.{ranges_of}
-use Rattle.vbi_near.specs.Leads.{Look, look, at_start, IsSeen, with_ranges, looks_before, all_codes}
-use Rattle.vbi_near.specs.Leads.{IsLead}
+use Rattle.vbi_near.specs.Leads.{Look, look, at_start, IsSeen, with_ranges, looks_before, all_codes, IsLead}
 use Rattle.vbi_near.specs.Nearest.{IsBefore}
 use Rattle.vbi_near.proofs.Merged.{lead-passed, lead-same, turned}
 
@@ -63,11 +62,8 @@ later ranges first n s w (inr (inr e, one)) = inr (inr e, one)
 
 to-before : (ranges : List Range) (first n s w : ℕ) → IsSeen (looks_before ranges first n) s w
     → Before ranges first n s w
-to-before ranges first zero s w there = go (to-ranges [] first ranges s w there)
-  where
-    go : IsSeen [] s w ⊎ ((s ≡ first) × IsOneOf ranges w) → Before ranges first zero s w
-    go (inl none) = inl none
-    go (inr (e, one)) = inr (inr e, one)
+to-before ranges first zero s w there =
+    grind (arith, to-ranges)
 to-before ranges first (suc n) s w there =
     go (λ before. to-before ranges first n s w before) (to-ranges (looks_before ranges first n) n ranges s w there)
   where

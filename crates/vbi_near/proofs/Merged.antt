@@ -1,8 +1,5 @@
 -- The nearer of two leads.
-use Rattle.std.proofs.Common.{subst, ap, Bool, true, false, cond, eqb}
-use Rattle.std.proofs.lemmas.Bool.Decides.{eqb_tells}
-use Rattle.std.proofs.Common.{◌≡◌, ◌≢◌, ℕ, ◌≤◌, ◌<◌, ◌^◌, min}
-use Rattle.std.proofs.Common.{◌⊎◌, inl, inr, arith, sym, ◌∙◌}
+use Rattle.std.proofs.Common.{cond, eqb, ◌≡◌, ◌≢◌, ℕ, ◌≤◌, ◌<◌, ◌^◌, min, ◌⊎◌, inl, inr, arith, sym, ◌∙◌}
 use Rattle.std.proofs.Math.Nat.{min-le_left, min-le_right}
 use Rattle.vbi_near.specs.declared.found.Found.{Found}
 use Rattle.vbi_near.specs.Nearest.{IsBefore}
@@ -33,20 +30,13 @@ module _ (cost : ℕ → ℕ → ℕ) (seen more : Places) (near far : Found) (i
   }
 
   order : near.distance ≤ far.distance
-  order = go leads
-    where
-      go : IsAhead near far → near.distance ≤ far.distance
-      go (inl less) = omega arith
-      go (inr (e, before)) = omega (arith, e)
+  order =
+      grind arith
 
   -- what the other knows and is as near comes after it
   earliest : (s w : ℕ) → more s w → cost s w ≡ near.distance → IsBefore near.start near.word s w
-  earliest s w there same = go leads
-    where
-      go : IsAhead near far → IsBefore near.start near.word s w
-      go (inl less) = absurd (omega (arith, are.least s w there, same))
-      go (inr (e, before)) =
-          before-before near.start near.word far.start far.word s w before (are.first s w there (same ∙ e))
+  earliest s w there same =
+      grind (arith, before-before)
 
   l : min near.rival behind ≤ near.rival
   l = min-le_left near.rival behind
@@ -55,20 +45,12 @@ module _ (cost : ℕ → ℕ → ℕ) (seen more : Places) (near far : Found) (i
   r = min-le_right near.rival behind
 
   far-order : far.distance ≤ behind
-  far-order = go by
-    where
-      go : ((far.word ≡ near.word) × (behind ≡ far.rival)) ⊎ ((far.word ≢ near.word) × (behind ≡ far.distance))
-          → far.distance ≤ behind
-      go (inl (same, e)) = omega (arith, e, are.order)
-      go (inr (differs, e)) = omega (arith, e)
+  far-order =
+      grind arith
 
   ahead : (s w : ℕ) → more s w → w ≢ near.word → behind ≤ cost s w
-  ahead s w there other = go by
-    where
-      go : ((far.word ≡ near.word) × (behind ≡ far.rival)) ⊎ ((far.word ≢ near.word) × (behind ≡ far.distance))
-          → behind ≤ cost s w
-      go (inl (same, e)) = omega (arith, e, are.rival s w there (λ same_word. other (same_word ∙ same)))
-      go (inr (differs, e)) = omega (arith, e, are.least s w there)
+  ahead s w there other =
+      grind arith
 
   AreOther : Type 0
   AreOther = (2 ^ 31 ≤ merged.rival)
@@ -91,12 +73,8 @@ module _ (cost : ℕ → ℕ → ℕ) (seen more : Places) (near far : Found) (i
       inr (far.start, far.word, inr are.there, differs, are.exact ∙ sym b ∙ sym e)
 
   another : AreOther
-  another = go (min_is near.rival behind)
-    where
-      go : ((min near.rival behind ≡ near.rival) × (near.rival ≤ behind))
-          ⊎ ((min near.rival behind ≡ behind) × (behind < near.rival)) → AreOther
-      go (inl (e, le)) = by_near e is.other
-      go (inr (e, less)) = by_far e by are.other
+  another =
+      grind (arith, min_is, AreOther, by_near, by_far)
 
   pub merged_is : IsLead cost (either seen more) merged
   unfolding AreOther
@@ -181,52 +159,19 @@ lead-passed cost seen more lead far after is = record {
 -- these or those, the other way round
 pub turned : (cost : ℕ → ℕ → ℕ) (seen more : Places) (lead : Found) → IsLead cost (either seen more) lead
     → IsLead cost (either more seen) lead
-turned cost seen more lead is = lead-same cost (either seen more) (either more seen) lead to from is
-  where
-    to : (s w : ℕ) → either seen more s w → either more seen s w
-    to s w (inl x) = inr x
-    to s w (inr x) = inl x
-
-    from : (s w : ℕ) → either more seen s w → either seen more s w
-    from s w (inl x) = inr x
-    from s w (inr x) = inl x
+turned cost seen more lead is =
+    grind (arith, lead-same)
 
 -- the same lead, by its fields
 pub lead-by : (cost : ℕ → ℕ → ℕ) (seen : Places) (word start distance rival : ℕ) (lead : Found)
     → IsLead cost seen (record { word = word; start = start; distance = distance; rival = rival })
     → lead.word ≡ word → lead.start ≡ start → lead.distance ≡ distance → lead.rival ≡ rival → IsLead cost seen lead
 lead-by cost seen word start distance rival lead is w s d e =
-    subst (λ (x : ℕ). IsLead cost seen (record {
-      word = x;
-      start = lead.start;
-      distance = lead.distance;
-      rival = lead.rival;
-    })) (sym w) (subst (λ (x : ℕ). IsLead cost seen (record {
-      word = word;
-      start = x;
-      distance = lead.distance;
-      rival = lead.rival;
-    })) (sym s) (subst (λ (x : ℕ). IsLead cost seen (record {
-      word = word;
-      start = start;
-      distance = x;
-      rival = lead.rival;
-    })) (sym d) (subst (λ (x : ℕ). IsLead cost seen (record {
-      word = word;
-      start = start;
-      distance = distance;
-      rival = x;
-    })) (sym e) is)))
+    grind arith
 
 -- what the other's rival is
 pub behind-by : (near far : Found) → ((far.word ≡ near.word)
     × (cond (eqb far.word near.word) far.rival far.distance ≡ far.rival))
     ⊎ ((far.word ≢ near.word) × (cond (eqb far.word near.word) far.rival far.distance ≡ far.distance))
-behind-by near far = go (eqb_tells far.word near.word)
-  where
-    go : ((eqb far.word near.word ≡ true) × (far.word ≡ near.word))
-        ⊎ ((eqb far.word near.word ≡ false) × (far.word ≢ near.word))
-        → ((far.word ≡ near.word) × (cond (eqb far.word near.word) far.rival far.distance ≡ far.rival))
-        ⊎ ((far.word ≢ near.word) × (cond (eqb far.word near.word) far.rival far.distance ≡ far.distance))
-    go (inl (t, same)) = inl (same, ap (λ (b : Bool). cond b far.rival far.distance) t)
-    go (inr (f, differs)) = inr (differs, ap (λ (b : Bool). cond b far.rival far.distance) f)
+behind-by near far =
+    grind arith

@@ -1,22 +1,19 @@
 -- The distance of rows on which a word goes on.
-use Rattle.std.proofs.Common.{◌≡◌, ℕ, ◌≤◌, ◌<◌, ◌+◌, ◌-◌, List, ◌++◌, Bool, false, length}
-use Rattle.std.proofs.Common.{inl, inr, refl, arith, ap, sym, subst, ◌∙◌}
+use Rattle.std.proofs.Common.{◌≡◌, ℕ, ◌≤◌, ◌<◌, ◌+◌, ◌-◌, List, ◌++◌, Bool, false, length, inl, inr, refl, arith, ap}
+use Rattle.std.proofs.Common.{sym, ◌∙◌}
 use Rattle.std.proofs.Math.ListN.{replicate}
 use Rattle.std.proofs.lemmas.List.{length-append, length-replicate}
 use Rattle.vbi_words.specs.declared.system.System.{System}
 use Rattle.vbi_words.specs.Geometry.{width_of}
 use Rattle.vbi_words.specs.Words.{cell_of, halves_of}
 use Rattle.vbi_near.specs.declared.found.Found.{Found}
-use Rattle.vbi_near.specs.declared.near.Near.{Near}
 use Rattle.vbi_near.specs.Pictures.{word_length, drawn_halves, starts}
 use Rattle.vbi_near.specs.Distances.{Shades, distance_from}
-use Rattle.vbi_near.specs.Sums.{AreRowSums, total_in, span}
+use Rattle.vbi_near.specs.Sums.{AreRowSums, total_in, span, AreBoth}
 use Rattle.vbi_near.specs.Costs.{cell_cost, bits_cost, place_cost}
-use Rattle.vbi_near.specs.Best.{IsChosen}
-use Rattle.vbi_near.specs.Longer.{cell_length, begun_earlier, ended_later, GoesOn, IsLeastLonger, HasLonger}
-use Rattle.vbi_near.specs.Longer.{IsBeside, IsWithCell, IsLongerFound}
+use Rattle.vbi_near.specs.Longer.{cell_length, begun_earlier, ended_later, GoesOn, IsLeastRow, IsBeside, IsWithCell}
+use Rattle.vbi_near.specs.Longer.{IsLongerFound}
 use Rattle.vbi_near.proofs.Columns.{column-first, column-drawn, word-drawn, word-fits}
-use Rattle.vbi_near.specs.Sums.{AreBoth}
 use Rattle.vbi_near.proofs.Distances.{distance-append, distance-run}
 use Rattle.vbi_near.proofs.Costs.{cell-alone, halves-cost}
 use Rattle.vbi_near.proofs.Beside.{cell-long, before-split, behind-split}
@@ -91,11 +88,7 @@ module _ (costs sums : Shades) (system : System) (both : AreBoth costs sums (wid
   blank-at : (n : ℕ) (rest : List Bool) → n ≤ width_of system
       → distance_from costs 0 (replicate n false ++ rest) ≡ span sums false 0 n + distance_from costs n rest
   blank-at n rest room =
-      let e : 0 + length (replicate n false) ≡ n = omega (arith, length-replicate n false) in
-      distance-append costs 0 (replicate n false) rest
-      ∙ ap (λ (d : ℕ). d + distance_from costs (0 + length (replicate n false)) rest)
-      (distance-run costs sums (width_of system) both false 0 n (omega arith))
-      ∙ ap (λ (k : ℕ). span sums false 0 n + distance_from costs k rest) e
+      grind (arith, replicate, length-replicate, distance-append, distance-run)
 
   module _ (rises : AreRowSums system sums) where
     earlier : (w start begin : ℕ) (bit : Bool) → begin + cell_length system ≡ start
@@ -199,13 +192,6 @@ module _ (costs sums : Shades) (system : System) (both : AreBoth costs sums (wid
             ),
       )
 
-      pub least_longer : IsLeastLonger system (distance_from costs 0) found.word found.start longer
+      pub least_longer : IsLeastRow (GoesOn system found.word found.start) (distance_from costs 0) longer
       least_longer =
           let o = longest.one in record { least = least; one = one o.0 o.1 o.2 o.3 }
-
-      pub longer_is : (near : Near) (shorter blank : ℕ) → IsChosen found longer shorter blank near
-          → HasLonger system (distance_from costs 0) near.word near
-      longer_is near shorter blank (inl (order, e)) =
-          subst (λ (n : Near). HasLonger system (distance_from costs 0) n.word n) (sym e) refl
-      longer_is near shorter blank (inr (order, e)) =
-          subst (λ (n : Near). HasLonger system (distance_from costs 0) n.word n) (sym e) least_longer

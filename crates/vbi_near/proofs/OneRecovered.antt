@@ -6,8 +6,8 @@ use Rattle.vbi_words.specs.Levels.{Slicing}
 use Rattle.vbi_near.specs.declared.recovery.Recovered.{Recovered}
 use Rattle.vbi_near.specs.Distances.{unit_of}
 use Rattle.vbi_near.specs.Candidates.{Row, Candidates}
-use Rattle.vbi_near.specs.Recovery.{Seen, IsSeen, IsRecovered, Stands, alone, is_open, own_of, are_open}
-use Rattle.vbi_near.specs.Recovery.{stands_by, said_by, recovered_as, recovered_of, row_at}
+use Rattle.vbi_near.specs.Recovery.{Seen, IsSeen, IsRecovered, Stands, alone, is_open, own_of, are_open, stands_by}
+use Rattle.vbi_near.specs.Recovery.{said_by, recovered_as, recovered_of, row_at}
 use Rattle.vbi_near.proofs.OneSeen.{one_of_both, one_own, one_open_near}
 
 -- ---- a line

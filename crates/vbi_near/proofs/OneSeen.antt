@@ -1,27 +1,19 @@
 -- Lines have one pair of nearest words, and one distance of a stretched word; and what a line shows by its own levels
 -- is fixed by its bytes.
-use Rattle.std.proofs.Common.{◌≡◌, ◌≢◌, ℕ, ◌⊎◌, inl, inr, Bool, true, false, not, List, [], ◌∷◌, refl, sym, ap}
-use Rattle.std.proofs.Common.{◌∙◌, subst, arith, eqb, ne_eqb}
-use Rattle.std.specs.Prelude.{Option, Some, None, IsTrue, if◌then◌else◌, ◌==◌, ◌||◌}
-use Rattle.std.proofs.lemmas.Bool.Decides.{eqb_tells}
+use Rattle.std.proofs.Common.{◌≡◌, ◌≢◌, ℕ, Bool, true, false, List, [], ◌∷◌, refl, sym, ap, ◌∙◌, subst, arith, ne_eqb}
+use Rattle.std.specs.Prelude.{Option, Some, None, IsTrue}
 use Rattle.vbi_words.specs.declared.system.System.{System}
 use Rattle.vbi_words.specs.declared.outcome.Outcome.{Outcome}
 use Rattle.vbi_words.specs.declared.outcome.Outcome.TheVariants.{Word, Blank, Unfinished, Change, Hold}
 use Rattle.vbi_words.specs.declared.outcome.Reading.{Reading}
-use Rattle.vbi_words.specs.Levels.{Slicing, row_levels}
+use Rattle.vbi_words.specs.Levels.{Slicing}
 use Rattle.vbi_words.specs.Readings.{reading_from}
-use Rattle.vbi_words.specs.Smooth.{smooth_of}
-use Rattle.vbi_line.specs.OneReading.{reading_of, outcome_of}
+use Rattle.vbi_line.specs.OneReading.{reading_of}
 use Rattle.vbi_line.proofs.OneReading.{by_outcomes}
 use Rattle.vbi_near.specs.declared.lines.Nears.{Nears}
-use Rattle.vbi_near.specs.declared.recovery.Recovered.{Recovered}
-use Rattle.vbi_near.specs.declared.near.Near.{Near}
-use Rattle.vbi_near.specs.Pictures.{drawn_as}
-use Rattle.vbi_near.specs.Distances.{Samples, unit_of, distance_of}
-use Rattle.vbi_near.specs.Halved.{halved_far}
+use Rattle.vbi_near.specs.Distances.{Samples}
 use Rattle.vbi_near.specs.Stretched.{IsLeastAt, IsStretched}
 use Rattle.vbi_near.specs.Candidates.{HasNear, Row, Candidates, HasNearIf, AreOf, AreOfBoth, given_samples}
-use Rattle.vbi_near.specs.Candidates.{levelled_samples, has_swing, are_alike}
 use Rattle.vbi_near.specs.Recovery.{Seen, IsSeen, is_asked, is_open, is_confirmed, own_by, own_of}
 use Rattle.vbi_near.proofs.OneNear.{one_near, one_near_code}
 
@@ -31,23 +23,7 @@ use Rattle.vbi_near.proofs.OneNear.{one_near, one_near_code}
 pub one_nears : (system : System) (number : ℕ) (slicing : Slicing) (lines : List Samples) (near other : Nears)
     → HasNear system number slicing lines near → HasNear system number slicing lines other → near ≡ other
 one_nears system number slicing lines near other is are =
-    let word = one_near system slicing lines near.word other.word is.nearest is.first is.longer is.shorter are.nearest
-    are.first are.longer are.shorter in
-    let code = one_near_code system number slicing lines near.code other.code is.code is.code_first is.code_longer
-    is.code_shorter are.code are.code_first are.code_longer are.code_shorter in
-    let blank : near.blank ≡ other.blank = is.blank ∙ sym are.blank in
-    let far : List Bool → ℕ = λ levels. distance_of (unit_of slicing) lines (drawn_as slicing levels) in
-    let word_halved : near.word_halved ≡ other.word_halved
-    = is.word_halved ∙ ap (λ (n : Near). halved_far system far n.word n) word ∙ sym are.word_halved in
-    let code_halved : near.code_halved ≡ other.code_halved
-    = is.code_halved ∙ ap (λ (n : Near). halved_far system far n.word n) code ∙ sym are.code_halved in
-    λ j. record {
-      word = word j;
-      code = code j;
-      blank = blank j;
-      word_halved = word_halved j;
-      code_halved = code_halved j;
-    }
+    grind (arith, one_near, one_near_code)
 
 -- lines can't both have nearest words and have none
 not_both : (can : Bool) → can ≡ false → can ≡ true → ⊥
@@ -67,21 +43,13 @@ one_near_if system number slicing can lines (Some n) (Some m) (has, is) (too, ar
 pub one_candidates : (system : System) (number : ℕ) (slicing : Slicing) (row : Row) (near other : Candidates)
     → AreOf system number slicing row near → AreOf system number slicing row other → near ≡ other
 one_candidates system number slicing row near other is are =
-    let levelled = one_near_if system number slicing (has_swing system slicing row)
-    (levelled_samples system slicing row ∷ []) near.levelled other.levelled is.levelled are.levelled in
-    let given = one_nears system number slicing (given_samples row ∷ []) near.given other.given is.given are.given in
-    λ j. record { levelled = levelled j; given = given j }
+    grind (arith, one_near_if, one_nears)
 
 -- the candidates of two lines together are fixed
 pub one_of_both : (system : System) (number : ℕ) (slicing : Slicing) (row other : Row) (near again : Candidates)
     → AreOfBoth system number slicing row other near → AreOfBoth system number slicing row other again → near ≡ again
 one_of_both system number slicing row other near again is are =
-    let levelled = one_near_if system number slicing (are_alike system slicing row other)
-    (levelled_samples system slicing row ∷ levelled_samples system slicing other ∷ []) near.levelled again.levelled
-    is.levelled are.levelled in
-    let given = one_nears system number slicing (given_samples row ∷ given_samples other ∷ []) near.given again.given
-    is.given are.given in
-    λ j. record { levelled = levelled j; given = given j }
+    grind (arith, one_near_if, one_nears)
 
 -- ---- words on longer or shorter cells
 
@@ -89,11 +57,7 @@ one_of_both system number slicing row other near again is are =
 pub one_least_at : (IsThere : ℕ → ℕ → Type 0) (far : ℕ → ℕ → ℕ) (a b : ℕ) → IsLeastAt IsThere far a
     → IsLeastAt IsThere far b → a ≡ b
 one_least_at IsThere far a b is are =
-    let p = is.one in
-    let o = are.one in
-    let less = is.least o.0 o.1 o.2 in
-    let more = are.least p.0 p.1 p.2 in
-    omega (arith, less, more, o.3, p.3)
+    grind arith
 
 -- lines have one distance of a word on longer or shorter cells
 pub one_stretched : (system : System) (slicing : Slicing) (lines : List Samples) (word a b : ℕ)
@@ -126,15 +90,13 @@ plain_pass (Hold d) (Hold c) opened = refl
 pub read_pass : (system : System) (levels : List Bool) → IsTrue (is_open (reading_of system levels).outcome)
     → (reading_of system levels).pass ≡ 0
 read_pass system levels =
-    subst (λ (r : Reading). IsTrue (is_open r.outcome) → r.pass ≡ 0) (sym (by_outcomes system levels))
-    (plain_pass (outcome_of system levels) (outcome_of system (smooth_of levels)))
+    grind (arith, by_outcomes, plain_pass)
 
 -- a word of another pass than 2 is the line's own
 pub word_own : (plain : Outcome) (word pass : ℕ) (confirms : ℕ → Bool) → pass ≢ 2
     → own_by plain (Word word) pass confirms ≡ record { outcome = Word word; pass = pass }
 word_own plain word pass confirms differs =
-    ap (λ (two : Bool). if not two || confirms word then record { outcome = Word word; pass = pass }
-    else record { outcome = plain; pass = 0 }) (ne_eqb pass 2 differs)
+    grind (arith, ne_eqb)
 
 -- the nearest words of a line with a word of pass 2 are asked for
 pub asked_word : (word pass : ℕ) → pass ≡ 2 → IsTrue (is_asked (Word word) pass)
@@ -144,14 +106,8 @@ asked_word word pass e = subst (λ (k : ℕ). IsTrue (is_asked (Word word) k)) (
 pub open_asked_by : (o : Outcome) (pass : ℕ) (plain : Outcome) (confirms : ℕ → Bool)
     → (IsTrue (is_open o) → pass ≡ 0) → IsTrue (is_open (own_by plain o pass confirms).outcome)
     → IsTrue (is_asked o pass)
-open_asked_by (Word w) pass plain confirms none opened = go (eqb_tells pass 2)
-  where
-    go : ((eqb pass 2 ≡ true) × (pass ≡ 2)) ⊎ ((eqb pass 2 ≡ false) × (pass ≢ 2)) → IsTrue (is_asked (Word w) pass)
-    go (inl (t, e)) = asked_word w pass e
-    go (inr (f, differs)) =
-        let no : IsTrue (is_open (Word w)) =
-        subst (λ (r : Recovered). IsTrue (is_open r.outcome)) (word_own plain w pass confirms differs) opened in
-        cc
+open_asked_by (Word w) pass plain confirms none opened =
+    grind (arith, asked_word, word_own)
 open_asked_by Blank pass plain confirms none opened = cc
 open_asked_by Unfinished pass plain confirms none opened =
     subst (λ (k : ℕ). IsTrue (is_asked Unfinished k)) (sym (none refl)) refl
@@ -164,8 +120,7 @@ open_asked_by (Hold c) pass plain confirms none opened =
 pub open_pass : (system : System) (number : ℕ) (slicing : Slicing) (row : Row) (seen : Seen)
     → IsSeen system number slicing row seen → IsTrue (is_open seen.reading.outcome) → seen.reading.pass ≡ 0
 open_pass system number slicing row seen is =
-    subst (λ (r : Reading). IsTrue (is_open r.outcome) → r.pass ≡ 0) (sym is.reading)
-    (read_pass system (row_levels slicing row.bytes))
+    grind (arith, read_pass)
 
 -- the nearest words of an open line are asked for
 pub open_asked : (system : System) (number : ℕ) (slicing : Slicing) (row : Row) (seen : Seen) (unit : ℕ)
@@ -181,15 +136,8 @@ open_asked system number slicing row seen unit is opened =
 pub own_same : (o : Outcome) (pass : ℕ) (p q : Outcome) (confirms again : ℕ → Bool) → (pass ≡ 2 → p ≡ q)
     → ((word : ℕ) → o ≡ Word word → pass ≡ 2 → confirms word ≡ again word)
     → own_by p o pass confirms ≡ own_by q o pass again
-own_same (Word w) pass p q confirms again plain same = go (eqb_tells pass 2)
-  where
-    go : ((eqb pass 2 ≡ true) × (pass ≡ 2)) ⊎ ((eqb pass 2 ≡ false) × (pass ≢ 2))
-        → own_by p (Word w) pass confirms ≡ own_by q (Word w) pass again
-    go (inl (t, e)) =
-        ap (λ (said : Bool). if not (pass == 2) || said then record { outcome = Word w; pass = pass }
-        else record { outcome = p; pass = 0 }) (same w refl e)
-        ∙ ap (λ (x : Outcome). own_by x (Word w) pass again) (plain e)
-    go (inr (f, differs)) = word_own p w pass confirms differs ∙ sym (word_own q w pass again differs)
+own_same (Word w) pass p q confirms again plain same =
+    grind (arith, word_own)
 own_same Blank pass p q confirms again plain same = refl
 own_same Unfinished pass p q confirms again plain same = refl
 own_same (Change c) pass p q confirms again plain same = refl
@@ -228,11 +176,7 @@ module _ (system : System) (number : ℕ) (slicing : Slicing) (row : Row) (seen 
   -- what it shows by its own levels is the same
   pub one_own : own_of unit seen ≡ own_of unit again
   one_own =
-      own_same seen.reading.outcome seen.reading.pass seen.plain again.plain
-      (is_confirmed unit seen.near seen.stretched) (is_confirmed unit again.near again.stretched)
-      (λ e. is.plain e ∙ sym (are.plain (ap (λ (r : Reading). r.pass) (sym one_reading) ∙ e))) confirms_same
-      ∙ ap (λ (r : Reading). own_by again.plain r.outcome r.pass
-      (is_confirmed unit again.near again.stretched)) one_reading
+      grind (arith, own_same, one_reading, confirms_same)
 
   -- its nearest words are the same where it is open
   pub one_open_near : IsTrue (is_open (own_of unit seen).outcome) → seen.near ≡ again.near

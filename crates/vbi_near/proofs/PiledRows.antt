@@ -1,17 +1,16 @@
 -- Lines one by one: the next of them, and the swing of each where all may be levelled together.
-use Rattle.std.proofs.Common.{◌≡◌, ℕ, suc, zero, ◌+◌, ◌<◌, List, [], ◌∷◌, ◌++◌, length, map, get_or, Bool, true}
-use Rattle.std.proofs.Common.{false, ap, ◌∙◌, refl, subst, arith, zero-add}
-use Rattle.std.proofs.Common.{◌≤◌, take, replicate}
-use Rattle.std.specs.Prelude.{◌&&◌, ◌*◌, nat_le, Option, Some}
+use Rattle.std.proofs.Common.{◌≡◌, ℕ, suc, zero, ◌+◌, ◌<◌, List, [], ◌∷◌, ◌++◌, length, map, get_or, Bool, true, false}
+use Rattle.std.proofs.Common.{ap, ◌∙◌, refl, subst, arith, zero-add, ◌≤◌, take, replicate}
+use Rattle.std.specs.Prelude.{◌&&◌, Option, Some}
 use Rattle.std.proofs.lemmas.List.{length-take-le, length-replicate}
-use Rattle.vbi_words.specs.declared.system.System.TheVariants.{Ntsc, Pal}
-use Rattle.vbi_words.specs.Geometry.{line_bytes}
-use Rattle.vbi_near.specs.declared.said.Margins.{Margins}
-use Rattle.vbi_near.specs.Said.{said_if, first_said}
 use Rattle.std.specs.List.{list_all, range_with_len}
 use Rattle.std.proofs.lemmas.List.FromFn.{map-range_with_len_more, length-map-range_with_len, get_or-map-range_with_len}
+use Rattle.vbi_words.specs.declared.system.System.TheVariants.{Ntsc, Pal}
+use Rattle.vbi_words.specs.Geometry.{line_bytes}
 use Rattle.vbi_words.specs.declared.system.System.{System}
 use Rattle.vbi_words.specs.Levels.{Slicing}
+use Rattle.vbi_near.specs.declared.said.Margins.{Margins}
+use Rattle.vbi_near.specs.Said.{said_if, first_said}
 use Rattle.vbi_near.specs.Distances.{unit_of}
 use Rattle.vbi_near.specs.Candidates.{Row, Candidates, swing_in, has_swing, are_alike_by}
 use Rattle.vbi_near.specs.Levelled.{is_swing}
@@ -57,9 +56,7 @@ map-map f g (x ∷ list) = ap (λ rest. f (g x) ∷ rest) (map-map f g list)
 -- a swing that is like itself is one of a line with a word
 swings-itself : (unit swing : ℕ) → are_alike_by unit swing swing ≡ true → is_swing unit swing ≡ true
 swings-itself unit swing alike =
-    (both (is_swing unit swing) (is_swing unit swing) (both (is_swing unit swing && is_swing unit swing)
-    (nat_le swing (2 * swing)) (both (is_swing unit swing && is_swing unit swing && nat_le swing (2 * swing))
-    (nat_le swing (2 * swing)) alike).0).0).0
+    grind (arith, both)
 
 -- where all may be levelled together, each may
 pub each-swings : (system : System) (slicing : Slicing) (lines : List ℕ) (erased : List Bool) (n : ℕ)
@@ -97,8 +94,7 @@ bytes-few Pal = omega arith
 pub bytes-long : (system : System) (n : ℕ) → n ≡ line_bytes system
     → length {A = ℕ} (take n (replicate 2270 0)) ≡ line_bytes system
 bytes-long system n e =
-    length-take-le n (replicate 2270 0)
-    (omega (arith, e, bytes-few system, length-replicate {A = ℕ} 2270 0)) ∙ e
+    grind (arith, length-take-le, bytes-few, length-replicate)
 
 -- ---- what they say
 
@@ -108,13 +104,7 @@ pub said-by : (unit u lines n : ℕ) (known : Bool) (margins : Margins) (near : 
     → first ≡ said_if u margins n near.levelled → second ≡ said_if u margins n (Some near.given)
     → said ≡ first_said first second → said ≡ said_together unit known lines near
 said-by unit u lines n known margins near first second said of_unit of_margins of_lines is_first is_second is =
-    is
-    ∙ ap (λ (word : Option ℕ). first_said word second) is_first
-    ∙ ap (λ (word : Option ℕ). first_said (said_if u margins n near.levelled) word) is_second
-    ∙ ap (λ (v : ℕ). first_said (said_if v margins n near.levelled) (said_if v margins n (Some near.given))) of_unit
-    ∙ ap (λ (m : Margins). first_said (said_if unit m n near.levelled) (said_if unit m n (Some near.given))) of_margins
-    ∙ ap (λ (k : ℕ). first_said (said_if unit (pile_margins known) k near.levelled)
-    (said_if unit (pile_margins known) k (Some near.given))) of_lines
+    grind arith
 
 -- lines are as many as are counted
 pub rows-many : (system : System) (lines : List ℕ) (erased : List Bool) (n : ℕ)

@@ -1,20 +1,17 @@
 -- The distance of lines is the one by what their columns cost.
-use Rattle.std.proofs.Common.{◌≡◌, ℕ, suc, ◌<◌, ◌+◌, List, [], ◌∷◌, Bool, length}
-use Rattle.std.proofs.Common.{get_or, refl, arith, ap, sym, ◌∙◌, Option}
+use Rattle.std.proofs.Common.{◌≡◌, ℕ, suc, ◌<◌, ◌+◌, List, [], ◌∷◌, Bool, length, get_or, refl, arith, ap, sym, ◌∙◌}
+use Rattle.std.proofs.Common.{Option}
 use Rattle.std.specs.List.{All}
+use Rattle.std.specs.Prelude.{None}
 use Rattle.vbi_words.specs.declared.system.System.{System}
 use Rattle.vbi_words.specs.Geometry.{width_of}
 use Rattle.vbi_words.specs.Levels.{Slicing}
-use Rattle.vbi_near.specs.declared.near.Near.{Near}
 use Rattle.vbi_near.specs.Pictures.{IsPlace, picture_of, sample_of, drawn_as}
 use Rattle.vbi_near.specs.Distances.{Samples, unit_of, off_by, row_distance, distance_of, Shades, shade, column_cost}
 use Rattle.vbi_near.specs.Distances.{distance_from, IsPile}
-use Rattle.vbi_near.specs.Nearest.{IsNearestBy, IsNearest, IsFirstBy, IsFirst, far_from}
-use Rattle.vbi_near.specs.Longer.{GoesOn, HasLonger, IsLonger}
-use Rattle.std.specs.Prelude.{Some, None}
-use Rattle.vbi_near.proofs.OneCellMore.{length-longer}
+use Rattle.vbi_near.specs.Nearest.{far_from}
+use Rattle.vbi_near.specs.Longer.{IsLeastRow}
 use Rattle.vbi_near.proofs.Columns.{length-picture}
-use Rattle.vbi_near.proofs.Chosen.{far}
 
 -- ---- one line
 
@@ -108,72 +105,21 @@ levels-same system slicing lines costs pile levels wide =
 
 pub far-same : (system : System) (slicing : Slicing) (lines : List Samples) (costs : Shades)
     → IsPile system slicing lines costs → (word : Option ℕ) (start : ℕ) → IsPlace system word start
-    → far system costs word start ≡ far_from system slicing lines word start
+    → distance_from costs 0 (picture_of system word start) ≡ far_from system slicing lines word start
 far-same system slicing lines costs pile word start place =
     levels-same system slicing lines costs pile (picture_of system word start) (length-picture system word start place)
 
-pub nearest-there : (IsThere : Option ℕ → ℕ → Type 0) (system : System)
-    → ((word : Option ℕ) (start : ℕ) → IsThere word start → IsPlace system word start) → (slicing : Slicing)
-    (lines : List Samples) (costs : Shades) (near : Near) → IsPile system slicing lines costs
-    → IsNearestBy IsThere (far system costs) near → IsNearestBy IsThere (far_from system slicing lines) near
-nearest-there IsThere system fits slicing lines costs near pile is = record {
-  place = is.place;
-  exact = sym (same near.word near.start is.place) ∙ is.exact;
-  least = λ word start place. omega (arith, is.least word start place, same word start place);
-  rival = λ word start place differs. omega (arith, is.rival word start place differs, same word start place);
-  other = (
-    is.other.0,
-    is.other.1,
-    is.other.2,
-    is.other.3,
-    sym (same is.other.0 is.other.1 is.other.2) ∙ is.other.4,
-  );
-}
-  where
-    same : (word : Option ℕ) (start : ℕ) → IsThere word start
-        → far system costs word start ≡ far_from system slicing lines word start
-    same word start place = far-same system slicing lines costs pile word start (fits word start place)
-
-pub nearest-same : (system : System) (slicing : Slicing) (lines : List Samples) (costs : Shades) (near : Near)
-    → IsPile system slicing lines costs → IsNearestBy (IsPlace system) (far system costs) near
-    → IsNearest system slicing lines near
-nearest-same system slicing lines costs near pile is =
-    nearest-there (IsPlace system) system (λ word start place. place) slicing lines costs near pile is
-
-pub first-there : (IsThere : Option ℕ → ℕ → Type 0) (system : System)
-    → ((word : Option ℕ) (start : ℕ) → IsThere word start → IsPlace system word start) → (slicing : Slicing)
-    (lines : List Samples) (costs : Shades) (near : Near) → IsPile system slicing lines costs
-    → IsFirstBy IsThere (far system costs) near → IsFirstBy IsThere (far_from system slicing lines) near
-first-there IsThere system fits slicing lines costs near pile is = record {
-  first = λ word start place same. is.first word start place
-      (far-same system slicing lines costs pile word start (fits word start place) ∙ same);
-}
-
-pub first-same : (system : System) (slicing : Slicing) (lines : List Samples) (costs : Shades) (near : Near)
-    → IsPile system slicing lines costs → IsFirstBy (IsPlace system) (far system costs) near
-    → IsFirst system slicing lines near
-first-same system slicing lines costs near pile is =
-    first-there (IsPlace system) system (λ word start place. place) slicing lines costs near pile is
-
--- ---- rows on which the word goes on
-
-longer-by : (system : System) (slicing : Slicing) (lines : List Samples) (costs : Shades) (near : Near)
-    → IsPile system slicing lines costs → (word : Option ℕ) → IsPlace system word near.start
-    → HasLonger system (distance_from costs 0) word near
-    → HasLonger system (λ levels. distance_of (unit_of slicing) lines (drawn_as slicing levels)) word near
-longer-by system slicing lines costs near pile None place is = is
-longer-by system slicing lines costs near pile (Some w) place is = record {
-  least = λ levels on. omega (arith, is.least levels on, same levels on);
+-- so is the least distance of rows that are as wide
+pub row-same : (system : System) (slicing : Slicing) (lines : List Samples) (costs : Shades)
+    → IsPile system slicing lines costs → (IsRow : List Bool → Type 0) (distance : ℕ)
+    → ((levels : List Bool) → IsRow levels → length levels ≡ width_of system)
+    → IsLeastRow IsRow (distance_from costs 0) distance
+    → IsLeastRow IsRow (λ levels. distance_of (unit_of slicing) lines (drawn_as slicing levels)) distance
+row-same system slicing lines costs pile IsRow distance wide is = record {
+  least = λ levels row. omega (arith, is.least levels row, same levels row);
   one = (is.one.0, is.one.1, sym (same is.one.0 is.one.1) ∙ is.one.2);
 }
   where
-    same : (levels : List Bool) → GoesOn system w near.start levels
+    same : (levels : List Bool) → IsRow levels
         → distance_from costs 0 levels ≡ distance_of (unit_of slicing) lines (drawn_as slicing levels)
-    same levels on =
-        levels-same system slicing lines costs pile levels (length-longer system w near.start levels place.1 on)
-
-pub longer-same : (system : System) (slicing : Slicing) (lines : List Samples) (costs : Shades) (near : Near)
-    → IsPile system slicing lines costs → IsPlace system near.word near.start
-    → HasLonger system (distance_from costs 0) near.word near → IsLonger system slicing lines near
-longer-same system slicing lines costs near pile place is =
-    longer-by system slicing lines costs near pile near.word place is
+    same levels row = levels-same system slicing lines costs pile levels (wide levels row)

@@ -1,6 +1,6 @@
 -- The six places of a word's digits.
-use Rattle.std.proofs.Common.{◌≡◌, ℕ, zero, suc, ◌≤◌, ◌<◌, ◌+◌, ◌*◌, ◌^◌, arith, ap, ◌∙◌, add-one, pow-suc}
-use Rattle.std.proofs.Common.{get_or, take}
+use Rattle.std.proofs.Common.{◌≡◌, ℕ, zero, suc, ◌≤◌, ◌<◌, ◌+◌, ◌*◌, ◌^◌, arith, ap, ◌∙◌, add-one, pow-suc, get_or}
+use Rattle.std.proofs.Common.{take}
 use Rattle.std.proofs.Math.ListN.{replicate}
 use Rattle.std.proofs.lemmas.List.{get_or-take, get_or-replicate}
 use Rattle.vbi_near.specs.LineCodes.{AtEachPlace}

@@ -1,6 +1,6 @@
 -- What words cost, by their digits.
-use Rattle.std.proofs.Common.{◌≡◌, ℕ, zero, suc, ◌<◌, ◌+◌, ◌-◌, ◌*◌, ◌/◌, ◌%◌, Bool, false, List, get_or}
-use Rattle.std.proofs.Common.{arith, ap, ◌∙◌, eqb, refl}
+use Rattle.std.proofs.Common.{◌≡◌, ℕ, zero, suc, ◌<◌, ◌+◌, ◌-◌, ◌*◌, ◌/◌, ◌%◌, Bool, false, List, get_or, arith, ap}
+use Rattle.std.proofs.Common.{◌∙◌, refl}
 use Rattle.vbi_words.specs.declared.system.System.{System}
 use Rattle.vbi_words.specs.Geometry.{width_of}
 use Rattle.vbi_words.specs.Words.{IsWord}
@@ -8,27 +8,14 @@ use Rattle.vbi_near.specs.Pictures.{word_length}
 use Rattle.vbi_near.specs.Distances.{Shades}
 use Rattle.vbi_near.specs.Sums.{span}
 use Rattle.vbi_near.specs.Costs.{cell_cost, bits_cost, place_cost}
-use Rattle.vbi_near.specs.Leads.{bit_in, digit_cost, digits_cost, IsDigitCost, ArePriced, code_cost}
+use Rattle.vbi_near.specs.Leads.{digit_cost, digits_cost, IsDigitCost, ArePriced, code_cost}
 
 -- four bits more
 four-more : (cost : ℕ → Bool → ℕ) (m w : ℕ)
     → bits_cost cost (suc (suc (suc (suc m)))) w ≡ bits_cost cost m (w / 16) + digit_cost cost m (w % 16)
 unfolding bits_cost
 four-more cost m w =
-    let q : w / 2 / 2 / 2 / 2 ≡ w / 16 = omega arith in
-    let a : w / 2 / 2 / 2 % 2 ≡ w % 16 / 8 % 2 = omega arith in
-    let b : w / 2 / 2 % 2 ≡ w % 16 / 4 % 2 = omega arith in
-    let d : w / 2 % 2 ≡ w % 16 / 2 % 2 = omega arith in
-    let e : w % 2 ≡ w % 16 / 1 % 2 = omega arith in
-    let m1 : suc m ≡ m + 1 = omega arith in
-    let m2 : suc (suc m) ≡ m + 2 = omega arith in
-    let m3 : suc (suc (suc m)) ≡ m + 3 = omega arith in
-    let start = ap (bits_cost cost m) q in
-    let first = ap (λ (k : ℕ). cost m (eqb k 1)) a in
-    let second = ap (λ (k : ℕ). cost (suc m) (eqb k 1)) b ∙ ap (λ (k : ℕ). cost k (bit_in (w % 16) 4)) m1 in
-    let third = ap (λ (k : ℕ). cost (suc (suc m)) (eqb k 1)) d ∙ ap (λ (k : ℕ). cost k (bit_in (w % 16) 2)) m2 in
-    let last = ap (λ (k : ℕ). cost (suc (suc (suc m))) (eqb k 1)) e ∙ ap (λ (k : ℕ). cost k (bit_in (w % 16) 1)) m3 in
-    omega (arith, start, first, second, third, last)
+    grind arith
 
 by-digits : (cost : ℕ → Bool → ℕ) (table : ℕ → ℕ → ℕ) (base n w : ℕ)
     → ((k d : ℕ) → k < n → d < 16 → table k d ≡ digit_cost cost (4 * k) d)

@@ -191,12 +191,7 @@ module _ (system : System) (late room : ℕ) (fits : (j : ℕ) → late ≤ cell
 
   behind-long : (j : ℕ) (bit : Bool) → length (levels_behind system late j bit) ≡ late
   behind-long j bit =
-      omega (
-        arith,
-        length-drop (cell_columns system j - late) (cell_levels system j bit),
-        length-cell system j bit,
-        fits j,
-      )
+      grind (arith, length-drop, cell_columns, cell_levels, length-cell)
 
   floors-hold : (n j : ℕ) (bit same : Bool) (bits more : List Bool) → length bits ≡ n → length more ≡ n
       → (same ≡ true → bits ≢ more) → floor (floors system late j n) bit same
@@ -204,11 +199,9 @@ module _ (system : System) (late room : ℕ) (fits : (j : ℕ) → late ≤ cell
   unfolding floors ones others drawn_halves
   floors-hold zero j bit true [] [] e f differ = absurd (differ refl refl)
   floors-hold zero j false false [] [] e f differ =
-      low-differs (late + room) (levels_behind system late j false) (replicate room false)
-      (omega (arith, behind-long j false))
+      grind (arith, low-differs, replicate, behind-long)
   floors-hold zero j true false [] [] e f differ =
-      low-differs (late + room) (levels_behind system late j true) (replicate room false)
-      (omega (arith, behind-long j true))
+      grind (arith, low-differs, replicate, behind-long)
   floors-hold zero j bit same (one ∷ bits) more e f differ = absurd (omega (arith, e))
   floors-hold zero j bit same [] (other ∷ more) e f differ = absurd (omega (arith, f))
   floors-hold (suc n) j bit same [] more e f differ = absurd (omega (arith, e))

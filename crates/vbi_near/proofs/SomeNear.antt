@@ -1,8 +1,7 @@
 -- There is a first nearest word of any lines, and a first nearest code.
-use Rattle.std.proofs.Common.{◌≡◌, ◌≢◌, ℕ, zero, suc, ◌+◌, ◌-◌, ◌*◌, ◌/◌, ◌%◌, ◌≤◌, ◌<◌, ◌⊎◌, inl, inr, Bool}
-use Rattle.std.proofs.Common.{true, false}
-use Rattle.std.proofs.Common.{List, [], ◌∷◌, refl, sym, ap, ◌∙◌, subst, arith}
-use Rattle.std.specs.Prelude.{Option, Some, None, ◌==◌, if◌then◌else◌}
+use Rattle.std.proofs.Common.{◌≡◌, ◌≢◌, ℕ, zero, suc, ◌+◌, ◌-◌, ◌*◌, ◌/◌, ◌%◌, ◌≤◌, ◌<◌, ◌⊎◌, inl, inr, Bool, true}
+use Rattle.std.proofs.Common.{false, List, [], ◌∷◌, refl, sym, ap, ◌∙◌, subst, arith}
+use Rattle.std.specs.Prelude.{Option, Some, None}
 use Rattle.std.proofs.lemmas.Bool.{cases_eq, cases_lt}
 use Rattle.vbi_words.specs.declared.system.System.{System}
 use Rattle.vbi_words.specs.declared.system.System.TheVariants.{Ntsc, Pal}
@@ -11,17 +10,15 @@ use Rattle.vbi_words.specs.Levels.{Slicing}
 use Rattle.vbi_words.specs.Words.{IsWord}
 use Rattle.vbi_words.specs.Codes.{digit_of, IsBetween}
 use Rattle.vbi_near.specs.declared.near.Near.{Near}
-use Rattle.vbi_near.specs.LineCodes.{Range, IsIn, IsOneOf, codes_of, codes_of_16, codes_of_17, IsCodePlace}
+use Rattle.vbi_near.specs.LineCodes.{Range, IsIn, IsOneOf, codes_of, IsCodePlace}
 use Rattle.vbi_near.specs.Pictures.{IsPlace, drawn_as, starts, word_length}
 use Rattle.vbi_near.specs.Distances.{Samples, unit_of, distance_of}
-use Rattle.vbi_near.specs.Nearest.{IsNearestBy, IsFirstBy, IsNearest, IsFirst, Precedes, far_from}
-use Rattle.vbi_near.specs.Nearest.{IsNearestCode, IsFirstCode}
-use Rattle.vbi_near.specs.Longer.{GoesOn, HasLonger, IsLonger, IsLeastLonger, cell_length, begun_earlier, ended_later}
-use Rattle.vbi_near.specs.Shorter.{begun_later, ended_earlier, row_of_halves, IsCutShort, IsLeastShorter, HasShorter}
-use Rattle.vbi_near.specs.Shorter.{IsShorter}
-use Rattle.vbi_near.proofs.Certain.{same_or_not}
-use Rattle.vbi_near.proofs.Chosen.{some_none, none_some}
-use Rattle.vbi_near.proofs.ChosenCode.{code-place}
+use Rattle.vbi_near.specs.Nearest.{IsNearestBy, IsFirstBy, IsNearest, IsFirst, Precedes, far_from, IsNearestCode}
+use Rattle.vbi_near.specs.Nearest.{IsFirstCode}
+use Rattle.vbi_near.specs.Longer.{GoesOn, IsLeastRow, HasLeastRow, IsLonger, cell_length, begun_earlier, ended_later}
+use Rattle.vbi_near.specs.Shorter.{begun_later, ended_earlier, row_of_halves, IsCutShort, IsShorter}
+use Rattle.vbi_near.proofs.Chosen.{code-place}
+use Rattle.vbi_near.proofs.Certain.{same_or_not, some_none, none_some}
 use Rattle.vbi_near.proofs.Columns.{word-fits}
 use Rattle.vbi_near.proofs.Least.{Least, found, IsTold, both_told, either_told, at_most_told, all_told}
 
@@ -44,12 +41,6 @@ module _ (system : System) where
   last : ℕ
   last = starts system * 8388608
 
-  is_place : (k : ℕ) → k ≤ last → IsPlace system (word_at k) (start_at k)
-  unfolding word_at start_at last
-  is_place zero le = refl
-  is_place (suc m) le =
-      ((omega arith, omega arith), let l : m / 8388608 < starts system = omega arith in omega (arith, word-fits system))
-
   record Numbered (word : Option ℕ) (start : ℕ) : Type 0 where
     pub within : number_of word start ≤ last
     pub word_is : word_at (number_of word start) ≡ word
@@ -69,11 +60,8 @@ module _ (system : System) where
   unfolding number_of
   precedes None other start at here there le = tt
   precedes (Some w) None start at here there le = absurd (omega arith)
-  precedes (Some w) (Some v) start at ((low, high), room) ((low', high'), room') le = go (cases_lt start at)
-    where
-      go : (start < at) ⊎ (at ≤ start) → (start < at) ⊎ ((start ≡ at) × (w ≤ v))
-      go (inl less) = inl less
-      go (inr more) = inr (omega arith, omega arith)
+  precedes (Some w) (Some v) start at ((low, high), room) ((low', high'), room') le =
+      grind arith
 
 -- a place's number, again
 renumbered : (k : ℕ) → number_of (word_at k) (start_at k) ≡ k
@@ -82,11 +70,8 @@ renumbered zero = refl
 renumbered (suc m) = ap suc (omega arith)
 
 other_word : (a b : Option ℕ) → IsTold (a ≢ b)
-other_word a b = go (same_or_not a b)
-  where
-    go : (a ≡ b) ⊎ (a ≢ b) → IsTold (a ≢ b)
-    go (inl e) = inr (λ differs. differs e)
-    go (inr differs) = inl differs
+other_word a b =
+    grind (arith, same_or_not, IsTold)
 
 -- the first of the nearest of some places, of which none is one, and a word at the first column
 module _ (system : System) (IsThere : Option ℕ → ℕ → Type 0)
@@ -111,9 +96,7 @@ module _ (system : System) (IsThere : Option ℕ → ℕ → Type 0)
 
   has : (word : Option ℕ) (start : ℕ) → IsThere word start → Has (number_of word start)
   has word start place =
-      let n = numbered system word start (fits word start place) in
-      subst (λ (s : ℕ). IsThere (word_at (number_of word start)) s) (sym n.start_is)
-      (subst (λ (w : Option ℕ). IsThere w start) (sym n.word_is) place)
+      grind (arith, numbered, word_at, number_of)
 
   best : Least cost Has (last system)
   unfolding word_at start_at
@@ -179,115 +162,104 @@ module _ (system : System) (IsThere : Option ℕ → ℕ → Type 0)
         (omega (arith, le, renumbered best.at));
   }
 
--- ---- with one cell more
+-- ---- rows on which a word goes on or is cut short
+
+-- of four rows that there may be, one of which there is, one has the least distance
+some_row : (IsRow : List Bool → Type 0) (far : List Bool → ℕ) (levels : ℕ → List Bool) (Has : ℕ → Type 0)
+    → ((k : ℕ) → IsTold (Has k)) → (k : ℕ) → k ≤ 3 → Has k → ((k : ℕ) → Has k → IsRow (levels k))
+    → ((x : List Bool) → IsRow x → (k : ℕ) × (k ≤ 3) × Has k × (x ≡ levels k))
+    → (distance : ℕ) × IsLeastRow IsRow far distance
+some_row IsRow far levels Has told k le one are all =
+    let l = found (λ (k : ℕ). far (levels k)) Has told 3 k le one in (
+      far (levels l.at),
+      record {
+        least = λ x row. let n = all x row in omega (arith, l.least n.0 n.1 n.2, ap far n.3);
+        one = (levels l.at, are l.at l.holds, refl);
+      },
+    )
+
+-- the same of the word at a place, or of none
+row_of : (IsRow : ℕ → ℕ → List Bool → Type 0) (far : List Bool → ℕ) (word : Option ℕ) (start distance : ℕ)
+    → ((w : ℕ) → word ≡ Some w → (least : ℕ) × IsLeastRow (IsRow w start) far least)
+    → (least : ℕ) × ((near : Near) → near.start ≡ start → near.distance ≡ distance
+    → HasLeastRow IsRow far word near least)
+row_of IsRow far None start distance some = (distance, λ near s d. sym d)
+row_of IsRow far (Some w) start distance some =
+    let l = some w refl in (l.0, λ near s d. subst (λ (k : ℕ). IsLeastRow (IsRow w k) far l.0) (sym s) l.1)
 
 cells_fit : (system : System) → word_length system + 2 * cell_length system ≤ width_of system
 cells_fit Ntsc = omega arith
 cells_fit Pal = omega arith
 
-module _ (system : System) (far : List Bool → ℕ) (word start : ℕ) (room : start + word_length system ≤ width_of system)
-  where
-    levels_at : ℕ → List Bool
-    levels_at zero = begun_earlier system word start true
-    levels_at (suc zero) = begun_earlier system word start false
-    levels_at (suc (suc zero)) = ended_later system word start true
-    levels_at (suc (suc (suc k))) = ended_later system word start false
-
-    abbrev HasRoom : ℕ → Type 0
-    HasRoom zero = cell_length system ≤ start
-    HasRoom (suc zero) = cell_length system ≤ start
-    HasRoom (suc (suc k)) = start + word_length system + cell_length system ≤ width_of system
-
-    order : (a b : ℕ) → (a ≤ b) ⊎ (a ≤ b → ⊥)
-    order a b = go (cases_lt b a)
-      where
-        go : (b < a) ⊎ (a ≤ b) → (a ≤ b) ⊎ (a ≤ b → ⊥)
-        go (inl less) = inr (λ le. omega arith)
-        go (inr le) = inl le
-
-    has_room : (k : ℕ) → HasRoom k ⊎ (HasRoom k → ⊥)
-    has_room zero = order (cell_length system) start
-    has_room (suc zero) = order (cell_length system) start
-    has_room (suc (suc k)) = order (start + word_length system + cell_length system) (width_of system)
-
-    goes_on : (k : ℕ) → HasRoom k → GoesOn system word start (levels_at k)
-    unfolding levels_at
-    goes_on zero fits = (true, inl (fits, refl))
-    goes_on (suc zero) fits = (false, inl (fits, refl))
-    goes_on (suc (suc zero)) fits = (true, inr (fits, refl))
-    goes_on (suc (suc (suc k))) fits = (false, inr (fits, refl))
-
-    some_cell : Least (λ k. far (levels_at k)) HasRoom 3
-    some_cell = go (cases_lt start (cell_length system))
-      where
-        go : (start < cell_length system) ⊎ (cell_length system ≤ start) → Least (λ k. far (levels_at k)) HasRoom 3
-        go (inl less) =
-            found (λ k. far (levels_at k)) HasRoom has_room 3 2 (omega arith) (omega (arith, less, cells_fit system))
-        go (inr le) = found (λ k. far (levels_at k)) HasRoom has_room 3 0 (omega arith) le
-
-    some_longer : (longer : ℕ) × IsLeastLonger system far word start longer
-    unfolding levels_at
-    some_longer =
-        let l = some_cell in
-        (far (levels_at l.at), record { least = least; one = (levels_at l.at, goes_on l.at l.holds, refl) })
-      where
-        least : (levels : List Bool) → GoesOn system word start levels → far (levels_at some_cell.at) ≤ far levels
-        least levels (true, inl (fits, e)) = omega (arith, some_cell.least 0 (omega arith) fits, ap far e)
-        least levels (false, inl (fits, e)) = omega (arith, some_cell.least 1 (omega arith) fits, ap far e)
-        least levels (true, inr (fits, e)) = omega (arith, some_cell.least 2 (omega arith) fits, ap far e)
-        least levels (false, inr (fits, e)) = omega (arith, some_cell.least 3 (omega arith) fits, ap far e)
-
-longer_of : (system : System) (far : List Bool → ℕ) (word : Option ℕ) (start distance : ℕ) → IsPlace system word start
-    → (longer : ℕ) × ((near : Near) → near.word ≡ word → near.start ≡ start → near.distance ≡ distance
-    → near.longer ≡ longer → HasLonger system far word near)
-longer_of system far None start distance place = (distance, λ near w s d l. l ∙ sym d)
-longer_of system far (Some w) start distance (word, room) =
-    let l = some_longer system far w start room in (
-      l.0,
-      λ near e s d longer. subst (λ (k : ℕ). IsLeastLonger system far w k near.longer) (sym s)
-          (subst (λ (k : ℕ). IsLeastLonger system far w start k) (sym longer) l.1),
-    )
-
--- ---- with fewer cells
-
 module _ (system : System) (far : List Bool → ℕ) (word start : ℕ) where
+  levels_at : ℕ → List Bool
+  levels_at zero = begun_earlier system word start true
+  levels_at (suc zero) = begun_earlier system word start false
+  levels_at (suc (suc zero)) = ended_later system word start true
+  levels_at (suc (suc (suc k))) = ended_later system word start false
+
+  abbrev HasRoom : ℕ → Type 0
+  HasRoom zero = cell_length system ≤ start
+  HasRoom (suc zero) = cell_length system ≤ start
+  HasRoom (suc (suc k)) = start + word_length system + cell_length system ≤ width_of system
+
+  has_room : (k : ℕ) → IsTold (HasRoom k)
+  has_room zero = at_most_told (cell_length system) start
+  has_room (suc zero) = at_most_told (cell_length system) start
+  has_room (suc (suc k)) = at_most_told (start + word_length system + cell_length system) (width_of system)
+
+  goes_on : (k : ℕ) → HasRoom k → GoesOn system word start (levels_at k)
+  unfolding levels_at
+  goes_on zero fits = (true, inl (fits, refl))
+  goes_on (suc zero) fits = (false, inl (fits, refl))
+  goes_on (suc (suc zero)) fits = (true, inr (fits, refl))
+  goes_on (suc (suc (suc k))) fits = (false, inr (fits, refl))
+
+  is_longer : (levels : List Bool) → GoesOn system word start levels
+      → (k : ℕ) × (k ≤ 3) × HasRoom k × (levels ≡ levels_at k)
+  unfolding levels_at
+  is_longer levels (true, inl (fits, e)) = (0, omega arith, fits, e)
+  is_longer levels (false, inl (fits, e)) = (1, omega arith, fits, e)
+  is_longer levels (true, inr (fits, e)) = (2, omega arith, fits, e)
+  is_longer levels (false, inr (fits, e)) = (3, omega arith, fits, e)
+
+  some_longer : start + word_length system ≤ width_of system
+      → (longer : ℕ) × IsLeastRow (GoesOn system word start) far longer
+  some_longer room = go (cases_lt start (cell_length system))
+    where
+      go : (start < cell_length system) ⊎ (cell_length system ≤ start)
+          → (longer : ℕ) × IsLeastRow (GoesOn system word start) far longer
+      go (inl less) =
+          some_row (GoesOn system word start) far levels_at HasRoom has_room 2 (omega arith)
+          (omega (arith, less, cells_fit system)) goes_on is_longer
+      go (inr le) =
+          some_row (GoesOn system word start) far levels_at HasRoom has_room 0 (omega arith) le goes_on is_longer
+
   cut_at : ℕ → List Bool
   cut_at zero = row_of_halves system start (begun_later word 2)
   cut_at (suc zero) = row_of_halves system start (begun_later word 4)
   cut_at (suc (suc zero)) = row_of_halves system start (ended_earlier word 2)
   cut_at (suc (suc (suc k))) = row_of_halves system start (ended_earlier word 4)
 
-  is_cut : (k : ℕ) → IsCutShort system word start (cut_at k)
+  cut_short : (k : ℕ) → Unit {0} → IsCutShort system word start (cut_at k)
   unfolding cut_at
-  is_cut zero = inl refl
-  is_cut (suc zero) = inr (inl refl)
-  is_cut (suc (suc zero)) = inr (inr (inl refl))
-  is_cut (suc (suc (suc k))) = inr (inr (inr refl))
+  cut_short zero any = inl refl
+  cut_short (suc zero) any = inr (inl refl)
+  cut_short (suc (suc zero)) any = inr (inr (inl refl))
+  cut_short (suc (suc (suc k))) any = inr (inr (inr refl))
 
-  some_cut : Least (λ k. far (cut_at k)) (λ k. Unit {0}) 3
-  some_cut = found (λ k. far (cut_at k)) (λ k. Unit {0}) (λ k. inl tt) 3 0 (omega arith) tt
-
-  some_shorter : (shorter : ℕ) × IsLeastShorter system far word start shorter
+  is_cut : (levels : List Bool) → IsCutShort system word start levels
+      → (k : ℕ) × (k ≤ 3) × Unit {0} × (levels ≡ cut_at k)
   unfolding cut_at
+  is_cut levels (inl e) = (0, omega arith, tt, e)
+  is_cut levels (inr (inl e)) = (1, omega arith, tt, e)
+  is_cut levels (inr (inr (inl e))) = (2, omega arith, tt, e)
+  is_cut levels (inr (inr (inr e))) = (3, omega arith, tt, e)
+
+  some_shorter : (shorter : ℕ) × IsLeastRow (IsCutShort system word start) far shorter
   some_shorter =
-      (far (cut_at some_cut.at), record { least = least; one = (cut_at some_cut.at, is_cut some_cut.at, refl) })
-    where
-      least : (levels : List Bool) → IsCutShort system word start levels → far (cut_at some_cut.at) ≤ far levels
-      least levels (inl e) = omega (arith, some_cut.least 0 (omega arith) tt, ap far e)
-      least levels (inr (inl e)) = omega (arith, some_cut.least 1 (omega arith) tt, ap far e)
-      least levels (inr (inr (inl e))) = omega (arith, some_cut.least 2 (omega arith) tt, ap far e)
-      least levels (inr (inr (inr e))) = omega (arith, some_cut.least 3 (omega arith) tt, ap far e)
-
-shorter_of : (system : System) (far : List Bool → ℕ) (word : Option ℕ) (start distance : ℕ)
-    → (shorter : ℕ) × ((near : Near) → near.word ≡ word → near.start ≡ start → near.distance ≡ distance
-    → near.shorter ≡ shorter → HasShorter system far word near)
-shorter_of system far None start distance = (distance, λ near w s d l. l ∙ sym d)
-shorter_of system far (Some w) start distance =
-    let l = some_shorter system far w start in (
-      l.0,
-      λ near e s d shorter. subst (λ (k : ℕ). IsLeastShorter system far w k near.shorter) (sym s)
-          (subst (λ (k : ℕ). IsLeastShorter system far w start k) (sym shorter) l.1),
-    )
+      some_row (IsCutShort system word start) far cut_at (λ k. Unit {0}) (λ k. inl tt) 0 (omega arith) tt cut_short
+      is_cut
 
 -- the first of the nearest at these places, with the least longer and the least shorter distance
 pub some_near_by : (system : System) (IsThere : Option ℕ → ℕ → Type 0)
@@ -295,20 +267,24 @@ pub some_near_by : (system : System) (IsThere : Option ℕ → ℕ → Type 0)
     → ((word : Option ℕ) (start : ℕ) → IsTold (IsThere word start)) → IsThere None 0 → (word : ℕ)
     → IsThere (Some word) 0 → (far : Option ℕ → ℕ → ℕ) (longer_far : List Bool → ℕ)
     → (near : Near) × IsNearestBy IsThere far near × IsFirstBy IsThere far near
-    × HasLonger system longer_far near.word near × HasShorter system longer_far near.word near
+    × HasLeastRow (GoesOn system) longer_far near.word near near.longer
+    × HasLeastRow (IsCutShort system) longer_far near.word near near.shorter
 unfolding near_with
 some_near_by system IsThere fits told none word one far longer_far =
     let b = best system IsThere fits told none word one far in
     let w : Option ℕ = word_at b.at in
     let s : ℕ = start_at b.at in
-    let l = longer_of system longer_far w s (cost system IsThere fits told none word one far b.at) (fits w s b.holds) in
-    let m = shorter_of system longer_far w s (cost system IsThere fits told none word one far b.at) in
+    let c : ℕ = cost system IsThere fits told none word one far b.at in
+    let place : IsPlace system w s = fits w s b.holds in
+    let l = row_of (GoesOn system) longer_far w s c (λ v e. some_longer system longer_far v s
+    (subst (λ (o : Option ℕ). IsPlace system o s) e place).1) in
+    let m = row_of (IsCutShort system) longer_far w s c (λ v e. some_shorter system longer_far v s) in
     let near : Near = near_with system IsThere fits told none word one far l.0 m.0 in (
       near,
       near_is system IsThere fits told none word one far l.0 m.0,
       first_near system IsThere fits told none word one far l.0 m.0,
-      l.1 near refl refl refl refl,
-      m.1 near refl refl refl refl,
+      l.1 near refl refl,
+      m.1 near refl refl,
     )
 
 -- ---- places
@@ -320,8 +296,7 @@ word_told w = both_told _ _ (at_most_told 8388608 w) (at_most_told (suc w) 16777
 place_told : (system : System) (word : Option ℕ) (start : ℕ) → IsTold (IsPlace system word start)
 place_told system None start = cases_eq start 0
 place_told system (Some w) start =
-    both_told (IsWord w) (start + word_length system ≤ width_of system) (word_told w)
-    (at_most_told (start + word_length system) (width_of system))
+    grind (arith, both_told, word_told, at_most_told)
 
 -- a digit is in the range of those at its place from 0
 abbrev Fits : ℕ → ℕ → ℕ → ℕ → Type 0
@@ -353,8 +328,7 @@ code_told : (ranges : List Range) (system : System) (word : Option ℕ) (start :
     → IsTold (IsCodePlace ranges system word start)
 code_told ranges system None start = cases_eq start 0
 code_told ranges system (Some w) start =
-    both_told (IsOneOf ranges w) (start + word_length system ≤ width_of system) (one_told ranges w)
-    (at_most_told (start + word_length system) (width_of system))
+    grind (arith, both_told, one_told, at_most_told)
 
 -- picture stop, which may stand on each line
 stop_between : IsBetween 0x82CFFF 0x82CFFF 0x82CFFF
@@ -362,15 +336,8 @@ stop_between place low high = (omega arith, omega arith)
 
 -- it is in each table
 stop_stands : (system : System) (line : ℕ) → IsOneOf (codes_of system line) 0x82CFFF
-stop_stands system line = go (line == 16) refl
-  where
-    go : (b : Bool) → (line == 16) ≡ b → IsOneOf (if b then codes_of_16 system else codes_of_17) 0x82CFFF
-    go true e = on_16 system
-      where
-        on_16 : (system : System) → IsOneOf (codes_of_16 system) 0x82CFFF
-        on_16 Ntsc = inl ((omega arith, omega arith), stop_between)
-        on_16 Pal = inl ((omega arith, omega arith), stop_between)
-    go false e = inr (inr (inr (inl ((omega arith, omega arith), stop_between))))
+stop_stands system line =
+    grind (arith, stop_between)
 
 -- ---- of all words, and of the codes that may stand on a line
 

@@ -11,8 +11,8 @@ use Rattle.vbi_words.specs.Drawn.{boundary}
 use Rattle.vbi_words.specs.Words.{halves_of}
 use Rattle.vbi_near.specs.Distances.{Shades}
 use Rattle.vbi_near.specs.Sums.{span, total_in}
-use Rattle.vbi_near.specs.Stretched.{stretched_offset, stretched_half, halves_cost}
-use Rattle.vbi_near.specs.Stretched.{stretched_cost, stretched_length, stretched_word_cost, stretched_row_cost}
+use Rattle.vbi_near.specs.Stretched.{stretched_offset, stretched_half, halves_cost, stretched_cost, stretched_length}
+use Rattle.vbi_near.specs.Stretched.{stretched_word_cost, stretched_row_cost}
 use Rattle.vbi_near.proofs.CellsAt.{set-more}
 use Rattle.vbi_near.proofs.CutShort.{many-halves}
 use Rattle.vbi_near.proofs.Halves.{halves_cost-append}
@@ -23,15 +23,9 @@ use Rattle.vbi_near.proofs.Halves.{halves_cost-append}
 pub offset-rises : (system : System) (rate j : ℕ)
     → stretched_offset system rate j ≤ stretched_offset system rate (suc j)
 offset-rises Ntsc rate j =
-    let e : suc j * 315 ≡ j * 315 + 315 = omega arith in
-    let more : suc j * 315 * rate ≡ j * 315 * rate + 315 * rate
-    = ap (λ (n : ℕ). n * rate) e ∙ add-mul (j * 315) 315 rate in
-    omega (arith, more)
+    grind (arith, add-mul)
 offset-rises Pal rate j =
-    let e : suc j * 709379 ≡ j * 709379 + 709379 = omega arith in
-    let more : suc j * 709379 * rate ≡ j * 709379 * rate + 709379 * rate
-    = ap (λ (n : ℕ). n * rate) e ∙ add-mul (j * 709379) 709379 rate in
-    omega (arith, more)
+    grind (arith, add-mul)
 
 pub offset-first : (system : System) (rate : ℕ) → stretched_offset system rate 0 ≡ 0
 offset-first Ntsc rate = omega arith
@@ -50,8 +44,7 @@ pub starts-long : (system : System) (rate width length_of : ℕ) → 98 ≤ rate
     → length_of ≡ stretched_length system rate
     → length {A = ℕ} (take (width - length_of + 1) (replicate 302 0)) ≡ width - length_of + 1
 starts-long system rate width length_of le w l =
-    length-take-le {A = ℕ} (width - length_of + 1) (replicate 302 0)
-    (omega (arith, w, l, few-starts system rate le, length-replicate {A = ℕ} 302 0))
+    grind (arith, length-take-le, replicate, few-starts, length-replicate)
 
 -- at 100 hundredths they are those of a drawn word
 pub offset-whole : (system : System) (j : ℕ) → start_of system + stretched_offset system 100 j ≡ boundary system j
@@ -86,11 +79,7 @@ pub half-read : (sums : Shades) (system : System) (rate start j : ℕ) (level : 
     → begin ≡ stretched_offset system rate j → end ≡ stretched_offset system rate (j + 1)
     → span sums level (start + begin) (end - begin) ≡ stretched_cost sums system rate start j level
 half-read sums system rate start j level begin end b e =
-    let next : j + 1 ≡ suc j = omega arith in
-    let n : end - begin ≡ stretched_half system rate j
-    = omega (arith, b, e, ap (stretched_offset system rate) next, offset-rises system rate j) in
-    ap (span sums level (start + begin)) n
-    ∙ ap (λ (k : ℕ). span sums level (start + k) (stretched_half system rate j)) b
+    grind (arith, offset-rises)
 
 -- costs to which so much was added below i
 pub record IsPaid (sums : List ℕ) (begin end : ℕ) (old new : List ℕ) (i : ℕ) : Type 0 where
@@ -124,9 +113,4 @@ pub row-read : (sums : Shades) (system : System) (w rate start cost begin width 
     → width ≡ width_of system → tail ≡ span sums false begin (width - begin)
     → cost + tail ≡ stretched_row_cost sums system w rate start
 row-read sums system w rate start cost begin width tail c b wide t =
-    let moved : span sums false begin (width - begin)
-    ≡ span sums false (start + stretched_length system rate)
-    (width_of system - (start + stretched_length system rate))
-    = ap (λ (n : ℕ). span sums false begin (n - begin)) wide
-    ∙ ap (λ (k : ℕ). span sums false k (width_of system - k)) b in
-    omega (arith, c, t, moved)
+    grind arith

@@ -1,6 +1,6 @@
 -- How much a line swings at most, so that what is divided by it fits.
-use Rattle.std.proofs.Common.{◌≡◌, ℕ, suc, zero, ◌≤◌, ◌<◌, ◌+◌, ◌*◌, ◌/◌, ◌^◌, List, length, get_or, take, drop}
-use Rattle.std.proofs.Common.{arith, sym, subst}
+use Rattle.std.proofs.Common.{◌≡◌, ℕ, suc, zero, ◌≤◌, ◌<◌, ◌+◌, ◌*◌, ◌/◌, ◌^◌, List, length, get_or, take, drop, arith}
+use Rattle.std.proofs.Common.{sym, subst}
 use Rattle.std.specs.List.{All, sum}
 use Rattle.std.proofs.lemmas.List.{get_or_default, length-take}
 use Rattle.std.proofs.lemmas.List.Elements.{All-take, All-drop}
@@ -12,8 +12,7 @@ use Rattle.vbi_words.specs.declared.system.System.TheVariants.{Ntsc, Pal}
 use Rattle.vbi_words.specs.Geometry.{width_of}
 use Rattle.vbi_words.specs.Levels.{samples_of}
 use Rattle.vbi_line.proofs.Slicing.{sample_of, length-samples_of}
-use Rattle.vbi_near.specs.Levelled.{window_of, first_of, columns_of, window_start, off_mean, off_in}
-use Rattle.vbi_near.specs.Levelled.{swing_of}
+use Rattle.vbi_near.specs.Levelled.{window_of, first_of, columns_of, window_start, off_mean, off_in, swing_of}
 
 -- samples of 16 bits
 abbrev pub AreShort : List ℕ → Type 0
@@ -80,8 +79,7 @@ few-swing : (system : System) (samples : List ℕ) → AreShort samples → leng
     → swing_of system samples ≤ 262144
 unfolding swing_of
 few-swing Ntsc samples short long =
-    by-ntsc (off_in Ntsc samples (columns_of Ntsc)) (columns_of Ntsc)
-    (few-offs Ntsc samples (columns_of Ntsc) short (room Ntsc (length samples) long))
+    search (arith, by-ntsc, few-offs, room)
 few-swing Pal samples short long =
     by-pal (off_in Pal samples (columns_of Pal)) (columns_of Pal)
     (few-offs Pal samples (columns_of Pal) short (room Pal (length samples) long))

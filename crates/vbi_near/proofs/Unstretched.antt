@@ -1,11 +1,9 @@
 -- A word on cells of a hundred hundredths of their length is drawn as any word is.
-use Rattle.std.proofs.Common.{◌≡◌, ℕ, suc, ◌+◌, ◌-◌, List, [], ◌∷◌, ◌++◌, Bool, false, refl, arith, ap, sym, ◌∙◌}
+use Rattle.std.proofs.Common.{◌≡◌, ℕ, suc, List, [], ◌∷◌, ◌++◌, Bool, refl, arith, ap, ◌∙◌}
 use Rattle.std.proofs.Math.ListN.{replicate}
 use Rattle.std.specs.Prelude.{Some}
 use Rattle.vbi_words.specs.declared.system.System.{System}
-use Rattle.vbi_words.specs.Geometry.{width_of}
-use Rattle.vbi_words.specs.Words.{halves_of}
-use Rattle.vbi_near.specs.Pictures.{half_length, word_length, drawn_halves, picture_of}
+use Rattle.vbi_near.specs.Pictures.{half_length, word_length, picture_of}
 use Rattle.vbi_near.specs.Stretched.{stretched_half, stretched_length, stretched_picture, halves_with}
 use Rattle.vbi_near.proofs.Halves.{drawn-with}
 use Rattle.vbi_near.proofs.Stretches.{offset-whole}
@@ -29,11 +27,4 @@ pub picture-whole : (system : System) (word start : ℕ)
     → stretched_picture system 100 word start ≡ picture_of system (Some word) start
 unfolding stretched_picture picture_of
 picture-whole system word start =
-    let halves : halves_with (stretched_half system 100) 0 (halves_of word) ≡ drawn_halves system 0 (halves_of word)
-    = halves-same (stretched_half system 100) (half_length system) (half-whole system) 0 (halves_of word)
-    ∙ sym (drawn-with system 0 (halves_of word)) in
-    ap (λ (n : ℕ). replicate start false
-    ++ (halves_with (stretched_half system 100) 0 (halves_of word) ++ replicate (width_of system - (start + n)) false))
-    (length-whole system)
-    ∙ ap (λ (drawn : List Bool). replicate start false
-    ++ (drawn ++ replicate (width_of system - (start + word_length system)) false)) halves
+    grind (arith, halves-same, half-whole, drawn-with, replicate, length-whole)

@@ -37,20 +37,21 @@ GoesOn system word start levels = (bit : Bool)
     ⊎ ((start + word_length system + cell_length system ≤ width_of system)
     × (levels ≡ ended_later system word start bit)))
 
--- the least distance of a row on which the word goes on
-pub record IsLeastLonger (system : System) (far : List Bool → ℕ) (word start longer : ℕ) : Type 0 where
-  pub least : (levels : List Bool) → GoesOn system word start levels → longer ≤ far levels
-  pub one : (levels : List Bool) × GoesOn system word start levels × (far levels ≡ longer)
+-- the least distance of these rows
+pub record IsLeastRow (IsRow : List Bool → Type 0) (far : List Bool → ℕ) (distance : ℕ) : Type 0 where
+  pub least : (levels : List Bool) → IsRow levels → distance ≤ far levels
+  pub one : (levels : List Bool) × IsRow levels × (far levels ≡ distance)
 
--- the same of the word answered; if there is none, its own distance
-abbrev pub HasLonger : System → (List Bool → ℕ) → Option ℕ → Near → Type 0
-HasLonger system far None near = near.longer ≡ near.distance
-HasLonger system far (Some word) near = IsLeastLonger system far word near.start near.longer
+-- that of the rows that there are of the word answered, at its start; if there is none, its own distance
+abbrev pub HasLeastRow : (ℕ → ℕ → List Bool → Type 0) → (List Bool → ℕ) → Option ℕ → Near → ℕ → Type 0
+HasLeastRow IsRow far None near distance = distance ≡ near.distance
+HasLeastRow IsRow far (Some word) near distance = IsLeastRow (IsRow word near.start) far distance
 
 -- how far the lines are from the nearest drawn row on which the word answered goes on
 abbrev pub IsLonger : System → Slicing → List Samples → Near → Type 0
 IsLonger system slicing lines near =
-    HasLonger system (λ levels. distance_of (unit_of slicing) lines (drawn_as slicing levels)) near.word near
+    HasLeastRow (GoesOn system) (λ levels. distance_of (unit_of slicing) lines (drawn_as slicing levels)) near.word
+    near near.longer
 
 -- ---- by sums
 

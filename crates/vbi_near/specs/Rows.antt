@@ -1,14 +1,15 @@
 -- What a row costs by its sums.
-use Rattle.std.specs.Prelude.{ℕ, ◌+◌, ◌-◌, Bool, false, List}
+use Rattle.std.specs.Prelude.{ℕ, ◌+◌, ◌-◌, Bool, false, List, Option}
 use Rattle.vbi_words.specs.declared.system.System.{System}
 use Rattle.vbi_words.specs.Geometry.{width_of}
 use Rattle.vbi_words.specs.Levels.{Slicing}
 use Rattle.vbi_near.specs.declared.sums.Sums.{Sums}
 use Rattle.vbi_near.specs.declared.near.Near.{Near}
-use Rattle.vbi_near.specs.Pictures.{word_length}
+use Rattle.vbi_near.specs.Pictures.{word_length, IsPlace}
 use Rattle.vbi_near.specs.Distances.{Samples, Shades, shades, IsPile}
 use Rattle.vbi_near.specs.Sums.{AreBoth, span}
-use Rattle.vbi_near.specs.Nearest.{IsNearest, IsFirst, IsNearestCode, IsFirstCode}
+use Rattle.vbi_near.specs.Nearest.{IsNearestBy, IsFirstBy, far_from}
+use Rattle.vbi_near.specs.LineCodes.{codes_of, IsCodePlace}
 use Rattle.vbi_near.specs.Longer.{IsLonger}
 use Rattle.vbi_near.specs.Shorter.{IsShorter}
 use Rattle.vbi_near.specs.Costs.{cell_cost, place_cost}
@@ -40,17 +41,18 @@ pub record IsRowOf (sums : Sums) (slicing : Slicing) (lines : List Samples) (cos
   pub pile : IsPile sums.system slicing lines costs
   pub both : AreBoth costs (shades_of sums) (width_of sums.system)
 
--- all that is said of the nearest word of some lines
-pub record IsNearWord (system : System) (slicing : Slicing) (lines : List Samples) (near : Near) : Type 0 where
-  pub nearest : IsNearest system slicing lines near
-  pub first : IsFirst system slicing lines near
+-- all that is said of the nearest of the drawn rows at these places
+pub record IsNearOf (IsThere : Option ℕ → ℕ → Type 0) (system : System) (slicing : Slicing) (lines : List Samples)
+    (near : Near) : Type 0 where
+  pub nearest : IsNearestBy IsThere (far_from system slicing lines) near
+  pub first : IsFirstBy IsThere (far_from system slicing lines) near
   pub longer : IsLonger system slicing lines near
   pub shorter : IsShorter system slicing lines near
 
--- the same of the nearest code
-pub record IsNearCode (system : System) (line : ℕ) (slicing : Slicing) (lines : List Samples) (near : Near) : Type 0
-  where
-    pub nearest : IsNearestCode system line slicing lines near
-    pub first : IsFirstCode system line slicing lines near
-    pub longer : IsLonger system slicing lines near
-    pub shorter : IsShorter system slicing lines near
+-- of the nearest word of some lines, and of the nearest code
+abbrev pub IsNearWord : System → Slicing → List Samples → Near → Type 0
+IsNearWord system slicing lines near = IsNearOf (IsPlace system) system slicing lines near
+
+abbrev pub IsNearCode : System → ℕ → Slicing → List Samples → Near → Type 0
+IsNearCode system line slicing lines near =
+    IsNearOf (IsCodePlace (codes_of system line) system) system slicing lines near

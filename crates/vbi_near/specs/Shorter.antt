@@ -1,6 +1,6 @@
 -- Signals that are shorter than a word: rows on which its first one or two cells are black, or its last.
-use Rattle.std.specs.Prelude.{◌≡◌, ◌≤◌, ◌⊎◌, ℕ, suc, ◌+◌, ◌-◌, ◌*◌, Bool, false, List, ◌++◌, replicate, take, drop, min}
-use Rattle.std.specs.Prelude.{nat_eq, Option, Some, None}
+use Rattle.std.specs.Prelude.{◌≡◌, ◌⊎◌, ℕ, suc, ◌+◌, ◌-◌, ◌*◌, Bool, false, List, ◌++◌, replicate, take, drop, min}
+use Rattle.std.specs.Prelude.{nat_eq}
 use Rattle.std.specs.Int.{bit_at}
 use Rattle.vbi_words.specs.declared.system.System.{System}
 use Rattle.vbi_words.specs.Geometry.{width_of}
@@ -11,6 +11,7 @@ use Rattle.vbi_near.specs.declared.near.Near.{Near}
 use Rattle.vbi_near.specs.Pictures.{word_length, drawn_halves, drawn_as}
 use Rattle.vbi_near.specs.Distances.{Samples, unit_of, distance_of, Shades}
 use Rattle.vbi_near.specs.Costs.{half_cost, cell_cost}
+use Rattle.vbi_near.specs.Longer.{HasLeastRow}
 
 -- the half cells of a word of which the first n are low, and of which the last n are
 abbrev pub begun_later : ℕ → ℕ → List Bool
@@ -33,20 +34,11 @@ IsCutShort system word start levels =
     ⊎ (levels ≡ row_of_halves system start (ended_earlier word 2))
     ⊎ (levels ≡ row_of_halves system start (ended_earlier word 4))
 
--- the least distance of a row on which the word begins later or ends earlier
-pub record IsLeastShorter (system : System) (far : List Bool → ℕ) (word start shorter : ℕ) : Type 0 where
-  pub least : (levels : List Bool) → IsCutShort system word start levels → shorter ≤ far levels
-  pub one : (levels : List Bool) × IsCutShort system word start levels × (far levels ≡ shorter)
-
--- the same of the word answered; if there is none, its own distance
-abbrev pub HasShorter : System → (List Bool → ℕ) → Option ℕ → Near → Type 0
-HasShorter system far None near = near.shorter ≡ near.distance
-HasShorter system far (Some word) near = IsLeastShorter system far word near.start near.shorter
-
 -- how far the lines are from the nearest drawn row on which the word answered begins later or ends earlier
 abbrev pub IsShorter : System → Slicing → List Samples → Near → Type 0
 IsShorter system slicing lines near =
-    HasShorter system (λ levels. distance_of (unit_of slicing) lines (drawn_as slicing levels)) near.word near
+    HasLeastRow (IsCutShort system) (λ levels. distance_of (unit_of slicing) lines (drawn_as slicing levels)) near.word
+    near near.shorter
 
 -- ---- by sums
 

@@ -32,10 +32,9 @@ mod stretched;
 mod sums;
 mod within;
 
-pub use lines::{Nears, nearest_of_lines, nears_of};
+pub use lines::{Nears, nearest_of_codes, nears_of};
 pub use near::{Near, nearest};
-pub use near_code::nearest_of_codes;
-pub use pile::add_line;
+pub use pile::{add_line, nearest_of_lines};
 pub use piled::recover_pile;
 pub use recovery::{Recovered, recover_rows};
 pub use stretched::stretched_distance;

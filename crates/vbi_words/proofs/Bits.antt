@@ -1,6 +1,6 @@
 -- The bits of a number as a list, and its half cells.
 use Rattle.std.proofs.Common.{get_or, ◌≡◌, ℕ, suc, zero, ◌≤◌, ◌<◌, ◌+◌, ◌-◌, ◌*◌, ◌/◌, ◌%◌, ◌^◌, Bool, true, false, eqb}
-use Rattle.std.proofs.Common.{List, [], ◌∷◌, ◌++◌, ◌⊎◌, inl, inr, refl, ap, sym, ◌∙◌, subst, arith, append_assoc}
+use Rattle.std.proofs.Common.{List, [], ◌∷◌, ◌++◌, ◌⊎◌, refl, ap, sym, ◌∙◌, subst, arith, append_assoc}
 use Rattle.std.proofs.Common.{zero-add, add-one, length, add-zero}
 use Rattle.std.proofs.lemmas.Nat.{pow-add}
 use Rattle.std.proofs.lemmas.Nat.Bits.{bit_at-suc, bit_at_above, same_from_bits_below}
@@ -112,13 +112,7 @@ top_bit_set n w low high = grind arith
 
 pub top_bit_then : (n w : ℕ) (rest : List Bool) → lowest_bits (suc n) w ≡ true ∷ rest → 2 ^ n ≤ w
 unfolding lowest_bits
-top_bit_then n w rest e = go (cases_lt w (2 ^ n))
-  where
-    go : (w < 2 ^ n) ⊎ (2 ^ n ≤ w) → 2 ^ n ≤ w
-    go (inl small) =
-        let one : bit_at w n ≡ 1 = eqb-true (bit_at w n) 1 (same_head e) in
-        absurd (omega (arith, one, bit_at_above w n n small (omega arith)))
-    go (inr large) = large
+top_bit_then n w rest e = grind (arith, cases_lt, eqb-true, same_head, bit_at_above)
 
 -- ---- the half cells of a number
 
@@ -178,6 +172,4 @@ module _ (w value i : ℕ) (within : i < 48) (same : value ≡ w) where
       ap not bit_is ∙ sym (half_first bits (i / 2) inside) ∙ ap (half bits) e
 
   pub half_odd : (i % 2 ≡ 0 → ⊥) → read ≡ half bits i
-  half_odd odd =
-      let e : 2 * (i / 2) + 1 ≡ i = omega arith in
-      bit_is ∙ sym (half_second bits (i / 2) inside) ∙ ap (half bits) e
+  half_odd odd = grind (arith, bit_is, half_second, inside)

@@ -40,21 +40,8 @@ module _ (sizes : Sizes) where
       → ((rest : List Bool) → SpellsCells bits rest → Cells sizes bits (rest ++ replicate after false))
       → Spells least greatest (a ∷ b ∷ flat_map cell_of bits) levels
       → Run sizes a (Half sizes b bits) (levels ++ replicate after false)
-  halves_spelled a b bits levels after ih (n, r, low, high, e, (m, q, low', high', e', s)) = record {
-    count = n;
-    rest = r ++ replicate after false;
-    at_least = low;
-    at_most = high;
-    whole = rw (e, append_assoc);
-    then = record {
-      count = m;
-      rest = q ++ replicate after false;
-      at_least = low';
-      at_most = high';
-      whole = rw (e', append_assoc);
-      then = ih q s;
-    };
-  }
+  halves_spelled a b bits levels after ih (n, r, low, high, e, (m, q, low', high', e', s)) =
+      grind (arith, replicate, append_assoc)
 
   pub cells_from_spelled : (bits levels : List Bool) (after : ℕ) → SpellsCells bits levels
       → Cells sizes bits (levels ++ replicate after false)

@@ -30,22 +30,13 @@ first [] = false
 first (h ∷ halves) = h
 
 pub in_run : (n : ℕ) (h : Bool) (t : List Bool) (k : ℕ) → k < n → get_or (replicate n h ++ t) k false ≡ h
-in_run n h t k l =
-    get_or_append_left (replicate n h) t false k (omega (arith, length-replicate n h, l))
-    ∙ get_or-replicate n k h false l
+in_run n h t k l = grind (arith, get_or_append_left, replicate, length-replicate, get_or-replicate)
 
 pub past_run : (n : ℕ) (h : Bool) (t : List Bool) (k : ℕ) → get_or (replicate n h ++ t) (n + k) false ≡ get_or t k false
-past_run n h t k =
-    ap (λ (i : ℕ). get_or (replicate n h ++ t) (i + k) false) (sym (length-replicate n h))
-    ∙ get_or-append-add (replicate n h) t k false
+past_run n h t k = grind (arith, replicate, length-replicate, get_or-append-add)
 
 pub all_low : (n k : ℕ) → get_or (replicate n false) k false ≡ false
-all_low n k = go (cases_order k n)
-  where
-    go : (k ≡ n) ⊎ ((k < n) ⊎ (n < k)) → get_or (replicate n false) k false ≡ false
-    go (inl e) = get_or_past (replicate n false) k false (omega (arith, length-replicate n false))
-    go (inr (inl l)) = get_or-replicate n k false false l
-    go (inr (inr l)) = get_or_past (replicate n false) k false (omega (arith, length-replicate n false))
+all_low n k = grind (arith, cases_order, replicate, get_or_past, length-replicate, get_or-replicate)
 
 -- halves of two columns or more begin with two columns of their first level
 pub first_two : (lo hi : ℕ) → 2 ≤ lo → (halves drawn : List Bool) (after : ℕ) → Spells lo hi halves drawn → (k : ℕ)
@@ -53,9 +44,7 @@ pub first_two : (lo hi : ℕ) → 2 ≤ lo → (halves drawn : List Bool) (after
 first_two lo hi two [] drawn after e k l =
     ap (λ (t : List Bool). get_or (t ++ replicate after false) k false) e ∙ all_low after k
 first_two lo hi two (h ∷ halves) drawn after (n, rest, low, high, e, spelled) k l =
-    ap (λ (t : List Bool). get_or (t ++ replicate after false) k false) e
-    ∙ ap (λ (t : List Bool). get_or t k false) (append_assoc (replicate n h) rest (replicate after false))
-    ∙ in_run n h (rest ++ replicate after false) k (omega arith)
+    grind (arith, replicate, append_assoc, in_run)
 
 module _ (d l : List Bool) (blurred : IsBlurred d l) where
   abbrev at_d : ℕ → Bool

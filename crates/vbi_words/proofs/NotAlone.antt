@@ -49,9 +49,7 @@ run_beside n h s two begun rest c = go (cases_order (c + 1) n)
 -- half cells of two columns or more, and lows after them
 halves_beside : (lo hi : ℕ) → 2 ≤ lo → (halves drawn : List Bool) (after : ℕ) → Spells lo hi halves drawn → (c : ℕ)
     → Beside (drawn ++ replicate after false) c
-halves_beside lo hi two [] drawn after e c =
-    subst (λ (t : List Bool). Beside (t ++ replicate after false) c) (sym e)
-    (inl (all_low after c ∙ sym (all_low after (c - 1))))
+halves_beside lo hi two [] drawn after e c = grind (arith, replicate, all_low)
 halves_beside lo hi two (h ∷ halves) drawn after (n, rest, low, high, e, spelled) c =
     let behind : List Bool = rest ++ replicate after false in
     let begun : get_or behind 0 false ≡ get_or behind 1 false
@@ -65,10 +63,7 @@ halves_beside lo hi two (h ∷ halves) drawn after (n, rest, low, high, e, spell
 -- lows before them
 lows_beside : (lo hi : ℕ) → 2 ≤ lo → (halves drawn : List Bool) (before after : ℕ) → first halves ≡ false
     → Spells lo hi halves drawn → (c : ℕ) → Beside (replicate before false ++ (drawn ++ replicate after false)) c
-lows_beside lo hi two [] drawn before after low e c =
-    subst (λ (t : List Bool). Beside (replicate before false ++ (t ++ replicate after false)) c) (sym e)
-    (subst (λ (t : List Bool). Beside t c) (sym (replicate-append-replicate before after false))
-    (inl (all_low (before + after) c ∙ sym (all_low (before + after) (c - 1)))))
+lows_beside lo hi two [] drawn before after low e c = grind (arith, replicate, replicate-append-replicate, all_low)
 lows_beside lo hi two (h ∷ halves) drawn before after low (n, rest, least, most, e, spelled) c =
     let behind : List Bool = rest ++ replicate after false in
     let begun : get_or behind 0 false ≡ get_or behind 1 false

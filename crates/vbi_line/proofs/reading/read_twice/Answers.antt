@@ -1,3 +1,4 @@
+-- kept for time: 1 s
 use Rattle.std.proofs.Common.{ap, ◌∙◌}
 use Rattle.vbi_line.specs.OneReading.{reading_of}
 use Rattle.vbi_line.proofs.reading.read_twice.Goals as goal

@@ -18,7 +18,8 @@ returns-then-not-goes_on_by-clause-none c = λ e.
     let clock = c.args.rule.numbering.clock in
     let pace = c.args.rule.pace in
     let slack = c.args.rule.slack in
-    let spread = subst (IsSpreadBefore clock pace slack c.args.numbers.now c.args.field) c.in-Some.is c.requires.spread in
+    let spread = subst
+    (IsSpreadBefore clock pace slack c.args.numbers.now c.args.field) c.in-Some.is c.requires.spread in
     no_drift_apart clock pace slack c.args.numbers.now c.args.field _ c.in-Some.on.last spread.last
     (marked_here c.args.numbers.now c.args.field _ c.requires.inside
     (c.is_believed.ensures.0 c.if-not-is_believed.false))
@@ -29,7 +30,8 @@ returns-then-not-goes_on_by-2-clause-drifts c = λ e.
     let clock = c.args.rule.numbering.clock in
     let pace = c.args.rule.pace in
     let slack = c.args.rule.slack in
-    let spread = subst (IsSpreadBefore clock pace slack c.args.numbers.now c.args.field) c.in-Some.is c.requires.spread in
+    let spread = subst
+    (IsSpreadBefore clock pace slack c.args.numbers.now c.args.field) c.in-Some.is c.requires.spread in
     drift_found clock pace slack c.args.numbers.now c.args.field _ c.in-Some.on c.in-Some.on.low spread
     (marked_here c.args.numbers.now c.args.field _ c.requires.inside
     (c.is_believed.ensures.0 c.if-not-is_believed.false))
@@ -41,7 +43,8 @@ returns-clause-drifts c = λ e.
     let clock = c.args.rule.numbering.clock in
     let pace = c.args.rule.pace in
     let slack = c.args.rule.slack in
-    let spread = subst (IsSpreadBefore clock pace slack c.args.numbers.now c.args.field) c.in-Some.is c.requires.spread in
+    let spread = subst
+    (IsSpreadBefore clock pace slack c.args.numbers.now c.args.field) c.in-Some.is c.requires.spread in
     drift_found clock pace slack c.args.numbers.now c.args.field _ c.in-Some.on c.in-Some.on.high spread
     (marked_here c.args.numbers.now c.args.field _ c.requires.inside
     (c.is_believed.ensures.0 c.if-not-is_believed.false))
@@ -53,8 +56,10 @@ returns-clause-none c = λ e.
     let clock = c.args.rule.numbering.clock in
     let pace = c.args.rule.pace in
     let slack = c.args.rule.slack in
-    let spread = subst (IsSpreadBefore clock pace slack c.args.numbers.now c.args.field) c.in-Some.is c.requires.spread in
+    let spread = subst
+    (IsSpreadBefore clock pace slack c.args.numbers.now c.args.field) c.in-Some.is c.requires.spread in
     no_drift_on clock pace slack c.args.numbers.now c.args.field _ c.in-Some.on spread
     (marked_here c.args.numbers.now c.args.field _ c.requires.inside
     (c.is_believed.ensures.0 c.if-not-is_believed.false))
-    (sym c.goes_on_by-2.ensures ∙ c.if-not-goes_on_by-2.false) (sym c.goes_on_by-3.ensures ∙ not_false c.goes_on_by-3.result e)
+    (sym c.goes_on_by-2.ensures ∙ c.if-not-goes_on_by-2.false)
+    (sym c.goes_on_by-3.ensures ∙ not_false c.goes_on_by-3.result e)

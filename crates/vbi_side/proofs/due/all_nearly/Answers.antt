@@ -14,7 +14,7 @@ returns-then-not-nearly c =
     let is = c.nearly.ensures a.before.field a.here.field f (omega (arith, c.requires.first))
     (omega (arith, c.loop-field.auto.field)) in (
       λ e. absurd (not_both refl e),
-      λ all. absurd (off_one a.numbers.now a.pace (slack_of a.before.field a.behind.field) a.before.field a.behind.field
+      λ all. absurd (off_one a.numbers.now a.pace (slack_of a.before.field a.after.field) a.before.field a.after.field
           a.here.field a.here.number f nothing (omega (arith, c.requires.within, c.loop-field-test.true))
           (omega (arith, c.loop-field.auto.field)) c.loop-field-test.true
           (c.is_believed.ensures.0 c.if-is_believed.true)
@@ -27,7 +27,7 @@ pub loop-field-preserved : goal.loop-field-preserved
 loop-field-preserved c =
     let a = c.args in
     let f = c.loop-field.field in
-    nearly_one_more a.numbers.now a.pace (slack_of a.before.field a.behind.field) a.before.field a.here.field
+    nearly_one_more a.numbers.now a.pace (slack_of a.before.field a.after.field) a.before.field a.here.field
     a.here.number f c.loop-field.invariant
     (λ x marked. elim c.else-is_believed.branch [
       | else-is_believed-via-then-is_believed+else-not-nearly w ↦
