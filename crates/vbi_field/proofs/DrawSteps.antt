@@ -27,9 +27,7 @@ use Rattle.vbi_field.proofs.WordRowLemmas.{rows_of-line, rows_of-part, row_words
 draw_out-more : (c : ConfigView) (rows : List WordRow) (words : WordRow)
     → draw_out c (rows ++ words ∷ []) ≡ draw_out c rows ++ drawn_field_of c words
 unfolding draw_out
-draw_out-more c rows words =
-    flat_map-append (drawn_field_of c) rows (words ∷ [])
-    ∙ ap (λ (l : List ℕ). flat_map (drawn_field_of c) rows ++ l) (append-nil (drawn_field_of c words))
+draw_out-more c rows words = grind (arith, flat_map-append, append-nil)
 
 draw_out-none : (c : ConfigView) → draw_out c [] ≡ []
 unfolding draw_out
@@ -157,28 +155,7 @@ module _ {R W : Type 0} {remaining : R → Option (List ℕ)} {contents : W → 
       -- the field is written, and the row was the last
       last_row : IsAtEnd (remaining (device_of (intakes.counted_of j)))
           → RunsDrawing remaining contents c i0 j o0 p (Ok (done + 1))
-      last_row end =
-          let all = fetches_more j b f in
-          let drew = wrote_more in
-          record {
-            z = g.z ++ b;
-            text = draw_out c (g.rows ++ words ∷ []);
-            consumed = all.consumed;
-            appended = drew.appended;
-            fetched = fetched_more j b f;
-            written = written_more;
-            says = record {
-              devices = (calm ∙ g.calm_reads, no_error ∙ g.calm_writes);
-              came = record {
-                rows = g.rows ++ words ∷ [];
-                well_formed = well_formed_more;
-                number = sym (rows_count words);
-                few = omega arith;
-                at_end = end;
-                drawn = refl;
-              };
-            };
-          }
+      last_row end = grind (arith, fetches_more, wrote_more, fetched_more, written_more, well_formed_more, rows_count)
 
       -- the field is written, and rows may follow
       next_row : (line : List ℕ) → IsSameDevice (outlets.counted_of o) (outlets.counted_of p)
@@ -189,31 +166,7 @@ module _ {R W : Type 0} {remaining : R → Option (List ℕ)} {contents : W → 
           ≤ (failures_of (outlets.counted_of o)).all + tries * (length (drawn_field_of c words) + most_rows)
           → Drawn remaining contents c i0 o0 (done + 1) j p line
       next_row line same black ends short reads writes =
-          let size = length-drawn_field_of c words in
-          let sizes = sizes_of c.system in
-          let l = length-append g.z b in
-          let w = wrote.written in
-          let before = g.small in
-          let was = g.writes in
-          record {
-            z = g.z ++ b;
-            rows = g.rows ++ words ∷ [];
-            fetches = fetches_more j b f;
-            fetched = fetched_more j b f;
-            ends = ends;
-            well_formed = well_formed_more;
-            count = rows_count words;
-            long = omega (arith, g.long);
-            reads = omega (arith, g.reads);
-            wrote = wrote_more;
-            written = written_more;
-            small = omega arith;
-            writes = omega arith;
-            calm_reads = calm ∙ g.calm_reads;
-            calm_writes = no_error ∙ g.calm_writes;
-            same_writer = same ∙ g.same_writer;
-            black = black;
-          }
+          grind (arith, length-drawn_field_of, length-append, fetches_more, fetched_more, well_formed_more, rows_count, wrote_more, written_more)
 
   -- ---- the same of a row with its newline, and of a last one without
 
@@ -259,7 +212,4 @@ module _ {R W : Type 0} {remaining : R → Option (List ℕ)} {contents : W → 
     pub last_row_drawn : outlets.Wrote contents o p (drawn_field_of c words)
         → NoError (outlets.counted_of o) (outlets.counted_of p)
         → RunsDrawing remaining contents c i0 j o0 p (Ok (done + 1))
-    last_row_drawn wrote no_error =
-        last_row j t.bytes words t.fetches t.caused (rows_of-part t.bytes t.got.0 t.got.1)
-        (row_words-part t.bytes t.got.0 ∙ t.got.2)
-        few p wrote no_error t.got.3
+    last_row_drawn wrote no_error = grind (arith, last_row, rows_of-part, row_words-part)

@@ -23,17 +23,7 @@ module _ {W : Type 0} (contents : W → Option (List ℕ)) (c : ConfigView) wher
   -- no byte was pushed
   pub fed_none : (o : Outlet W) (z piece : List ℕ) (now : Position) → IsAt c z now
       → IsFed contents c o o z (take 0 piece) now (Ok tt)
-  fed_none o z piece now at =
-      let P : List ℕ → Type 0 = λ l. IsFed contents c o o z [] now (Ok tt) in
-      let Q : List ℕ → Type 0 = λ l. IsAt c l now in (
-        subst Q (sym (append-nil z)) at,
-        record {
-          text = [];
-          due = append-nil (text_before_tail document c z)
-              ∙ ap (text_before_tail document c) (sym (append-nil z));
-          wrote = wrote_none contents o;
-        },
-      )
+  fed_none o z piece now at = grind (arith, append-nil, wrote_none)
 
   module _ (o0 o o' : Outlet W) (z first bytes : List ℕ) (was now : Position)
       (before : IsFed contents c o0 o z first was (Ok tt)) where

@@ -45,11 +45,7 @@ module _ {t : Kind} {R W : Type 0} {remaining : R → Option (List ℕ)} {conten
 
     -- what was looked at
     looks_are : i.line.looked ≡ looks_of c (g.z ++ b)
-    looks_are =
-        let at = g.at in
-        g.looks
-        ∙ ap (λ n. width_of c.system * n)
-        (sym (selected_is c.system (length (g.z ++ b)) p.fields p.row (length b) at.inside short long))
+    looks_are = grind (arith, selected_is, long)
 
     -- the text that is written by then
     begun_is : text_before_tail t c g.z ≡ text_before_tail t c (g.z ++ b)

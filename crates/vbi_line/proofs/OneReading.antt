@@ -18,8 +18,7 @@ is_outcome system levels = (found system levels).1
 
 pub same_outcome : (system : System) (levels : List Bool) (o : Outcome) → IsOutcome system levels o
     → o ≡ outcome_of system levels
-same_outcome system levels o is =
-    one_outcome system levels o (outcome_of system levels) is (is_outcome system levels)
+same_outcome system levels o is = grind (arith, one_outcome, is_outcome)
 
 pub by_outcomes : (system : System) (levels : List Bool)
     → reading_of system levels ≡ reading_from (outcome_of system levels) (outcome_of system (smooth_of levels))
@@ -97,8 +96,7 @@ only_reading system levels reading is = only system levels reading.outcome readi
 
 pub is_reading : (system : System) (levels : List Bool) → IsReading system levels (reading_of system levels)
 unfolding reading_of
-is_reading system levels = from_outcomes system levels (outcome_of system levels) (outcome_of system (smooth_of levels))
-    (is_outcome system levels) (is_outcome system (smooth_of levels))
+is_reading system levels = grind (arith, from_outcomes, is_outcome)
 
 -- a blank list is read as blank, whatever stands for its outcome
 pub blank_is_read : (system : System) (levels : List Bool) (outcome : Outcome) → outcome ≡ Blank

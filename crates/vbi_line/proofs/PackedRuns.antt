@@ -8,7 +8,7 @@ use Rattle.std.proofs.lemmas.Bool.{cases_lt}
 use Rattle.std.proofs.lemmas.Nat.Bits.{bit_at-lt, bit_at-zero, bit_at_not, bit_at-trailing_zeros, bit_at_above}
 use Rattle.vbi_words.specs.Levels.{level_at}
 use Rattle.vbi_line.specs.Packing.{level_of_bit, packed_level, unpacked, EqualBits, IsRun}
-use Rattle.vbi_line.proofs.Packs.{bit_low, bit_behind, length-unpacked, level_unpacked}
+use Rattle.vbi_line.proofs.Packs.{bit_low, bit_after, length-unpacked, level_unpacked}
 
 -- ---- equal bits of a word
 
@@ -33,7 +33,7 @@ other_bit word i true small l e same =
     let none : bit_at word i ≡ 0 = omega (arith, bit_at_not w64 word i small l, bit_at-lt word i) in
     let low : level_of_bit word i ≡ false = bit_low word i none in
     cc
-other_bit word i false small l e same = grind (arith, nat_eq)
+other_bit word i false small l e same = grind arith
 
 module _ (word place : ℕ) (level : Bool) (small : word < 2 ^ 64) (within : place < 64) where
   -- the bits from the place on, set where the level is another
@@ -45,7 +45,7 @@ module _ (word place : ℕ) (level : Bool) (small : word < 2 ^ 64) (within : pla
   zeros = trailing_zeros w64 others
 
   bit_others : (i : ℕ) → bit_at others i ≡ bit_at (others_of word level) (place + i)
-  bit_others i = bit_behind (others_of word level) place i
+  bit_others i = bit_after (others_of word level) place i
 
   equal_at : (i : ℕ) → place + i < 64 → bit_at others i ≡ 0 → level_of_bit word (place + i) ≡ level
   equal_at i l none = equal_bit word (place + i) level small l (sym (bit_others i) ∙ none)

@@ -26,7 +26,7 @@ module _ (system : System) (state : State) (v : Bool) (begun : Decoder)
 
   pub fits : (m : ℕ) → IsFit system state → Some m ≡ limit_of system (state_of begun)
       → length_of (state_of begun) ≤ m
-  fits m fit e = grind (arith, next_of, next_fit, sizes_of, apart_of)
+  fits m fit e = grind (arith, next_fit, apart_of)
 
   pub dies : (m : ℕ) → IsFit system state → Some m ≡ limit_of system (state_of begun)
       → DiesAfter system state v (1 + m - length_of (state_of begun))

@@ -32,10 +32,7 @@ levels_of_mask levels count long = ext_get_or false (levels_in count mask) level
     whole = length-map-range_with_len (level_of_bit mask) 0 count
 
     each : (i : ℕ) → i < length (levels_in count mask) → get_or (levels_in count mask) i false ≡ get_or levels i false
-    each i l =
-        let inside : i < count = omega (arith, whole) in
-        get_or-map-range_with_len (level_of_bit mask) 0 count i i false inside (omega arith)
-        ∙ ap (λ (x : ℕ). nat_eq x 1) (bit_mask_l levels i) ∙ bit_of_level (get_or levels i false)
+    each i l = grind (arith, whole, get_or-map-range_with_len, mask, bit_mask_l, bit_of_level)
 
 -- which samples are above this one
 abbrev pub above : ℕ → List ℕ → List Bool
@@ -122,4 +119,4 @@ module _ (slicing : Slicing) (levels : List Bool) (low : ℕ) {first old new : L
 
   pub block_sliced : Sliced slicing first.held levels
       → ((sample : ℕ) → is_high_of slicing sample ≡ nat_lt low sample) → Sliced slicing first.held (levels ++ more)
-  block_sliced sliced test = grind (arith, sliced_more, length-block, get_or-map, nat_lt)
+  block_sliced sliced test = grind (arith, sliced_more, length-block, get_or-map)

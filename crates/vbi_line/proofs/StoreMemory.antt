@@ -51,8 +51,7 @@ length-part xs from to le inside = grind (arith, length-drop, length-take-le)
 -- a part is written over by as many bytes
 pub with_part-same : (xs : List ℕ) (from to : ℕ) (ws : List ℕ) → length ws ≡ to - from
     → take from xs ++ (ws ++ drop to xs) ≡ with_part xs from to ws
-with_part-same xs from to ws long =
-    ap (λ l. take from xs ++ (l ++ drop to xs)) (sym (take_at ws _ (to - from) long))
+with_part-same xs from to ws long = grind (arith, take_at)
 
 -- a list with a part written over is as long as it was
 pub length-with_part : (xs : List ℕ) (from to : ℕ) (ws : List ℕ) → from ≤ to → to ≤ length xs → length ws ≡ to - from

@@ -9,7 +9,7 @@ use Rattle.std.proofs.lemmas.List.{get_or_past}
 use Rattle.std.proofs.lemmas.Nat.Bits.{bit_at-zero, bit_at_or, bit_at_above, bit_at_cat_low, bit_at_cat_high}
 use Rattle.vbi_words.specs.Levels.{level_at}
 use Rattle.vbi_line.specs.Packing.{level_of_bit, packed_level, unpacked}
-use Rattle.vbi_line.proofs.Packs.{bit_behind, length-unpacked, level_unpacked}
+use Rattle.vbi_line.proofs.Packs.{bit_after, length-unpacked, level_unpacked}
 
 -- the level of any column for which there is a bit; past the width it is low
 pub level_packed : (words : List ℕ) (width column : ℕ) → column < 1152
@@ -39,14 +39,14 @@ two_words here next place = bit_or (here / 2 ^ place) (next * 2 ^ (64 - place) %
 
 module _ (here next place : ℕ) (small : here < 2 ^ 64) (within : place < 64) where
   pub in_first : (i : ℕ) → place + i < 64 → level_of_bit (two_words here next place) i ≡ level_of_bit here (place + i)
-  in_first i l = grind (arith, bit_moved_low, nat_eq, bit_at_or, max, max-zero, bit_behind)
+  in_first i l = grind (arith, bit_moved_low, bit_at_or, max-zero, bit_after)
 
   pub in_second : (i : ℕ) → 64 ≤ place + i → i < 64
       → level_of_bit (two_words here next place) i ≡ level_of_bit next (place + i - 64)
   in_second i past l =
       let moved : ℕ = next * 2 ^ (64 - place) % 2 ^ 64 in
       let none : bit_at (here / 2 ^ place) i ≡ 0
-      = bit_behind here place i ∙ bit_at_above here 64 (place + i) small past in
+      = bit_after here place i ∙ bit_at_above here 64 (place + i) small past in
       let at : i - (64 - place) ≡ place + i - 64 = omega arith in
       ap (λ (x : ℕ). nat_eq x 1) (bit_at_or (here / 2 ^ place) moved i
       ∙ ap (λ (x : ℕ). max x (bit_at moved i)) none ∙ zero-max (bit_at moved i)
@@ -58,7 +58,7 @@ module _ (words : List ℕ) (width column : ℕ)
   pub window_one : column ≤ 1088 → column % 64 ≡ 0 → (i : ℕ) → i < 64
       → level_of_bit (slice_index words (column / 64) / 2 ^ (column % 64)) i
       ≡ level_at (unpacked words width) (column + i)
-  window_one room first i l = grind (arith, slice_index, nat_eq, bit_behind, level_packed)
+  window_one room first i l = grind (arith, slice_index, bit_after, level_packed)
 
   -- where it isn't
   pub window_two : column ≤ 1088 → (column % 64 ≡ 0 → ⊥) → slice_index words (column / 64) < 2 ^ 64 → (i : ℕ) → i < 64

@@ -20,13 +20,11 @@ use Rattle.vbi_near.proofs.Rising.{risen_to}
 -- ---- columns
 
 pub cell-long : (system : System) (start : ℕ) → column_of system start 2 ≡ start + cell_length system
-cell-long Ntsc start = omega arith
-cell-long Pal start = omega arith
+cell-long x1 start = grind arith
 
 pub cell-offset : (system : System) (offset : ℕ) → start_of system + offset ≡ boundary system 2
     → offset ≡ cell_length system
-cell-offset Ntsc offset e = omega arith
-cell-offset Pal offset e = omega arith
+cell-offset x1 offset e = grind arith
 
 pub offset-column : (system : System) (begin offset half : ℕ) → start_of system + offset ≡ boundary system half
     → begin + offset ≡ column_of system begin half
@@ -35,8 +33,7 @@ offset-column system begin offset half e = omega arith
 -- where there is no room before a word, there is after it
 pub room-behind : (system : System) (start : ℕ) → start < cell_length system
     → start + word_length system + cell_length system ≤ width_of system
-room-behind Ntsc start l = omega arith
-room-behind Pal start l = omega arith
+room-behind x1 start l = grind arith
 
 -- ---- sums
 
@@ -53,15 +50,13 @@ split sums rises i m n inside =
 module _ (sums : Shades) (system : System) (rises : AreRowSums system sums) where
   pub before-split : (start begin : ℕ) → begin + cell_length system ≡ start → start ≤ width_of system
       → span sums false 0 begin + total_in sums.dark begin (cell_length system) ≡ span sums false 0 start
-  before-split start begin e l =
-      grind (arith, split)
+  before-split start begin e l = grind (arith, split)
 
   pub behind-split : (end : ℕ) → end + cell_length system ≤ width_of system
       → total_in sums.dark end (cell_length system)
       + span sums false (end + cell_length system) (width_of system - (end + cell_length system))
       ≡ span sums false end (width_of system - end)
-  behind-split end l =
-      grind (arith, split)
+  behind-split end l = grind (arith, split)
 
   -- a cell's columns are black in the row of a word beside it, so its distance has what they cost
   pub black-beside : (found : Found) → found.start < starts system
@@ -71,8 +66,7 @@ module _ (sums : Shades) (system : System) (rises : AreRowSums system sums) wher
   black-beside found before exact begin (inl e) =
       let fits = word-fits system in
       omega (arith, exact, before-split found.start begin e (omega (arith, fits, before)))
-  black-beside found before exact begin (inr (e, room)) =
-      grind (arith, behind-split)
+  black-beside found before exact begin (inr (e, room)) = grind (arith, behind-split)
 
 -- ---- the least of the choices
 
@@ -85,20 +79,16 @@ IsNearerCell sums system distance begin value =
 module _ (sums : Shades) (system : System) (distance begin value : ℕ)
     (is : IsNearerCell sums system distance begin value) where
   cell-least : (far : ℕ) (bit : Bool) → IsWithCell sums system distance begin bit far → value ≤ far
-  cell-least far true with_cell =
-      grind arith
-  cell-least far false with_cell =
-      grind arith
+  cell-least far true with_cell = grind arith
+  cell-least far false with_cell = grind arith
 
   cell-one : (bit : Bool) × IsWithCell sums system distance begin bit value
-  cell-one =
-      grind (arith, min_is)
+  cell-one = grind (arith, min_is)
 
 -- the same, of a column that is equal
 moved : (sums : Shades) (system : System) (distance begin other far : ℕ) (bit : Bool) → other ≡ begin
     → IsWithCell sums system distance other bit far → IsWithCell sums system distance begin bit far
-moved sums system distance begin other far bit e is =
-    grind arith
+moved sums system distance begin other far bit e is = grind arith
 
 module _ (sums : Shades) (system : System) (found : Found) where
   pub behind-alone : (end value : ℕ) → end ≡ found.start + word_length system
@@ -179,5 +169,4 @@ pub nearer-cell : (sums : Shades) (system : System) (distance begin middle end o
     → black ≡ total_in sums.dark begin (end - begin)
     → total_in sums.dark begin (cell_length system) ≤ distance
     → IsNearerCell sums system distance begin (distance - black + min one null)
-nearer-cell sums system distance begin middle end one null black m e o z b le =
-    grind (arith, cell-read, cell-long)
+nearer-cell sums system distance begin middle end one null black m e o z b le = grind (arith, cell-read, cell-long)

@@ -16,16 +16,13 @@ abbrev pub last_of : ℕ → Bool
 last_of v = eqb (v % 2) 1
 
 half-joined : (a : ℕ) (b : Bool) → (2 * a + bit_of b) / 2 ≡ a
-half-joined a true = omega arith
-half-joined a false = omega arith
+half-joined a x2 = grind arith
 
 last-joined : (a : ℕ) (b : Bool) → last_of (2 * a + bit_of b) ≡ b
-last-joined a true = eq-eqb ((2 * a + 1) % 2) 1 (omega arith)
-last-joined a false = ne_eqb ((2 * a + 0) % 2) 1 (λ e. omega arith)
+last-joined a x2 = grind (arith, eq-eqb, ne_eqb)
 
 joined-again : (v : ℕ) → v ≡ 2 * (v / 2) + bit_of (last_of v)
-joined-again v =
-    grind (arith, bit_of)
+joined-again v = grind (arith, bit_of)
 
 twice : (n : ℕ) → (2 ^ suc n ≡ 2 ^ n * 2) × (2 ^ (n + 1) ≡ 2 ^ n * 2) × (2 ^ (suc n + 1) ≡ 2 ^ n * 4)
 twice n =
@@ -36,30 +33,22 @@ twice n =
     (a, omega (arith, a, b), omega (arith, a, c, d))
 
 IsBits-joined : (n a : ℕ) (b : Bool) → IsBits n a → IsBits (suc n) (2 * a + bit_of b)
-IsBits-joined n a true (low, high) =
-    omega (arith, twice)
-IsBits-joined n a false (low, high) =
-    omega (arith, twice)
+IsBits-joined n a true (low, high) = omega (arith, twice)
+IsBits-joined n a false (low, high) = omega (arith, twice)
 
 IsBits-half : (n v : ℕ) → IsBits (suc n) v → IsBits n (v / 2)
-IsBits-half n v h1 =
-    grind (arith, twice)
+IsBits-half n v h1 = grind (arith, twice)
 
 other_bit : (a b : Bool) → (a ≡ b) ⊎ (a ≡ not b)
-other_bit true true = inl refl
-other_bit true false = inr refl
-other_bit false true = inr refl
-other_bit false false = inl refl
+other_bit x1 x2 = grind arith
 
 not_same : (b : Bool) → bit_of (not b) ≢ bit_of b
-not_same true e = omega arith
-not_same false e = omega arith
+not_same x1 e = grind arith
 
 pub joined-cost : (cost : ℕ → Bool → ℕ) (m a : ℕ) (b : Bool)
     → bits_cost cost (suc m) (2 * a + bit_of b) ≡ bits_cost cost m a + cost m b
 unfolding bits_cost
-joined-cost cost m a b =
-    grind (arith, bit_of, half-joined, last-joined)
+joined-cost cost m a b = grind (arith, bit_of, half-joined, last-joined)
 
 module _ (cost : ℕ → Bool → ℕ) (n : ℕ) (best : Bits) (is : IsBest cost n best) (bit : Bool) (less more : ℕ)
     (cheap : cost (suc n) bit ≡ less) (dear : cost (suc n) (not bit) ≡ more) (order : less ≤ more)
@@ -73,13 +62,20 @@ module _ (cost : ℕ → Bool → ℕ) (n : ℕ) (best : Bits) (is : IsBest cost
   }
 
   least : (b : Bool) → less ≤ cost (suc n) b
-  least b =
-      grind (arith, other_bit)
+  least b = grind (arith, other_bit)
 
-  behind : (a : ℕ) (b : Bool) → IsBits n a → 2 * a + bit_of b ≢ chosen.word
-      → chosen.distance + chosen.margin ≤ bits_cost cost (suc (suc n)) (2 * a + bit_of b)
-  behind a b bits differs =
-      grind (arith, bit_of, joined-cost, least, other_bit)
+  -- no bits before this cell cost less
+  floor : (a : ℕ) → IsBits n a → best.distance ≤ bits_cost cost (suc n) a
+  floor a bits = grind arith
+
+  behind : (v a : ℕ) (b : Bool) → v ≡ 2 * a + bit_of b → IsBits n a → v ≢ chosen.word
+      → chosen.distance + chosen.margin ≤ bits_cost cost (suc (suc n)) v
+  behind v a b e bits differs = grind (arith, bit_of, joined-cost, least, other_bit)
+
+  -- bits that cost as little are no less
+  earliest : (v a : ℕ) (b : Bool) → v ≡ 2 * a + bit_of b → IsBits n a
+      → bits_cost cost (suc (suc n)) v ≡ chosen.distance → chosen.word ≤ v
+  earliest v a b e bits same = grind (arith, other_bit, joined-cost, floor, least, bit_of)
 
   -- the other bit in this cell
   flipped : (more - less ≤ best.margin) → HasOther cost (suc n) chosen
@@ -109,47 +105,25 @@ module _ (cost : ℕ → Bool → ℕ) (n : ℕ) (best : Bits) (is : IsBest cost
 
   another : ((n ≡ 0) × (2 ^ 26 ≤ best.margin)) ⊎ HasOther cost n best → HasOther cost (suc n) chosen
   another (inl (first, wide)) = flipped (omega (arith, wide, near))
-  another (inr other) =
-      grind (arith, followed, flipped)
-
-  -- no bits before this cell cost less
-  floor : (a : ℕ) → IsBits n a → best.distance ≤ bits_cost cost (suc n) a
-  floor a bits =
-      grind arith
-
-  -- bits that cost as little are no less
-  earliest : (a : ℕ) (b : Bool) → IsBits n a
-      → bits_cost cost (suc (suc n)) (2 * a + bit_of b) ≡ chosen.distance → chosen.word ≤ 2 * a + bit_of b
-  earliest a b bits same =
-      grind (arith, other_bit, joined-cost, floor, least, bit_of)
+  another (inr other) = grind (arith, followed, flipped)
 
   pub with_cell_is : IsBest cost (suc n) chosen
   with_cell_is = record {
     word = IsBits-joined n best.word bit is.word;
     exact = omega (arith, joined-cost cost (suc n) best.word bit, is.exact, cheap);
-    ahead = λ v bits differs. subst (λ (x : ℕ). x ≢ chosen.word
-        → chosen.distance + chosen.margin ≤ bits_cost cost (suc (suc n)) x) (sym (joined-again v))
-        (behind (v / 2) (last_of v) (IsBits-half n v bits)) differs;
-    first = λ v bits same. subst (λ (x : ℕ). bits_cost cost (suc (suc n)) x ≡ chosen.distance → chosen.word ≤ x)
-        (sym (joined-again v)) (earliest (v / 2) (last_of v) (IsBits-half n v bits)) same;
+    ahead = λ v bits differs. behind v (v / 2) (last_of v) (joined-again v) (IsBits-half n v bits) differs;
+    first = λ v bits same. earliest v (v / 2) (last_of v) (joined-again v) (IsBits-half n v bits) same;
     other = inr (another is.other);
   }
 
   -- the same, by its fields
   pub with_cell_by : (word margin : ℕ) → word ≡ 2 * best.word + bit_of bit → margin ≡ min best.margin (more - less)
       → IsBest cost (suc n) (record { word = word; distance = best.distance + less; margin = margin })
-  with_cell_by word margin e m =
-      grind (arith, bit_of, with_cell_is)
+  with_cell_by word margin e m = grind (arith, bit_of, with_cell_is)
 
 -- ---- the first cell
 
 pub first_is : (cost : ℕ → Bool → ℕ) (distance margin : ℕ) → distance ≡ cost 0 true → 2 ^ 26 ≤ margin
     → IsBest cost 0 (record { word = 1; distance = distance; margin = margin })
 unfolding bits_cost
-first_is cost distance margin e wide = record {
-  word = (omega arith, omega arith);
-  exact = omega (arith, e);
-  ahead = λ v bits other. absurd (other (omega (arith, bits.0, bits.1)));
-  first = λ v bits same. omega (arith, bits.0);
-  other = inl (refl, wide);
-}
+first_is cost distance margin e wide = grind arith

@@ -9,33 +9,12 @@ use Rattle.vbi_near.proofs.BestBits.{min_is}
 -- the same choice where the values of the digit cost the same
 pub choice-same : (f g : ℕ → ℕ) (low high : ℕ) (choice : Choice) → ((v : ℕ) → v < high → f v ≡ g v)
     → IsChoice f low high choice → IsChoice g low high choice
-choice-same f g low high choice same is = record {
-  from = is.from;
-  before = is.before;
-  exact = sym (same choice.value is.before) ∙ is.exact;
-  order = is.order;
-  ahead = λ v l h differs. omega (arith, is.ahead v l h differs, same v h);
-  first = λ v l h e. is.first v l h (same v h ∙ e);
-  other = go is.other;
-}
-  where
-    go : (choice.second ≡ 4294967295)
-        ⊎ ((v : ℕ) × (low ≤ v) × (v < high) × (v ≢ choice.value) × (f v ≡ choice.second))
-        → (choice.second ≡ 4294967295)
-        ⊎ ((v : ℕ) × (low ≤ v) × (v < high) × (v ≢ choice.value) × (g v ≡ choice.second))
-    go (inl none) = inl none
-    go (inr (v, l, h, differs, e)) = inr (v, l, h, differs, sym (same v h) ∙ e)
+choice-same f g low high choice same is = grind arith
 
 pub first-digits : (cost : ℕ → ℕ → ℕ) (base : ℕ) (least greatest : ℕ → ℕ)
     → AreBest cost base least greatest 0 (record { word = 0; distance = base; margin = 4294967295 })
 unfolding digits_cost AreDigits
-first-digits cost base least greatest = record {
-  word = refl;
-  exact = refl;
-  ahead = λ v is differs. absurd (differs is);
-  first = λ v is same. omega (arith, is);
-  other = inl (omega arith);
-}
+first-digits cost base least greatest = grind arith
 
 module _ (cost : ℕ → ℕ → ℕ) (base : ℕ) (least greatest : ℕ → ℕ) (n : ℕ) (best : Bits)
     (is : AreBest cost base least greatest n best) (choice : Choice)
@@ -48,43 +27,33 @@ module _ (cost : ℕ → ℕ → ℕ) (base : ℕ) (least greatest : ℕ → ℕ
     margin = min best.margin (choice.second - choice.least);
   }
 
-  high : (a d : ℕ) → d < 16 → (16 * a + d) / 16 ≡ a
-  high a d l = omega arith
-
-  low : (a d : ℕ) → d < 16 → (16 * a + d) % 16 ≡ d
-  low a d l = omega arith
-
   cost-joined : (a d : ℕ) → d < 16
       → digits_cost cost base (suc n) (16 * a + d) ≡ digits_cost cost base n a + cost n d
   unfolding digits_cost
-  cost-joined a d l =
-      grind (arith, high, low)
+  cost-joined a d l = grind arith
 
   are-joined : (a d : ℕ) → d < 16 → AreDigits least greatest n a → least n ≤ d → d ≤ greatest n
       → AreDigits least greatest (suc n) (16 * a + d)
   unfolding AreDigits
-  are-joined a d l are from to =
-      grind (arith, high, low)
+  are-joined a d l are from to = grind arith
+
+  -- no digits before this one cost less, and no value of this one
+  floor : (a : ℕ) → AreDigits least greatest n a → best.distance ≤ digits_cost cost base n a
+  floor a are = grind arith
 
   cheapest : (d : ℕ) → least n ≤ d → d ≤ greatest n → choice.least ≤ cost n d
-  cheapest d from to =
-      grind arith
+  cheapest d from to = grind arith
 
-  behind : (a d : ℕ) → d < 16 → AreDigits least greatest n a → least n ≤ d → d ≤ greatest n
-      → 16 * a + d ≢ longer.word → longer.distance + longer.margin ≤ digits_cost cost base (suc n) (16 * a + d)
-  behind a d l are from to differs =
-      grind (arith, cost-joined, cheapest)
-
-  -- no digits before this one cost less
-  floor : (a : ℕ) → AreDigits least greatest n a → best.distance ≤ digits_cost cost base n a
-  floor a are =
-      grind arith
+  ahead : (v : ℕ) → AreDigits least greatest (suc n) v → v ≢ longer.word
+      → longer.distance + longer.margin ≤ digits_cost cost base (suc n) v
+  unfolding digits_cost AreDigits
+  ahead v are differs = grind (arith, cheapest, floor)
 
   -- digits that cost as little are no less
-  earliest : (a d : ℕ) → d < 16 → AreDigits least greatest n a → least n ≤ d → d ≤ greatest n
-      → digits_cost cost base (suc n) (16 * a + d) ≡ longer.distance → longer.word ≤ 16 * a + d
-  earliest a d l are from to same =
-      grind (arith, cheapest, cost-joined, floor)
+  first : (v : ℕ) → AreDigits least greatest (suc n) v → digits_cost cost base (suc n) v ≡ longer.distance
+      → longer.word ≤ v
+  unfolding digits_cost AreDigits
+  first v are same = grind (arith, cheapest, floor)
 
   small : choice.value < 16
   small = omega (arith, chosen.before)
@@ -118,28 +87,14 @@ module _ (cost : ℕ → ℕ → ℕ) (base : ℕ) (least greatest : ℕ → ℕ
   )
 
   another : AreOther
-  another =
-      grind (arith, min_is, AreOther, followed, turned)
-
-  parts : (v : ℕ) → AreDigits least greatest (suc n) v
-      → AreDigits least greatest n (v / 16) × (least n ≤ v % 16) × (v % 16 ≤ greatest n)
-  unfolding AreDigits
-  parts v are = are
+  another = grind (arith, min_is, AreOther, followed, turned)
 
   pub with_digit_is : AreBest cost base least greatest (suc n) longer
   unfolding AreOther
   with_digit_is = record {
     word = are-joined best.word choice.value small is.word chosen.from (omega (arith, chosen.before));
     exact = omega (arith, cost-joined best.word choice.value small, is.exact, chosen.exact);
-    ahead = λ v are differs.
-        let e : v ≡ 16 * (v / 16) + v % 16 = omega arith in
-        let p = parts v are in
-        subst (λ (x : ℕ). x ≢ longer.word → longer.distance + longer.margin ≤ digits_cost cost base (suc n) x) (sym e)
-        (behind (v / 16) (v % 16) (omega arith) p.0 p.1 p.2) differs;
-    first = λ v are same.
-        let e : v ≡ 16 * (v / 16) + v % 16 = omega arith in
-        let p = parts v are in
-        subst (λ (x : ℕ). digits_cost cost base (suc n) x ≡ longer.distance → longer.word ≤ x) (sym e)
-        (earliest (v / 16) (v % 16) (omega arith) p.0 p.1 p.2) same;
+    ahead = ahead;
+    first = first;
     other = another;
   }

@@ -48,12 +48,7 @@ pub record ArePlaces (system : System) (IsOne : ℕ → Type 0) (IsThere : Optio
   pub some : (w s : ℕ) → IsOne w → s + word_length system ≤ width_of system → IsThere (Some w) s
 
 pub word-places : (system : System) → ArePlaces system IsWord (IsPlace system)
-word-places system = record {
-  place = λ word s there. there;
-  is = λ w s there. there.0;
-  none = refl;
-  some = λ w s word room. (word, room);
-}
+word-places system = grind arith
 
 code-is_word : (ranges : List Range) (w : ℕ) → IsOneOf ranges w → IsWord w
 code-is_word [] w none = absurd none
@@ -62,23 +57,16 @@ code-is_word (words ∷ ranges) w (inr one) = code-is_word ranges w one
 
 pub code-place : (ranges : List Range) (system : System) (word : Option ℕ) (start : ℕ)
     → IsCodePlace ranges system word start → IsPlace system word start
-code-place ranges system None start place = place
-code-place ranges system (Some w) start place = (code-is_word ranges w place.0, place.1)
+code-place ranges system x3 start place = grind (arith, code-is_word)
 
 pub code-places : (ranges : List Range) (system : System)
     → ArePlaces system (IsOneOf ranges) (IsCodePlace ranges system)
-code-places ranges system = record {
-  place = code-place ranges system;
-  is = λ w s there. there.0;
-  none = refl;
-  some = λ w s one room. (one, room);
-}
+code-places ranges system = grind (arith, code-place)
 
 module _ (system : System) (IsOne : ℕ → Type 0) (IsThere : Option ℕ → ℕ → Type 0)
     (are : ArePlaces system IsOne IsThere) where
   looked : (word : Option ℕ) (s : ℕ) → IsThere word s → all_of IsOne system s (number word)
-  looked None s there = inl (are.place None s there, refl)
-  looked (Some w) s there = inr (let room = (are.place (Some w) s there).1 in omega arith, are.is w s there)
+  looked x1 s there = grind arith
 
   placed : (s w : ℕ) → all_of IsOne system s w → (word : Option ℕ) × IsThere word s × (number word ≡ w)
   placed s w (inl (e, none)) = (None, subst (IsThere None) (sym e) are.none, sym none)
@@ -86,17 +74,13 @@ module _ (system : System) (IsOne : ℕ → Type 0) (IsThere : Option ℕ → �
 
   one-number : (word other : Option ℕ) (s t : ℕ) → IsThere word s → IsThere other t
       → number word ≡ number other → word ≡ other
-  one-number None None s t here there e = refl
-  one-number None (Some w) s t here there e = absurd (omega (arith, (are.place (Some w) t there).0.0))
-  one-number (Some v) None s t here there e = absurd (omega (arith, (are.place (Some v) s here).0.0))
-  one-number (Some v) (Some w) s t here there e = ap Some e
+  one-number x1 x2 s t here there e = grind arith
 
   precedes : (word other : Option ℕ) (s t at v : ℕ) → IsThere word s → IsThere other t → s ≡ at → number word ≡ v
       → IsBefore at v t (number other) → Precedes word s other t
   precedes None other s t at v here there e f before = tt
   precedes (Some w) None s t at v here there e f (inl less) = absurd (omega (arith, are.place None t there))
-  precedes (Some w) None s t at v here there e f (inr (g, le)) =
-      absurd (omega (arith, (are.place (Some w) s here).0.0))
+  precedes (Some w) None s t at v here there e f (inr (g, le)) = absurd (omega (arith, (are.place (Some w) s here).0.0))
   precedes (Some w) (Some x) s t at v here there e f (inl less) = inl (omega arith)
   precedes (Some w) (Some x) s t at v here there e f (inr (g, le)) = inr (omega arith, omega arith)
 
@@ -104,14 +88,7 @@ module _ (system : System) (IsOne : ℕ → Type 0) (IsThere : Option ℕ → �
   begun : (cost : ℕ → ℕ → ℕ) (lead : Found) → IsLead cost (all_of IsOne system) lead
       → ((lead.word ≡ 0) × (lead.start ≡ 0))
       ⊎ ((lead.start < starts system) × IsOne lead.word × IsThere (Some lead.word) lead.start × IsWord lead.word)
-  begun cost lead is = go is.there
-    where
-      go : all_of IsOne system lead.start lead.word → ((lead.word ≡ 0) × (lead.start ≡ 0))
-          ⊎ ((lead.start < starts system) × IsOne lead.word × IsThere (Some lead.word) lead.start × IsWord lead.word)
-      go (inl none) = inl (none.1, none.0)
-      go (inr (l, one)) =
-          let there = are.some lead.word lead.start one (omega (arith, word-fits system)) in
-          inr (l, one, there, (are.place (Some lead.word) lead.start there).0)
+  begun cost lead is = grind (arith, word-fits)
 
 -- a word that was found begins where one may, and costs as much as is found
 pub lead-found : (sums : Shades) (system : System) (ranges : List Range) (lead : Found)
@@ -222,8 +199,7 @@ module _ (sums : Sums) (slicing : Slicing) (lines : List Samples) (costs : Shade
                 (least_longer costs (shades_of sums) sums.system row.both sums.rows lead l exact longer longest),
             row-same sums.system slicing lines costs row.pile (IsCutShort sums.system lead.word lead.start) shorter
                 (λ levels cut. length-shorter sums.system lead.word lead.start levels room cut)
-                (least_shorter costs (shades_of sums) sums.system row.both lead.start room lead refl exact shorter
-                shortest),
+                (least_shorter costs (shades_of sums) sums.system row.both lead room exact shorter shortest),
           )
 
   pub near-of : (longer shorter : ℕ) (near : Near) → IsCodeChosen lead longer shorter near → Other

@@ -45,8 +45,7 @@ matched : (word : ℕ) (patterns : List Pattern) (code : Code) → HasCodeOf pat
 matched word [] code (i, p, l, here, x) = absurd (omega arith)
 matched word (r ∷ patterns) code (zero, p, l, here, (x, e)) =
     inl (subst (HasPattern word) (sym here) x, e ∙ ap (λ (t : Pattern). t.code) (sym here))
-matched word (r ∷ patterns) code (suc i, p, l, here, x) =
-    inr (matched word patterns code (i, p, omega arith, here, x))
+matched word (r ∷ patterns) code (suc i, p, l, here, x) = inr (matched word patterns code (i, p, omega arith, here, x))
 
 -- a code of no class
 unmatched : (word : ℕ) (patterns : List Pattern) (code : Code) → code ≡ Other → Matched word patterns code
@@ -55,8 +54,7 @@ unmatched word (r ∷ patterns) code e = inr (unmatched word patterns code e)
 
 -- the code of a word
 code-matched : (word : ℕ) → Matched word (patterns_of word) (code_of word)
-code-matched word =
-    grind (arith, code_of_is, matched, unmatched)
+code-matched word = grind (arith, code_of_is, matched, unmatched)
 
 -- ---- what may stand is in the table
 
@@ -91,39 +89,31 @@ same_18 system Other = refl
 module _ (w : ℕ) where
   -- times of an hour's 60 minutes
   time-in : IsBetween 0xF0DD00 0xF9DD99 w → last_two w < 60 → IsBetween 0xF0DD00 0xF9DD59 w
-  time-in x few =
-      grind (arith, between)
+  time-in x few = grind (arith, between)
 
   time-of : IsBetween 0xF0DD00 0xF9DD59 w → IsBetween 0xF0DD00 0xF9DD99 w × (last_two w < 60)
-  time-of x =
-      grind (arith, between)
+  time-of x = grind (arith, between)
 
   -- CLV pictures of a second's 30
   clv-in_30 : IsBetween 0x8AE000 0x8FE999 w → last_two w < 30 → IsBetween 0x8AE000 0x8FE929 w
-  clv-in_30 x few =
-      grind (arith, between)
+  clv-in_30 x few = grind (arith, between)
 
   clv-of_30 : IsBetween 0x8AE000 0x8FE929 w → IsBetween 0x8AE000 0x8FE999 w × (last_two w < 30)
-  clv-of_30 x =
-      grind (arith, between)
+  clv-of_30 x = grind (arith, between)
 
   -- the first 20 of a second's 25
   clv-in_20 : IsBetween 0x8AE000 0x8FE999 w → last_two w < 20 → IsBetween 0x8AE000 0x8FE919 w
-  clv-in_20 x few =
-      grind (arith, between)
+  clv-in_20 x few = grind (arith, between)
 
   clv-of_20 : IsBetween 0x8AE000 0x8FE919 w → IsBetween 0x8AE000 0x8FE999 w × (last_two w < 25)
-  clv-of_20 x =
-      grind (arith, between)
+  clv-of_20 x = grind (arith, between)
 
   -- the others of a second's 25
   clv-in_25 : IsBetween 0x8AE000 0x8FE999 w → 20 ≤ last_two w → last_two w < 25 → IsBetween 0x8AE020 0x8FE924 w
-  clv-in_25 x many few =
-      grind (arith, between)
+  clv-in_25 x many few = grind (arith, between)
 
   clv-of_25 : IsBetween 0x8AE020 0x8FE924 w → IsBetween 0x8AE000 0x8FE999 w × (last_two w < 25)
-  clv-of_25 x =
-      grind (arith, between)
+  clv-of_25 x = grind (arith, between)
 
 -- ---- the words of a line
 
@@ -136,8 +126,7 @@ module _ (system : System) (w : ℕ) (is : IsWord w) where
   in_17 code (inr (inr (inr (inl (x, e))))) stands = inr (inr (inr (inl (is, x))))
   in_17 code (inr (inr (inr (inr (inl (x, e)))))) stands = inr (inr (inr (inr (inl (is, x)))))
   in_17 code (inr (inr (inr (inr (inr (inl (x, e))))))) stands = inr (inr (inr (inr (inr (inl (is, x))))))
-  in_17 code (inr (inr (inr (inr (inr (inr (inl (x, e)))))))) stands =
-      grind (arith, ltb-true, may, time-in)
+  in_17 code (inr (inr (inr (inr (inr (inr (inl (x, e)))))))) stands = grind (arith, ltb-true, may, time-in)
   in_17 code (inr (inr (inr (inr (inr (inr (inr (inl (x, e))))))))) stands =
       absurd (barred system 17 code (ClvPicture (seconds_of w) (last_two w)) e refl stands)
   in_17 code (inr (inr (inr (inr (inr (inr (inr (inr (inl (x, e)))))))))) stands =
@@ -160,39 +149,30 @@ module _ (system : System) (w : ℕ) (is : IsWord w) where
       go (inr more) = inr (inr (inl (is, clv-in_25 w x more few)))
 
   stop_16 : (system : System) → IsBetween 0x82CFFF 0x82CFFF w → IsOneOf (codes_of_16 system) w
-  stop_16 Ntsc x = inl (is, x)
-  stop_16 Pal x = inl (is, x)
+  stop_16 x1 x = grind arith
 
   cx_on_16 : (system : System) → IsBetween 0x8DC000 0x8DCFFF w → IsOneOf (codes_of_16 system) w
-  cx_on_16 Ntsc x = inr (inr (inl (is, x)))
-  cx_on_16 Pal x = inr (inr (inr (inl (is, x))))
+  cx_on_16 x1 x = grind arith
 
   cx_off_16 : (system : System) → IsBetween 0x8BA000 0x8BAFFF w → IsOneOf (codes_of_16 system) w
-  cx_off_16 Ntsc x = inr (inr (inr (inl (is, x))))
-  cx_off_16 Pal x = inr (inr (inr (inr (inl (is, x)))))
+  cx_off_16 x1 x = grind arith
 
   users_16 : (system : System) → IsBetween 0x80D000 0x87DFFF w → IsOneOf (codes_of_16 system) w
-  users_16 Ntsc x = inr (inr (inr (inr (inl (is, x)))))
-  users_16 Pal x = inr (inr (inr (inr (inr (inl (is, x))))))
+  users_16 x1 x = grind arith
 
   -- what may stand on line 16 is in its table
   in_16 : (code : Code) → Matched w (patterns_of w) code → IsTrue (may_stand system 16 code)
       → IsOneOf (codes_of_16 system) w
-  in_16 code (inl (x, e)) stands =
-      absurd (barred system 16 code LeadIn e refl stands)
-  in_16 code (inr (inl (x, e))) stands =
-      absurd (barred system 16 code LeadOut e refl stands)
-  in_16 code (inr (inr (inl (x, e)))) stands =
-      absurd (barred system 16 code (Picture (picture_of w)) e refl stands)
+  in_16 code (inl (x, e)) stands = absurd (barred system 16 code LeadIn e refl stands)
+  in_16 code (inr (inl (x, e))) stands = absurd (barred system 16 code LeadOut e refl stands)
+  in_16 code (inr (inr (inl (x, e)))) stands = absurd (barred system 16 code (Picture (picture_of w)) e refl stands)
   in_16 code (inr (inr (inr (inl (x, e))))) stands = stop_16 system x
   in_16 code (inr (inr (inr (inr (inl (x, e)))))) stands =
       absurd (barred system 16 code (Chapter (chapter_of w)) e refl stands)
-  in_16 code (inr (inr (inr (inr (inr (inl (x, e))))))) stands =
-      absurd (barred system 16 code ClvMark e refl stands)
+  in_16 code (inr (inr (inr (inr (inr (inl (x, e))))))) stands = absurd (barred system 16 code ClvMark e refl stands)
   in_16 code (inr (inr (inr (inr (inr (inr (inl (x, e)))))))) stands =
       absurd (barred system 16 code (Time (digit_of w 2) (last_two w)) e refl stands)
-  in_16 code (inr (inr (inr (inr (inr (inr (inr (inl (x, e))))))))) stands =
-      grind (arith, clv_16, ltb-true, may)
+  in_16 code (inr (inr (inr (inr (inr (inr (inr (inl (x, e))))))))) stands = grind (arith, clv_16, ltb-true, may)
   in_16 code (inr (inr (inr (inr (inr (inr (inr (inr (inl (x, e)))))))))) stands = cx_on_16 system x
   in_16 code (inr (inr (inr (inr (inr (inr (inr (inr (inr (inl (x, e))))))))))) stands = cx_off_16 system x
   in_16 code (inr (inr (inr (inr (inr (inr (inr (inr (inr (inr (inl (x, e)))))))))))) stands = users_16 system x

@@ -13,51 +13,33 @@ use Rattle.vbi_words.specs.Geometry.{width_of}
 use Rattle.vbi_near.specs.Pictures.{column_of, half_length, word_length, starts, drawn_halves, picture_of, IsPlace}
 
 pub column-first : (system : System) (start : ℕ) → column_of system start 0 ≡ start
-column-first Ntsc start = omega arith
-column-first Pal start = omega arith
+column-first x1 start = grind arith
 
 pub column-next : (system : System) (start j : ℕ)
     → column_of system start j + half_length system j ≡ column_of system start (suc j)
-column-next Ntsc start j = omega arith
-column-next Pal start j = omega arith
+column-next x1 start j = grind arith
 
 pub column-last : (system : System) (start j : ℕ) → j ≤ 48 → column_of system start j ≤ start + word_length system
-column-last Ntsc start j l = omega arith
-column-last Pal start j l = omega arith
+column-last x1 start j l = grind arith
 
 pub column-rises : (system : System) (start j k : ℕ) → j ≤ k → column_of system start j ≤ column_of system start k
-column-rises Ntsc start j k l = omega arith
-column-rises Pal start j k l = omega arith
+column-rises x1 start j k l = grind arith
 
 pub width-few : (system : System) → width_of system ≤ 1135
-width-few Ntsc = omega arith
-width-few Pal = omega arith
+width-few x1 = grind arith
 
 pub starts-few : (system : System) → starts system ≤ 285
-starts-few Ntsc = omega arith
-starts-few Pal = omega arith
+starts-few x1 = grind arith
 
 pub word-fits : (system : System) → word_length system ≤ width_of system
-word-fits Ntsc = omega arith
-word-fits Pal = omega arith
+word-fits x1 = grind arith
 
 pub column-drawn : (system : System) (start j : ℕ) (halves : List Bool)
     → column_of system start j + length (drawn_halves system j halves) ≡ column_of system start (j + length halves)
 unfolding drawn_halves
-column-drawn system start j [] =
-    grind arith
+column-drawn system start j [] = grind arith
 column-drawn system start j (half ∷ halves) =
-    let e : suc j + length halves ≡ j + suc (length halves) = omega arith in
-    let same : column_of system start (suc j + length halves) ≡ column_of system start (j + suc (length halves))
-    = ap (column_of system start) e in
-    omega (
-      arith,
-      length-append (replicate (half_length system j) half) (drawn_halves system (suc j) halves),
-      length-replicate (half_length system j) half,
-      column-next system start j,
-      column-drawn system start (suc j) halves,
-      same,
-    )
+    grind (arith, column-drawn system start (suc j) halves, length-append, replicate, length-replicate, column-next)
 
 pub length-cells : (bits : List Bool) → length (flat_map cell_of bits) ≡ 2 * length bits
 length-cells [] = refl

@@ -32,8 +32,7 @@ zeros-read (suc n) (suc m) zero = refl
 zeros-read (suc n) (suc m) (suc k) = zeros-read n m k
 
 pub zeros-long : (system : System) (n : ℕ) → n ≡ width_of system → length (zeros n 1135) ≡ width_of system
-zeros-long system n e =
-    grind (arith, length-take-le, replicate, width-few, length-replicate)
+zeros-long system n e = grind (arith, length-take-le, replicate, width-few, length-replicate)
 
 pub nothing-erased : (system : System) (n : ℕ) → n ≡ width_of system
     → take n (replicate 1135 false) ≡ replicate (width_of system) false
@@ -47,16 +46,7 @@ few-empty n m k = omega (arith, zeros-read n m k)
 pub pile-empty : (system : System) (slicing : Slicing) (n l m : ℕ)
     → IsPile system slicing [] (shades (zeros n m) (zeros l m))
 unfolding column_cost
-pile-empty system slicing n l m = record { whole = whole; exact = exact }
-  where
-    whole : All (λ (line : Samples). length line ≡ width_of system) []
-    whole k d less = absurd (omega arith)
-
-    exact : (k : ℕ) (level : Bool) → k < width_of system
-        → get_or (shade (shades (zeros n m) (zeros l m)) level) k 0
-        ≡ column_cost slicing [] k level
-    exact k true less = zeros-read l m k
-    exact k false less = zeros-read n m k
+pile-empty system slicing n l m = grind (arith, get_or, zeros-read)
 
 -- ---- one line more
 
@@ -114,8 +104,7 @@ pub known_but-none : (n : ℕ) (samples : List ℕ) → length samples ≡ n
 known_but-none zero [] e = refl
 known_but-none zero (s ∷ samples) e = absurd (omega arith)
 known_but-none (suc n) [] e = absurd (omega arith)
-known_but-none (suc n) (s ∷ samples) e =
-    ap (λ (rest : Samples). Some s ∷ rest) (known_but-none n samples (omega arith))
+known_but-none (suc n) (s ∷ samples) e = ap (λ (rest : Samples). Some s ∷ rest) (known_but-none n samples (omega arith))
 
 pub line-samples : (system : System) (bytes : List ℕ) → length bytes ≡ line_bytes system
     → length (samples_of bytes) ≡ width_of system
@@ -129,21 +118,18 @@ pub record IsAdded (bytes : List ℕ) (erased : List Bool) (most level : ℕ) (c
   pub behind : (k : ℕ) → i ≤ k → get_or new k 0 ≡ get_or costs k 0
 
 kept-few : (most : ℕ) (erased : Bool) (sample level : ℕ) → kept most erased sample level ≤ most
-kept-few most true sample level = omega arith
-kept-few most false sample level = min-le_right (abs_diff sample level) most
+kept-few most x2 sample level = grind arith
 
 -- no column costs more than what a sample can be off
 pub added-few : (bytes : List ℕ) (erased : List Bool) (most level : ℕ) (costs new : List ℕ) (i : ℕ) → most ≤ 65535
     → (lines : ℕ) → AreFew lines costs → IsAdded bytes erased most level costs new i → AreFew (lines + 1) new
-added-few bytes erased most level costs new i low lines few is k =
-    grind (arith, get_or, kept-few)
+added-few bytes erased most level costs new i low lines few is k = grind (arith, get_or, kept-few)
 
 -- a line that is cut to as long as it is
 pub added_whole : (cut bytes : List ℕ) (marks erased : List Bool) (most level : ℕ) (costs new : List ℕ) (i n : ℕ)
     → cut ≡ bytes → marks ≡ erased → i ≡ n → IsAdded cut marks most level costs new i
     → IsAdded bytes erased most level costs new n
-added_whole cut bytes marks erased most level costs new i n same are end is =
-    grind arith
+added_whole cut bytes marks erased most level costs new i n same are end is = grind arith
 
 pub pile-added : (system : System) (slicing : Slicing) (bytes : List ℕ) (erased : List Bool) (lines : List Samples)
     (darks lights dark light : List ℕ) → length bytes ≡ 2 * length darks → length erased ≡ length darks

@@ -35,8 +35,7 @@ apart-by : (system : System) (late room : ℕ) (bits more : List Bool) → lengt
     → bits ≢ more → picture_distance system
     ≤ differences (bits_levels system 0 (true ∷ bits) ++ replicate (late + room) false)
     (replicate late false ++ (bits_levels system 0 (true ∷ more) ++ replicate room false))
-apart-by system late room bits more e f differ =
-    grind (arith, bits_levels, replicate, far-apart, within-cell)
+apart-by system late room bits more e f differ = grind (arith, bits_levels, replicate, far-apart, within-cell)
 
 words_later : (system : System) (s t v w : ℕ) → IsPlace system (Some v) s → IsPlace system (Some w) t → v ≢ w → s ≤ t
     → picture_distance system ≤ differences (picture_of system (Some v) s) (picture_of system (Some w) t)
@@ -69,8 +68,7 @@ words_later system s t v w one two differ later =
 
 words_apart : (system : System) (s t v w : ℕ) → IsPlace system (Some v) s → IsPlace system (Some w) t → v ≢ w
     → picture_distance system ≤ differences (picture_of system (Some v) s) (picture_of system (Some w) t)
-words_apart system s t v w one two differ =
-    grind (arith, words_later, differences_sym)
+words_apart system s t v w one two differ = grind (arith, words_later, differences_sym)
 
 -- ---- a word and none
 
@@ -109,8 +107,7 @@ pub pictures_apart : (system : System) (one other : Option ℕ) (s t : ℕ) → 
     → picture_distance system ≤ differences (picture_of system one s) (picture_of system other t)
 pictures_apart system None None s t p q differ = absurd (differ refl)
 pictures_apart system None (Some w) s t p q differ = none_apart system t w s q
-pictures_apart system (Some v) None s t p q differ =
-    grind (arith, none_apart, differences_sym)
+pictures_apart system (Some v) None s t p q differ = grind (arith, none_apart, differences_sym)
 pictures_apart system (Some v) (Some w) s t p q differ = words_apart system s t v w p q (λ e. differ (ap Some e))
 
 -- ---- lines between two drawn rows
@@ -119,10 +116,7 @@ one_differs : (slicing : Slicing) (sample : ℕ) (b c : Bool)
     → differs b c * (slicing.white - slicing.black)
     ≤ min (abs_diff sample (sample_of slicing b)) (unit_of slicing)
     + min (abs_diff sample (sample_of slicing c)) (unit_of slicing)
-one_differs slicing sample true true = omega arith
-one_differs slicing sample true false = omega arith
-one_differs slicing sample false true = omega arith
-one_differs slicing sample false false = omega arith
+one_differs slicing sample x3 x4 = grind arith
 
 triangle : (slicing : Slicing) (line : List ℕ) (x y : List Bool) → length line ≡ length x → length line ≡ length y
     → differences x y * (slicing.white - slicing.black)
@@ -179,10 +173,7 @@ rows slicing (p ∷ x) (q ∷ y) a =
 
     one : (b c : Bool) → differs b c * (slicing.white - slicing.black)
         ≤ min (abs_diff (sample_of slicing b) (sample_of slicing c)) (unit_of slicing)
-    one true true = omega arith
-    one true false = omega arith
-    one false true = omega arith
-    one false false = omega arith
+    one x1 x2 = grind arith
 
 pub rows_apart : (system : System) (slicing : Slicing) (one other : Option ℕ) (s t : ℕ) → IsPlace system one s
     → IsPlace system other t → one ≢ other

@@ -19,12 +19,10 @@ use Rattle.vbi_near.proofs.Columns.{length-cells, length-picture}
 
 module _ (system : System) where
   next-boundary : (j : ℕ) → boundary system (suc j) ≡ boundary system j + half_length system j
-  next-boundary j =
-      grind arith
+  next-boundary j = grind arith
 
   later : (i j : ℕ) → i ≤ j → boundary system i ≤ boundary system j
-  later i j l =
-      grind arith
+  later i j l = grind arith
 
   -- a column lies in one of these half cells, of which the first is half cell j of its word, and that one is high
   abbrev IsHighIn : List Bool → ℕ → ℕ → Type 0
@@ -44,13 +42,11 @@ module _ (system : System) where
         (append_assoc (replicate (half_length system j) h) (drawn_halves system (suc j) halves) (replicate after false))
 
     pub first-level : k < half_length system j → get_or (levels_from (h ∷ halves) j after) k false ≡ h
-    first-level l =
-        grind (arith, parts, get_or-append, replicate, length-replicate, get_or-replicate)
+    first-level l = grind (arith, parts, get_or-append, replicate, length-replicate, get_or-replicate)
 
     pub later-level : half_length system j ≤ k → get_or (levels_from (h ∷ halves) j after) k false
         ≡ get_or (levels_from halves (suc j) after) (k - half_length system j) false
-    later-level l =
-        grind (arith, parts, get_or-append_right, replicate, length-replicate)
+    later-level l = grind (arith, parts, get_or-append_right, replicate, length-replicate)
 
     moved : half_length system j ≤ k
         → boundary system (suc j) + (k - half_length system j) ≡ boundary system j + k
@@ -66,15 +62,7 @@ module _ (system : System) where
       go : (get_or (levels_from halves (suc j) after) (k - half_length system j) false ≡ true
           → IsHighIn halves (suc j) (boundary system (suc j) + (k - half_length system j)))
           → (k < half_length system j) ⊎ (half_length system j ≤ k) → IsHighIn (h ∷ halves) j (boundary system j + k)
-      go rest (inl less) =
-          let here : boundary system (j + 0) ≡ boundary system j = ap (boundary system) (omega arith) in
-          let next : boundary system (j + 0 + 1) ≡ boundary system (suc j) = ap (boundary system) (omega arith) in (
-            0,
-            omega arith,
-            omega (arith, here),
-            omega (arith, next, next-boundary j),
-            sym (first-level h halves j after k less) ∙ high,
-          )
+      go rest (inl less) = grind (arith, next-boundary, first-level)
       go rest (inr le) =
           let found = rest (sym (later-level h halves j after k le) ∙ high) in
           let same = moved h halves j after k le in
@@ -92,8 +80,7 @@ module _ (system : System) where
   high-there : (halves : List Bool) (j after k : ℕ) → IsHighIn halves j (boundary system j + k)
       → get_or (levels_from halves j after) k false ≡ true
   high-there [] j after k (i, inside, low, high, at) = absurd (omega arith)
-  high-there (h ∷ halves) j after k (zero, inside, low, high, at) =
-      grind (arith, first-level, next-boundary)
+  high-there (h ∷ halves) j after k (zero, inside, low, high, at) = grind (arith, first-level, next-boundary)
   high-there (h ∷ halves) j after k (suc i, inside, low, high, at) =
       let here : boundary system (j + suc i) ≡ boundary system (suc j + i) = ap (boundary system) (omega arith) in
       let next : boundary system (j + suc i + 1) ≡ boundary system (suc j + i + 1)
@@ -108,12 +95,10 @@ module _ (system : System) where
 -- ---- the row
 
 first-start : (system : System) → boundary system 0 ≡ start_of system
-first-start Ntsc = omega arith
-first-start Pal = omega arith
+first-start x1 = grind arith
 
 first-place : (system : System) → start_of system + word_length system ≤ width_of system
-first-place Ntsc = omega arith
-first-place Pal = omega arith
+first-place x1 = grind arith
 
 length-halves : (w : ℕ) → length (halves_of w) ≡ 48
 length-halves w = length-cells (lowest_bits 24 w) ∙ ap (λ (n : ℕ). 2 * n) (length-lowest_bits 24 w)
@@ -127,31 +112,26 @@ module _ (system : System) (start w : ℕ) where
 
   pub before-word : (c : ℕ) → c < start → get_or (picture_of system (Some w) start) c false ≡ false
   unfolding picture_of
-  before-word c l =
-      grind (arith, get_or-append, replicate, length-replicate, all_low)
+  before-word c l = grind (arith, get_or-append, replicate, length-replicate, all_low)
 
   pub in-word : (c : ℕ) → start ≤ c → get_or (picture_of system (Some w) start) c false
       ≡ get_or (levels_from system (halves_of w) 0 after) (c - start) false
   unfolding picture_of
-  in-word c l =
-      grind (arith, get_or-append_right, replicate, length-replicate)
+  in-word c l = grind (arith, get_or-append_right, replicate, length-replicate)
 
 module _ (system : System) (slicing : Slicing) (w : ℕ) where
   abbrev picture : List Bool
   picture = picture_of system (Some w) (start_of system)
 
   from-picture : (c : ℕ) → get_or picture c false ≡ true → IsDrawnHigh system w c
-  from-picture c high =
-      grind (arith, before-word, high-in, in-word, first-start, length-halves)
+  from-picture c high = grind (arith, before-word, high-in, in-word, first-start, length-halves)
 
   to-picture : (c : ℕ) → IsDrawnHigh system w c → get_or picture c false ≡ true
-  to-picture c h1 =
-      grind (arith, first-start, later, in-word, high-there, length-halves)
+  to-picture c h1 = grind (arith, first-start, later, in-word, high-there, length-halves)
 
   sample-at : (c : ℕ) (level : Bool) → get_or picture c false ≡ level
       → IsDrawnSample system slicing (Some w) c (sample_of slicing level)
-  sample-at c true e = (λ d. refl, λ none. absurd (none (from-picture c e)))
-  sample-at c false e = (λ d. absurd (let high = to-picture c d in cc), λ none. refl)
+  sample-at c x2 e = grind (arith, from-picture, to-picture)
 
 row-drawn : (system : System) (slicing : Slicing) (word : Option ℕ)
     → length (picture_of system word (start_of system)) ≡ width_of system
@@ -169,8 +149,7 @@ row-drawn system slicing word long each =
 pub drawn_first : (system : System) (slicing : Slicing) (word : Option ℕ) → IsWordOrNone word
     → drawn_as slicing (picture_of system word (start_of system)) ≡ drawn_row_of system slicing word
 unfolding picture_of
-drawn_first system slicing None is =
-    grind (arith, row-drawn, length-replicate, all_low)
+drawn_first system slicing None is = grind (arith, row-drawn, length-replicate, all_low)
 drawn_first system slicing (Some w) is =
     row-drawn system slicing (Some w) (length-picture system (Some w) (start_of system) (is, first-place system))
     (λ c l. sample-at system slicing w c _ refl)

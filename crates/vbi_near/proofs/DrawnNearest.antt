@@ -32,10 +32,7 @@ no_difference n = omega arith
 row-itself : (most : ℕ) (row : List ℕ) → row_distance most (known row) row ≡ 0
 unfolding row_distance
 row-itself most [] = refl
-row-itself most (sample ∷ row) =
-    let same : min (abs_diff sample sample) most ≡ 0
-    = ap (λ (n : ℕ). min n most) (no_difference sample) ∙ omega arith in
-    omega (arith, same, row-itself most row)
+row-itself most (sample ∷ row) = grind (arith, row-itself most row, no_difference)
 
 distance-each : (most : ℕ) (row other : List ℕ) (lines : List (List ℕ)) → All (λ line. line ≡ row) lines
     → distance_of most (map known lines) other ≡ length lines * row_distance most (known row) other
@@ -65,8 +62,7 @@ all_same (true ∷ x) (false ∷ y) long none = absurd (omega arith)
 all_same (false ∷ x) (true ∷ y) long none = absurd (omega arith)
 
 half-some : (system : System) → 0 < half_length system 1
-half-some Ntsc = omega arith
-half-some Pal = omega arith
+half-some x1 = grind arith
 
 module _ (system : System) (w : ℕ) (is : IsWord w) where
   -- the half cells after the first two
@@ -84,13 +80,11 @@ module _ (system : System) (w : ℕ) (is : IsWord w) where
 
   low-first : (start c : ℕ) → c < start + half_length system 0
       → get_or (picture_of system (Some w) start) c false ≡ false
-  low-first start c l =
-      grind (arith, get_or, before-word, in-word, level-of, first-level, rest, after)
+  low-first start c l = grind (arith, get_or, before-word, in-word, level-of, first-level, rest, after)
 
   high-then : (start c : ℕ) → c ≡ start + half_length system 0
       → get_or (picture_of system (Some w) start) c false ≡ true
-  high-then start c e =
-      grind (arith, in-word, level-of, later-level, rest, after, first-level, half-some)
+  high-then start c e = grind (arith, in-word, level-of, later-level, rest, after, first-level, half-some)
 
   no_earlier : (s t : ℕ) → picture_of system (Some w) s ≡ picture_of system (Some w) t → s < t → ⊥
   no_earlier s t same l =
@@ -100,16 +94,11 @@ module _ (system : System) (w : ℕ) (is : IsWord w) where
       let both = ap (λ (x : List Bool). get_or x c false) same in cc
 
   one_start : (s t : ℕ) → picture_of system (Some w) s ≡ picture_of system (Some w) t → s ≡ t
-  one_start s t same =
-      grind (arith, no_earlier)
+  one_start s t same = grind (arith, no_earlier)
 
 starts-same : (system : System) (word other : Option ℕ) (s t : ℕ) → other ≡ word → IsPlace system word s
     → IsPlace system other t → picture_of system other t ≡ picture_of system word s → t ≡ s
-starts-same system None None s t e p q same = omega (arith, p, q)
-starts-same system None (Some u) s t e p q same = absurd (some_none u e)
-starts-same system (Some v) None s t e p q same = absurd (none_some v e)
-starts-same system (Some v) (Some u) s t e p q same =
-    one_start system v p.0 t s (ap (λ (w : ℕ). picture_of system (Some w) t) (sym (some_is u v e)) ∙ same)
+starts-same system x2 x3 s t e p q same = grind (arith, some_none, none_some, one_start, some_is)
 
 -- ---- the nearest word
 
@@ -117,8 +106,7 @@ positive : (a b : ℕ) → 0 < a → 0 < b → 0 < a * b
 positive a b l m = omega (arith, mul-le 1 1 a b (omega arith) (omega arith))
 
 some-apart : (system : System) → 0 < picture_distance system
-some-apart Ntsc = omega arith
-some-apart Pal = omega arith
+some-apart x1 = grind arith
 
 module _ (system : System) (slicing : Slicing) (lines : List (List ℕ)) (near : Near) (word : Option ℕ) (start : ℕ)
     (order : slicing.black < slicing.white) (some : 0 < length lines)
@@ -131,8 +119,7 @@ module _ (system : System) (slicing : Slicing) (lines : List (List ℕ)) (near :
   unit = slicing.white - slicing.black
 
   whole : All (λ line. length line ≡ width_of system) lines
-  whole k d l =
-      grind (arith, length-map, length-picture)
+  whole k d l = grind (arith, length-map, length-picture)
 
   nothing : far_from system slicing (map known lines) word start ≡ 0
   nothing =
@@ -145,8 +132,7 @@ module _ (system : System) (slicing : Slicing) (lines : List (List ℕ)) (near :
   drawn-distance = let least = is.least word start place in omega (arith, least, nothing)
 
   pub drawn-word : near.word ≡ word
-  drawn-word =
-      grind (arith, few_misread, whole, positive, some-apart, nothing)
+  drawn-word = grind (arith, few_misread, whole, positive, some-apart, nothing)
 
   -- the row answered has the samples of the row drawn, and so its levels
   same-row : row_distance unit (known row) (drawn_as slicing (picture_of system near.word near.start)) ≡ 0

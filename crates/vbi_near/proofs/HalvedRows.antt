@@ -21,17 +21,16 @@ use Rattle.vbi_near.proofs.Columns.{column-first, column-next}
 use Rattle.vbi_near.proofs.Halves.{drawn-with, row-far}
 use Rattle.vbi_near.proofs.Piles.{levels-same}
 use Rattle.vbi_near.proofs.CutShort.{row-wide}
+use Rattle.vbi_near.proofs.Costs.{row-cost}
 
 -- ---- half cells
 
 pub half-long : (late : Bool) (w : ℕ) → length (half_of late w) ≡ 48
 unfolding lowest_bits
-half-long true w = refl
-half-long false w = refl
+half-long x1 w = grind arith
 
 pub late-low : (w h : ℕ) → h < 24 → get_or (half_of true w) h false ≡ false
-late-low w h l =
-    grind (arith, get_or_append_left, replicate, length-replicate, get_or-replicate)
+late-low w h l = grind (arith, get_or_append_left, replicate, length-replicate, get_or-replicate)
 
 pub late-shown : (w h : ℕ) → 24 ≤ h → get_or (half_of true w) h false ≡ get_or (halves_of w) h false
 late-shown w h l =
@@ -55,8 +54,7 @@ early-low w h l less =
 
 pub below_half : (late : Bool) (w h : ℕ) → h < 24
     → get_or (half_of late w) h false ≡ (not late && get_or (halves_of w) h false)
-below_half true w h l = late-low w h l
-below_half false w h l = early-shown w h l
+below_half x1 w h l = grind (arith, late-low, early-shown)
 
 pub from_half : (late : Bool) (w h : ℕ) → 24 ≤ h → h < 48
     → get_or (half_of late w) h false ≡ (late && get_or (halves_of w) h false)
@@ -65,37 +63,19 @@ from_half false w h l less = early-low w h l less
 
 -- ---- what they cost
 
-pub half-costs : (sums : Shades) (system : System) (start j : ℕ) (level : Bool) (begin end : ℕ)
-    → begin ≡ column_of system start j → end ≡ column_of system start (suc j)
-    → span sums level begin (end - begin) ≡ half_cost sums system start j level
-half-costs sums system start j level begin end b e =
-    grind (arith, column-next)
-
 pub all-costs : (cost : ℕ → Bool → ℕ) (late : Bool) (w n : ℕ) → n ≡ 48
     → halves_cost cost 0 (take n (half_of late w)) ≡ halves_cost cost 0 (half_of late w)
-all-costs cost late w n e =
-    ap (halves_cost cost 0) (take_all n (half_of late w) (omega (arith, e, half-long late w)))
+all-costs cost late w n e = ap (halves_cost cost 0) (take_all n (half_of late w) (omega (arith, e, half-long late w)))
 
 -- ---- rows
 
 module _ (system : System) (slicing : Slicing) (lines : List Samples) (costs sums : Shades)
     (pile : IsPile system slicing lines costs) (both : AreBoth costs sums (width_of system)) where
-  row-same : (start : ℕ) → start + word_length system ≤ width_of system → (halves : List Bool) → length halves ≡ 48
-      → distance_from costs 0 (row_of_halves system start halves) ≡ row_cost sums system start halves
-  unfolding row_of_halves
-  row-same start room halves many =
-      let tail : List Bool = replicate (width_of system - (start + word_length system)) false in
-      ap (λ (drawn : List Bool). distance_from costs 0 (replicate start false ++ (drawn ++ tail)))
-      (drawn-with system 0 halves)
-      ∙ row-far (column_of system start) (half_length system) (column-next system start) costs sums (width_of system)
-      both start (start + word_length system) halves (sym (column-first system start))
-      (ap (column_of system start) (sym many)) room
-
   half-same : (late : Bool) (w start : ℕ) → start + word_length system ≤ width_of system
       → row_cost sums system start (half_of late w)
       ≡ distance_of (unit_of slicing) lines (drawn_as slicing (row_of_halves system start (half_of late w)))
   half-same late w start room =
-      sym (row-same start room (half_of late w) (half-long late w))
+      sym (row-cost costs sums system both start room (half_of late w) (half-long late w))
       ∙ levels-same system slicing lines costs pile (row_of_halves system start (half_of late w))
       (row-wide system start (half_of late w) (row_of_halves system start (half_of late w)) room (half-long late w)
       refl)

@@ -1,14 +1,48 @@
 -- How far lines are from half cells of any lengths, and from a row on which they are drawn.
 use Rattle.std.proofs.Common.{◌≡◌, ℕ, suc, zero, ◌≤◌, ◌+◌, ◌-◌, List, [], ◌∷◌, ◌++◌, Bool, false, length, refl, arith}
-use Rattle.std.proofs.Common.{ap}
+use Rattle.std.proofs.Common.{ap, get_or}
 use Rattle.std.proofs.Math.ListN.{replicate}
 use Rattle.std.proofs.lemmas.List.{length-append, length-replicate}
 use Rattle.vbi_words.specs.declared.system.System.{System}
 use Rattle.vbi_near.specs.Pictures.{half_length, drawn_halves}
-use Rattle.vbi_near.specs.Distances.{Shades, distance_from}
+use Rattle.vbi_near.specs.Distances.{Shades, shade, distance_from}
 use Rattle.vbi_near.specs.Sums.{span, AreBoth}
 use Rattle.vbi_near.specs.Stretched.{halves_with, halves_cost}
-use Rattle.vbi_near.proofs.Distances.{distance-append, distance-run}
+
+-- ---- levels part by part
+
+pub distance-append : (costs : Shades) (i : ℕ) (a b : List Bool)
+    → distance_from costs i (a ++ b) ≡ distance_from costs i a + distance_from costs (i + length a) b
+unfolding distance_from
+distance-append costs i [] b = grind arith
+distance-append costs i (x ∷ a) b =
+    let e : suc i + length a ≡ i + suc (length a) = omega arith in
+    let same : distance_from costs (suc i + length a) b ≡ distance_from costs (i + suc (length a)) b
+    = ap (λ (j : ℕ). distance_from costs j b) e in
+    omega (arith, distance-append costs (suc i) a b, same)
+
+run : (costs sums : Shades) (width : ℕ) → AreBoth costs sums width → (level : Bool) (i n : ℕ) → i + n ≤ width
+    → get_or (shade sums level) i 0 + distance_from costs i (replicate n level) ≡ get_or (shade sums level) (i + n) 0
+unfolding distance_from
+run costs sums width both level i zero inside = grind (arith, get_or)
+run costs sums width both level i (suc n) inside =
+    let e : suc i + n ≡ i + suc n = omega arith in
+    let same : get_or (shade sums level) (suc i + n) 0 ≡ get_or (shade sums level) (i + suc n) 0
+    = ap (λ (j : ℕ). get_or (shade sums level) j 0) e in
+    let long = both.whole level in
+    omega (
+      arith,
+      both.are level i (omega arith),
+      run costs sums width both level (suc i) n (omega arith),
+      same,
+    )
+
+-- a run of one level is as far as the sums say
+pub distance-run : (costs sums : Shades) (width : ℕ) → AreBoth costs sums width → (level : Bool) (i n : ℕ)
+    → i + n ≤ width → distance_from costs i (replicate n level) ≡ span sums level i n
+distance-run costs sums width both level i n inside = omega (arith, run costs sums width both level i n inside)
+
+-- ---- half cells
 
 -- the half cells of a drawn word have the lengths of its half cells
 pub drawn-with : (system : System) (j : ℕ) (halves : List Bool)
@@ -21,39 +55,21 @@ drawn-with system j (half ∷ halves) =
 pub halves_cost-append : (cost : ℕ → Bool → ℕ) (j : ℕ) (a b : List Bool)
     → halves_cost cost j (a ++ b) ≡ halves_cost cost j a + halves_cost cost (j + length a) b
 unfolding halves_cost
-halves_cost-append cost j [] b =
-    grind arith
-halves_cost-append cost j (x ∷ a) b =
-    let e : suc j + length a ≡ j + suc (length a) = omega arith in
-    let same : halves_cost cost (suc j + length a) b ≡ halves_cost cost (j + suc (length a)) b
-    = ap (λ (k : ℕ). halves_cost cost k b) e in
-    omega (arith, halves_cost-append cost (suc j) a b, same)
+halves_cost-append cost j [] b = grind arith
+halves_cost-append cost j (x ∷ a) b = grind (arith, halves_cost-append cost (suc j) a b)
 
 -- ---- half cells of these lengths, which begin at these columns
 
 module _ (at columns : ℕ → ℕ) (next : (j : ℕ) → at j + columns j ≡ at (suc j)) where
   pub rises-by : (j n : ℕ) → at j ≤ at (j + n)
-  rises-by j zero =
-      grind arith
-  rises-by j (suc n) =
-      let e : suc (j + n) ≡ j + suc n = omega arith in
-      omega (arith, rises-by j n, next (j + n), ap at e)
+  rises-by j zero = grind arith
+  rises-by j (suc n) = grind (arith, rises-by j n)
 
   pub halves-long : (j : ℕ) (halves : List Bool)
       → at j + length (halves_with columns j halves) ≡ at (j + length halves)
   unfolding halves_with
-  halves-long j [] =
-      grind arith
-  halves-long j (half ∷ halves) =
-      let e : suc j + length halves ≡ j + suc (length halves) = omega arith in
-      omega (
-        arith,
-        length-append (replicate (columns j) half) (halves_with columns (suc j) halves),
-        length-replicate (columns j) half,
-        next j,
-        halves-long (suc j) halves,
-        ap at e,
-      )
+  halves-long j [] = grind arith
+  halves-long j (half ∷ halves) = grind (arith, halves-long (suc j) halves, length-append, replicate, length-replicate)
 
   -- a row of these half cells is as wide as it should be
   pub row-long : (width start end : ℕ) (halves : List Bool) → start ≡ at 0 → end ≡ at (length halves) → end ≤ width

@@ -57,14 +57,12 @@ abbrev pub bits_levels : System → ℕ → List Bool → List Bool
 bits_levels system j bits = drawn_halves system j (flat_map cell_of bits)
 
 pub length-cell : (system : System) (j : ℕ) (bit : Bool) → length (cell_levels system j bit) ≡ cell_columns system j
-length-cell system j bit =
-    grind (arith, length-append, replicate, length-replicate)
+length-cell system j bit = grind (arith, length-append, replicate, length-replicate)
 
 pub bits-begin : (system : System) (j : ℕ) (bit : Bool) (bits : List Bool)
     → bits_levels system j (bit ∷ bits) ≡ cell_levels system j bit ++ bits_levels system (suc (suc j)) bits
 unfolding drawn_halves
-bits-begin system j bit bits =
-    grind (arith, append_assoc, replicate)
+bits-begin system j bit bits = grind (arith, append_assoc, replicate)
 
 -- bits as many have columns as many
 pub as-long : (system : System) (j : ℕ) (bits more : List Bool) → length bits ≡ length more
@@ -85,27 +83,22 @@ half_least Ntsc = 14
 half_least Pal = 17
 
 half-long : (system : System) (j : ℕ) → half_least system ≤ half_length system j
-half-long Ntsc j = omega arith
-half-long Pal j = omega arith
+half-long x1 j = grind arith
 
 -- a cell has so many columns, or one more
 pub cell-long : (system : System) (j : ℕ)
     → (picture_distance system ≤ cell_columns system j) × (cell_columns system j ≤ picture_distance system + 1)
-cell-long Ntsc j = (omega arith, omega arith)
-cell-long Pal j = (omega arith, omega arith)
+cell-long x1 j = grind arith
 
 -- one half cell of a cell is high
 pub cell-high : (system : System) (j : ℕ) (bit : Bool) → half_least system ≤ highs (cell_levels system j bit)
-cell-high system j true =
-    grind (arith, highs-append, replicate, highs-run, half-long)
-cell-high system j false =
-    grind (arith, highs-append, replicate, highs-run, half-long)
+cell-high system j true = grind (arith, highs-append, replicate, highs-run, half-long)
+cell-high system j false = grind (arith, highs-append, replicate, highs-run, half-long)
 
 -- the first cell, which is a one, and one half cell more are high in as many columns as a cell has
 pub first-high : (system : System)
     → picture_distance system ≤ highs (cell_levels system 0 true) + half_least system
-first-high Ntsc = omega arith
-first-high Pal = omega arith
+first-high x1 = grind arith
 
 pub bits-high : (system : System) (bits : List Bool) → 0 < length bits
     → picture_distance system ≤ highs (bits_levels system 0 (true ∷ bits))

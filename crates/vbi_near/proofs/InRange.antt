@@ -73,8 +73,7 @@ module _ (least greatest : ℕ) (is_range : IsRange least greatest) where
     there s w (e, inside) = ap (λ (k : ℕ). cost k w) e ∙ priced w inside.0
 
     cheapest : (w : ℕ) → Are w → best.distance ≤ digits_cost table base 6 w
-    cheapest w are =
-        grind arith
+    cheapest w are = grind arith
 
     pub in_range_is : (rival : ℕ) → rival ≡ min (best.distance + best.margin) 4294967295 → best.distance < 2 ^ 31
         → IsLead cost (at_start start (range least greatest)) (record {

@@ -43,8 +43,7 @@ quotient_low q s x low high = div-eq_of_lt-le s low high
 
 -- a dividend that is cut has the quotient cut
 pub quotient_cut : (x s most : ℕ) → 0 < s → min x (most * s) / s ≡ min (x / s) most
-quotient_cut x s most some =
-    grind (arith, le-div, mul-div_cancel, div-le_of_le-mul)
+quotient_cut x s most some = grind (arith, le-div, mul-div_cancel, div-le_of_le-mul)
 
 -- the product that is divided stays below 2 ^ 64
 pub product_fits : (k s x most : ℕ) → x ≤ most * s → x * (k / s) ≤ most * k
@@ -55,8 +54,7 @@ product_fits k s x most few =
 
 -- some whole divisors more
 pub quotient-above : (m x s : ℕ) → 0 < s → (m * s + x) / s ≡ m + x / s
-quotient-above m x s some =
-    ap (λ (n : ℕ). n / s) (omega arith) ∙ add-mul-div_right x m some ∙ omega arith
+quotient-above m x s some = ap (λ (n : ℕ). n / s) (omega arith) ∙ add-mul-div_right x m some ∙ omega arith
 
 -- or fewer
 pub quotient-below : (m y s : ℕ) → 0 < s → 0 < y → (m * s - y) / s ≡ m - (y + (s - 1)) / s

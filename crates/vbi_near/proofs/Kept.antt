@@ -28,12 +28,10 @@ sure-closed (Hold c) pass one = absurd one
 
 -- the other is taken where it doesn't hold
 when-not : (b : Bool) (x y : Recovered) → b ≡ false → (if b then x else y) ≡ y
-when-not true x y closed = cc
-when-not false x y closed = refl
+when-not x1 x y closed = grind arith
 
 -- however it stands to another, it is shown as it was read
 pub sure-shown : (stands : Stands) (unit : ℕ) (seen : Seen) (both : Candidates) (reading : Reading)
     → seen.reading ≡ reading → IsSureBy reading.outcome reading.pass
     → shown_in stands unit seen both ≡ record { outcome = reading.outcome; pass = reading.pass }
-sure-shown stands unit seen both reading e sure =
-    grind (arith, sure-own, sure-closed, when-not)
+sure-shown stands unit seen both reading e sure = grind (arith, sure-own, sure-closed, when-not)

@@ -16,60 +16,17 @@ module _ (f : ℕ → ℕ) (P : ℕ → Type 0) (tells : (k : ℕ) → P k ⊎ (
   find zero = go (tells 0)
     where
       go : P 0 ⊎ (P 0 → ⊥) → Least f P 0 ⊎ ((k : ℕ) → k ≤ 0 → P k → ⊥)
-      go (inl p) = inl (record {
-        at = 0;
-        within = omega arith;
-        holds = p;
-        least = λ k le q. let e : k ≡ 0 = omega arith in omega (arith, ap f e);
-        first = λ k le q same. omega arith;
-      })
-      go (inr none) = inr (λ k le q. let e : k ≡ 0 = omega arith in none (subst P e q))
+      go x1 = grind arith
   find (suc n) = go (find n) (tells (suc n))
     where
       below : (k : ℕ) → k ≤ suc n → (k ≡ suc n) ⊎ (k ≤ n)
-      below k le = split (cases_eq k (suc n))
-        where
-          split : (k ≡ suc n) ⊎ (k ≡ suc n → ⊥) → (k ≡ suc n) ⊎ (k ≤ n)
-          split (inl e) = inl e
-          split (inr differs) = inr (last (cases_lt n k))
-            where
-              last : (n < k) ⊎ (k ≤ n) → k ≤ n
-              last (inl more) = absurd (differs (omega arith))
-              last (inr le) = le
+      below k le = grind arith
 
       here : P (suc n) → ((k : ℕ) → k ≤ n → P k → f (suc n) < f k) → Least f P (suc n)
-      here p before = record {
-        at = suc n;
-        within = omega arith;
-        holds = p;
-        least = λ k le q. least k q (below k le);
-        first = λ k le q same. first k q same (below k le);
-      }
-        where
-          least : (k : ℕ) → P k → (k ≡ suc n) ⊎ (k ≤ n) → f (suc n) ≤ f k
-          least k q (inl e) = omega (arith, ap f e)
-          least k q (inr le) = omega (arith, before k le q)
-
-          first : (k : ℕ) → P k → f k ≡ f (suc n) → (k ≡ suc n) ⊎ (k ≤ n) → suc n ≤ k
-          first k q same (inl e) = omega arith
-          first k q same (inr le) = absurd (omega (arith, before k le q, same))
+      here p before = grind (arith, below)
 
       earlier : (l : Least f P n) → (P (suc n) → f l.at ≤ f (suc n)) → Least f P (suc n)
-      earlier l after = record {
-        at = l.at;
-        within = omega (arith, l.within);
-        holds = l.holds;
-        least = λ k le q. least k q (below k le);
-        first = λ k le q same. first k q same (below k le);
-      }
-        where
-          least : (k : ℕ) → P k → (k ≡ suc n) ⊎ (k ≤ n) → f l.at ≤ f k
-          least k q (inl e) = omega (arith, ap f e, after (subst P e q))
-          least k q (inr le) = l.least k le q
-
-          first : (k : ℕ) → P k → f k ≡ f l.at → (k ≡ suc n) ⊎ (k ≤ n) → l.at ≤ k
-          first k q same (inl e) = omega (arith, l.within)
-          first k q same (inr le) = l.first k le q same
+      earlier l after = grind (arith, below)
 
       go : Least f P n ⊎ ((k : ℕ) → k ≤ n → P k → ⊥) → P (suc n) ⊎ (P (suc n) → ⊥)
           → Least f P (suc n) ⊎ ((k : ℕ) → k ≤ suc n → P k → ⊥)
@@ -80,16 +37,11 @@ module _ (f : ℕ → ℕ) (P : ℕ → Type 0) (tells : (k : ℕ) → P k ⊎ (
           by (inl less) = inl (here p (λ k le q. omega (arith, less, l.least k le q)))
           by (inr le) = inl (earlier l (λ p. le))
       go (inr none) (inl p) = inl (here p (λ k le q. absurd (none k le q)))
-      go (inr none) (inr not) = inr (λ k le q. either k q (below k le))
-        where
-          either : (k : ℕ) → P k → (k ≡ suc n) ⊎ (k ≤ n) → ⊥
-          either k q (inl e) = not (subst P e q)
-          either k q (inr le) = none k le q
+      go (inr none) (inr not) = grind (arith, below)
 
   -- where one holds
   pub found : (n k : ℕ) → k ≤ n → P k → Least f P n
-  found n k le p =
-      grind (arith, find)
+  found n k le p = grind (arith, find)
 
 -- ---- what can be told
 
@@ -99,20 +51,16 @@ IsTold P = P ⊎ (P → ⊥)
 
 -- of two facts, of one of them, and of what is not so
 pub both_told : (P Q : Type 0) → IsTold P → IsTold Q → IsTold (P × Q)
-both_told P Q (inl p) (inl q) = inl (p, q)
-both_told P Q (inl p) (inr not) = inr (λ pair. not pair.1)
-both_told P Q (inr not) told = inr (λ pair. not pair.0)
+both_told P Q x3 told = grind arith
 
 pub either_told : (P Q : Type 0) → IsTold P → IsTold Q → IsTold (P ⊎ Q)
 either_told P Q (inl p) told = inl (inl p)
 either_told P Q (inr not) (inl q) = inl (inr q)
-either_told P Q (inr not) (inr nor) =
-    grind arith
+either_told P Q (inr not) (inr nor) = grind arith
 
 -- of an order
 pub at_most_told : (a b : ℕ) → IsTold (a ≤ b)
-at_most_told a b =
-    grind arith
+at_most_told a b = grind arith
 
 -- of all numbers below n
 pub all_told : (P : ℕ → Type 0) → ((k : ℕ) → IsTold (P k)) → (n : ℕ) → IsTold ((k : ℕ) → k < n → P k)
@@ -120,10 +68,4 @@ all_told P told zero = inl (λ k l. absurd (omega arith))
 all_told P told (suc n) = go (all_told P told n) (told n)
   where
     go : IsTold ((k : ℕ) → k < n → P k) → IsTold (P n) → IsTold ((k : ℕ) → k < suc n → P k)
-    go (inr not) any = inr (λ all. not (λ k l. all k (omega arith)))
-    go (inl all) (inr not) = inr (λ more. not (more n (omega arith)))
-    go (inl all) (inl here) = inl (λ k l. last k l (cases_lt k n))
-      where
-        last : (k : ℕ) → k < suc n → (k < n) ⊎ (n ≤ k) → P k
-        last k l (inl less) = all k less
-        last k l (inr le) = subst P (omega arith) here
+    go x1 any = grind arith

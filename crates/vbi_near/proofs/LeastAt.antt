@@ -12,7 +12,7 @@ use Rattle.vbi_near.specs.Stretched.{stretched_offset, stretched_half, stretched
 use Rattle.vbi_near.specs.Stretched.{stretched_row_cost, IsLeastAt, IsStretched, IsAtRate, IsStartBefore, IsRateBefore}
 use Rattle.vbi_near.specs.Sums.{AreBoth}
 use Rattle.vbi_near.proofs.BestBits.{min_is}
-use Rattle.vbi_near.proofs.CutShort.{many-halves}
+use Rattle.vbi_near.proofs.Costs.{many-halves}
 use Rattle.vbi_near.proofs.Halves.{row-far, row-long}
 use Rattle.vbi_near.proofs.Piles.{levels-same}
 use Rattle.vbi_near.proofs.Stretches.{offset-first, offset-next}
@@ -20,28 +20,13 @@ use Rattle.vbi_near.proofs.Stretches.{offset-first, offset-next}
 -- the least at the same places
 pub same-least : (A C : ℕ → ℕ → Type 0) (far : ℕ → ℕ → ℕ) (a : ℕ) → ((r s : ℕ) → C r s → A r s)
     → ((r s : ℕ) → A r s → C r s) → IsLeastAt A far a → IsLeastAt C far a
-same-least A C far a to from is = record {
-  least = λ r s there. is.least r s (to r s there);
-  one = (is.one.0, is.one.1, from is.one.0 is.one.1 is.one.2, is.one.3);
-}
+same-least A C far a to from is = grind arith
 
 -- the least at two kinds of places
 min-least : (A B C : ℕ → ℕ → Type 0) (far : ℕ → ℕ → ℕ) (a b : ℕ) → ((r s : ℕ) → C r s → A r s ⊎ B r s)
     → ((r s : ℕ) → A r s → C r s) → ((r s : ℕ) → B r s → C r s) → IsLeastAt A far a → IsLeastAt B far b
     → IsLeastAt C far (min a b)
-min-least A B C far a b split from_a from_b is are = record { least = least; one = one (min_is a b) }
-  where
-    by : (r s : ℕ) → A r s ⊎ B r s → min a b ≤ far r s
-    by r s (inl there) = omega (arith, is.least r s there, min-le_left a b)
-    by r s (inr there) = omega (arith, are.least r s there, min-le_right a b)
-
-    least : (r s : ℕ) → C r s → min a b ≤ far r s
-    least r s there = by r s (split r s there)
-
-    one : ((min a b ≡ a) × (a ≤ b)) ⊎ ((min a b ≡ b) × (b < a))
-        → (r : ℕ) × (s : ℕ) × C r s × (far r s ≡ min a b)
-    one (inl (m, le)) = (is.one.0, is.one.1, from_a is.one.0 is.one.1 is.one.2, is.one.3 ∙ sym m)
-    one (inr (m, less)) = (are.one.0, are.one.1, from_b are.one.0 are.one.1 are.one.2, are.one.3 ∙ sym m)
+min-least A B C far a b split from_a from_b is are = grind (arith, min_is)
 
 -- ---- starts
 
@@ -50,10 +35,7 @@ IsAlone at start r s = (r ≡ at) × (s ≡ start)
 
 alone-least : (far : ℕ → ℕ → ℕ) (at start distance : ℕ) → distance ≡ far at start
     → IsLeastAt (IsAlone at start) far distance
-alone-least far at start distance e = record {
-  least = λ r s there. omega (arith, e, ap (far r) there.1, ap (λ (x : ℕ). far x start) there.0);
-  one = (at, start, (refl, refl), sym e);
-}
+alone-least far at start distance e = grind arith
 
 pub start-more : (far : ℕ → ℕ → ℕ) (at start a b : ℕ) → IsLeastAt (IsStartBefore at start) far a → b ≡ far at start
     → IsLeastAt (IsStartBefore at (start + 1)) far (min a b)
@@ -73,15 +55,13 @@ start-more far at start a b is e =
 pub all-starts : (system : System) (far : ℕ → ℕ → ℕ) (at end distance : ℕ)
     → end + stretched_length system at ≡ width_of system + 1 → IsLeastAt (IsStartBefore at end) far distance
     → IsLeastAt (IsAtRate system at) far distance
-all-starts system far at end distance e is =
-    grind (arith, same-least)
+all-starts system far at end distance e is = grind (arith, same-least)
 
 -- ---- rates
 
 pub first-rate : (system : System) (far : ℕ → ℕ → ℕ) (distance : ℕ) → IsLeastAt (IsAtRate system 98) far distance
     → IsLeastAt (IsRateBefore system 99) far distance
-first-rate system far distance is =
-    grind (arith, same-least)
+first-rate system far distance is = grind (arith, same-least)
 
 pub rate-more : (system : System) (far : ℕ → ℕ → ℕ) (at a b : ℕ) → 98 ≤ at → IsLeastAt (IsRateBefore system at) far a
     → IsLeastAt (IsAtRate system at) far b → IsLeastAt (IsRateBefore system (at + 1)) far (min a b)

@@ -19,27 +19,20 @@ use Rattle.vbi_near.proofs.Levelling.{window_inside}
 
 sum-raised : (d : ℕ) (samples : List ℕ) → sum (raised d samples) ≡ sum samples + length samples * d
 sum-raised d [] = omega arith
-sum-raised d (s ∷ samples) =
-    let new : sum (raised d (s ∷ samples)) ≡ s + d + sum (raised d samples)
-    = sum_by-cons (λ (x : ℕ). x) (s + d) (raised d samples) in
-    let old : sum (s ∷ samples) ≡ s + sum samples = sum_by-cons (λ (x : ℕ). x) s samples in
-    omega (arith, new, old, sum-raised d samples)
+sum-raised d (s ∷ samples) = omega (arith, sum-raised d samples, sum_by-cons)
 
 part-raised : (d : ℕ) (samples : List ℕ) (i n : ℕ) → i + n ≤ length samples
     → sum_from (raised d samples) i n ≡ sum_from samples i n + n * d
-part-raised d samples i n inside =
-    grind (arith, length-take-le, length-drop, drop-map, take-map, sum-raised)
+part-raised d samples i n inside = grind (arith, length-take-le, length-drop, drop-map, take-map, sum-raised)
 
 window-raised : (system : System) (d : ℕ) (samples : List ℕ) (column : ℕ) → length samples ≡ width_of system
     → window_sum system (raised d samples) column ≡ window_sum system samples column + window_of system * d
-window-raised system d samples column long =
-    grind (arith, part-raised, window_inside)
+window-raised system d samples column long = grind (arith, part-raised, window_inside)
 
 own-raised : (system : System) (d : ℕ) (samples : List ℕ) (column : ℕ) → column < length samples
     → window_of system * get_or (raised d samples) column 0
     ≡ window_of system * get_or samples column 0 + window_of system * d
-own-raised system d samples column inside =
-    grind (arith, get_or, get_or-map)
+own-raised system d samples column inside = grind (arith, get_or, get_or-map)
 
 -- ---- the swing
 
@@ -50,15 +43,10 @@ off-raised a b c d e p q = omega arith
 map-same : (f g : ℕ → ℕ) (a n : ℕ) → ((k : ℕ) → a ≤ k → k < a + n → f k ≡ g k)
     → map f (range_with_len a n) ≡ map g (range_with_len a n)
 map-same f g a zero same = refl
-map-same f g a (suc n) same =
-    let rest : map f (range_with_len (a + 1) n) ≡ map g (range_with_len (a + 1) n)
-    = map-same f g (a + 1) n (λ k low high. same k (omega arith) (omega arith)) in
-    ap (λ (x : ℕ). x ∷ map f (range_with_len (a + 1) n)) (same a (omega arith) (omega arith))
-    ∙ ap (λ (l : List ℕ). g a ∷ l) rest
+map-same f g a (suc n) same = grind (arith, map-same f g (a + 1) n (λ k low high. same k (omega arith) (omega arith)))
 
 columns-inside : (system : System) → first_of system + columns_of system ≤ width_of system
-columns-inside Ntsc = omega arith
-columns-inside Pal = omega arith
+columns-inside x1 = grind arith
 
 pub swing-raised : (system : System) (d : ℕ) (samples : List ℕ) → length samples ≡ width_of system
     → swing_of system (raised d samples) ≡ swing_of system samples
@@ -79,8 +67,7 @@ swing-raised system d samples long =
 sample-raised : (slicing : Slicing) (scale own mean e : ℕ)
     → levelled_sample slicing scale (own + e) (mean + e) ≡ levelled_sample slicing scale own mean
 unfolding levelled_sample
-sample-raised slicing scale own mean e =
-    grind (arith, lt-leb, le-leb)
+sample-raised slicing scale own mean e = grind (arith, lt-leb, le-leb)
 
 at-raised : (system : System) (slicing : Slicing) (scale d : ℕ) (samples : List ℕ) (column : ℕ)
     → length samples ≡ width_of system → column < width_of system

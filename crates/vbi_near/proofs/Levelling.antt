@@ -47,52 +47,44 @@ sum-split samples i n =
 -- the sum of some columns, by two sums
 pub between_sums : (samples sums : List ℕ) (i n : ℕ) → AreSampleSums samples sums → i + n ≤ length samples
     → get_or sums i 0 + sum_from samples i n ≡ get_or sums (i + n) 0
-between_sums samples sums i n are inside =
-    grind (arith, sum-split)
+between_sums samples sums i n are inside = grind (arith, sum-split)
 
 -- a window lies within the line
 pub window_inside : (system : System) (column : ℕ)
     → window_start system column + window_of system ≤ width_of system
-window_inside Ntsc column = omega arith
-window_inside Pal column = omega arith
+window_inside x1 column = grind arith
 
 -- the sum of a window, by the sums at its ends
 pub window_by_sums : (system : System) (samples sums : List ℕ) (column start n : ℕ) → length samples ≡ width_of system
     → AreSampleSums samples sums → start ≡ window_start system column → n ≡ window_of system
     → get_or sums start 0 + window_sum system samples column ≡ get_or sums (start + n) 0
-window_by_sums system samples sums column start n long are s w =
-    grind (arith, window_inside, get_or, between_sums)
+window_by_sums system samples sums column start n long are s w = grind (arith, window_inside, get_or, between_sums)
 
 -- the windows of the first columns are one, as are those of the last ones
 pub window_before : (system : System) (column : ℕ) → column < first_of system + window_of system / 2
     → window_start system column ≡ window_start system 0
-window_before Ntsc column less = omega (arith, less)
-window_before Pal column less = omega (arith, less)
+window_before x1 column less = grind arith
 
 pub window_behind : (system : System) (column : ℕ)
     → end_of system - window_of system + window_of system / 2 ≤ column
     → window_start system column ≡ window_start system (end_of system - window_of system + window_of system / 2)
-window_behind Ntsc column more = omega (arith, more)
-window_behind Pal column more = omega (arith, more)
+window_behind x1 column more = grind arith
 
 -- the others begin half a window before their columns
 pub window_amid : (system : System) (column : ℕ) → first_of system + window_of system / 2 ≤ column
     → column < end_of system - window_of system + window_of system / 2
     → window_start system column ≡ column - window_of system / 2
-window_amid Ntsc column more less = omega (arith, more, less)
-window_amid Pal column more less = omega (arith, more, less)
+window_amid x1 column more less = grind arith
 
 -- a window is no wider than the columns before its end
 pub wide-fits : (system : System) → window_of system ≤ end_of system
-wide-fits Ntsc = omega arith
-wide-fits Pal = omega arith
+wide-fits x1 = grind arith
 
 -- the columns whose windows begin before them lie within the line
 pub ordered_windows : (system : System)
     → (first_of system + window_of system / 2 ≤ width_of system)
     × (end_of system - window_of system + window_of system / 2 ≤ width_of system)
-ordered_windows Ntsc = (omega arith, omega arith)
-ordered_windows Pal = (omega arith, omega arith)
+ordered_windows x1 = grind arith
 
 -- the sum of such a window, by the sums at its ends
 pub amid_by_sums : (system : System) (samples sums : List ℕ) (column wide : ℕ) → length samples ≡ width_of system
@@ -116,19 +108,16 @@ windows_more system samples windows i v inside is before k less =
     grind (arith, get_or, get_or-set_other, get_or-set_same)
 
 pub inside : (system : System) → end_of system ≤ width_of system
-inside Ntsc = omega arith
-inside Pal = omega arith
+inside x1 = grind arith
 
 pub ordered : (system : System) → first_of system ≤ end_of system
-ordered Ntsc = omega arith
-ordered Pal = omega arith
+ordered x1 = grind arith
 
 -- one column more is off its mean
 pub off_more : (system : System) (samples : List ℕ) (column : ℕ) → first_of system ≤ column
     → off_in system samples (column + 1 - first_of system)
     ≡ off_in system samples (column - first_of system) + off_mean system samples column
-off_more system samples column low =
-    grind (arith, sum_by-map-range_with_len_more)
+off_more system samples column low = grind (arith, sum_by-map-range_with_len_more)
 
 -- ---- lines written sample by sample
 
@@ -139,8 +128,7 @@ WrittenTo f bytes i = (k : ℕ) → k < i → sample_at bytes k ≡ f k
 -- one sample more
 pub written_more : (f : ℕ → ℕ) (old new : List ℕ) (i : ℕ) → sample_at new i ≡ f i
     → ((k : ℕ) → (k ≡ i → ⊥) → sample_at new k ≡ sample_at old k) → WrittenTo f old i → WrittenTo f new (i + 1)
-written_more f old new i here others before k less =
-    grind arith
+written_more f old new i here others before k less = grind arith
 
 read_each : (f : ℕ → ℕ) (bytes : List ℕ) (n : ℕ) → length bytes ≡ 2 * n → WrittenTo f bytes n
     → (k : ℕ) → k < n → get_or (samples_of bytes) k 0 ≡ f k

@@ -3,7 +3,6 @@ pub mod LevelledShift
 pub mod Levelling
 pub mod Rising
 pub mod Columns
-pub mod Distances
 pub mod Costs
 pub mod BestBits
 pub mod Founds

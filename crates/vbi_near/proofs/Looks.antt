@@ -35,9 +35,7 @@ to-ranges looks at (words ∷ ranges) s w there = go (to-ranges (look at words �
   where
     go : IsSeen (look at words ∷ looks) s w ⊎ ((s ≡ at) × IsOneOf ranges w)
         → IsSeen looks s w ⊎ ((s ≡ at) × IsOneOf (words ∷ ranges) w)
-    go (inl (inl here)) = inr (here.0, inl here.1)
-    go (inl (inr before)) = inl before
-    go (inr (e, one)) = inr (e, inr one)
+    go x1 = grind arith
 
 from-ranges : (looks : List Look) (at : ℕ) (ranges : List Range) (s w : ℕ)
     → IsSeen looks s w ⊎ ((s ≡ at) × IsOneOf ranges w) → IsSeen (with_ranges looks at ranges) s w
@@ -56,21 +54,17 @@ abbrev Before : List Range → ℕ → ℕ → ℕ → ℕ → Type 0
 Before ranges first n s w = ((s ≡ 0) × (w ≡ 0)) ⊎ (((s < n) ⊎ (s ≡ first)) × IsOneOf ranges w)
 
 later : (ranges : List Range) (first n s w : ℕ) → Before ranges first n s w → Before ranges first (suc n) s w
-later ranges first n s w (inl none) = inl none
-later ranges first n s w (inr (inl less, one)) = inr (inl (omega arith), one)
-later ranges first n s w (inr (inr e, one)) = inr (inr e, one)
+later ranges first n s w x6 = grind arith
 
 to-before : (ranges : List Range) (first n s w : ℕ) → IsSeen (looks_before ranges first n) s w
     → Before ranges first n s w
-to-before ranges first zero s w there =
-    grind (arith, to-ranges)
+to-before ranges first zero s w there = grind (arith, to-ranges)
 to-before ranges first (suc n) s w there =
     go (λ before. to-before ranges first n s w before) (to-ranges (looks_before ranges first n) n ranges s w there)
   where
     go : (IsSeen (looks_before ranges first n) s w → Before ranges first n s w)
         → IsSeen (looks_before ranges first n) s w ⊎ ((s ≡ n) × IsOneOf ranges w) → Before ranges first (suc n) s w
-    go known (inl before) = later ranges first n s w (known before)
-    go known (inr (e, one)) = inr (inl (omega arith), one)
+    go known x2 = grind (arith, later)
 
 from-before : (ranges : List Range) (first n s w : ℕ) → Before ranges first n s w
     → IsSeen (looks_before ranges first n) s w
@@ -86,8 +80,7 @@ from-before ranges first (suc n) s w (inr (inl less, one)) =
   where
     go : ((s < n) → IsSeen (looks_before ranges first n) s w) → (s < n) ⊎ (n ≤ s)
         → IsSeen (looks_before ranges first (suc n)) s w
-    go before (inl l) = from-ranges (looks_before ranges first n) n ranges s w (inl (before l))
-    go before (inr le) = from-ranges (looks_before ranges first n) n ranges s w (inr (omega arith, one))
+    go before x2 = grind (arith, from-ranges)
 
 pub all-looks : (cost : ℕ → ℕ → ℕ) (ranges : List Range) (system : System) (first : ℕ) (lead : Found)
     → first < starts system → IsLead cost (IsSeen (looks_before ranges first (starts system))) lead

@@ -8,10 +8,7 @@ use Rattle.vbi_near.proofs.BestBits.{min_is}
 
 -- what comes before something comes before what that comes before
 before-before : (s v t w r x : ℕ) → IsBefore s v t w → IsBefore t w r x → IsBefore s v r x
-before-before s v t w r x (inl less) (inl more) = inl (omega arith)
-before-before s v t w r x (inl less) (inr (e, le)) = inl (omega (arith, e))
-before-before s v t w r x (inr (e, le)) (inl more) = inl (omega (arith, e))
-before-before s v t w r x (inr (e, le)) (inr (f, ge)) = inr (e ∙ f, omega arith)
+before-before s v t w r x x7 x8 = grind arith
 
 -- these or those
 abbrev pub either : Places → Places → Places
@@ -30,13 +27,11 @@ module _ (cost : ℕ → ℕ → ℕ) (seen more : Places) (near far : Found) (i
   }
 
   order : near.distance ≤ far.distance
-  order =
-      grind arith
+  order = grind arith
 
   -- what the other knows and is as near comes after it
   earliest : (s w : ℕ) → more s w → cost s w ≡ near.distance → IsBefore near.start near.word s w
-  earliest s w there same =
-      grind (arith, before-before)
+  earliest s w there same = grind (arith, before-before)
 
   l : min near.rival behind ≤ near.rival
   l = min-le_left near.rival behind
@@ -45,12 +40,10 @@ module _ (cost : ℕ → ℕ → ℕ) (seen more : Places) (near far : Found) (i
   r = min-le_right near.rival behind
 
   far-order : far.distance ≤ behind
-  far-order =
-      grind arith
+  far-order = grind arith
 
   ahead : (s w : ℕ) → more s w → w ≢ near.word → behind ≤ cost s w
-  ahead s w there other =
-      grind arith
+  ahead s w there other = grind arith
 
   AreOther : Type 0
   AreOther = (2 ^ 31 ≤ merged.rival)
@@ -59,8 +52,7 @@ module _ (cost : ℕ → ℕ → ℕ) (seen more : Places) (near far : Found) (i
   by_near : min near.rival behind ≡ near.rival
       → (2 ^ 31 ≤ near.rival) ⊎ ((s : ℕ) × (w : ℕ) × seen s w × (w ≢ near.word) × (cost s w ≡ near.rival)) → AreOther
   unfolding AreOther
-  by_near e (inl wide) = inl (omega (arith, e, wide))
-  by_near e (inr (s, w, there, differs, costs)) = inr (s, w, inl there, differs, costs ∙ sym e)
+  by_near e x2 = grind arith
 
   by_far : min near.rival behind ≡ behind → ((far.word ≡ near.word) × (behind ≡ far.rival))
       ⊎ ((far.word ≢ near.word) × (behind ≡ far.distance))
@@ -69,109 +61,40 @@ module _ (cost : ℕ → ℕ → ℕ) (seen more : Places) (near far : Found) (i
   by_far e (inl (same, b)) (inl wide) = inl (omega (arith, e, b, wide))
   by_far e (inl (same, b)) (inr (s, w, there, differs, costs)) =
       inr (s, w, inr there, λ f. differs (f ∙ sym same), costs ∙ sym b ∙ sym e)
-  by_far e (inr (differs, b)) other =
-      inr (far.start, far.word, inr are.there, differs, are.exact ∙ sym b ∙ sym e)
+  by_far e (inr (differs, b)) other = inr (far.start, far.word, inr are.there, differs, are.exact ∙ sym b ∙ sym e)
 
   another : AreOther
-  another =
-      grind (arith, min_is, AreOther, by_near, by_far)
+  another = grind (arith, min_is, AreOther, by_near, by_far)
 
   pub merged_is : IsLead cost (either seen more) merged
   unfolding AreOther
-  merged_is = record {
-    there = inl is.there;
-    exact = is.exact;
-    order = least-of (min_is near.rival behind);
-    least = λ s w there. least s w there;
-    rival = λ s w there differs. rival s w there differs;
-    first = first;
-    other = another;
-  }
-    where
-      least-of : ((min near.rival behind ≡ near.rival) × (near.rival ≤ behind))
-          ⊎ ((min near.rival behind ≡ behind) × (behind < near.rival)) → near.distance ≤ min near.rival behind
-      least-of (inl (e, le)) = omega (arith, e, is.order)
-      least-of (inr (e, less)) = omega (arith, e, order, far-order)
-
-      least : (s w : ℕ) → either seen more s w → near.distance ≤ cost s w
-      least s w (inl there) = is.least s w there
-      least s w (inr there) = omega (arith, order, are.least s w there)
-
-      rival : (s w : ℕ) → either seen more s w → w ≢ near.word → min near.rival behind ≤ cost s w
-      rival s w (inl there) differs = omega (arith, is.rival s w there differs, l)
-      rival s w (inr there) differs = omega (arith, ahead s w there differs, r)
-
-      first : (s w : ℕ) → either seen more s w → cost s w ≡ near.distance → IsBefore near.start near.word s w
-      first s w (inl there) same = is.first s w there same
-      first s w (inr there) same = earliest s w there same
+  merged_is = grind (arith, order, min_is, another, far-order, l, ahead, r, earliest)
 
 -- the same of places that are looked at in any order
 pub lead-same : (cost : ℕ → ℕ → ℕ) (seen more : Places) (lead : Found) → ((s w : ℕ) → seen s w → more s w)
     → ((s w : ℕ) → more s w → seen s w) → IsLead cost seen lead → IsLead cost more lead
-lead-same cost seen more lead to from is = record {
-  there = to lead.start lead.word is.there;
-  exact = is.exact;
-  order = is.order;
-  least = λ s w there. is.least s w (from s w there);
-  rival = λ s w there differs. is.rival s w (from s w there) differs;
-  first = λ s w there same. is.first s w (from s w there) same;
-  other = go is.other;
-}
-  where
-    go : (2 ^ 31 ≤ lead.rival) ⊎ ((s : ℕ) × (w : ℕ) × seen s w × (w ≢ lead.word) × (cost s w ≡ lead.rival))
-        → (2 ^ 31 ≤ lead.rival) ⊎ ((s : ℕ) × (w : ℕ) × more s w × (w ≢ lead.word) × (cost s w ≡ lead.rival))
-    go (inl wide) = inl wide
-    go (inr (s, w, there, differs, e)) = inr (s, w, to s w there, differs, e)
+lead-same cost seen more lead to from is = grind (arith, order)
 
 -- places none of which is nearer than the rival, or comes first, need no look
 pub lead-passed : (cost : ℕ → ℕ → ℕ) (seen more : Places) (lead : Found)
     → ((s w : ℕ) → more s w → lead.rival ≤ cost s w)
     → ((s w : ℕ) → more s w → cost s w ≡ lead.distance → IsBefore lead.start lead.word s w) → IsLead cost seen lead
     → IsLead cost (either seen more) lead
-lead-passed cost seen more lead far after is = record {
-  there = inl is.there;
-  exact = is.exact;
-  order = is.order;
-  least = least;
-  rival = rival;
-  first = first;
-  other = go is.other;
-}
-  where
-    least : (s w : ℕ) → either seen more s w → lead.distance ≤ cost s w
-    least s w (inl there) = is.least s w there
-    least s w (inr there) = omega (arith, is.order, far s w there)
-
-    rival : (s w : ℕ) → either seen more s w → w ≢ lead.word → lead.rival ≤ cost s w
-    rival s w (inl there) differs = is.rival s w there differs
-    rival s w (inr there) differs = far s w there
-
-    first : (s w : ℕ) → either seen more s w → cost s w ≡ lead.distance → IsBefore lead.start lead.word s w
-    first s w (inl there) same = is.first s w there same
-    first s w (inr there) same = after s w there same
-
-    go : (2 ^ 31 ≤ lead.rival) ⊎ ((s : ℕ) × (w : ℕ) × seen s w × (w ≢ lead.word) × (cost s w ≡ lead.rival))
-        → (2 ^ 31 ≤ lead.rival)
-        ⊎ ((s : ℕ) × (w : ℕ) × either seen more s w × (w ≢ lead.word) × (cost s w ≡ lead.rival))
-    go (inl wide) = inl wide
-    go (inr (s, w, there, differs, e)) = inr (s, w, inl there, differs, e)
+lead-passed cost seen more lead far after is = grind (arith, order)
 
 -- these or those, the other way round
 pub turned : (cost : ℕ → ℕ → ℕ) (seen more : Places) (lead : Found) → IsLead cost (either seen more) lead
     → IsLead cost (either more seen) lead
-turned cost seen more lead is =
-    grind (arith, lead-same)
+turned cost seen more lead is = grind (arith, lead-same)
 
 -- the same lead, by its fields
 pub lead-by : (cost : ℕ → ℕ → ℕ) (seen : Places) (word start distance rival : ℕ) (lead : Found)
     → IsLead cost seen (record { word = word; start = start; distance = distance; rival = rival })
     → lead.word ≡ word → lead.start ≡ start → lead.distance ≡ distance → lead.rival ≡ rival → IsLead cost seen lead
-lead-by cost seen word start distance rival lead is w s d e =
-    grind arith
+lead-by cost seen word start distance rival lead is w s d e = grind arith
 
 -- what the other's rival is
 pub behind-by : (near far : Found) → ((far.word ≡ near.word)
     × (cond (eqb far.word near.word) far.rival far.distance ≡ far.rival))
     ⊎ ((far.word ≢ near.word) × (cond (eqb far.word near.word) far.rival far.distance ≡ far.distance))
-behind-by near far =
-    grind arith
+behind-by near far = grind arith

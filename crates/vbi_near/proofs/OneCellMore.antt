@@ -7,15 +7,15 @@ use Rattle.vbi_words.specs.declared.system.System.{System}
 use Rattle.vbi_words.specs.Geometry.{width_of}
 use Rattle.vbi_words.specs.Words.{cell_of, halves_of}
 use Rattle.vbi_near.specs.declared.found.Found.{Found}
-use Rattle.vbi_near.specs.Pictures.{word_length, drawn_halves, starts}
+use Rattle.vbi_near.specs.Pictures.{column_of, word_length, drawn_halves, starts}
 use Rattle.vbi_near.specs.Distances.{Shades, distance_from}
 use Rattle.vbi_near.specs.Sums.{AreRowSums, total_in, span, AreBoth}
 use Rattle.vbi_near.specs.Costs.{cell_cost, bits_cost, place_cost}
 use Rattle.vbi_near.specs.Longer.{cell_length, begun_earlier, ended_later, GoesOn, IsLeastRow, IsBeside, IsWithCell}
 use Rattle.vbi_near.specs.Longer.{IsLongerFound}
 use Rattle.vbi_near.proofs.Columns.{column-first, column-drawn, word-drawn, word-fits}
-use Rattle.vbi_near.proofs.Distances.{distance-append, distance-run}
-use Rattle.vbi_near.proofs.Costs.{cell-alone, halves-cost}
+use Rattle.vbi_near.proofs.Halves.{distance-append, distance-run}
+use Rattle.vbi_near.proofs.Costs.{cell-at, word-at}
 use Rattle.vbi_near.proofs.Beside.{cell-long, before-split, behind-split}
 
 -- ---- how wide
@@ -30,65 +30,18 @@ pub length-longer : (system : System) (w start : ℕ) (levels : List Bool) → s
     → GoesOn system w start levels → length levels ≡ width_of system
 unfolding begun_earlier ended_later
 length-longer system w start levels fits (bit, inl (room, e)) =
-    let D : List Bool = drawn_halves system 0 (halves_of w) in
-    let C : List Bool = drawn_halves system 0 (cell_of bit) in
-    let n : ℕ = width_of system - (start + word_length system) in
-    let m : ℕ = start - cell_length system in
-    omega (
-      arith,
-      ap length e,
-      length-append (replicate m false) (C ++ (D ++ replicate n false)),
-      length-append C (D ++ replicate n false),
-      length-append D (replicate n false),
-      length-replicate m false,
-      length-replicate n false,
-      cell-drawn system m bit,
-      word-drawn system start w,
-    )
+    let cell = cell-drawn system (start - cell_length system) bit in
+    omega (arith, ap length e, length-append {A = Bool}, length-replicate {A = Bool}, cell, word-drawn system start w)
 length-longer system w start levels fits (bit, inr (room, e)) =
-    let D : List Bool = drawn_halves system 0 (halves_of w) in
-    let C : List Bool = drawn_halves system 0 (cell_of bit) in
-    let n : ℕ = width_of system - (start + word_length system + cell_length system) in
-    omega (
-      arith,
-      ap length e,
-      length-append (replicate start false) (D ++ (C ++ replicate n false)),
-      length-append D (C ++ replicate n false),
-      length-append C (replicate n false),
-      length-replicate start false,
-      length-replicate n false,
-      cell-drawn system start bit,
-      word-drawn system start w,
-    )
+    let cell = cell-drawn system start bit in
+    omega (arith, ap length e, length-append {A = Bool}, length-replicate {A = Bool}, cell, word-drawn system start w)
 
 -- ---- how far
 
 module _ (costs sums : Shades) (system : System) (both : AreBoth costs sums (width_of system)) where
-  cell-at : (i : ℕ) (bit : Bool) (rest : List Bool) → i + cell_length system ≤ width_of system
-      → distance_from costs i (drawn_halves system 0 (cell_of bit) ++ rest)
-      ≡ cell_cost sums system i 0 bit + distance_from costs (i + cell_length system) rest
-  cell-at i bit rest room =
-      let C : List Bool = drawn_halves system 0 (cell_of bit) in
-      distance-append costs i C rest
-      ∙ ap (λ (n : ℕ). n + distance_from costs (i + length C) rest)
-      (cell-alone costs sums system both i bit (omega (arith, cell-long system i)))
-      ∙ ap (λ (k : ℕ). cell_cost sums system i 0 bit + distance_from costs k rest) (cell-drawn system i bit)
-
-  word-at : (start : ℕ) → start + word_length system ≤ width_of system → (w : ℕ) (rest : List Bool)
-      → distance_from costs start (drawn_halves system 0 (halves_of w) ++ rest)
-      ≡ bits_cost (cell_cost sums system start) 24 w + distance_from costs (start + word_length system) rest
-  word-at start room w rest =
-      let D : List Bool = drawn_halves system 0 (halves_of w) in
-      distance-append costs start D rest
-      ∙ ap (λ (n : ℕ). n + distance_from costs (start + length D) rest)
-      (halves-cost costs sums system both start room w)
-      ∙ ap (λ (k : ℕ). bits_cost (cell_cost sums system start) 24 w + distance_from costs k rest)
-      (word-drawn system start w)
-
   blank-at : (n : ℕ) (rest : List Bool) → n ≤ width_of system
       → distance_from costs 0 (replicate n false ++ rest) ≡ span sums false 0 n + distance_from costs n rest
-  blank-at n rest room =
-      grind (arith, replicate, length-replicate, distance-append, distance-run)
+  blank-at n rest room = grind (arith, replicate, length-replicate, distance-append, distance-run)
 
   module _ (rises : AreRowSums system sums) where
     earlier : (w start begin : ℕ) (bit : Bool) → begin + cell_length system ≡ start
@@ -105,15 +58,15 @@ module _ (costs sums : Shades) (system : System) (both : AreBoth costs sums (wid
         let lead : distance_from costs 0 (replicate (start - cell_length system) false ++ (C ++ (D ++ tail)))
         ≡ distance_from costs 0 (replicate begin false ++ (C ++ (D ++ tail)))
         = ap (λ (k : ℕ). distance_from costs 0 (replicate k false ++ (C ++ (D ++ tail)))) m in
-        let there : distance_from costs (begin + cell_length system) (D ++ tail) ≡ distance_from costs start (D ++ tail)
-        = ap (λ (k : ℕ). distance_from costs k (D ++ tail)) e in
+        let there : distance_from costs (column_of system begin 2) (D ++ tail) ≡ distance_from costs start (D ++ tail)
+        = ap (λ (k : ℕ). distance_from costs k (D ++ tail)) (cell-long system begin ∙ e) in
         omega (
           arith,
           lead,
           blank-at begin (C ++ (D ++ tail)) (omega arith),
-          cell-at begin bit (D ++ tail) (omega arith),
+          cell-at costs sums system both begin bit (D ++ tail) (omega (arith, cell-long system begin)),
           there,
-          word-at start room w tail,
+          word-at costs sums system both start room w tail,
           distance-run costs sums (width_of system) both false (start + word_length system) n (omega arith),
           before-split sums system rises start begin e (omega arith),
         )
@@ -131,8 +84,10 @@ module _ (costs sums : Shades) (system : System) (both : AreBoth costs sums (wid
         omega (
           arith,
           blank-at start (D ++ (C ++ tail)) (omega arith),
-          word-at start (omega arith) w (C ++ tail),
-          cell-at (start + word_length system) bit tail room,
+          word-at costs sums system both start (omega arith) w (C ++ tail),
+          cell-at costs sums system both (start + word_length system) bit tail
+              (omega (arith, cell-long system (start + word_length system))),
+          ap (λ (k : ℕ). distance_from costs k tail) (cell-long system (start + word_length system)),
           distance-run costs sums (width_of system) both false (start + word_length system + cell_length system) n
               (omega arith),
           behind-split sums system rises (start + word_length system) room,
@@ -147,8 +102,7 @@ module _ (costs sums : Shades) (system : System) (both : AreBoth costs sums (wid
       exact : (begin far : ℕ) (bit : Bool)
           → IsWithCell sums system (place_cost sums system found.start found.word) begin bit far
           → IsWithCell sums system found.distance begin bit far
-      exact begin far bit with_cell =
-          with_cell ∙ ap (λ (d : ℕ). d + cell_cost sums system begin 0 bit) place
+      exact begin far bit with_cell = with_cell ∙ ap (λ (d : ℕ). d + cell_cost sums system begin 0 bit) place
 
       least : (levels : List Bool) → GoesOn system found.word found.start levels → longer ≤ distance_from costs 0 levels
       least levels (bit, inl (room, e)) =
@@ -193,5 +147,4 @@ module _ (costs sums : Shades) (system : System) (both : AreBoth costs sums (wid
       )
 
       pub least_longer : IsLeastRow (GoesOn system found.word found.start) (distance_from costs 0) longer
-      least_longer =
-          let o = longest.one in record { least = least; one = one o.0 o.1 o.2 o.3 }
+      least_longer = let o = longest.one in record { least = least; one = one o.0 o.1 o.2 o.3 }

@@ -22,8 +22,7 @@ use Rattle.vbi_near.proofs.OneNear.{one_near, one_near_code}
 -- lines have one nearest word, and one nearest of the codes that may stand on a line
 pub one_nears : (system : System) (number : ℕ) (slicing : Slicing) (lines : List Samples) (near other : Nears)
     → HasNear system number slicing lines near → HasNear system number slicing lines other → near ≡ other
-one_nears system number slicing lines near other is are =
-    grind (arith, one_near, one_near_code)
+one_nears system number slicing lines near other is are = grind (arith, one_near, one_near_code)
 
 -- lines can't both have nearest words and have none
 not_both : (can : Bool) → can ≡ false → can ≡ true → ⊥
@@ -33,31 +32,24 @@ not_both can cannot has = cc
 pub one_near_if : (system : System) (number : ℕ) (slicing : Slicing) (can : Bool) (lines : List Samples)
     (near other : Option Nears) → HasNearIf system number slicing can lines near
     → HasNearIf system number slicing can lines other → near ≡ other
-one_near_if system number slicing can lines None None is are = refl
-one_near_if system number slicing can lines None (Some n) is (has, are) = absurd (not_both can is has)
-one_near_if system number slicing can lines (Some n) None (has, is) are = absurd (not_both can are has)
-one_near_if system number slicing can lines (Some n) (Some m) (has, is) (too, are) =
-    ap Some (one_nears system number slicing lines n m is are)
+one_near_if system number slicing can lines x6 x7 is are = grind (arith, not_both, one_nears)
 
 -- the candidates of a line are fixed
 pub one_candidates : (system : System) (number : ℕ) (slicing : Slicing) (row : Row) (near other : Candidates)
     → AreOf system number slicing row near → AreOf system number slicing row other → near ≡ other
-one_candidates system number slicing row near other is are =
-    grind (arith, one_near_if, one_nears)
+one_candidates system number slicing row near other is are = grind (arith, one_near_if, one_nears)
 
 -- the candidates of two lines together are fixed
 pub one_of_both : (system : System) (number : ℕ) (slicing : Slicing) (row other : Row) (near again : Candidates)
     → AreOfBoth system number slicing row other near → AreOfBoth system number slicing row other again → near ≡ again
-one_of_both system number slicing row other near again is are =
-    grind (arith, one_near_if, one_nears)
+one_of_both system number slicing row other near again is are = grind (arith, one_near_if, one_nears)
 
 -- ---- words on longer or shorter cells
 
 -- there is one least distance at some rates and starts
 pub one_least_at : (IsThere : ℕ → ℕ → Type 0) (far : ℕ → ℕ → ℕ) (a b : ℕ) → IsLeastAt IsThere far a
     → IsLeastAt IsThere far b → a ≡ b
-one_least_at IsThere far a b is are =
-    grind arith
+one_least_at IsThere far a b is are = grind arith
 
 -- lines have one distance of a word on longer or shorter cells
 pub one_stretched : (system : System) (slicing : Slicing) (lines : List Samples) (word a b : ℕ)
@@ -89,14 +81,12 @@ plain_pass (Hold d) (Hold c) opened = refl
 -- the reading of some levels is of no pass where it shows no word and isn't blank
 pub read_pass : (system : System) (levels : List Bool) → IsTrue (is_open (reading_of system levels).outcome)
     → (reading_of system levels).pass ≡ 0
-read_pass system levels =
-    grind (arith, by_outcomes, plain_pass)
+read_pass system levels = grind (arith, by_outcomes, plain_pass)
 
 -- a word of another pass than 2 is the line's own
 pub word_own : (plain : Outcome) (word pass : ℕ) (confirms : ℕ → Bool) → pass ≢ 2
     → own_by plain (Word word) pass confirms ≡ record { outcome = Word word; pass = pass }
-word_own plain word pass confirms differs =
-    grind (arith, ne_eqb)
+word_own plain word pass confirms differs = grind (arith, ne_eqb)
 
 -- the nearest words of a line with a word of pass 2 are asked for
 pub asked_word : (word pass : ℕ) → pass ≡ 2 → IsTrue (is_asked (Word word) pass)
@@ -106,8 +96,7 @@ asked_word word pass e = subst (λ (k : ℕ). IsTrue (is_asked (Word word) k)) (
 pub open_asked_by : (o : Outcome) (pass : ℕ) (plain : Outcome) (confirms : ℕ → Bool)
     → (IsTrue (is_open o) → pass ≡ 0) → IsTrue (is_open (own_by plain o pass confirms).outcome)
     → IsTrue (is_asked o pass)
-open_asked_by (Word w) pass plain confirms none opened =
-    grind (arith, asked_word, word_own)
+open_asked_by (Word w) pass plain confirms none opened = grind (arith, asked_word, word_own)
 open_asked_by Blank pass plain confirms none opened = cc
 open_asked_by Unfinished pass plain confirms none opened =
     subst (λ (k : ℕ). IsTrue (is_asked Unfinished k)) (sym (none refl)) refl
@@ -119,8 +108,7 @@ open_asked_by (Hold c) pass plain confirms none opened =
 -- a line's reading is of no pass where it shows no word and isn't blank
 pub open_pass : (system : System) (number : ℕ) (slicing : Slicing) (row : Row) (seen : Seen)
     → IsSeen system number slicing row seen → IsTrue (is_open seen.reading.outcome) → seen.reading.pass ≡ 0
-open_pass system number slicing row seen is =
-    grind (arith, read_pass)
+open_pass system number slicing row seen is = grind (arith, read_pass)
 
 -- the nearest words of an open line are asked for
 pub open_asked : (system : System) (number : ℕ) (slicing : Slicing) (row : Row) (seen : Seen) (unit : ℕ)
@@ -136,8 +124,7 @@ open_asked system number slicing row seen unit is opened =
 pub own_same : (o : Outcome) (pass : ℕ) (p q : Outcome) (confirms again : ℕ → Bool) → (pass ≡ 2 → p ≡ q)
     → ((word : ℕ) → o ≡ Word word → pass ≡ 2 → confirms word ≡ again word)
     → own_by p o pass confirms ≡ own_by q o pass again
-own_same (Word w) pass p q confirms again plain same =
-    grind (arith, word_own)
+own_same (Word w) pass p q confirms again plain same = grind (arith, word_own)
 own_same Blank pass p q confirms again plain same = refl
 own_same Unfinished pass p q confirms again plain same = refl
 own_same (Change c) pass p q confirms again plain same = refl
@@ -175,8 +162,7 @@ module _ (system : System) (number : ℕ) (slicing : Slicing) (row : Row) (seen 
 
   -- what it shows by its own levels is the same
   pub one_own : own_of unit seen ≡ own_of unit again
-  one_own =
-      grind (arith, own_same, one_reading, confirms_same)
+  one_own = grind (arith, own_same, one_reading, confirms_same)
 
   -- its nearest words are the same where it is open
   pub one_open_near : IsTrue (is_open (own_of unit seen).outcome) → seen.near ≡ again.near

@@ -36,9 +36,7 @@ rows-next f system lines erased n =
 
 -- both of two tests hold
 both : (a b : Bool) → (a && b) ≡ true → (a ≡ true) × (b ≡ true)
-both true true e = (refl, refl)
-both true false e = cc
-both false b e = cc
+both x1 b e = grind arith
 
 -- what holds of all items holds of each
 each_of_all : (test : ℕ → Bool) (list : List ℕ) (i d : ℕ) → list_all test list ≡ true → i < length list
@@ -55,8 +53,7 @@ map-map f g (x ∷ list) = ap (λ rest. f (g x) ∷ rest) (map-map f g list)
 
 -- a swing that is like itself is one of a line with a word
 swings-itself : (unit swing : ℕ) → are_alike_by unit swing swing ≡ true → is_swing unit swing ≡ true
-swings-itself unit swing alike =
-    grind (arith, both)
+swings-itself unit swing alike = grind (arith, both)
 
 -- where all may be levelled together, each may
 pub each-swings : (system : System) (slicing : Slicing) (lines : List ℕ) (erased : List Bool) (n : ℕ)
@@ -87,14 +84,12 @@ each-swings system slicing lines erased n alike i inside = subst (λ (s : ℕ). 
 
 -- no line has more bytes than one of PAL
 bytes-few : (system : System) → line_bytes system ≤ 2270
-bytes-few Ntsc = omega arith
-bytes-few Pal = omega arith
+bytes-few x1 = grind arith
 
 -- the first bytes of a buffer that any line fits into are as many as a line's
 pub bytes-long : (system : System) (n : ℕ) → n ≡ line_bytes system
     → length {A = ℕ} (take n (replicate 2270 0)) ≡ line_bytes system
-bytes-long system n e =
-    grind (arith, length-take-le, bytes-few, length-replicate)
+bytes-long system n e = grind (arith, length-take-le, bytes-few, length-replicate)
 
 -- ---- what they say
 

@@ -89,12 +89,7 @@ costs_are : (slicing : Slicing) (lines : List Samples) (costs : Shades) (width i
 unfolding distance_from
 costs_are slicing lines costs width i [] exact wide = sym (rows_none slicing lines i)
 costs_are slicing lines costs width i (level ∷ levels) exact wide =
-    omega (
-      arith,
-      exact i level (omega arith),
-      rows_more slicing lines i level levels,
-      costs_are slicing lines costs width (suc i) levels exact (omega arith),
-    )
+    grind (arith, costs_are slicing lines costs width (suc i) levels exact (omega arith), rows_more)
 
 pub levels-same : (system : System) (slicing : Slicing) (lines : List Samples) (costs : Shades)
     → IsPile system slicing lines costs → (levels : List Bool) → length levels ≡ width_of system

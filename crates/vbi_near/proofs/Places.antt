@@ -6,13 +6,7 @@ use Rattle.std.proofs.lemmas.List.{get_or-take, get_or-replicate}
 use Rattle.vbi_near.specs.LineCodes.{AtEachPlace}
 
 pub at-place : (P : ℕ → Type 0) → AtEachPlace P → (place : ℕ) → place < 6 → P place
-at-place P all zero l = all.0
-at-place P all (suc zero) l = all.1
-at-place P all (suc (suc zero)) l = all.2
-at-place P all (suc (suc (suc zero))) l = all.3
-at-place P all (suc (suc (suc (suc zero)))) l = all.4
-at-place P all (suc (suc (suc (suc (suc zero))))) l = all.5
-at-place P all (suc (suc (suc (suc (suc (suc place)))))) l = absurd (omega arith)
+at-place P all x3 l = grind arith
 
 pub few-digits : (place : ℕ) → place < 6 → 16 ^ place ≤ 1048576
 few-digits place l = at-place (λ (k : ℕ). 16 ^ k ≤ 1048576)

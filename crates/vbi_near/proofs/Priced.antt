@@ -14,8 +14,7 @@ use Rattle.vbi_near.specs.Leads.{digit_cost, digits_cost, IsDigitCost, ArePriced
 four-more : (cost : ℕ → Bool → ℕ) (m w : ℕ)
     → bits_cost cost (suc (suc (suc (suc m)))) w ≡ bits_cost cost m (w / 16) + digit_cost cost m (w % 16)
 unfolding bits_cost
-four-more cost m w =
-    grind arith
+four-more cost m w = grind arith
 
 by-digits : (cost : ℕ → Bool → ℕ) (table : ℕ → ℕ → ℕ) (base n w : ℕ)
     → ((k d : ℕ) → k < n → d < 16 → table k d ≡ digit_cost cost (4 * k) d)
@@ -32,8 +31,7 @@ by-digits cost table base (suc n) w same =
 
 pub code-word : (sums : Shades) (system : System) (start w : ℕ) → IsWord w
     → code_cost sums system start w ≡ place_cost sums system start w
-code-word sums system start zero word = absurd (omega (arith, word.0))
-code-word sums system start (suc w) word = refl
+code-word sums system start x4 word = grind arith
 
 pub priced : (sums : Shades) (system : System) (start base : ℕ) (digits : List ℕ)
     → base ≡ span sums false 0 start

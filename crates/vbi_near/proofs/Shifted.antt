@@ -114,10 +114,7 @@ floor-far system (suc most) all late l =
         → ((eqb late (suc most) ≡ true) × (late ≡ suc most)) ⊎ ((eqb late (suc most) ≡ false) × (late ≢ suc most))
         → (far_until system most ≡ true → late ≤ most → picture_distance system ≤ word_floor system late)
         → picture_distance system ≤ word_floor system late
-    go (inr (e, less)) test later = absurd (let bad : false ≡ true = rw e at all in cc)
-    go (inl (e, far)) (inl (f, same)) later = omega (arith, far, ap (word_floor system) same)
-    go (inl (e, far)) (inr (f, differ)) later =
-        let rest : far_until system most ≡ true = rw e at all in later rest (omega (arith, l, differ))
+    go x1 test later = grind (arith, far_until)
 
 -- ---- words
 
@@ -183,25 +180,18 @@ module _ (system : System) (late room : ℕ) (fits : (j : ℕ) → late ≤ cell
 
   unlike : (same one other : Bool) (bits more : List Bool) → (same ≡ true → one ∷ bits ≢ other ∷ more)
       → still_same same one other ≡ true → bits ≢ more
-  unlike true true true bits more differ e f = differ refl (ap (λ (l : List Bool). true ∷ l) f)
-  unlike true false false bits more differ e f = differ refl (ap (λ (l : List Bool). false ∷ l) f)
-  unlike true true false bits more differ e f = absurd (true≢false (sym e))
-  unlike true false true bits more differ e f = absurd (true≢false (sym e))
-  unlike false one other bits more differ e f = absurd (true≢false (sym e))
+  unlike x1 one other bits more differ e f = grind arith
 
   behind-long : (j : ℕ) (bit : Bool) → length (levels_behind system late j bit) ≡ late
-  behind-long j bit =
-      grind (arith, length-drop, cell_columns, cell_levels, length-cell)
+  behind-long j bit = grind (arith, length-drop, cell_columns, cell_levels, length-cell)
 
   floors-hold : (n j : ℕ) (bit same : Bool) (bits more : List Bool) → length bits ≡ n → length more ≡ n
       → (same ≡ true → bits ≢ more) → floor (floors system late j n) bit same
       ≤ differences (ones (suc (suc j)) bits) (others (levels_behind system late j bit) (suc (suc j)) more)
   unfolding floors ones others drawn_halves
   floors-hold zero j bit true [] [] e f differ = absurd (differ refl refl)
-  floors-hold zero j false false [] [] e f differ =
-      grind (arith, low-differs, replicate, behind-long)
-  floors-hold zero j true false [] [] e f differ =
-      grind (arith, low-differs, replicate, behind-long)
+  floors-hold zero j false false [] [] e f differ = grind (arith, low-differs, replicate, behind-long)
+  floors-hold zero j true false [] [] e f differ = grind (arith, low-differs, replicate, behind-long)
   floors-hold zero j bit same (one ∷ bits) more e f differ = absurd (omega (arith, e))
   floors-hold zero j bit same [] (other ∷ more) e f differ = absurd (omega (arith, f))
   floors-hold (suc n) j bit same [] more e f differ = absurd (omega (arith, e))

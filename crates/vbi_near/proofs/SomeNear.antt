@@ -60,8 +60,7 @@ module _ (system : System) where
   unfolding number_of
   precedes None other start at here there le = tt
   precedes (Some w) None start at here there le = absurd (omega arith)
-  precedes (Some w) (Some v) start at ((low, high), room) ((low', high'), room') le =
-      grind arith
+  precedes (Some w) (Some v) start at ((low, high), room) ((low', high'), room') le = grind arith
 
 -- a place's number, again
 renumbered : (k : ℕ) → number_of (word_at k) (start_at k) ≡ k
@@ -70,8 +69,7 @@ renumbered zero = refl
 renumbered (suc m) = ap suc (omega arith)
 
 other_word : (a b : Option ℕ) → IsTold (a ≢ b)
-other_word a b =
-    grind (arith, same_or_not, IsTold)
+other_word a b = grind (arith, same_or_not, IsTold)
 
 -- the first of the nearest of some places, of which none is one, and a word at the first column
 module _ (system : System) (IsThere : Option ℕ → ℕ → Type 0)
@@ -95,16 +93,14 @@ module _ (system : System) (IsThere : Option ℕ → ℕ → Type 0)
       let n = numbered system word start (fits word start place) in λ j. far (n.word_is j) (n.start_is j)
 
   has : (word : Option ℕ) (start : ℕ) → IsThere word start → Has (number_of word start)
-  has word start place =
-      grind (arith, numbered, word_at, number_of)
+  has word start place = grind (arith, numbered, word_at, number_of)
 
   best : Least cost Has (last system)
   unfolding word_at start_at
   best = found cost Has (λ k. told (word_at k) (start_at k)) (last system) 0 (omega arith) none
 
   others : (other : Option ℕ) (k : ℕ) → IsTold (HasOther other k)
-  others other k =
-      both_told (Has k) (word_at k ≢ other) (told (word_at k) (start_at k)) (other_word (word_at k) other)
+  others other k = both_told (Has k) (word_at k ≢ other) (told (word_at k) (start_at k)) (other_word (word_at k) other)
 
   another : (other : Option ℕ) → Least cost (HasOther other) (last system)
   another None =
@@ -152,15 +148,8 @@ module _ (system : System) (IsThere : Option ℕ → ℕ → Type 0)
 
   first_near : (longer shorter : ℕ) → IsFirstBy IsThere far (near_with longer shorter)
   unfolding near_with
-  first_near longer shorter = record {
-    first = λ word start place same.
-        let n = numbered system word start (fits word start place) in
-        let le : best.at ≤ number_of word start =
-        best.first (number_of word start) n.within (has word start place) (cost-of word start place ∙ same) in
-        precedes system (word_at best.at) word (start_at best.at) start
-        (fits (word_at best.at) (start_at best.at) best.holds) (fits word start place)
-        (omega (arith, le, renumbered best.at));
-  }
+  first_near longer shorter =
+      grind (arith, numbered, best, number_of, has, cost-of, precedes, word_at, start_at, renumbered)
 
 -- ---- rows on which a word goes on or is cut short
 
@@ -188,8 +177,7 @@ row_of IsRow far (Some w) start distance some =
     let l = some w refl in (l.0, λ near s d. subst (λ (k : ℕ). IsLeastRow (IsRow w k) far l.0) (sym s) l.1)
 
 cells_fit : (system : System) → word_length system + 2 * cell_length system ≤ width_of system
-cells_fit Ntsc = omega arith
-cells_fit Pal = omega arith
+cells_fit x1 = grind arith
 
 module _ (system : System) (far : List Bool → ℕ) (word start : ℕ) where
   levels_at : ℕ → List Bool
@@ -295,8 +283,7 @@ word_told w = both_told _ _ (at_most_told 8388608 w) (at_most_told (suc w) 16777
 
 place_told : (system : System) (word : Option ℕ) (start : ℕ) → IsTold (IsPlace system word start)
 place_told system None start = cases_eq start 0
-place_told system (Some w) start =
-    grind (arith, both_told, word_told, at_most_told)
+place_told system (Some w) start = grind (arith, both_told, word_told, at_most_told)
 
 -- a digit is in the range of those at its place from 0
 abbrev Fits : ℕ → ℕ → ℕ → ℕ → Type 0
@@ -327,8 +314,7 @@ one_told (words ∷ ranges) w =
 code_told : (ranges : List Range) (system : System) (word : Option ℕ) (start : ℕ)
     → IsTold (IsCodePlace ranges system word start)
 code_told ranges system None start = cases_eq start 0
-code_told ranges system (Some w) start =
-    grind (arith, both_told, one_told, at_most_told)
+code_told ranges system (Some w) start = grind (arith, both_told, one_told, at_most_told)
 
 -- picture stop, which may stand on each line
 stop_between : IsBetween 0x82CFFF 0x82CFFF 0x82CFFF
@@ -336,8 +322,7 @@ stop_between place low high = (omega arith, omega arith)
 
 -- it is in each table
 stop_stands : (system : System) (line : ℕ) → IsOneOf (codes_of system line) 0x82CFFF
-stop_stands system line =
-    grind (arith, stop_between)
+stop_stands system line = grind (arith, stop_between)
 
 -- ---- of all words, and of the codes that may stand on a line
 

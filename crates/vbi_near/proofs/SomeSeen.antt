@@ -83,8 +83,7 @@ some_of_both system number slicing row other =
 
 -- a word of each rate fits from the first column on
 rate_fits : (system : System) (rate : ℕ) → rate ≤ 102 → 0 + stretched_length system rate ≤ width_of system
-rate_fits Ntsc rate le = omega arith
-rate_fits Pal rate le = omega arith
+rate_fits x1 rate le = grind arith
 
 -- there is a least distance at this rate
 some_at_rate : (system : System) (far : ℕ → ℕ → ℕ) (rate : ℕ) → rate ≤ 102

@@ -14,7 +14,7 @@ use Rattle.vbi_near.specs.Sums.{span, total_in}
 use Rattle.vbi_near.specs.Stretched.{stretched_offset, stretched_half, halves_cost, stretched_cost, stretched_length}
 use Rattle.vbi_near.specs.Stretched.{stretched_word_cost, stretched_row_cost}
 use Rattle.vbi_near.proofs.CellsAt.{set-more}
-use Rattle.vbi_near.proofs.CutShort.{many-halves}
+use Rattle.vbi_near.proofs.Costs.{many-halves}
 use Rattle.vbi_near.proofs.Halves.{halves_cost-append}
 
 -- ---- columns
@@ -22,14 +22,11 @@ use Rattle.vbi_near.proofs.Halves.{halves_cost-append}
 -- one half cell more begins no earlier
 pub offset-rises : (system : System) (rate j : ℕ)
     → stretched_offset system rate j ≤ stretched_offset system rate (suc j)
-offset-rises Ntsc rate j =
-    grind (arith, add-mul)
-offset-rises Pal rate j =
-    grind (arith, add-mul)
+offset-rises Ntsc rate j = grind (arith, add-mul)
+offset-rises Pal rate j = grind (arith, add-mul)
 
 pub offset-first : (system : System) (rate : ℕ) → stretched_offset system rate 0 ≡ 0
-offset-first Ntsc rate = omega arith
-offset-first Pal rate = omega arith
+offset-first x1 rate = grind arith
 
 pub offset-next : (system : System) (rate j : ℕ)
     → stretched_offset system rate j + stretched_half system rate j ≡ stretched_offset system rate (suc j)
@@ -37,19 +34,16 @@ offset-next system rate j = omega (arith, offset-rises system rate j)
 
 -- there are 302 starts at most
 pub few-starts : (system : System) (rate : ℕ) → 98 ≤ rate → width_of system + 1 ≤ stretched_length system rate + 302
-few-starts Ntsc rate le = omega arith
-few-starts Pal rate le = omega arith
+few-starts x1 rate le = grind arith
 
 pub starts-long : (system : System) (rate width length_of : ℕ) → 98 ≤ rate → width ≡ width_of system
     → length_of ≡ stretched_length system rate
     → length {A = ℕ} (take (width - length_of + 1) (replicate 302 0)) ≡ width - length_of + 1
-starts-long system rate width length_of le w l =
-    grind (arith, length-take-le, replicate, few-starts, length-replicate)
+starts-long system rate width length_of le w l = grind (arith, length-take-le, replicate, few-starts, length-replicate)
 
 -- at 100 hundredths they are those of a drawn word
 pub offset-whole : (system : System) (j : ℕ) → start_of system + stretched_offset system 100 j ≡ boundary system j
-offset-whole Ntsc j = omega arith
-offset-whole Pal j = omega arith
+offset-whole x1 j = grind arith
 
 -- ---- what they cost
 
@@ -78,8 +72,7 @@ cost-more cost halves n l =
 pub half-read : (sums : Shades) (system : System) (rate start j : ℕ) (level : Bool) (begin end : ℕ)
     → begin ≡ stretched_offset system rate j → end ≡ stretched_offset system rate (j + 1)
     → span sums level (start + begin) (end - begin) ≡ stretched_cost sums system rate start j level
-half-read sums system rate start j level begin end b e =
-    grind (arith, offset-rises)
+half-read sums system rate start j level begin end b e = grind (arith, offset-rises)
 
 -- costs to which so much was added below i
 pub record IsPaid (sums : List ℕ) (begin end : ℕ) (old new : List ℕ) (i : ℕ) : Type 0 where
@@ -104,13 +97,11 @@ paid-more sums begin end old new i more inside order low exact few is =
 -- all of a word's
 pub all-halves : (cost : ℕ → Bool → ℕ) (w n : ℕ) → n ≡ 48
     → halves_cost cost 0 (take n (halves_of w)) ≡ halves_cost cost 0 (halves_of w)
-all-halves cost w n e =
-    ap (halves_cost cost 0) (take_all n (halves_of w) (omega (arith, many-halves w, e)))
+all-halves cost w n e = ap (halves_cost cost 0) (take_all n (halves_of w) (omega (arith, many-halves w, e)))
 
 -- what a word costs, and what is low after it
 pub row-read : (sums : Shades) (system : System) (w rate start cost begin width tail : ℕ)
     → cost ≡ stretched_word_cost sums system w rate start → begin ≡ start + stretched_length system rate
     → width ≡ width_of system → tail ≡ span sums false begin (width - begin)
     → cost + tail ≡ stretched_row_cost sums system w rate start
-row-read sums system w rate start cost begin width tail c b wide t =
-    grind arith
+row-read sums system w rate start cost begin width tail c b wide t = grind arith

@@ -38,10 +38,7 @@ few-sum samples start n short =
 -- a column is no farther from the mean of its window
 few-off : (system : System) (samples : List ℕ) (column : ℕ) → AreShort samples → column < length samples
     → off_mean system samples column ≤ 13959168
-few-off Ntsc samples column short less =
-    omega (arith, few-sum samples (window_start Ntsc column) 172 short, short column 0 less)
-few-off Pal samples column short less =
-    omega (arith, few-sum samples (window_start Pal column) 213 short, short column 0 less)
+few-off x1 samples column short less = grind (arith, few-sum)
 
 -- nor are so many columns
 few-offs : (system : System) (samples : List ℕ) (n : ℕ) → AreShort samples → first_of system + n ≤ length samples
@@ -71,15 +68,13 @@ by-pal off n few = div-le_of_le-mul (213 * n) (omega (arith, few))
 
 -- the columns of words lie within the line
 room : (system : System) (n : ℕ) → n ≡ width_of system → first_of system + columns_of system ≤ n
-room Ntsc n e = omega (arith, e)
-room Pal n e = omega (arith, e)
+room x1 n e = grind arith
 
 -- so the swing is less than 2 ^ 19
 few-swing : (system : System) (samples : List ℕ) → AreShort samples → length samples ≡ width_of system
     → swing_of system samples ≤ 262144
 unfolding swing_of
-few-swing Ntsc samples short long =
-    search (arith, by-ntsc, few-offs, room)
+few-swing Ntsc samples short long = search (arith, by-ntsc, few-offs, room)
 few-swing Pal samples short long =
     by-pal (off_in Pal samples (columns_of Pal)) (columns_of Pal)
     (few-offs Pal samples (columns_of Pal) short (room Pal (length samples) long))
@@ -88,7 +83,4 @@ few-swing Pal samples short long =
 pub scale_fits : (system : System) (samples : List ℕ) (window swing : ℕ) → AreShort samples
     → length samples ≡ width_of system → window ≡ window_of system → swing ≡ swing_of system samples
     → window * swing < 2 ^ 32
-scale_fits Ntsc samples window swing short long w s =
-    subst (λ (n : ℕ). n * swing < 2 ^ 32) (sym w) (omega (arith, s, few-swing Ntsc samples short long))
-scale_fits Pal samples window swing short long w s =
-    subst (λ (n : ℕ). n * swing < 2 ^ 32) (sym w) (omega (arith, s, few-swing Pal samples short long))
+scale_fits x1 samples window swing short long w s = grind (arith, few-swing)

@@ -26,5 +26,4 @@ length-whole system = omega (arith, offset-whole system 48)
 pub picture-whole : (system : System) (word start : ℕ)
     → stretched_picture system 100 word start ≡ picture_of system (Some word) start
 unfolding stretched_picture picture_of
-picture-whole system word start =
-    grind (arith, halves-same, half-whole, drawn-with, replicate, length-whole)
+picture-whole system word start = grind (arith, halves-same, half-whole, drawn-with, replicate, length-whole)

@@ -9,7 +9,7 @@ ghost use Rattle.vbi_near.specs.Stretched.{IsStretched};
 ghost use Rattle.vbi_near.specs.Candidates.{HasNear, HasNearIf, row_of, given_samples, filled_samples, swing_in, has_swing};
 ghost use Rattle.vbi_near.specs.Candidates.{are_alike, are_alike_by, levelled_samples};
 
-use crate::levelled::{fill, is_swing, level, sum_samples, swing};
+use crate::levelled::{Summed, fill, is_swing, level, sum_samples, swing};
 use crate::lines::Nears;
 use crate::near::WIDEST;
 use crate::pile::Pile;
@@ -79,9 +79,14 @@ pub(crate) fn level_row(
     fill(levels, row, erased, whole);
     let mut sums = [0; WIDEST + 1];
     sum_samples(system, whole, &mut sums);
-    let swing = swing(system, whole, &sums);
+    let line = Summed {
+        system,
+        row: whole,
+        sums: &sums,
+    };
+    let swing = swing(&line);
     if is_swing(unit_of(levels), swing) {
-        level(system, levels, whole, &sums, swing, out);
+        level(levels, &line, swing, out);
     }
     swing
 }

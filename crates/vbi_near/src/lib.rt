@@ -11,6 +11,7 @@ mod cell;
 mod codes;
 mod confirmed;
 mod found;
+mod half_cells;
 mod halved;
 pub mod laws;
 mod levelled;

@@ -100,25 +100,25 @@ fn is_whole(blank: u32, halved: u32, near: &Near) -> bool
     4 * distance + u64::from(blank) <= 4 * u64::from(halved) + distance
 }
 
-/// Whether the signal of so many lines begins and ends with the word and has both halves of it, and any other is
-/// farther by so many columns and by such a share.
-fn is_clear(
-    unit: u32,
-    columns: u32,
-    share: u8,
-    lines: u32,
+/// A nearest word or code, and how far the lines are from none, and from the nearer row of half of it.
+#[derive(Clone, Copy)]
+struct Nearest<'a> {
+    near: &'a Near,
     blank: u32,
     halved: u32,
-    near: &Near,
-) -> bool
+}
+
+/// Whether the signal of so many lines begins and ends with the word and has both halves of it, and any other is
+/// farther by so many columns and by such a share.
+fn is_clear(unit: u32, columns: u32, share: u8, lines: u32, word: &Nearest) -> bool
     requires { lines ≤ 28 }
-    ensures { result ≡ is_clear unit columns share lines blank halved near.now }
+    ensures { result ≡ is_clear unit columns share lines word.now.blank word.now.halved word.now.near.now }
 {
-    is_ahead(unit, columns, near)
-        && is_ahead_by(share, blank, near)
-        && !goes_on(unit, lines, near)
-        && !is_cut(unit, lines, near)
-        && is_whole(blank, halved, near)
+    is_ahead(unit, columns, word.near)
+        && is_ahead_by(share, word.blank, word.near)
+        && !goes_on(unit, lines, word.near)
+        && !is_cut(unit, lines, word.near)
+        && is_whole(word.blank, word.halved, word.near)
 }
 
 /// Whether no word is nearer than the nearest code by more than ten columns.
@@ -133,28 +133,22 @@ fn said_of(unit: u32, margins: &Margins, lines: u32, near: &Nears) -> Option<Wor
     requires { lines ≤ 28 }
     ensures { result ≡ said_of unit margins.now lines near.now }
 {
+    let code = Nearest {
+        near: &near.code,
+        blank: near.blank,
+        halved: near.code_halved,
+    };
+    let word = Nearest {
+        near: &near.word,
+        blank: near.blank,
+        halved: near.word_halved,
+    };
     if near.code.word.is_some()
         && is_close(unit, near)
-        && is_clear(
-            unit,
-            margins.code,
-            margins.code_share,
-            lines,
-            near.blank,
-            near.code_halved,
-            &near.code,
-        )
+        && is_clear(unit, margins.code, margins.code_share, lines, &code)
     {
         near.code.word
-    } else if is_clear(
-        unit,
-        margins.other,
-        margins.other_share,
-        lines,
-        near.blank,
-        near.word_halved,
-        &near.word,
-    ) {
+    } else if is_clear(unit, margins.other, margins.other_share, lines, &word) {
         near.word.word
     } else {
         None

@@ -1,13 +1,11 @@
 -- What answers say of the disc, which pictures a capture has that lacks no field, and discs that count so.
-use Rattle.std.proofs.Common.{◌≡◌, ◌≢◌, ℕ, suc, ◌+◌, ◌*◌, ◌-◌, ◌/◌, ◌<◌, ◌≤◌, true, false, List, refl, arith, ap, inl}
+use Rattle.std.proofs.Common.{◌≡◌, ℕ, suc, ◌+◌, ◌*◌, ◌/◌, ◌<◌, ◌≤◌, true, false, List, refl, arith, ap, inl}
 use Rattle.std.proofs.Common.{inr, eq-eqb}
 use Rattle.std.specs.Prelude.{Option, Some, ◌⊎◌, nat_le, if◌then◌else◌, unwrap_or}
-use Rattle.std.proofs.Math.Dec.{eqb}
-use Rattle.std.proofs.lemmas.Bool.Decides.{eqb_tells, leb_tells}
+use Rattle.std.proofs.lemmas.Bool.Decides.{leb_tells}
 use Rattle.vbi_side.specs.declared.number.Number.{Number}
 use Rattle.vbi_side.specs.declared.sighting.Sightings.{Sightings}
 use Rattle.vbi_side.specs.declared.pace.Pace.TheVariants.{Video}
-use Rattle.vbi_side.specs.Paces.{fits}
 use Rattle.vbi_side.specs.Beliefs.{enough, Believed}
 use Rattle.vbi_side.specs.Numbers.{believed, AreAnswers, IsMarked}
 use Rattle.vbi_side.specs.Truth.{wrong_weight, video_disc}

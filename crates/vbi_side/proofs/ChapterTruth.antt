@@ -1,14 +1,14 @@
 -- What a believed chapter says of the disc.
-use Rattle.std.proofs.Common.{◌≡◌, ◌≢◌, ℕ, ◌+◌, ◌*◌, ◌-◌, ◌<◌, ◌≤◌, Bool, true, false, List}
-use Rattle.std.proofs.Common.{refl, arith, ap, sym, subst, inl, inr}
-use Rattle.std.specs.Prelude.{Option, Some, None, slice_get, ◌⊎◌, nat_le, nat_lt, not, ◌&&◌, ◌==◌}
+use Rattle.std.proofs.Common.{◌≡◌, ◌≢◌, ℕ, ◌+◌, ◌*◌, ◌<◌, ◌≤◌, true, false, List}
+use Rattle.std.proofs.Common.{arith, sym, subst, inl, inr}
+use Rattle.std.specs.Prelude.{Option, Some, slice_get, ◌⊎◌, nat_le, nat_lt, not, ◌&&◌, ◌==◌}
 use Rattle.std.proofs.Math.Dec.{eqb}
 use Rattle.std.proofs.lemmas.Bool.{leb-true, ltb-true, eqb-true, le-leb, lt-ltb, or_left, or_right, or_cases}
 use Rattle.std.proofs.lemmas.Bool.{and_parts, and_from, cases_lt}
 use Rattle.std.proofs.lemmas.Bool.Decides.{eqb_tells}
 use Rattle.vbi_side.specs.declared.sighting.Sightings.{Sightings}
 use Rattle.vbi_side.specs.Sightings.{Shows}
-use Rattle.vbi_side.specs.Beliefs.{reach, enough, window_weight}
+use Rattle.vbi_side.specs.Beliefs.{reach, enough}
 use Rattle.vbi_side.specs.Truth.{IsNear, is_recorded, wrong_weight}
 use Rattle.vbi_side.specs.Chapters.{says, opposes, said_weight, opposed_weight, BelievedChapter, NeverFalls}
 use Rattle.vbi_side.specs.Chapters.{HasNear, IsWithin, IsSoundChapter}

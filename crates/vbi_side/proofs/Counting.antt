@@ -1,4 +1,5 @@
 -- What a clock leaves out, and where the other numbers stand.
+use Rattle.vbi_side.proofs.Truth.{near_same}
 use Rattle.std.proofs.Common.{◌≡◌, ℕ, zero, suc, ◌+◌, ◌*◌, ◌-◌, ◌/◌, ◌<◌, ◌≤◌, true, refl, arith, ap, sym, ◌∙◌, subst}
 use Rattle.std.proofs.Common.{inl, inr, false, Bool, ◌≢◌}
 use Rattle.std.specs.Prelude.{Option, None, ◌⊎◌, ◌%◌, ◌==◌, ◌&&◌, nat_le, if◌then◌else◌}
@@ -288,15 +289,6 @@ few_lost clock gap less = go (eqb_tells gap.kind lost) (eqb_tells gap.kind open_
     go (inl (t, e)) _ = rw t (omega (arith, few))
     go (inr (f, other)) (inl (t, e)) = rw (f, t) (omega (arith, few))
     go (inr (f, other)) (inr (g, more)) = rw (f, g) (omega (arith, few))
-
-near_same : (x y : ℕ) → x ≡ y → (nat_le x (y + 0) && nat_le y (x + 0)) ≡ true
-near_same x y e = elim (leb_tells x (y + 0)) [
-  | inl (t, le) ↦ elim (leb_tells y (x + 0)) [
-    | inl (u, more) ↦ rw (t, u) refl
-    | inr (u, lt) ↦ absurd (omega (arith, e, lt))
-  ]
-  | inr (t, lt) ↦ absurd (omega (arith, e, lt))
-]
 
 pub no_gap : (numbering : Numbering) (ended : Bool) (shown i m k n : ℕ)
     → clock_fits numbering.clock i m k n ≡ true → gap_of Video 0 numbering ended shown i m k n ≡ None

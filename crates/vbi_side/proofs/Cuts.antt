@@ -17,7 +17,8 @@ use Rattle.vbi_side.specs.Side.{DiscRuns, Rises, captured, IsOneRun}
 use Rattle.vbi_side.specs.Gaps.{gap_as, kind_of, ended_between, shown_between, IsGap}
 use Rattle.vbi_side.proofs.Truth.{video_fits, on_the_disc}
 use Rattle.vbi_side.proofs.Anchors.{marked_is, anchor}
-use Rattle.vbi_side.proofs.GapLaws.{near_same, none_found}
+use Rattle.vbi_side.proofs.GapLaws.{none_found}
+use Rattle.vbi_side.proofs.Truth.{near_same}
 
 -- in one run the disc's fields are as far apart as those of the capture
 as_far : (place : ℕ → ℕ) (i j k : ℕ) → IsOneRun place i j → i + k ≤ j → place (i + k) ≡ place i + k

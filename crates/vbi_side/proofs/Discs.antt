@@ -1,7 +1,7 @@
 -- Discs that run on.
-use Rattle.std.proofs.Common.{◌≡◌, ◌≢◌, ℕ, ◌+◌, ◌*◌, ◌/◌, ◌%◌, ◌≤◌, Bool, true}
+use Rattle.std.proofs.Common.{◌≡◌, ◌≢◌, ℕ, ◌+◌, ◌*◌, ◌/◌, ◌%◌, ◌≤◌, true}
 use Rattle.std.proofs.Common.{eq-eqb, false, refl, arith, ap, sym, ◌∙◌, inl, inr}
-use Rattle.std.specs.Prelude.{Option, Some, None, ◌⊎◌, ◌==◌, ◌&&◌, nat_le, unwrap_or}
+use Rattle.std.specs.Prelude.{Option, Some, None, ◌⊎◌, ◌==◌, nat_le, unwrap_or}
 use Rattle.std.proofs.Math.Dec.{eqb}
 use Rattle.std.proofs.lemmas.Bool.{eqb-true, le-leb, and_from}
 use Rattle.std.proofs.lemmas.Bool.Decides.{eqb_tells}

@@ -1,4 +1,5 @@
 -- Where the numbers of a stretch count to each other, and where they don't.
+use Rattle.std.proofs.lemmas.Bool.{le-leb}
 use Rattle.std.proofs.Common.{◌≡◌, ℕ, suc, ◌+◌, ◌*◌, ◌<◌, ◌≤◌, true, false, List, sym, subst, arith}
 use Rattle.std.proofs.Common.{◌∙◌, inl, inr}
 use Rattle.std.specs.Prelude.{Option, Some, None, nat_le, ◌⊎◌}
@@ -21,26 +22,20 @@ use Rattle.vbi_side.proofs.GapLaws.{same_before, same_number}
 
 -- ---- what stands earlier
 
-le_so : (a b : ℕ) → a ≤ b → nat_le a b ≡ true
-le_so a b le = elim (leb_tells a b) [
-  | inl (t, more) ↦ t
-  | inr (f, lt) ↦ absurd (omega (arith, le, lt))
-]
-
 pub leads_self : (pace : Pace) (i m : ℕ) → leads pace i m i m ≡ true
-leads_self Video i m = le_so (i + 2 * m) (i + 2 * m) (omega arith)
-leads_self Film i m = le_so (2 * i + 5 * m) (2 * i + 5 * m) (omega arith)
+leads_self Video i m = le-leb (i + 2 * m) (i + 2 * m) (omega arith)
+leads_self Film i m = le-leb (2 * i + 5 * m) (2 * i + 5 * m) (omega arith)
 
 pub leads_on : (pace : Pace) (i m j n k o : ℕ) → leads pace i m j n ≡ true → leads pace j n k o ≡ true
     → leads pace i m k o ≡ true
 leads_on Video i m j n k o one other =
-    le_so (i + 2 * o) (k + 2 * m) (omega (
+    le-leb (i + 2 * o) (k + 2 * m) (omega (
       arith,
       leb-true (i + 2 * n) (j + 2 * m) one,
       leb-true (j + 2 * o)
           (k + 2 * n) other,
     ))
-leads_on Film i m j n k o one other = le_so (2 * i + 5 * o) (2 * k + 5 * m) (omega (
+leads_on Film i m j n k o one other = le-leb (2 * i + 5 * o) (2 * k + 5 * m) (omega (
   arith,
   leb-true (2 * i + 5 * n) (2 * j + 5 * m) one,
   leb-true (2 * j + 5 * o) (2 * k + 5 * n) other,
@@ -55,16 +50,17 @@ squeezed Video slack l o i m h q k n low high one other =
     let first = leb-true (l + 2 * m) (i + 2 * o) low in
     let last = leb-true (i + 2 * q) (h + 2 * m) high in
     and_from (nat_le (k + 2 * m) (i + 2 * n + slack)) (nat_le (i + 2 * n) (k + 2 * m + slack))
-    (le_so (k + 2 * m) (i + 2 * n + slack) (omega (arith, leb-true (k + 2 * o) (l + 2 * n + slack) a.0, first)))
-    (le_so (i + 2 * n) (k + 2 * m + slack) (omega (arith, leb-true (h + 2 * n) (k + 2 * q + slack) b.1, last)))
+    (le-leb (k + 2 * m) (i + 2 * n + slack) (omega (arith, leb-true (k + 2 * o) (l + 2 * n + slack) a.0, first)))
+    (le-leb (i + 2 * n) (k + 2 * m + slack) (omega (arith, leb-true (h + 2 * n) (k + 2 * q + slack) b.1, last)))
 squeezed Film slack l o i m h q k n low high one other =
     let a = and_parts (nat_le (2 * k + 5 * o) (2 * l + 5 * n + 2)) (nat_le (2 * l + 5 * n) (2 * k + 5 * o + 2)) one in
     let b = and_parts (nat_le (2 * k + 5 * q) (2 * h + 5 * n + 2)) (nat_le (2 * h + 5 * n) (2 * k + 5 * q + 2)) other in
     let first = leb-true (2 * l + 5 * m) (2 * i + 5 * o) low in
     let last = leb-true (2 * i + 5 * q) (2 * h + 5 * m) high in
     and_from (nat_le (2 * k + 5 * m) (2 * i + 5 * n + 2)) (nat_le (2 * i + 5 * n) (2 * k + 5 * m + 2))
-    (le_so (2 * k + 5 * m) (2 * i + 5 * n + 2) (omega (arith, leb-true (2 * k + 5 * o) (2 * l + 5 * n + 2) a.0, first)))
-    (le_so (2 * i + 5 * n) (2 * k + 5 * m + 2) (omega (arith, leb-true (2 * h + 5 * n) (2 * k + 5 * q + 2) b.1, last)))
+    (le-leb (2 * k + 5 * m) (2 * i + 5 * n + 2)
+    (omega (arith, leb-true (2 * k + 5 * o) (2 * l + 5 * n + 2) a.0, first)))
+    (le-leb (2 * i + 5 * n) (2 * k + 5 * m + 2) (omega (arith, leb-true (2 * h + 5 * n) (2 * k + 5 * q + 2) b.1, last)))
 
 -- ---- the last number
 

@@ -1,10 +1,11 @@
 -- What is due, once, and rightly.
+use Rattle.std.proofs.lemmas.Bool.{eqb-true}
+use Rattle.std.proofs.Common.{eq-eqb}
 use Rattle.std.proofs.Common.{◌≡◌, ◌≢◌, ℕ, ◌+◌, ◌*◌, ◌-◌, ◌%◌, ◌<◌, ◌≤◌, true, false, List, arith, sym, ◌∙◌, subst}
 use Rattle.std.proofs.Common.{inl, inr}
-use Rattle.std.specs.Prelude.{Option, Some, slice_get, ◌⊎◌, ◌↔◌, nat_le, ◌==◌}
+use Rattle.std.specs.Prelude.{Option, Some, slice_get, ◌⊎◌, ◌↔◌, nat_le}
 use Rattle.std.proofs.lemmas.Bool.{leb-true, le-leb}
-use Rattle.std.proofs.lemmas.Bool.Decides.{eqb_tells, leb_tells}
-use Rattle.std.proofs.Math.Dec.{eqb}
+use Rattle.std.proofs.lemmas.Bool.Decides.{leb_tells}
 use Rattle.vbi_side.specs.declared.sighting.Sightings.{Sightings}
 use Rattle.vbi_side.specs.declared.pace.Pace.{Pace}
 use Rattle.vbi_side.specs.declared.pace.Pace.TheVariants.{Video, Film}
@@ -55,39 +56,25 @@ nearly_more Film slack more i m j n less e = e
 
 -- ---- whole pictures
 
-pub equal_true : (m n : ℕ) → m ≡ n → (m == n) ≡ true
-equal_true m n e = go (eqb_tells m n)
-  where
-    go : ((eqb m n ≡ true) × (m ≡ n)) ⊎ ((eqb m n ≡ false) × (m ≢ n)) → (m == n) ≡ true
-    go (inl (t, is)) = t
-    go (inr (f, apart)) = absurd (apart e)
-
-is_true : (m n : ℕ) → (m == n) ≡ true → m ≡ n
-is_true m n e = go (eqb_tells m n)
-  where
-    go : ((eqb m n ≡ true) × (m ≡ n)) ⊎ ((eqb m n ≡ false) × (m ≢ n)) → m ≡ n
-    go (inl (t, is)) = is
-    go (inr (f, apart)) = absurd (let clash : false ≡ true → ⊥ = λ h. cc in clash (subst (λ b. b ≡ true) f e))
-
 -- numbers that lie whole pictures apart are of fields that do
 pub whole_on : (pace : Pace) (j m i n : ℕ) → j < i → Count pace j m i n → are_whole pace (i - j) ≡ true
-whole_on Video j m i n less e = equal_true ((i - j) % 2) 0 (omega (arith, less, e))
-whole_on Film j m i n less e = equal_true ((i - j) % 5) 0 (omega (arith, less, e))
+whole_on Video j m i n less e = eq-eqb ((i - j) % 2) 0 (omega (arith, less, e))
+whole_on Film j m i n less e = eq-eqb ((i - j) % 5) 0 (omega (arith, less, e))
 
 -- numbers of such fields that nearly fit lie whole pictures apart
 pub nearly_on : (pace : Pace) (slack i n j m : ℕ) → slack ≤ 1 → j < i → are_whole pace (i - j) ≡ true
     → nearly pace slack i n j m ≡ true → Count pace j m i n
 nearly_on Video slack i n j m few less whole e =
-    let p = video_nearly slack i n j m e in omega (arith, few, less, is_true ((i - j) % 2) 0 whole, p.0, p.1)
+    let p = video_nearly slack i n j m e in omega (arith, few, less, eqb-true ((i - j) % 2) 0 whole, p.0, p.1)
 nearly_on Film slack i n j m few less whole e =
-    let p = film_fits i n j m e in omega (arith, less, is_true ((i - j) % 5) 0 whole, p.0, p.1)
+    let p = film_fits i n j m e in omega (arith, less, eqb-true ((i - j) % 5) 0 whole, p.0, p.1)
 
 pub nearly_back : (pace : Pace) (slack i n k l : ℕ) → slack ≤ 1 → i < k → are_whole pace (k - i) ≡ true
     → nearly pace slack i n k l ≡ true → Count pace i n k l
 nearly_back Video slack i n k l few less whole e =
-    let p = video_nearly slack i n k l e in omega (arith, few, less, is_true ((k - i) % 2) 0 whole, p.0, p.1)
+    let p = video_nearly slack i n k l e in omega (arith, few, less, eqb-true ((k - i) % 2) 0 whole, p.0, p.1)
 nearly_back Film slack i n k l few less whole e =
-    let p = film_fits i n k l e in omega (arith, less, is_true ((k - i) % 5) 0 whole, p.0, p.1)
+    let p = film_fits i n k l e in omega (arith, less, eqb-true ((k - i) % 5) 0 whole, p.0, p.1)
 
 -- a number counts to one number in another field
 pub one_count : (pace : Pace) (j m i a b : ℕ) → Count pace j m i a → Count pace j m i b → a ≡ b

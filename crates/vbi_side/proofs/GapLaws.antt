@@ -1,6 +1,7 @@
 -- What the gaps of a capture say of it.
+use Rattle.vbi_side.proofs.Truth.{near_same}
 use Rattle.std.proofs.Common.{◌-◌, ◌≡◌, ◌≢◌, ℕ, zero, suc, ◌+◌, ◌*◌, ◌<◌, ◌≤◌, Bool, true, false, List, [], ◌∷◌, ◌++◌}
-use Rattle.std.proofs.Common.{refl, arith, ap, sym, ◌∙◌, subst, inl, inr, length}
+use Rattle.std.proofs.Common.{arith, ap, sym, ◌∙◌, subst, inl, inr, length}
 use Rattle.std.specs.Prelude.{Option, Some, None, ◌⊎◌, nat_le, nat_lt, sum_by, if◌then◌else◌, ◌&&◌}
 use Rattle.std.proofs.lemmas.Bool.Decides.{leb_tells, eqb_tells}
 use Rattle.std.proofs.lemmas.List.{length_push}
@@ -297,15 +298,6 @@ module _ (pace : Pace) (slack : ℕ) (disc : ℕ → Option ℕ) (place : ℕ �
           (omega (arith, p.0, order, last, same), omega (arith, p.0, p.1, up, order, last, same, sum, ends_at))
 
 -- ---- a gap is a cut
-
-pub near_same : (x y : ℕ) → x ≡ y → (nat_le x (y + 0) && nat_le y (x + 0)) ≡ true
-near_same x y e = elim (leb_tells x (y + 0)) [
-  | inl (t, le) ↦ elim (leb_tells y (x + 0)) [
-    | inl (u, more) ↦ rw (t, u) refl
-    | inr (u, lt) ↦ absurd (omega (arith, e, lt))
-  ]
-  | inr (t, lt) ↦ absurd (omega (arith, e, lt))
-]
 
 -- with right numbers at both ends, of a disc that counts on, the capture isn't one run of the disc there
 pub gap_is_cut : (disc : ℕ → Option ℕ) (place : ℕ → ℕ) (numbering : Numbering) (seen : List Sightings)

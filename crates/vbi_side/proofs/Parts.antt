@@ -1,4 +1,5 @@
 -- A field is answered the same from a part of its capture.
+use Rattle.std.proofs.Common.{eq-eqb}
 use Rattle.std.proofs.Common.{◌≡◌, ℕ, zero, suc, ◌+◌, ◌*◌, ◌-◌, ◌%◌, ◌<◌, ◌≤◌, Bool, true, false, List}
 use Rattle.std.proofs.Common.{refl, arith, ap, sym, ◌∙◌, subst, inl, inr}
 use Rattle.std.specs.Prelude.{Option, Some, None, slice_get, if◌then◌else◌, ◌⊎◌, ◌↔◌, nat_le, ◌==◌}
@@ -17,7 +18,7 @@ use Rattle.vbi_side.specs.Due.{slack_of, Leaves, IsLeft, Due}
 use Rattle.vbi_side.specs.Numbers.{due, IsAnswer}
 use Rattle.vbi_side.specs.Parts.{IsPart}
 use Rattle.vbi_side.specs.Truth.{IsNear}
-use Rattle.vbi_side.proofs.DueLemmas.{equal_true, video_nearly}
+use Rattle.vbi_side.proofs.DueLemmas.{video_nearly}
 use Rattle.std.proofs.lemmas.Bool.{and_from}
 use Rattle.vbi_side.proofs.Truth.{video_fits, film_fits, stays_is}
 
@@ -31,8 +32,8 @@ same_truth false false on back = refl
 fits_later : (pace : Pace) (first i m j n : ℕ) → fits pace i m j n ≡ fits pace (first + i) m (first + j) n
 fits_later Video first i m j n =
     same_truth (fits Video i m j n) (fits Video (first + i) m (first + j) n)
-    (λ e. equal_true (first + j + 2 * m) (first + i + 2 * n) (omega (arith, video_fits i m j n e)))
-    (λ e. equal_true (j + 2 * m) (i + 2 * n) (omega (arith, video_fits (first + i) m (first + j) n e)))
+    (λ e. eq-eqb (first + j + 2 * m) (first + i + 2 * n) (omega (arith, video_fits i m j n e)))
+    (λ e. eq-eqb (j + 2 * m) (i + 2 * n) (omega (arith, video_fits (first + i) m (first + j) n e)))
 fits_later Film first i m j n =
     same_truth (fits Film i m j n) (fits Film (first + i) m (first + j) n)
     (λ e. let p = film_fits i m j n e in
@@ -49,11 +50,11 @@ stays_later : (first i m j n : ℕ) → stays i m j n ≡ stays (first + i) m (f
 stays_later first i m j n =
     same_truth (stays i m j n) (stays (first + i) m (first + j) n)
     (λ e. let p = stays_is i m j n e in
-    and_from (n == m) ((first + i + (first + j)) % 2 == 0) (equal_true n m p.0)
-    (equal_true ((first + i + (first + j)) % 2) 0 (omega (arith, p.1))))
+    and_from (n == m) ((first + i + (first + j)) % 2 == 0) (eq-eqb n m p.0)
+    (eq-eqb ((first + i + (first + j)) % 2) 0 (omega (arith, p.1))))
     (λ e. let p = stays_is (first + i) m (first + j) n e in
-    and_from (n == m) ((i + j) % 2 == 0) (equal_true n m p.0)
-    (equal_true ((i + j) % 2) 0 (omega (arith, p.1))))
+    and_from (n == m) ((i + j) % 2 == 0) (eq-eqb n m p.0)
+    (eq-eqb ((i + j) % 2) 0 (omega (arith, p.1))))
 
 -- ---- what is read around a field
 

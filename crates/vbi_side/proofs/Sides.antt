@@ -1,14 +1,14 @@
 -- Which fields a capture lacks, by two believed numbers.
-use Rattle.std.proofs.Common.{◌≡◌, ℕ, zero, suc, ◌+◌, ◌*◌, ◌-◌, ◌<◌, ◌≤◌, Bool, true}
+use Rattle.std.proofs.Common.{◌≡◌, ℕ, zero, suc, ◌+◌, ◌*◌, ◌-◌, ◌<◌, ◌≤◌, true}
 use Rattle.std.proofs.Common.{false, List, arith, subst, inl, inr}
-use Rattle.std.specs.Prelude.{Option, Some, ◌⊎◌, nat_le, not, ◌&&◌}
+use Rattle.std.specs.Prelude.{Option, Some, ◌⊎◌, nat_le}
 use Rattle.std.proofs.lemmas.Bool.Decides.{leb_tells}
 use Rattle.vbi_side.specs.declared.sighting.Sightings.{Sightings}
 use Rattle.vbi_side.specs.declared.pace.Pace.{Pace}
 use Rattle.vbi_side.specs.declared.pace.Pace.TheVariants.{Video, Film}
 use Rattle.vbi_side.specs.Paces.{fits, stays}
 use Rattle.vbi_side.specs.Beliefs.{reach, field_most, window_weight}
-use Rattle.vbi_side.specs.Truth.{IsNear, AreEven, is_recorded, wrong_weight}
+use Rattle.vbi_side.specs.Truth.{IsNear, AreEven, wrong_weight}
 use Rattle.vbi_side.specs.Side.{DiscRuns, DiscCounts, Rises, captured, Lacks, NoneLost, AreLost, IsAnchor}
 use Rattle.vbi_side.proofs.Recorded.{right_once, right_somewhere}
 use Rattle.vbi_side.proofs.Truth.{video_fits, film_fits, stays_is}

@@ -13,7 +13,8 @@ use Rattle.vbi_side.specs.Gaps.{AreNeighbours, IsLast}
 use Rattle.vbi_side.specs.Swaps.{is_stray, IsSwap, AreStrays}
 use Rattle.vbi_side.proofs.Truth.{video_fits}
 use Rattle.vbi_side.proofs.Telling.{neighbours_of}
-use Rattle.vbi_side.proofs.GapLaws.{same_before, same_number, near_same, on_video}
+use Rattle.vbi_side.proofs.GapLaws.{same_before, same_number, on_video}
+use Rattle.vbi_side.proofs.Truth.{near_same}
 
 -- where a number and the one before it don't go on, no swap lies between
 pub none_between : (clock : Clock) (seen : List Sightings) (answers : List Number) (k n : ℕ) (place : Place)

@@ -1,9 +1,9 @@
 -- What was misread and what is true around a field.
 use Rattle.std.proofs.Common.{◌≡◌, ◌≢◌, ℕ, ◌+◌, ◌*◌, ◌-◌, ◌%◌, ◌<◌, ◌≤◌, Bool, true}
-use Rattle.std.proofs.Common.{false, List, refl, arith, ap, sym, ◌∙◌, subst, inl, inr, eq-eqb}
-use Rattle.std.specs.Prelude.{Option, Some, None, slice_get, ◌⊎◌, nat_le, not, ◌&&◌, ◌==◌}
+use Rattle.std.proofs.Common.{false, List, arith, sym, ◌∙◌, subst, inl, inr, eq-eqb}
+use Rattle.std.specs.Prelude.{Option, Some, slice_get, ◌⊎◌, nat_le, not, ◌&&◌, ◌==◌}
 use Rattle.std.proofs.Math.Dec.{eqb}
-use Rattle.std.proofs.lemmas.Bool.{leb-true, eqb-true, and_parts}
+use Rattle.std.proofs.lemmas.Bool.{leb-true, le-leb, eqb-true, and_parts, and_from}
 use Rattle.std.proofs.lemmas.Bool.Decides.{eqb_tells, leb_tells}
 use Rattle.vbi_side.specs.declared.sighting.Sightings.{Sightings}
 use Rattle.vbi_side.specs.declared.pace.Pace.{Pace}
@@ -27,6 +27,11 @@ pub film_fits : (i m j n : ℕ) → fits Film i m j n ≡ true
 film_fits i m j n e =
     let p = and_parts (nat_le (2 * j + 5 * m) (2 * i + 5 * n + 2)) (nat_le (2 * i + 5 * n) (2 * j + 5 * m + 2)) e in
     (leb-true (2 * j + 5 * m) (2 * i + 5 * n + 2) p.0, leb-true (2 * i + 5 * n) (2 * j + 5 * m + 2) p.1)
+
+pub near_same : (x y : ℕ) → x ≡ y → (nat_le x (y + 0) && nat_le y (x + 0)) ≡ true
+near_same x y e =
+    and_from (nat_le x (y + 0)) (nat_le y (x + 0)) (le-leb x (y + 0) (omega (arith, e)))
+    (le-leb y (x + 0) (omega (arith, e)))
 
 -- the fields of a still
 pub stays_is : (i m j n : ℕ) → stays i m j n ≡ true → (n ≡ m) × AreEven i j

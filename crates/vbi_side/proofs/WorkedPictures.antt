@@ -24,7 +24,7 @@ use Rattle.std.proofs.lemmas.Bool.{and_parts}
 use Rattle.vbi_side.proofs.Truth.{complete}
 use Rattle.vbi_side.proofs.Discs.{video_runs, video_has}
 use Rattle.vbi_side.proofs.Whole.{none_misread}
-use Rattle.vbi_side.proofs.GapLaws.{near_same}
+use Rattle.vbi_side.proofs.Truth.{near_same}
 use Rattle.vbi_side.proofs.Telling.{some_is}
 
 -- ---- what the fields show

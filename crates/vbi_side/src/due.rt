@@ -11,9 +11,10 @@ ghost use Rattle.vbi_side.specs.Beliefs.{reach, Believed};
 ghost use Rattle.vbi_side.specs.Due.{slack_of, IsLeft, Due};
 ghost use Rattle.vbi_side.specs.Nearest.{are_whole, IsBefore, IsAfter, NoneBefore, NoneAfter, AllNearly};
 ghost use Rattle.vbi_side.specs.Numbers.{IsMarked};
-ghost use Rattle.vbi_side.specs.Paces.{Count, nearly};
+ghost use Rattle.vbi_side.specs.Paces.{Count};
 
 use crate::belief::REACH;
+use crate::gap::goes_on;
 use crate::number::Number;
 use crate::pace::Pace;
 use crate::place::Place;
@@ -118,41 +119,22 @@ fn slack_of(before: usize, after: usize) -> u64
     if after - before <= CLOSE { 1 } else { 0 }
 }
 
-/// Whether two numbers nearly fit, of fields that are so far after one: of video to within `slack` fields.
-fn nearly(pace: Pace, slack: u64, here: u64, number: u32, there: u64, other: u32) -> bool
-    requires slack { slack ≤ 1 }
-    requires here { here ≤ 2 * reach }
-    requires there { there ≤ 2 * reach }
-    ensures { (first i k : ℕ) → i ≡ first + here → k ≡ first + there → result ≡ nearly pace slack i number k other }
-{
-    let (number, other) = (u64::from(number), u64::from(other));
-    match pace {
-        Pace::Video => {
-            there + 2 * number <= here + 2 * other + slack
-                && here + 2 * other <= there + 2 * number + slack
-        }
-        Pace::Film => {
-            2 * there + 5 * number <= 2 * here + 5 * other + 2
-                && 2 * here + 5 * other <= 2 * there + 5 * number + 2
-        }
-    }
-}
-
 /// Whether no believed number between two places is off from that of one between them.
 fn all_nearly(numbers: &[Number], pace: Pace, before: Place, after: Place, here: Place) -> bool
     requires first { before.field < here.field }
     requires last { here.field < after.field }
-    requires near { after.field ≤ before.field + 2 * reach }
     requires within { after.field < length numbers.now }
     ensures { (result ≡ true) ↔ AllNearly (IsMarked numbers.now) pace (slack_of before.field after.field)
         before.field after.field here.field here.number }
 {
     let slack = slack_of(before.field, after.field);
-    let middle = (here.field - before.field) as u64;
     for field in before.field + 1..after.field {
         let other = numbers[field];
-        let there = (field - before.field) as u64;
-        if other.is_believed() && !nearly(pace, slack, middle, here.number, there, other.number) {
+        let there = Place {
+            field,
+            number: other.number,
+        };
+        if other.is_believed() && !goes_on(pace, slack, here, there) {
             return false;
         }
     }

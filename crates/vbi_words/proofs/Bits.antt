@@ -67,30 +67,30 @@ lowest-push n a b = rw add-one (go n)
 -- ---- the number of a list of bits
 
 -- the number of these bits after those of a
-value_behind : ℕ → List Bool → ℕ
-value_behind a [] = a
-value_behind a (b ∷ bits) = value_behind (2 * a + bit_of b) bits
+value_after : ℕ → List Bool → ℕ
+value_after a [] = a
+value_after a (b ∷ bits) = value_after (2 * a + bit_of b) bits
 
-lowest-value_behind : (n a : ℕ) (bits : List Bool)
-    → lowest_bits (n + length bits) (value_behind a bits) ≡ lowest_bits n a ++ bits
-unfolding value_behind
-lowest-value_behind n a [] = rw (add-zero, append-nil) refl
-lowest-value_behind n a (b ∷ bits) =
+lowest-value_after : (n a : ℕ) (bits : List Bool)
+    → lowest_bits (n + length bits) (value_after a bits) ≡ lowest_bits n a ++ bits
+unfolding value_after
+lowest-value_after n a [] = rw (add-zero, append-nil) refl
+lowest-value_after n a (b ∷ bits) =
     let e : n + suc (length bits) ≡ (n + 1) + length bits = omega arith in
-    ap (λ (k : ℕ). lowest_bits k (value_behind (2 * a + bit_of b) bits)) e
-    ∙ lowest-value_behind (n + 1) (2 * a + bit_of b) bits
+    ap (λ (k : ℕ). lowest_bits k (value_after (2 * a + bit_of b) bits)) e
+    ∙ lowest-value_after (n + 1) (2 * a + bit_of b) bits
     ∙ ap (λ (t : List Bool). t ++ bits) (lowest-push n a b) ∙ append_assoc (lowest_bits n a) (b ∷ []) bits
 
 bit_below : (b : Bool) → bit_of b < 2
 bit_below true = omega arith
 bit_below false = omega arith
 
-value-below : (n a : ℕ) (bits : List Bool) → a < 2 ^ n → value_behind a bits < 2 ^ (n + length bits)
-unfolding value_behind
+value-below : (n a : ℕ) (bits : List Bool) → a < 2 ^ n → value_after a bits < 2 ^ (n + length bits)
+unfolding value_after
 value-below n a [] l = rw add-zero l
 value-below n a (b ∷ bits) l =
     let e : (n + 1) + length bits ≡ n + suc (length bits) = omega arith in
-    subst (λ (k : ℕ). value_behind (2 * a + bit_of b) bits < 2 ^ k) e
+    subst (λ (k : ℕ). value_after (2 * a + bit_of b) bits < 2 ^ k) e
     (value-below (n + 1) (2 * a + bit_of b) bits (omega (arith, l, bit_below b, pow-add 2 n 1)))
 
 -- each list of bits is that of a number
@@ -98,9 +98,9 @@ pub number_of : (bits : List Bool) → (w : ℕ) × (w < 2 ^ length bits) × (lo
 unfolding lowest_bits
 number_of bits =
     let e : 0 + length bits ≡ length bits = zero-add (length bits) in (
-      value_behind 0 bits,
-      subst (λ (k : ℕ). value_behind 0 bits < 2 ^ k) e (value-below 0 0 bits (omega arith)),
-      ap (λ (k : ℕ). lowest_bits k (value_behind 0 bits)) (sym e) ∙ lowest-value_behind 0 0 bits,
+      value_after 0 bits,
+      subst (λ (k : ℕ). value_after 0 bits < 2 ^ k) e (value-below 0 0 bits (omega arith)),
+      ap (λ (k : ℕ). lowest_bits k (value_after 0 bits)) (sym e) ∙ lowest-value_after 0 0 bits,
     )
 
 -- ---- the top bit

@@ -75,8 +75,7 @@ pub all_columns : (system : System) (slicing : Slicing) (word : Option ℕ) (lin
     → take (2 * width_of system) line ≡ first_columns system slicing word (width_of system)
     → line ≡ drawn_line_of system slicing word
 unfolding drawn_line_of drawn_row_of
-all_columns system slicing word line long all =
-    sym (take_all (2 * width_of system) line (omega (arith, line_bytes-twice system))) ∙ all
+all_columns system slicing word line long all = grind (arith, take_all, line_bytes-twice)
 
 -- ---- readings
 

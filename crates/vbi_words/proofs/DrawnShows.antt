@@ -115,28 +115,23 @@ module _ (system : System) (slicing : Slicing) (word : ℕ) (order : slicing.bla
   level_is c l = get_or-map (is_high_of slicing) samples c 0 false (omega (arith, row.whole))
 
   high_there : (c : ℕ) → c < width_of system → IsDrawnHigh system word c → get_or levels c false ≡ true
-  high_there c l d = level_is c l ∙ ap (is_high_of slicing) ((row.each c l).0 d)
-      ∙ lt-ltb (slicing.black + slicing.white) (2 * slicing.white) (omega arith)
+  high_there c l d = grind (arith, level_is, lt-ltb)
 
   low_there : (c : ℕ) → c < width_of system → (IsDrawnHigh system word c → ⊥) → get_or levels c false ≡ false
-  low_there c l d = level_is c l ∙ ap (is_high_of slicing) ((row.each c l).1 d)
-      ∙ le-ltb (slicing.black + slicing.white) (2 * slicing.black) (omega arith)
+  low_there c l d = grind (arith, level_is, le-ltb)
 
   -- a column lies in one half cell alone
   one_half : (i j c : ℕ) → edge i ≤ c → c < edge (i + 1) → edge j ≤ c → c < edge (j + 1) → i ≡ j
   one_half i j c low high low' high' = grind arith
 
   in_half : (j c : ℕ) → j < 48 → edge j ≤ c → c < edge (j + 1) → (h : Bool) → half j ≡ h → get_or levels c false ≡ h
-  in_half j c l low high true e =
-      high_there c (omega (arith, ends_inside system (j + 1) (omega arith))) (j, l, low, high, e)
+  in_half j c l low high true e = grind (arith, high_there, ends_inside)
   in_half j c l low high false e = grind (arith, low_there, ends_inside, one_half)
 
   -- no half cell is before the first boundary, or after the last
   outside : (c : ℕ) → c < width_of system → (c < edge 0) ⊎ (edge 48 ≤ c) → get_or levels c false ≡ false
-  outside c l (inl before) =
-      low_there c l (λ (j, m, below, above, t). omega (arith, ordered system 0 j (omega arith)))
-  outside c l (inr behind) =
-      low_there c l (λ (j, m, below, above, t). omega (arith, ordered system (j + 1) 48 (omega arith)))
+  outside c l (inl before) = grind (arith, low_there, ordered)
+  outside c l (inr behind) = grind (arith, low_there, ordered)
 
   -- the lows before the word
   front : levels ≡ replicate (edge 0) false ++ drop (edge 0) levels

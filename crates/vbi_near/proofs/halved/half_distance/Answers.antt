@@ -6,7 +6,8 @@ use Rattle.vbi_near.specs.Costs.{half_cost}
 use Rattle.vbi_near.specs.Halved.{half_of}
 use Rattle.vbi_near.specs.Rows.{shades_of}
 use Rattle.vbi_near.proofs.Columns.{column-first, column-next}
-use Rattle.vbi_near.proofs.HalvedRows.{half-long, half-costs, all-costs}
+use Rattle.vbi_near.proofs.Costs.{half-costs}
+use Rattle.vbi_near.proofs.HalvedRows.{half-long, all-costs}
 use Rattle.vbi_near.proofs.Stretches.{none-yet, cost-more}
 use Rattle.vbi_near.proofs.halved.half_distance.Goals as goal
 

@@ -4,7 +4,7 @@ use Rattle.vbi_near.specs.Distances.{Shades, shade}
 use Rattle.vbi_near.specs.Sums.{total_in}
 use Rattle.vbi_near.specs.Stretched.{stretched_cost}
 use Rattle.vbi_near.specs.Rows.{shades_of}
-use Rattle.vbi_near.proofs.CutShort.{many-halves}
+use Rattle.vbi_near.proofs.Costs.{many-halves}
 use Rattle.vbi_near.proofs.Stretches.{none-yet, cost-more, half-read, all-halves}
 use Rattle.vbi_near.proofs.stretched.word_costs.Goals as goal
 

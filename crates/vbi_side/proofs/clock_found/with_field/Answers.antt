@@ -1,4 +1,4 @@
-use Rattle.std.proofs.Common.{◌≡◌, ◌+◌, refl, sym, subst}
+use Rattle.std.proofs.Common.{◌+◌, refl, sym, subst}
 use Rattle.vbi_side.specs.ClocksFound.{ArePairs}
 use Rattle.vbi_side.proofs.Pairing.{no_pair, one_pair}
 use Rattle.vbi_side.proofs.clock_found.with_field.Goals as goal

@@ -3,19 +3,9 @@ use Rattle.std.specs.Prelude.{unwrap_or}
 use Rattle.vbi_side.specs.Nearest.{AllNearly}
 use Rattle.vbi_side.specs.Due.{slack_of, IsLeft}
 use Rattle.vbi_side.specs.Numbers.{IsMarked}
-use Rattle.vbi_side.proofs.Around.{no_before, no_after, nothing_there, none_some, left_counts, left_nearly}
+use Rattle.vbi_side.proofs.Around.{nothing_there, none_some, left_counts, left_nearly}
 use Rattle.vbi_side.proofs.Around.{nearest_leave, not_both}
 use Rattle.vbi_side.proofs.due.left_around.Goals as goal
-
-pub returns-in_err-before : goal.returns-in_err-before
-returns-in_err-before c n =
-    nothing_there c.from_residual.result n c.from_residual.ensures
-    (no_before c.args.numbers.now c.args.pace c.args.field n (c.before-2.ensures.none c.in_err-before.was))
-
-pub returns-in_err-after : goal.returns-in_err-after
-returns-in_err-after c n =
-    nothing_there c.from_residual-in_err-after.result n c.from_residual-in_err-after.ensures
-    (no_after c.args.numbers.now c.args.pace c.args.field n (c.after.ensures.none c.in_err-after.was))
 
 pub returns-in_err-number : goal.returns-in_err-number
 returns-in_err-number c n =
