@@ -7,8 +7,8 @@ usage: seeks.py KIND [FROM TO [EACH]]     the seeds FROM to TO - 1 (0 to 99), EA
 KIND is `clean`: any lead-in, pictures and lead-out, every line read; or `noise`: the same of 1,000 pictures at most,
 with noise whose deviation is 35 % of white - black on each line with a word; or a kind of PLAYED in
 simulated_kinds.py, as `worn`, or `skips`, CLV sides whose minutes are mostly unread; or `all`, the kinds of KINDS in
-turn. A side is a file
-with holes in TMPDIR. LDVBI_LIBRARY names another library. A line of totals is printed for each layout."""
+turn. A side is a file with holes in TMPDIR. LDVBI_LIBRARY names another library. A line of totals is printed for each
+layout."""
 
 import array
 import collections

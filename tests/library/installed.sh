@@ -113,7 +113,7 @@ if [ $from = rust ]; then
 fi
 check 'its record has the hash of each file' does /usr/bin/python3 -m wheel unpack -d unpacked wheels/$wheel
 
-# The lines of LIBRARY.md, of somebody at home: the library alone, then the commands and Python
+# The lines of LIBRARY.md, for one user without root: the library alone, then the commands and Python
 # by_lines PATTERN WANTED COMMAND: whether the two lines of LIBRARY.md from this pattern on, and then this, print that
 by_lines() {
     sed -n "$1" "$top/docs/LIBRARY.md" > lines.sh
