@@ -1,11 +1,15 @@
 -- The best bits of one cell more.
-use Rattle.std.proofs.Common.{◌≡◌, ◌≢◌, ℕ, suc, ◌≤◌, ◌<◌, ◌+◌, ◌-◌, ◌*◌, ◌/◌, ◌%◌, ◌^◌, Bool, true, false, not, ◌⊎◌}
-use Rattle.std.proofs.Common.{inl, inr, refl, arith, ap, sym, subst, add-one, eqb, eq-eqb, ne_eqb, pow-suc, min}
+use Rattle.std.proofs.Common.{◌≡◌, ◌≢◌, ℕ, ◌≤◌, ◌<◌, ◌+◌, ◌^◌, ◌⊎◌, inl, inr, arith, ap, ◌∙◌, suc, ◌-◌, ◌*◌, ◌/◌, ◌%◌}
+use Rattle.std.proofs.Common.{Bool, true, false, not, add-one, eqb, eq-eqb, ne_eqb, pow-suc, min}
 use Rattle.std.proofs.Math.Nat.{min-eq_left, min-eq_right}
+use Rattle.vbi_words.specs.Words.{IsWord}
+use Rattle.vbi_words.specs.declared.system.System.{System}
 use Rattle.vbi_words.proofs.Bits.{bit_of}
+use Rattle.vbi_near.specs.Best.{IsFound, IsBest, HasOther, IsBits}
 use Rattle.vbi_near.specs.declared.bits.Bits.{Bits}
-use Rattle.vbi_near.specs.Costs.{bits_cost}
-use Rattle.vbi_near.specs.Best.{IsBits, HasOther, IsBest}
+use Rattle.vbi_near.specs.Distances.{Shades}
+use Rattle.vbi_near.specs.Rows.{around_cost}
+use Rattle.vbi_near.specs.Costs.{cell_cost, bits_cost, place_cost}
 
 -- the least of two is one of them
 pub min_is : (a b : ℕ) → ((min a b ≡ a) × (a ≤ b)) ⊎ ((min a b ≡ b) × (b < a))
@@ -16,10 +20,10 @@ abbrev pub last_of : ℕ → Bool
 last_of v = eqb (v % 2) 1
 
 half-joined : (a : ℕ) (b : Bool) → (2 * a + bit_of b) / 2 ≡ a
-half-joined a x2 = grind arith
+half-joined a b = grind arith
 
 last-joined : (a : ℕ) (b : Bool) → last_of (2 * a + bit_of b) ≡ b
-last-joined a x2 = grind (arith, eq-eqb, ne_eqb)
+last-joined a b = grind (arith, eq-eqb, ne_eqb)
 
 joined-again : (v : ℕ) → v ≡ 2 * (v / 2) + bit_of (last_of v)
 joined-again v = grind (arith, bit_of)
@@ -37,13 +41,13 @@ IsBits-joined n a true (low, high) = omega (arith, twice)
 IsBits-joined n a false (low, high) = omega (arith, twice)
 
 IsBits-half : (n v : ℕ) → IsBits (suc n) v → IsBits n (v / 2)
-IsBits-half n v h1 = grind (arith, twice)
+IsBits-half n v bits = grind (arith, twice)
 
 other_bit : (a b : Bool) → (a ≡ b) ⊎ (a ≡ not b)
-other_bit x1 x2 = grind arith
+other_bit a b = grind arith
 
 not_same : (b : Bool) → bit_of (not b) ≢ bit_of b
-not_same x1 e = grind arith
+not_same b e = grind arith
 
 pub joined-cost : (cost : ℕ → Bool → ℕ) (m a : ℕ) (b : Bool)
     → bits_cost cost (suc m) (2 * a + bit_of b) ≡ bits_cost cost m a + cost m b
@@ -68,9 +72,9 @@ module _ (cost : ℕ → Bool → ℕ) (n : ℕ) (best : Bits) (is : IsBest cost
   floor : (a : ℕ) → IsBits n a → best.distance ≤ bits_cost cost (suc n) a
   floor a bits = grind arith
 
-  behind : (v a : ℕ) (b : Bool) → v ≡ 2 * a + bit_of b → IsBits n a → v ≢ chosen.word
+  farther : (v a : ℕ) (b : Bool) → v ≡ 2 * a + bit_of b → IsBits n a → v ≢ chosen.word
       → chosen.distance + chosen.margin ≤ bits_cost cost (suc (suc n)) v
-  behind v a b e bits differs = grind (arith, bit_of, joined-cost, least, other_bit)
+  farther v a b e bits differs = grind (arith, bit_of, joined-cost, least, other_bit)
 
   -- bits that cost as little are no less
   earliest : (v a : ℕ) (b : Bool) → v ≡ 2 * a + bit_of b → IsBits n a
@@ -111,7 +115,7 @@ module _ (cost : ℕ → Bool → ℕ) (n : ℕ) (best : Bits) (is : IsBest cost
   with_cell_is = record {
     word = IsBits-joined n best.word bit is.word;
     exact = omega (arith, joined-cost cost (suc n) best.word bit, is.exact, cheap);
-    ahead = λ v bits differs. behind v (v / 2) (last_of v) (joined-again v) (IsBits-half n v bits) differs;
+    ahead = λ v bits differs. farther v (v / 2) (last_of v) (joined-again v) (IsBits-half n v bits) differs;
     first = λ v bits same. earliest v (v / 2) (last_of v) (joined-again v) (IsBits-half n v bits) same;
     other = inr (another is.other);
   }
@@ -127,3 +131,47 @@ pub first_is : (cost : ℕ → Bool → ℕ) (distance margin : ℕ) → distanc
     → IsBest cost 0 (record { word = 1; distance = distance; margin = margin })
 unfolding bits_cost
 first_is cost distance margin e wide = grind arith
+
+-- ---- the nearest word that begins at one column
+
+module _ (sums : Shades) (system : System) (start : ℕ) (best : Bits)
+    (is : IsBest (cell_cost sums system start) 23 best) (around : ℕ)
+    (are : around ≡ around_cost sums system start) where
+  here : (w : ℕ)
+      → place_cost sums system start w ≡ bits_cost (cell_cost sums system start) 24 w + around
+  unfolding place_cost
+  here w = omega (arith, are)
+
+  there : (s w : ℕ) → start ≤ s → s < start + 1
+      → place_cost sums system s w ≡ bits_cost (cell_cost sums system start) 24 w + around
+  there s w from before =
+      let e : s ≡ start = omega arith in
+      ap (λ (k : ℕ). place_cost sums system k w) e ∙ here w
+
+  cheapest : (w : ℕ) → IsWord w → best.distance ≤ bits_cost (cell_cost sums system start) 24 w
+  cheapest w word = grind arith
+
+  pub found_at_is : IsFound (place_cost sums system) start (start + 1) (record {
+    word = best.word;
+    start = start;
+    distance = best.distance + around;
+    rival = best.distance + around + best.margin;
+  })
+  found_at_is = record {
+    word = is.word;
+    from = omega arith;
+    before = omega arith;
+    exact = omega (arith, here best.word, is.exact);
+    least = λ s w from before word. omega (arith, there s w from before, cheapest w word);
+    rival = λ s w from before word other. omega (arith, there s w from before, is.ahead w word other);
+    first = λ s w from before word same.
+        inr (omega arith, is.first w word (omega (arith, there s w from before, same)));
+    other = another is.other;
+  }
+    where
+      another : ((◌≡◌ {A = ℕ} 23 0) × (2 ^ 26 ≤ best.margin)) ⊎ HasOther (cell_cost sums system start) 23 best
+          → (s : ℕ) × (w : ℕ) × (start ≤ s) × (s < start + 1) × IsWord w × (w ≢ best.word)
+          × (place_cost sums system s w ≡ best.distance + around + best.margin)
+      another (inl (e, wide)) = absurd (omega (arith, e))
+      another (inr (small, (v, bits, differs, costs))) =
+          (start, v, omega arith, omega arith, bits, differs, omega (arith, here v, costs))

@@ -25,7 +25,7 @@ use Rattle.vbi_near.specs.Rows.{shades_of, word_cost_by, code_cost_by, IsRowOf, 
 use Rattle.vbi_near.proofs.Columns.{word-fits, starts-few}
 use Rattle.vbi_near.proofs.Costs.{blank-cost, word-cost}
 use Rattle.vbi_near.proofs.CutShort.{length-shorter, least_shorter}
-use Rattle.vbi_near.proofs.OneCellMore.{length-longer, least_longer}
+use Rattle.vbi_near.proofs.Beside.{length-longer, least_longer}
 use Rattle.vbi_near.proofs.Piles.{far-same, row-same}
 use Rattle.vbi_near.proofs.Priced.{code-word}
 
@@ -57,7 +57,7 @@ code-is_word (words ∷ ranges) w (inr one) = code-is_word ranges w one
 
 pub code-place : (ranges : List Range) (system : System) (word : Option ℕ) (start : ℕ)
     → IsCodePlace ranges system word start → IsPlace system word start
-code-place ranges system x3 start place = grind (arith, code-is_word)
+code-place ranges system word start place = grind (arith, code-is_word)
 
 pub code-places : (ranges : List Range) (system : System)
     → ArePlaces system (IsOneOf ranges) (IsCodePlace ranges system)
@@ -66,7 +66,7 @@ code-places ranges system = grind (arith, code-place)
 module _ (system : System) (IsOne : ℕ → Type 0) (IsThere : Option ℕ → ℕ → Type 0)
     (are : ArePlaces system IsOne IsThere) where
   looked : (word : Option ℕ) (s : ℕ) → IsThere word s → all_of IsOne system s (number word)
-  looked x1 s there = grind arith
+  looked word s there = grind arith
 
   placed : (s w : ℕ) → all_of IsOne system s w → (word : Option ℕ) × IsThere word s × (number word ≡ w)
   placed s w (inl (e, none)) = (None, subst (IsThere None) (sym e) are.none, sym none)
@@ -74,7 +74,7 @@ module _ (system : System) (IsOne : ℕ → Type 0) (IsThere : Option ℕ → �
 
   one-number : (word other : Option ℕ) (s t : ℕ) → IsThere word s → IsThere other t
       → number word ≡ number other → word ≡ other
-  one-number x1 x2 s t here there e = grind arith
+  one-number word other s t here there e = grind arith
 
   precedes : (word other : Option ℕ) (s t at v : ℕ) → IsThere word s → IsThere other t → s ≡ at → number word ≡ v
       → IsBefore at v t (number other) → Precedes word s other t

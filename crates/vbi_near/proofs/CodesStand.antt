@@ -149,16 +149,16 @@ module _ (system : System) (w : ℕ) (is : IsWord w) where
       go (inr more) = inr (inr (inl (is, clv-in_25 w x more few)))
 
   stop_16 : (system : System) → IsBetween 0x82CFFF 0x82CFFF w → IsOneOf (codes_of_16 system) w
-  stop_16 x1 x = grind arith
+  stop_16 system x = grind arith
 
   cx_on_16 : (system : System) → IsBetween 0x8DC000 0x8DCFFF w → IsOneOf (codes_of_16 system) w
-  cx_on_16 x1 x = grind arith
+  cx_on_16 system x = grind arith
 
   cx_off_16 : (system : System) → IsBetween 0x8BA000 0x8BAFFF w → IsOneOf (codes_of_16 system) w
-  cx_off_16 x1 x = grind arith
+  cx_off_16 system x = grind arith
 
   users_16 : (system : System) → IsBetween 0x80D000 0x87DFFF w → IsOneOf (codes_of_16 system) w
-  users_16 x1 x = grind arith
+  users_16 system x = grind arith
 
   -- what may stand on line 16 is in its table
   in_16 : (code : Code) → Matched w (patterns_of w) code → IsTrue (may_stand system 16 code)

@@ -8,31 +8,30 @@ use Rattle.std.proofs.Math.ListN.{replicate}
 use Rattle.vbi_words.specs.Words.{lowest_bits, cell_of, halves_of}
 use Rattle.vbi_words.proofs.Bits.{length-lowest_bits}
 use Rattle.vbi_words.specs.declared.system.System.{System}
-use Rattle.vbi_words.specs.declared.system.System.TheVariants.{Ntsc, Pal}
 use Rattle.vbi_words.specs.Geometry.{width_of}
 use Rattle.vbi_near.specs.Pictures.{column_of, half_length, word_length, starts, drawn_halves, picture_of, IsPlace}
 
 pub column-first : (system : System) (start : ℕ) → column_of system start 0 ≡ start
-column-first x1 start = grind arith
+column-first system start = grind arith
 
 pub column-next : (system : System) (start j : ℕ)
     → column_of system start j + half_length system j ≡ column_of system start (suc j)
-column-next x1 start j = grind arith
+column-next system start j = grind arith
 
 pub column-last : (system : System) (start j : ℕ) → j ≤ 48 → column_of system start j ≤ start + word_length system
-column-last x1 start j l = grind arith
+column-last system start j l = grind arith
 
 pub column-rises : (system : System) (start j k : ℕ) → j ≤ k → column_of system start j ≤ column_of system start k
-column-rises x1 start j k l = grind arith
+column-rises system start j k l = grind arith
 
 pub width-few : (system : System) → width_of system ≤ 1135
-width-few x1 = grind arith
+width-few system = grind arith
 
 pub starts-few : (system : System) → starts system ≤ 285
-starts-few x1 = grind arith
+starts-few system = grind arith
 
 pub word-fits : (system : System) → word_length system ≤ width_of system
-word-fits x1 = grind arith
+word-fits system = grind arith
 
 pub column-drawn : (system : System) (start j : ℕ) (halves : List Bool)
     → column_of system start j + length (drawn_halves system j halves) ≡ column_of system start (j + length halves)

@@ -1,7 +1,6 @@
 -- Adding one line more.
 use Rattle.std.proofs.Common.{◌≡◌, ℕ, suc, zero, ◌≤◌, ◌<◌, ◌+◌, ◌*◌, List, [], ◌∷◌, Bool, true, false, length, ◌++◌}
 use Rattle.std.proofs.Common.{get_or, arith, ap, sym, ◌∙◌, refl, cond}
-use Rattle.std.proofs.Math.Nat.{min-le_right}
 use Rattle.std.proofs.Math.ListN.{replicate, take}
 use Rattle.std.proofs.lemmas.List.{length-take-le, length-replicate, take-replicate}
 use Rattle.std.proofs.lemmas.List.Elements.{All-append}
@@ -115,10 +114,10 @@ line-samples Pal bytes e = length-samples_of bytes 1135 (omega (arith, e))
 pub record IsAdded (bytes : List ℕ) (erased : List Bool) (most level : ℕ) (costs new : List ℕ) (i : ℕ) : Type 0 where
   pub below : (k : ℕ) → k < i
       → get_or new k 0 ≡ get_or costs k 0 + kept most (get_or erased k false) (sample_at bytes k) level
-  pub behind : (k : ℕ) → i ≤ k → get_or new k 0 ≡ get_or costs k 0
+  pub after : (k : ℕ) → i ≤ k → get_or new k 0 ≡ get_or costs k 0
 
 kept-few : (most : ℕ) (erased : Bool) (sample level : ℕ) → kept most erased sample level ≤ most
-kept-few most x2 sample level = grind arith
+kept-few most erased sample level = grind arith
 
 -- no column costs more than what a sample can be off
 pub added-few : (bytes : List ℕ) (erased : List Bool) (most level : ℕ) (costs new : List ℕ) (i : ℕ) → most ≤ 65535

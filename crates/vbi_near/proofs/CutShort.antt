@@ -1,25 +1,21 @@
 -- The distance of rows on which a word begins later or ends earlier.
-use Rattle.std.proofs.Common.{◌≡◌, ℕ, suc, zero, ◌≤◌, ◌+◌, ◌-◌, ◌*◌, ◌/◌, ◌^◌, List, [], ◌∷◌, ◌++◌, Bool, false, not}
-use Rattle.std.proofs.Common.{nat_eq, ◌%◌, length, take, drop, min, ◌⊎◌, inl, inr, refl, arith, ap, sym, ◌∙◌, shr-shr}
+use Rattle.std.proofs.Common.{◌≡◌, ℕ, suc, zero, ◌≤◌, ◌+◌, ◌-◌, ◌*◌, ◌/◌, ◌^◌, List, ◌++◌, Bool, false, not, nat_eq}
+use Rattle.std.proofs.Common.{◌%◌, length, min, ◌⊎◌, inl, inr, refl, arith, ap, sym, ◌∙◌, shr-shr}
 use Rattle.std.proofs.Math.ListN.{replicate}
-use Rattle.std.proofs.Math.Nat.{min-le_left, min-le_right}
 use Rattle.vbi_words.specs.declared.system.System.{System}
 use Rattle.vbi_words.specs.Geometry.{width_of}
 use Rattle.vbi_words.specs.Words.{lowest_bits, halves_of}
 use Rattle.vbi_near.specs.declared.found.Found.{Found}
-use Rattle.vbi_near.specs.Pictures.{column_of, half_length, word_length, picture_of}
+use Rattle.vbi_near.specs.Pictures.{column_of, half_length, word_length}
 use Rattle.vbi_near.specs.Distances.{Shades, distance_from}
-use Rattle.vbi_near.specs.Sums.{span, AreBoth}
+use Rattle.vbi_near.specs.Sums.{AreBoth}
 use Rattle.vbi_near.specs.Costs.{half_cost, cell_cost, bits_cost, place_cost}
-use Rattle.vbi_near.specs.Shorter.{begun_later, ended_earlier, row_of_halves, IsCutShort, bit_in_cell, IsWithoutCell}
-use Rattle.vbi_near.specs.Shorter.{IsShorterFound}
+use Rattle.vbi_near.specs.Shorter.{begun_later, ended_earlier, row_of_halves, IsCutShort, bit_in_cell, IsShorterFound}
 use Rattle.vbi_near.specs.Longer.{IsLeastRow}
 use Rattle.vbi_near.specs.Stretched.{halves_cost}
-use Rattle.vbi_near.specs.Halved.{row_cost}
 use Rattle.vbi_near.proofs.BestBits.{min_is}
 use Rattle.vbi_near.proofs.Columns.{column-first, column-next}
-use Rattle.vbi_near.proofs.Costs.{row-cost, word-row}
-use Rattle.vbi_near.proofs.Halves.{drawn-with, halves_cost-append, row-far, row-long}
+use Rattle.vbi_near.proofs.Costs.{row-cost, word-row, drawn-with, row-long}
 
 -- ---- half cells
 

@@ -47,11 +47,11 @@ words_later system s t v w one two differ later =
     let b = word_bits w two.0 in
     let x : List Bool = bits_levels system 0 (true ∷ a.1.0) ++ replicate (late + room) false in
     let y : List Bool = replicate late false ++ (bits_levels system 0 (true ∷ b.1.0) ++ replicate room false) in
-    let behind : width_of system - (s + word_length system) ≡ late + room = omega (arith, two.1, later) in
+    let remains : width_of system - (s + word_length system) ≡ late + room = omega (arith, two.1, later) in
     let before : t ≡ s + late = omega (arith, later) in
     let p : picture_of system (Some v) s ≡ replicate s false ++ x
     = ap₂ (λ (bits : List Bool) (n : ℕ). replicate s false ++ (bits_levels system 0 bits ++ replicate n false)) a.1.1
-    behind in
+    remains in
     let word : List Bool = bits_levels system 0 (true ∷ b.1.0) ++ replicate room false in
     let q : picture_of system (Some w) t ≡ replicate s false ++ y
     = ap₂ (λ (bits : List Bool) (n : ℕ). replicate n false ++ (bits_levels system 0 bits ++ replicate room false)) b.1.1
@@ -116,7 +116,7 @@ one_differs : (slicing : Slicing) (sample : ℕ) (b c : Bool)
     → differs b c * (slicing.white - slicing.black)
     ≤ min (abs_diff sample (sample_of slicing b)) (unit_of slicing)
     + min (abs_diff sample (sample_of slicing c)) (unit_of slicing)
-one_differs slicing sample x3 x4 = grind arith
+one_differs slicing sample b c = grind arith
 
 triangle : (slicing : Slicing) (line : List ℕ) (x y : List Bool) → length line ≡ length x → length line ≡ length y
     → differences x y * (slicing.white - slicing.black)
@@ -173,7 +173,7 @@ rows slicing (p ∷ x) (q ∷ y) a =
 
     one : (b c : Bool) → differs b c * (slicing.white - slicing.black)
         ≤ min (abs_diff (sample_of slicing b) (sample_of slicing c)) (unit_of slicing)
-    one x1 x2 = grind arith
+    one b c = grind arith
 
 pub rows_apart : (system : System) (slicing : Slicing) (one other : Option ℕ) (s t : ℕ) → IsPlace system one s
     → IsPlace system other t → one ≢ other

@@ -1,6 +1,6 @@
 -- The rows on which half of a word is black: their half cells, and how far lines are from them.
-use Rattle.std.proofs.Common.{◌≡◌, ℕ, suc, ◌≤◌, ◌<◌, ◌+◌, ◌-◌, List, ◌++◌, Bool, true, false, length, take, drop, min}
-use Rattle.std.proofs.Common.{refl, arith, ap, sym, ◌∙◌, Option, get_or}
+use Rattle.std.proofs.Common.{◌≡◌, ℕ, ◌≤◌, ◌<◌, ◌+◌, ◌-◌, List, Bool, true, false, length, take, drop, min, refl, arith}
+use Rattle.std.proofs.Common.{ap, sym, ◌∙◌, Option, get_or}
 use Rattle.std.proofs.Math.ListN.{replicate}
 use Rattle.std.proofs.lemmas.List.{get_or_append_left, get_or-append_right, get_or-replicate, get_or-drop, get_or-take}
 use Rattle.std.proofs.lemmas.List.{length-replicate, take_all}
@@ -10,24 +10,21 @@ use Rattle.vbi_words.specs.Geometry.{width_of}
 use Rattle.vbi_words.specs.Levels.{Slicing}
 use Rattle.vbi_words.specs.Words.{lowest_bits, halves_of}
 use Rattle.vbi_near.specs.declared.near.Near.{Near}
-use Rattle.vbi_near.specs.Pictures.{IsPlace, column_of, half_length, word_length, drawn_as}
-use Rattle.vbi_near.specs.Sums.{span, AreBoth}
-use Rattle.vbi_near.specs.Costs.{half_cost}
+use Rattle.vbi_near.specs.Pictures.{IsPlace, word_length, drawn_as}
+use Rattle.vbi_near.specs.Sums.{AreBoth}
 use Rattle.vbi_near.specs.Stretched.{halves_cost}
-use Rattle.vbi_near.specs.Distances.{Samples, unit_of, distance_of, Shades, distance_from, IsPile}
+use Rattle.vbi_near.specs.Distances.{Samples, unit_of, distance_of, Shades, IsPile}
 use Rattle.vbi_near.specs.Shorter.{row_of_halves}
 use Rattle.vbi_near.specs.Halved.{half_of, halved_far, row_cost, halved_cost}
-use Rattle.vbi_near.proofs.Columns.{column-first, column-next}
-use Rattle.vbi_near.proofs.Halves.{drawn-with, row-far}
+use Rattle.vbi_near.proofs.Costs.{row-cost}
 use Rattle.vbi_near.proofs.Piles.{levels-same}
 use Rattle.vbi_near.proofs.CutShort.{row-wide}
-use Rattle.vbi_near.proofs.Costs.{row-cost}
 
 -- ---- half cells
 
 pub half-long : (late : Bool) (w : ℕ) → length (half_of late w) ≡ 48
 unfolding lowest_bits
-half-long x1 w = grind arith
+half-long late w = grind arith
 
 pub late-low : (w h : ℕ) → h < 24 → get_or (half_of true w) h false ≡ false
 late-low w h l = grind (arith, get_or_append_left, replicate, length-replicate, get_or-replicate)
@@ -54,7 +51,7 @@ early-low w h l less =
 
 pub below_half : (late : Bool) (w h : ℕ) → h < 24
     → get_or (half_of late w) h false ≡ (not late && get_or (halves_of w) h false)
-below_half x1 w h l = grind (arith, late-low, early-shown)
+below_half late w h l = grind (arith, late-low, early-shown)
 
 pub from_half : (late : Bool) (w h : ℕ) → 24 ≤ h → h < 48
     → get_or (half_of late w) h false ≡ (late && get_or (halves_of w) h false)

@@ -83,12 +83,12 @@ half_least Ntsc = 14
 half_least Pal = 17
 
 half-long : (system : System) (j : ℕ) → half_least system ≤ half_length system j
-half-long x1 j = grind arith
+half-long system j = grind arith
 
 -- a cell has so many columns, or one more
 pub cell-long : (system : System) (j : ℕ)
     → (picture_distance system ≤ cell_columns system j) × (cell_columns system j ≤ picture_distance system + 1)
-cell-long x1 j = grind arith
+cell-long system j = grind arith
 
 -- one half cell of a cell is high
 pub cell-high : (system : System) (j : ℕ) (bit : Bool) → half_least system ≤ highs (cell_levels system j bit)
@@ -98,7 +98,7 @@ cell-high system j false = grind (arith, highs-append, replicate, highs-run, hal
 -- the first cell, which is a one, and one half cell more are high in as many columns as a cell has
 pub first-high : (system : System)
     → picture_distance system ≤ highs (cell_levels system 0 true) + half_least system
-first-high x1 = grind arith
+first-high system = grind arith
 
 pub bits-high : (system : System) (bits : List Bool) → 0 < length bits
     → picture_distance system ≤ highs (bits_levels system 0 (true ∷ bits))

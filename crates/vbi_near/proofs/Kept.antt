@@ -1,5 +1,5 @@
 -- A line that has a word of pass 1, or is blank, is shown as it was read.
-use Rattle.std.proofs.Common.{◌≡◌, ℕ, Bool, true, false, refl, arith}
+use Rattle.std.proofs.Common.{◌≡◌, ℕ, Bool, false, refl, arith}
 use Rattle.std.specs.Prelude.{if◌then◌else◌}
 use Rattle.vbi_words.specs.declared.outcome.Outcome.{Outcome}
 use Rattle.vbi_words.specs.declared.outcome.Outcome.TheVariants.{Word, Blank, Unfinished, Change, Hold}
@@ -28,7 +28,7 @@ sure-closed (Hold c) pass one = absurd one
 
 -- the other is taken where it doesn't hold
 when-not : (b : Bool) (x y : Recovered) → b ≡ false → (if b then x else y) ≡ y
-when-not x1 x y closed = grind arith
+when-not b x y closed = grind arith
 
 -- however it stands to another, it is shown as it was read
 pub sure-shown : (stands : Stands) (unit : ℕ) (seen : Seen) (both : Candidates) (reading : Reading)

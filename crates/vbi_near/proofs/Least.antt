@@ -1,6 +1,6 @@
 -- The least of some numbers, where it can be told which of them count.
-use Rattle.std.proofs.Common.{◌≡◌, ℕ, zero, suc, ◌≤◌, ◌<◌, ◌⊎◌, inl, inr, ap, subst, arith}
-use Rattle.std.proofs.lemmas.Bool.{cases_eq, cases_lt}
+use Rattle.std.proofs.Common.{◌≡◌, ℕ, zero, suc, ◌≤◌, ◌<◌, ◌⊎◌, inl, inr, arith}
+use Rattle.std.proofs.lemmas.Bool.{cases_lt}
 
 -- of the numbers up to n of which P holds, the first of those at which f is least
 pub record Least (f : ℕ → ℕ) (P : ℕ → Type 0) (n : ℕ) : Type 0 where
@@ -16,7 +16,7 @@ module _ (f : ℕ → ℕ) (P : ℕ → Type 0) (tells : (k : ℕ) → P k ⊎ (
   find zero = go (tells 0)
     where
       go : P 0 ⊎ (P 0 → ⊥) → Least f P 0 ⊎ ((k : ℕ) → k ≤ 0 → P k → ⊥)
-      go x1 = grind arith
+      go either = grind arith
   find (suc n) = go (find n) (tells (suc n))
     where
       below : (k : ℕ) → k ≤ suc n → (k ≡ suc n) ⊎ (k ≤ n)
@@ -51,7 +51,7 @@ IsTold P = P ⊎ (P → ⊥)
 
 -- of two facts, of one of them, and of what is not so
 pub both_told : (P Q : Type 0) → IsTold P → IsTold Q → IsTold (P × Q)
-both_told P Q x3 told = grind arith
+both_told P Q told_too told = grind arith
 
 pub either_told : (P Q : Type 0) → IsTold P → IsTold Q → IsTold (P ⊎ Q)
 either_told P Q (inl p) told = inl (inl p)
@@ -68,4 +68,4 @@ all_told P told zero = inl (λ k l. absurd (omega arith))
 all_told P told (suc n) = go (all_told P told n) (told n)
   where
     go : IsTold ((k : ℕ) → k < n → P k) → IsTold (P n) → IsTold ((k : ℕ) → k < suc n → P k)
-    go x1 any = grind arith
+    go told any = grind arith

@@ -1,6 +1,5 @@
 -- The least distance at some rates and starts, from one to all.
-use Rattle.std.proofs.Common.{◌≡◌, ℕ, suc, ◌≤◌, ◌<◌, ◌+◌, List, length, min, arith, ap, sym, ◌∙◌, ◌⊎◌, inl, inr, refl}
-use Rattle.std.proofs.Math.Nat.{min-le_left, min-le_right}
+use Rattle.std.proofs.Common.{◌≡◌, ℕ, suc, ◌≤◌, ◌<◌, ◌+◌, List, length, min, arith, ap, sym, ◌∙◌, ◌⊎◌, inl, inr}
 use Rattle.std.proofs.lemmas.Bool.{cases_lt}
 use Rattle.vbi_words.specs.declared.system.System.{System}
 use Rattle.vbi_words.specs.Geometry.{width_of}
@@ -12,8 +11,7 @@ use Rattle.vbi_near.specs.Stretched.{stretched_offset, stretched_half, stretched
 use Rattle.vbi_near.specs.Stretched.{stretched_row_cost, IsLeastAt, IsStretched, IsAtRate, IsStartBefore, IsRateBefore}
 use Rattle.vbi_near.specs.Sums.{AreBoth}
 use Rattle.vbi_near.proofs.BestBits.{min_is}
-use Rattle.vbi_near.proofs.Costs.{many-halves}
-use Rattle.vbi_near.proofs.Halves.{row-far, row-long}
+use Rattle.vbi_near.proofs.Costs.{many-halves, row-far, row-long}
 use Rattle.vbi_near.proofs.Piles.{levels-same}
 use Rattle.vbi_near.proofs.Stretches.{offset-first, offset-next}
 

@@ -7,7 +7,6 @@ use Rattle.std.proofs.lemmas.Bool.{le-leb, lt-leb}
 use Rattle.std.proofs.lemmas.List.{take-map, drop-map, get_or-map, length-take-le, length-drop}
 use Rattle.std.proofs.lemmas.List.Sums.{sum_by-cons}
 use Rattle.vbi_words.specs.declared.system.System.{System}
-use Rattle.vbi_words.specs.declared.system.System.TheVariants.{Ntsc, Pal}
 use Rattle.vbi_words.specs.Geometry.{width_of}
 use Rattle.vbi_words.specs.Levels.{Slicing}
 use Rattle.vbi_near.specs.Levelled.{window_of, first_of, columns_of, window_sum, sum_from, off_mean, off_in, swing_of}
@@ -46,7 +45,7 @@ map-same f g a zero same = refl
 map-same f g a (suc n) same = grind (arith, map-same f g (a + 1) n (λ k low high. same k (omega arith) (omega arith)))
 
 columns-inside : (system : System) → first_of system + columns_of system ≤ width_of system
-columns-inside x1 = grind arith
+columns-inside system = grind arith
 
 pub swing-raised : (system : System) (d : ℕ) (samples : List ℕ) → length samples ≡ width_of system
     → swing_of system (raised d samples) ≡ swing_of system samples

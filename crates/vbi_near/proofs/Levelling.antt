@@ -10,7 +10,6 @@ use Rattle.std.proofs.lemmas.List.{ext_get_or, take-take, drop-take}
 use Rattle.std.proofs.lemmas.List.FromFn.{fill_by_all, sum_by-map-range_with_len_more}
 use Rattle.std.proofs.lemmas.List.Sums.{sum_by-take-drop, sum_by_more}
 use Rattle.vbi_words.specs.declared.system.System.{System}
-use Rattle.vbi_words.specs.declared.system.System.TheVariants.{Ntsc, Pal}
 use Rattle.vbi_words.specs.Geometry.{width_of}
 use Rattle.vbi_words.specs.Levels.{Slicing, samples_of}
 use Rattle.vbi_line.proofs.Slicing.{sample_of, length-samples_of}
@@ -52,7 +51,7 @@ between_sums samples sums i n are inside = grind (arith, sum-split)
 -- a window lies within the line
 pub window_inside : (system : System) (column : ℕ)
     → window_start system column + window_of system ≤ width_of system
-window_inside x1 column = grind arith
+window_inside system column = grind arith
 
 -- the sum of a window, by the sums at its ends
 pub window_by_sums : (system : System) (samples sums : List ℕ) (column start n : ℕ) → length samples ≡ width_of system
@@ -63,28 +62,28 @@ window_by_sums system samples sums column start n long are s w = grind (arith, w
 -- the windows of the first columns are one, as are those of the last ones
 pub window_before : (system : System) (column : ℕ) → column < first_of system + window_of system / 2
     → window_start system column ≡ window_start system 0
-window_before x1 column less = grind arith
+window_before system column less = grind arith
 
-pub window_behind : (system : System) (column : ℕ)
+pub window_after : (system : System) (column : ℕ)
     → end_of system - window_of system + window_of system / 2 ≤ column
     → window_start system column ≡ window_start system (end_of system - window_of system + window_of system / 2)
-window_behind x1 column more = grind arith
+window_after system column more = grind arith
 
 -- the others begin half a window before their columns
 pub window_amid : (system : System) (column : ℕ) → first_of system + window_of system / 2 ≤ column
     → column < end_of system - window_of system + window_of system / 2
     → window_start system column ≡ column - window_of system / 2
-window_amid x1 column more less = grind arith
+window_amid system column more less = grind arith
 
 -- a window is no wider than the columns before its end
 pub wide-fits : (system : System) → window_of system ≤ end_of system
-wide-fits x1 = grind arith
+wide-fits system = grind arith
 
 -- the columns whose windows begin before them lie within the line
 pub ordered_windows : (system : System)
     → (first_of system + window_of system / 2 ≤ width_of system)
     × (end_of system - window_of system + window_of system / 2 ≤ width_of system)
-ordered_windows x1 = grind arith
+ordered_windows system = grind arith
 
 -- the sum of such a window, by the sums at its ends
 pub amid_by_sums : (system : System) (samples sums : List ℕ) (column wide : ℕ) → length samples ≡ width_of system
@@ -108,10 +107,10 @@ windows_more system samples windows i v inside is before k less =
     grind (arith, get_or, get_or-set_other, get_or-set_same)
 
 pub inside : (system : System) → end_of system ≤ width_of system
-inside x1 = grind arith
+inside system = grind arith
 
 pub ordered : (system : System) → first_of system ≤ end_of system
-ordered x1 = grind arith
+ordered system = grind arith
 
 -- one column more is off its mean
 pub off_more : (system : System) (samples : List ℕ) (column : ℕ) → first_of system ≤ column
@@ -149,7 +148,7 @@ filled_at slicing erased row k = cond (get_or erased k false) (middle_of slicing
 -- the samples before a column are filled, the others as they were
 pub record FilledTo (slicing : Slicing) (erased : List Bool) (row out : List ℕ) (i : ℕ) : Type 0 where
   pub below : WrittenTo (filled_at slicing erased row) out i
-  pub behind : (k : ℕ) → i ≤ k → sample_at out k ≡ sample_at row k
+  pub after : (k : ℕ) → i ≤ k → sample_at out k ≡ sample_at row k
 
 length-filled : (slicing : Slicing) (erased : List Bool) (samples : List ℕ) → length erased ≡ length samples
     → length (filled slicing erased samples) ≡ length samples

@@ -5,11 +5,9 @@ pub mod Rising
 pub mod Columns
 pub mod Costs
 pub mod BestBits
-pub mod Founds
 pub mod BestDigits
 pub mod Places
 pub mod InRange
-pub mod Merged
 pub mod Priced
 pub mod Looks
 pub mod Chosen
@@ -25,14 +23,11 @@ pub mod Counting
 pub mod PiledRows
 pub mod Distinct
 pub mod Beside
-pub mod OneCellMore
 pub mod CellsAt
-pub mod Halves
 pub mod CutShort
 pub mod HalvedRows
 pub mod Stretches
 pub mod LeastAt
-pub mod Unstretched
 pub mod OneSeen
 pub mod Asked
 pub mod Kept
@@ -41,6 +36,5 @@ pub mod OneRecovered
 pub mod SomeRecovered
 pub mod Swings
 pub mod Tables
-pub mod DrawnFirst
 pub mod DrawnNearest
 pub mod PileOf

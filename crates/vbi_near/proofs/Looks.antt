@@ -1,16 +1,115 @@
 -- What was looked at, and what needs no look.
-use Rattle.std.proofs.Common.{◌≡◌, ℕ, zero, suc, ◌≤◌, ◌<◌, List, [], ◌∷◌, length, get_or, take, ◌⊎◌, inl, inr, refl}
-use Rattle.std.proofs.Common.{arith, ap, sym, subst}
+use Rattle.std.proofs.Common.{cond, eqb, ◌≡◌, ◌≢◌, ℕ, ◌≤◌, ◌<◌, ◌^◌, min, ◌⊎◌, inl, inr, arith, sym, ◌∙◌, zero, suc}
+use Rattle.std.proofs.Common.{List, [], ◌∷◌, length, get_or, take, refl, ap, subst}
+use Rattle.std.proofs.Math.Nat.{min-le_left, min-le_right}
 use Rattle.std.proofs.lemmas.Bool.{cases_lt}
 use Rattle.vbi_words.specs.declared.system.System.{System}
 use Rattle.vbi_words.specs.Words.{IsWord}
 use Rattle.vbi_near.specs.declared.found.Found.{Found}
+use Rattle.vbi_near.specs.Nearest.{IsBefore}
+use Rattle.vbi_near.specs.Leads.{Places, IsLead, IsAhead, Look, look, at_start, IsSeen, with_ranges, looks_before}
+use Rattle.vbi_near.specs.Leads.{all_codes}
 use Rattle.vbi_near.specs.Pictures.{starts}
 use Rattle.vbi_near.specs.LineCodes.{Range, range, IsOneOf}
 use Rattle.vbi_near.specs.Priced.{ranges_of}
-use Rattle.vbi_near.specs.Leads.{Look, look, at_start, IsSeen, with_ranges, looks_before, all_codes, IsLead}
-use Rattle.vbi_near.specs.Nearest.{IsBefore}
-use Rattle.vbi_near.proofs.Merged.{lead-passed, lead-same, turned}
+use Rattle.vbi_near.proofs.BestBits.{min_is}
+
+-- ---- the nearer of two leads
+
+-- what comes before something comes before what that comes before
+before-before : (s v t w r x : ℕ) → IsBefore s v t w → IsBefore t w r x → IsBefore s v r x
+before-before s v t w r x before earlier = grind arith
+
+-- these or those
+abbrev pub either : Places → Places → Places
+either seen more start word = seen start word ⊎ more start word
+
+-- the nearer lead, whose rival is the nearer of its own and of another word that the other knows
+module _ (cost : ℕ → ℕ → ℕ) (seen more : Places) (near far : Found) (is : IsLead cost seen near)
+    (are : IsLead cost more far) (leads : IsAhead near far) (next : ℕ)
+    (by : ((far.word ≡ near.word) × (next ≡ far.rival)) ⊎ ((far.word ≢ near.word) × (next ≡ far.distance))) where
+  abbrev pub merged : Found
+  merged = record {
+    word = near.word;
+    start = near.start;
+    distance = near.distance;
+    rival = min near.rival next;
+  }
+
+  order : near.distance ≤ far.distance
+  order = grind arith
+
+  -- what the other knows and is as near comes after it
+  earliest : (s w : ℕ) → more s w → cost s w ≡ near.distance → IsBefore near.start near.word s w
+  earliest s w there same = grind (arith, before-before)
+
+  l : min near.rival next ≤ near.rival
+  l = min-le_left near.rival next
+
+  r : min near.rival next ≤ next
+  r = min-le_right near.rival next
+
+  far-order : far.distance ≤ next
+  far-order = grind arith
+
+  ahead : (s w : ℕ) → more s w → w ≢ near.word → next ≤ cost s w
+  ahead s w there other = grind arith
+
+  AreOther : Type 0
+  AreOther = (2 ^ 31 ≤ merged.rival)
+      ⊎ ((s : ℕ) × (w : ℕ) × either seen more s w × (w ≢ near.word) × (cost s w ≡ merged.rival))
+
+  by_near : min near.rival next ≡ near.rival
+      → (2 ^ 31 ≤ near.rival) ⊎ ((s : ℕ) × (w : ℕ) × seen s w × (w ≢ near.word) × (cost s w ≡ near.rival)) → AreOther
+  unfolding AreOther
+  by_near e either = grind arith
+
+  by_far : min near.rival next ≡ next → ((far.word ≡ near.word) × (next ≡ far.rival))
+      ⊎ ((far.word ≢ near.word) × (next ≡ far.distance))
+      → (2 ^ 31 ≤ far.rival) ⊎ ((s : ℕ) × (w : ℕ) × more s w × (w ≢ far.word) × (cost s w ≡ far.rival)) → AreOther
+  unfolding AreOther
+  by_far e (inl (same, b)) (inl wide) = inl (omega (arith, e, b, wide))
+  by_far e (inl (same, b)) (inr (s, w, there, differs, costs)) =
+      inr (s, w, inr there, λ f. differs (f ∙ sym same), costs ∙ sym b ∙ sym e)
+  by_far e (inr (differs, b)) other = inr (far.start, far.word, inr are.there, differs, are.exact ∙ sym b ∙ sym e)
+
+  another : AreOther
+  another = grind (arith, min_is, AreOther, by_near, by_far)
+
+  pub merged_is : IsLead cost (either seen more) merged
+  unfolding AreOther
+  merged_is = grind (arith, order, min_is, another, far-order, l, ahead, r, earliest)
+
+-- the same of places that are looked at in any order
+pub lead-same : (cost : ℕ → ℕ → ℕ) (seen more : Places) (lead : Found) → ((s w : ℕ) → seen s w → more s w)
+    → ((s w : ℕ) → more s w → seen s w) → IsLead cost seen lead → IsLead cost more lead
+lead-same cost seen more lead to from is = grind (arith, order)
+
+-- places none of which is nearer than the rival, or comes first, need no look
+pub lead-passed : (cost : ℕ → ℕ → ℕ) (seen more : Places) (lead : Found)
+    → ((s w : ℕ) → more s w → lead.rival ≤ cost s w)
+    → ((s w : ℕ) → more s w → cost s w ≡ lead.distance → IsBefore lead.start lead.word s w) → IsLead cost seen lead
+    → IsLead cost (either seen more) lead
+lead-passed cost seen more lead far after is = grind (arith, order)
+
+-- these or those, the other way round
+pub turned : (cost : ℕ → ℕ → ℕ) (seen more : Places) (lead : Found) → IsLead cost (either seen more) lead
+    → IsLead cost (either more seen) lead
+turned cost seen more lead is = grind (arith, lead-same)
+
+-- the same lead, by its fields
+pub lead-by : (cost : ℕ → ℕ → ℕ) (seen : Places) (word start distance rival : ℕ) (lead : Found)
+    → IsLead cost seen (record { word = word; start = start; distance = distance; rival = rival })
+    → lead.word ≡ word → lead.start ≡ start → lead.distance ≡ distance → lead.rival ≡ rival → IsLead cost seen lead
+lead-by cost seen word start distance rival lead is w s d e = grind arith
+
+-- what the other's rival is
+pub next-by : (near far : Found) → ((far.word ≡ near.word)
+    × (cond (eqb far.word near.word) far.rival far.distance ≡ far.rival))
+    ⊎ ((far.word ≢ near.word) × (cond (eqb far.word near.word) far.rival far.distance ≡ far.distance))
+next-by near far = grind arith
+
+-- ---- what was looked at
 
 -- ---- ranges at one start
 
@@ -35,7 +134,7 @@ to-ranges looks at (words ∷ ranges) s w there = go (to-ranges (look at words �
   where
     go : IsSeen (look at words ∷ looks) s w ⊎ ((s ≡ at) × IsOneOf ranges w)
         → IsSeen looks s w ⊎ ((s ≡ at) × IsOneOf (words ∷ ranges) w)
-    go x1 = grind arith
+    go either = grind arith
 
 from-ranges : (looks : List Look) (at : ℕ) (ranges : List Range) (s w : ℕ)
     → IsSeen looks s w ⊎ ((s ≡ at) × IsOneOf ranges w) → IsSeen (with_ranges looks at ranges) s w
@@ -54,7 +153,7 @@ abbrev Before : List Range → ℕ → ℕ → ℕ → ℕ → Type 0
 Before ranges first n s w = ((s ≡ 0) × (w ≡ 0)) ⊎ (((s < n) ⊎ (s ≡ first)) × IsOneOf ranges w)
 
 later : (ranges : List Range) (first n s w : ℕ) → Before ranges first n s w → Before ranges first (suc n) s w
-later ranges first n s w x6 = grind arith
+later ranges first n s w given = grind arith
 
 to-before : (ranges : List Range) (first n s w : ℕ) → IsSeen (looks_before ranges first n) s w
     → Before ranges first n s w
@@ -64,7 +163,7 @@ to-before ranges first (suc n) s w there =
   where
     go : (IsSeen (looks_before ranges first n) s w → Before ranges first n s w)
         → IsSeen (looks_before ranges first n) s w ⊎ ((s ≡ n) × IsOneOf ranges w) → Before ranges first (suc n) s w
-    go known x2 = grind (arith, later)
+    go known either = grind (arith, later)
 
 from-before : (ranges : List Range) (first n s w : ℕ) → Before ranges first n s w
     → IsSeen (looks_before ranges first n) s w
@@ -80,7 +179,7 @@ from-before ranges first (suc n) s w (inr (inl less, one)) =
   where
     go : ((s < n) → IsSeen (looks_before ranges first n) s w) → (s < n) ⊎ (n ≤ s)
         → IsSeen (looks_before ranges first (suc n)) s w
-    go before x2 = grind (arith, from-ranges)
+    go before either = grind (arith, from-ranges)
 
 pub all-looks : (cost : ℕ → ℕ → ℕ) (ranges : List Range) (system : System) (first : ℕ) (lead : Found)
     → first < starts system → IsLead cost (IsSeen (looks_before ranges first (starts system))) lead

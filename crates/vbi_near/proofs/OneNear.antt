@@ -1,15 +1,15 @@
 -- Of some lines one word is the first of the nearest, from one start on, with one rival, one longer and one shorter
 -- distance.
-use Rattle.std.proofs.Common.{◌≡◌, ℕ, Bool, List, refl, sym, ◌∙◌, subst, arith}
+use Rattle.std.proofs.Common.{◌≡◌, ℕ, Bool, List, refl, sym, ◌∙◌, arith}
 use Rattle.std.specs.Prelude.{Option, Some, None}
 use Rattle.vbi_words.specs.declared.system.System.{System}
 use Rattle.vbi_words.specs.Levels.{Slicing}
 use Rattle.vbi_near.specs.declared.near.Near.{Near}
-use Rattle.vbi_near.specs.Pictures.{IsPlace, drawn_as}
-use Rattle.vbi_near.specs.Distances.{Samples, unit_of, distance_of}
+use Rattle.vbi_near.specs.Pictures.{IsPlace}
+use Rattle.vbi_near.specs.Distances.{Samples}
 use Rattle.vbi_near.specs.Nearest.{IsNearest, IsNearestCode, IsFirst, IsFirstCode, Precedes}
-use Rattle.vbi_near.specs.Longer.{GoesOn, HasLeastRow, IsLonger}
-use Rattle.vbi_near.specs.Shorter.{IsCutShort, IsShorter}
+use Rattle.vbi_near.specs.Longer.{HasLeastRow, IsLonger}
+use Rattle.vbi_near.specs.Shorter.{IsShorter}
 use Rattle.vbi_near.specs.Rows.{IsNearOf}
 use Rattle.vbi_near.proofs.Chosen.{code-place}
 
@@ -25,7 +25,7 @@ one_place system (Some v) s (Some w) t here there before behind = grind arith
 one_row : (IsRow : ℕ → ℕ → List Bool → Type 0) (far : List Bool → ℕ) (word : Option ℕ) (near other : Near) (a b : ℕ)
     → near.start ≡ other.start → near.distance ≡ other.distance → HasLeastRow IsRow far word near a
     → HasLeastRow IsRow far word other b → a ≡ b
-one_row IsRow far x3 near other a b start distance is are = grind arith
+one_row IsRow far word near other a b start distance is are = grind arith
 
 module _ (IsThere : Option ℕ → ℕ → Type 0) (system : System)
     (fits : (word : Option ℕ) (start : ℕ) → IsThere word start → IsPlace system word start) (slicing : Slicing)

@@ -1,7 +1,7 @@
 -- Lines have one pair of nearest words, and one distance of a stretched word; and what a line shows by its own levels
 -- is fixed by its bytes.
 use Rattle.std.proofs.Common.{◌≡◌, ◌≢◌, ℕ, Bool, true, false, List, [], ◌∷◌, refl, sym, ap, ◌∙◌, subst, arith, ne_eqb}
-use Rattle.std.specs.Prelude.{Option, Some, None, IsTrue}
+use Rattle.std.specs.Prelude.{Option, IsTrue}
 use Rattle.vbi_words.specs.declared.system.System.{System}
 use Rattle.vbi_words.specs.declared.outcome.Outcome.{Outcome}
 use Rattle.vbi_words.specs.declared.outcome.Outcome.TheVariants.{Word, Blank, Unfinished, Change, Hold}
@@ -32,7 +32,7 @@ not_both can cannot has = cc
 pub one_near_if : (system : System) (number : ℕ) (slicing : Slicing) (can : Bool) (lines : List Samples)
     (near other : Option Nears) → HasNearIf system number slicing can lines near
     → HasNearIf system number slicing can lines other → near ≡ other
-one_near_if system number slicing can lines x6 x7 is are = grind (arith, not_both, one_nears)
+one_near_if system number slicing can lines near other is are = grind (arith, not_both, one_nears)
 
 -- the candidates of a line are fixed
 pub one_candidates : (system : System) (number : ℕ) (slicing : Slicing) (row : Row) (near other : Candidates)

@@ -1,11 +1,10 @@
 -- Lines one by one: the next of them, and the swing of each where all may be levelled together.
-use Rattle.std.proofs.Common.{◌≡◌, ℕ, suc, zero, ◌+◌, ◌<◌, List, [], ◌∷◌, ◌++◌, length, map, get_or, Bool, true, false}
-use Rattle.std.proofs.Common.{ap, ◌∙◌, refl, subst, arith, zero-add, ◌≤◌, take, replicate}
+use Rattle.std.proofs.Common.{◌≡◌, ℕ, suc, zero, ◌+◌, ◌<◌, List, [], ◌∷◌, ◌++◌, length, map, get_or, Bool, true, ap}
+use Rattle.std.proofs.Common.{◌∙◌, refl, subst, arith, zero-add, ◌≤◌, take, replicate}
 use Rattle.std.specs.Prelude.{◌&&◌, Option, Some}
 use Rattle.std.proofs.lemmas.List.{length-take-le, length-replicate}
 use Rattle.std.specs.List.{list_all, range_with_len}
 use Rattle.std.proofs.lemmas.List.FromFn.{map-range_with_len_more, length-map-range_with_len, get_or-map-range_with_len}
-use Rattle.vbi_words.specs.declared.system.System.TheVariants.{Ntsc, Pal}
 use Rattle.vbi_words.specs.Geometry.{line_bytes}
 use Rattle.vbi_words.specs.declared.system.System.{System}
 use Rattle.vbi_words.specs.Levels.{Slicing}
@@ -36,7 +35,7 @@ rows-next f system lines erased n =
 
 -- both of two tests hold
 both : (a b : Bool) → (a && b) ≡ true → (a ≡ true) × (b ≡ true)
-both x1 b e = grind arith
+both a b e = grind arith
 
 -- what holds of all items holds of each
 each_of_all : (test : ℕ → Bool) (list : List ℕ) (i d : ℕ) → list_all test list ≡ true → i < length list
@@ -84,7 +83,7 @@ each-swings system slicing lines erased n alike i inside = subst (λ (s : ℕ). 
 
 -- no line has more bytes than one of PAL
 bytes-few : (system : System) → line_bytes system ≤ 2270
-bytes-few x1 = grind arith
+bytes-few system = grind arith
 
 -- the first bytes of a buffer that any line fits into are as many as a line's
 pub bytes-long : (system : System) (n : ℕ) → n ≡ line_bytes system

@@ -1,12 +1,11 @@
 -- The six places of a word's digits.
-use Rattle.std.proofs.Common.{◌≡◌, ℕ, zero, suc, ◌≤◌, ◌<◌, ◌+◌, ◌*◌, ◌^◌, arith, ap, ◌∙◌, add-one, pow-suc, get_or}
-use Rattle.std.proofs.Common.{take}
+use Rattle.std.proofs.Common.{◌≡◌, ℕ, ◌≤◌, ◌<◌, ◌+◌, ◌*◌, ◌^◌, arith, ap, ◌∙◌, add-one, pow-suc, get_or, take}
 use Rattle.std.proofs.Math.ListN.{replicate}
 use Rattle.std.proofs.lemmas.List.{get_or-take, get_or-replicate}
 use Rattle.vbi_near.specs.LineCodes.{AtEachPlace}
 
 pub at-place : (P : ℕ → Type 0) → AtEachPlace P → (place : ℕ) → place < 6 → P place
-at-place P all x3 l = grind arith
+at-place P all place l = grind arith
 
 pub few-digits : (place : ℕ) → place < 6 → 16 ^ place ≤ 1048576
 few-digits place l = at-place (λ (k : ℕ). 16 ^ k ≤ 1048576)

@@ -1,6 +1,6 @@
 -- What words cost, by their digits.
 use Rattle.std.proofs.Common.{◌≡◌, ℕ, zero, suc, ◌<◌, ◌+◌, ◌-◌, ◌*◌, ◌/◌, ◌%◌, Bool, false, List, get_or, arith, ap}
-use Rattle.std.proofs.Common.{◌∙◌, refl}
+use Rattle.std.proofs.Common.{◌∙◌}
 use Rattle.vbi_words.specs.declared.system.System.{System}
 use Rattle.vbi_words.specs.Geometry.{width_of}
 use Rattle.vbi_words.specs.Words.{IsWord}
@@ -31,7 +31,7 @@ by-digits cost table base (suc n) w same =
 
 pub code-word : (sums : Shades) (system : System) (start w : ℕ) → IsWord w
     → code_cost sums system start w ≡ place_cost sums system start w
-code-word sums system start x4 word = grind arith
+code-word sums system start w word = grind arith
 
 pub priced : (sums : Shades) (system : System) (start base : ℕ) (digits : List ℕ)
     → base ≡ span sums false 0 start

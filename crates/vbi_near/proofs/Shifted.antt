@@ -1,9 +1,8 @@
 -- Two words of which one begins some columns later, at most a cell: in how many columns they differ at least. A table
 -- has the least of all words, from the last cell back to the first, which the checker computes.
 use Rattle.std.proofs.Common.{◌≡◌, ◌≢◌, ℕ, suc, zero, ◌≤◌, ◌<◌, ◌+◌, ◌-◌, List, [], ◌∷◌, ◌++◌, Bool, true, false}
-use Rattle.std.proofs.Common.{length, take, drop, min, leb, eqb, ◌&&◌, refl, arith, ap, ap₂, sym, ◌∙◌, ◌⊎◌, inl, inr}
-use Rattle.std.proofs.Common.{true≢false, le_trans, append_assoc, take-append-drop, length-append, length-take-le}
-use Rattle.std.proofs.Common.{length-drop}
+use Rattle.std.proofs.Common.{length, take, drop, min, leb, eqb, ◌&&◌, refl, arith, ap, ap₂, sym, ◌∙◌, ◌⊎◌, le_trans}
+use Rattle.std.proofs.Common.{append_assoc, take-append-drop, length-append, length-take-le, length-drop}
 use Rattle.std.proofs.Math.ListN.{replicate}
 use Rattle.std.proofs.lemmas.List.{length-replicate}
 use Rattle.std.proofs.lemmas.Bool.{leb-true}
@@ -20,8 +19,8 @@ use Rattle.vbi_near.proofs.Highs.{bits_levels, bits-begin, cell-long}
 abbrev pub levels_beside : System → ℕ → ℕ → Bool → List Bool
 levels_beside system late j bit = take (cell_columns system j - late) (cell_levels system j bit)
 
-abbrev pub levels_behind : System → ℕ → ℕ → Bool → List Bool
-levels_behind system late j bit = drop (cell_columns system j - late) (cell_levels system j bit)
+abbrev pub levels_after : System → ℕ → ℕ → Bool → List Bool
+levels_after system late j bit = drop (cell_columns system j - late) (cell_levels system j bit)
 
 -- ---- the table
 
@@ -53,7 +52,7 @@ still_same same one other = false
 -- in how many columns the cell differs that follows the one at half cell j, with these two bits, and those after it
 abbrev pub floor_with : System → ℕ → ℕ → Floors → Bool → Bool → Bool → Bool → ℕ
 floor_with system late j rest bit same one other =
-    cell_differences system late (suc (suc j)) (levels_behind system late j bit) one other
+    cell_differences system late (suc (suc j)) (levels_after system late j bit) one other
     + floor rest other (still_same same one other)
 
 abbrev pub least_floor : System → ℕ → ℕ → Floors → Bool → Bool → ℕ
@@ -75,8 +74,8 @@ unfoldable pub floors : System → ℕ → ℕ → ℕ → Floors
 floors system late j zero = record {
   same_zero = picture_distance system;
   same_one = picture_distance system;
-  apart_zero = highs (levels_behind system late j false);
-  apart_one = highs (levels_behind system late j true);
+  apart_zero = highs (levels_after system late j false);
+  apart_one = highs (levels_after system late j true);
 }
 floors system late j (suc n) = floors_with system late j (floors system late (suc (suc j)) n)
 
@@ -114,7 +113,7 @@ floor-far system (suc most) all late l =
         → ((eqb late (suc most) ≡ true) × (late ≡ suc most)) ⊎ ((eqb late (suc most) ≡ false) × (late ≢ suc most))
         → (far_until system most ≡ true → late ≤ most → picture_distance system ≤ word_floor system late)
         → picture_distance system ≤ word_floor system late
-    go x1 test later = grind (arith, far_until)
+    go either test later = grind (arith, far_until)
 
 -- ---- words
 
@@ -129,25 +128,25 @@ module _ (system : System) (late room : ℕ) (fits : (j : ℕ) → late ≤ cell
   cell-split : (j : ℕ) (levels : List Bool) → length levels ≡ late → (one other : Bool) (bits more : List Bool)
       → differences (ones j (one ∷ bits)) (others levels j (other ∷ more))
       ≡ cell_differences system late j levels one other
-      + differences (ones (suc (suc j)) bits) (others (levels_behind system late j other) (suc (suc j)) more)
+      + differences (ones (suc (suc j)) bits) (others (levels_after system late j other) (suc (suc j)) more)
   unfolding ones others
   cell-split j levels long one other bits more =
       let cell : List Bool = cell_levels system j one in
       let beside : List Bool = levels_beside system late j other in
-      let behind : List Bool = levels_behind system late j other in
+      let tail : List Bool = levels_after system late j other in
       let rest : List Bool = bits_levels system (suc (suc j)) bits in
       let after : List Bool = bits_levels system (suc (suc j)) more ++ replicate room false in
       let p : ones j (one ∷ bits) ≡ cell ++ ones (suc (suc j)) bits
       = ap (λ (l : List Bool). l ++ replicate (late + room) false) (bits-begin system j one bits)
       ∙ append_assoc cell rest (replicate (late + room) false) in
-      let q : others levels j (other ∷ more) ≡ (levels ++ beside) ++ (behind ++ after)
+      let q : others levels j (other ∷ more) ≡ (levels ++ beside) ++ (tail ++ after)
       = ap (λ (l : List Bool). levels ++ (l ++ replicate room false)) (bits-begin system j other more)
       ∙ ap (λ (l : List Bool). levels ++ l)
       (append_assoc (cell_levels system j other) (bits_levels system (suc (suc j)) more) (replicate room false))
       ∙ ap (λ (l : List Bool). levels ++ (l ++ after))
       (sym (take-append-drop (cell_columns system j - late) (cell_levels system j other)))
-      ∙ ap (λ (l : List Bool). levels ++ l) (append_assoc beside behind after)
-      ∙ sym (append_assoc levels beside (behind ++ after)) in
+      ∙ ap (λ (l : List Bool). levels ++ l) (append_assoc beside tail after)
+      ∙ sym (append_assoc levels beside (tail ++ after)) in
       let same : length cell ≡ length (levels ++ beside)
       = omega (
         arith,
@@ -158,7 +157,7 @@ module _ (system : System) (late room : ℕ) (fits : (j : ℕ) → late ≤ cell
             (omega (arith, length-cell system j other)),
         fits j,
       ) in
-      ap₂ differences p q ∙ differences-append cell (ones (suc (suc j)) bits) (levels ++ beside) (behind ++ after) same
+      ap₂ differences p q ∙ differences-append cell (ones (suc (suc j)) bits) (levels ++ beside) (tail ++ after) same
 
   -- the least is of these two bits, or of others
   least-of : (j : ℕ) (rest : Floors) (bit same one other : Bool)
@@ -180,24 +179,24 @@ module _ (system : System) (late room : ℕ) (fits : (j : ℕ) → late ≤ cell
 
   unlike : (same one other : Bool) (bits more : List Bool) → (same ≡ true → one ∷ bits ≢ other ∷ more)
       → still_same same one other ≡ true → bits ≢ more
-  unlike x1 one other bits more differ e f = grind arith
+  unlike same one other bits more differ e f = grind arith
 
-  behind-long : (j : ℕ) (bit : Bool) → length (levels_behind system late j bit) ≡ late
-  behind-long j bit = grind (arith, length-drop, cell_columns, cell_levels, length-cell)
+  after-long : (j : ℕ) (bit : Bool) → length (levels_after system late j bit) ≡ late
+  after-long j bit = grind (arith, length-drop, cell_columns, cell_levels, length-cell)
 
   floors-hold : (n j : ℕ) (bit same : Bool) (bits more : List Bool) → length bits ≡ n → length more ≡ n
       → (same ≡ true → bits ≢ more) → floor (floors system late j n) bit same
-      ≤ differences (ones (suc (suc j)) bits) (others (levels_behind system late j bit) (suc (suc j)) more)
+      ≤ differences (ones (suc (suc j)) bits) (others (levels_after system late j bit) (suc (suc j)) more)
   unfolding floors ones others drawn_halves
   floors-hold zero j bit true [] [] e f differ = absurd (differ refl refl)
-  floors-hold zero j false false [] [] e f differ = grind (arith, low-differs, replicate, behind-long)
-  floors-hold zero j true false [] [] e f differ = grind (arith, low-differs, replicate, behind-long)
+  floors-hold zero j false false [] [] e f differ = grind (arith, low-differs, replicate, after-long)
+  floors-hold zero j true false [] [] e f differ = grind (arith, low-differs, replicate, after-long)
   floors-hold zero j bit same (one ∷ bits) more e f differ = absurd (omega (arith, e))
   floors-hold zero j bit same [] (other ∷ more) e f differ = absurd (omega (arith, f))
   floors-hold (suc n) j bit same [] more e f differ = absurd (omega (arith, e))
   floors-hold (suc n) j bit same (one ∷ bits) [] e f differ = absurd (omega (arith, f))
   floors-hold (suc n) j bit same (one ∷ bits) (other ∷ more) e f differ =
-      let next = cell-split (suc (suc j)) (levels_behind system late j bit) (behind-long j bit) one other bits more in
+      let next = cell-split (suc (suc j)) (levels_after system late j bit) (after-long j bit) one other bits more in
       let rest = floors-hold n (suc (suc j)) other (still_same same one other) bits more (omega (arith, e))
       (omega (arith, f)) (unlike same one other bits more differ) in
       omega (arith, next, rest, least-of j (floors system late (suc (suc j)) n) bit same one other)

@@ -4,7 +4,6 @@ use Rattle.std.proofs.Common.{false, List, [], ◌∷◌, refl, sym, ap, ◌∙�
 use Rattle.std.specs.Prelude.{Option, Some, None}
 use Rattle.std.proofs.lemmas.Bool.{cases_eq, cases_lt}
 use Rattle.vbi_words.specs.declared.system.System.{System}
-use Rattle.vbi_words.specs.declared.system.System.TheVariants.{Ntsc, Pal}
 use Rattle.vbi_words.specs.Geometry.{width_of}
 use Rattle.vbi_words.specs.Levels.{Slicing}
 use Rattle.vbi_words.specs.Words.{IsWord}
@@ -177,7 +176,7 @@ row_of IsRow far (Some w) start distance some =
     let l = some w refl in (l.0, λ near s d. subst (λ (k : ℕ). IsLeastRow (IsRow w k) far l.0) (sym s) l.1)
 
 cells_fit : (system : System) → word_length system + 2 * cell_length system ≤ width_of system
-cells_fit x1 = grind arith
+cells_fit system = grind arith
 
 module _ (system : System) (far : List Bool → ℕ) (word start : ℕ) where
   levels_at : ℕ → List Bool

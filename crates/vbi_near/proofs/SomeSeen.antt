@@ -3,7 +3,6 @@
 use Rattle.std.proofs.Common.{◌≡◌, ℕ, ◌+◌, ◌≤◌, Bool, true, false, List, [], ◌∷◌, refl, ap, subst, arith, min}
 use Rattle.std.specs.Prelude.{Option, Some, None}
 use Rattle.vbi_words.specs.declared.system.System.{System}
-use Rattle.vbi_words.specs.declared.system.System.TheVariants.{Ntsc, Pal}
 use Rattle.vbi_words.specs.declared.outcome.Outcome.{Outcome}
 use Rattle.vbi_words.specs.declared.outcome.Outcome.TheVariants.{Word}
 use Rattle.vbi_words.specs.Geometry.{width_of}
@@ -83,7 +82,7 @@ some_of_both system number slicing row other =
 
 -- a word of each rate fits from the first column on
 rate_fits : (system : System) (rate : ℕ) → rate ≤ 102 → 0 + stretched_length system rate ≤ width_of system
-rate_fits x1 rate le = grind arith
+rate_fits system rate le = grind arith
 
 -- there is a least distance at this rate
 some_at_rate : (system : System) (far : ℕ → ℕ → ℕ) (rate : ℕ) → rate ≤ 102

@@ -1,21 +1,22 @@
 -- Words drawn on cells of other lengths: their columns, and what they cost.
-use Rattle.std.proofs.Common.{◌≡◌, ℕ, suc, ◌≤◌, ◌<◌, ◌+◌, ◌-◌, ◌*◌, List, [], ◌∷◌, Bool, false, length, take, get_or}
-use Rattle.std.proofs.Common.{arith, ap, ◌∙◌, refl, set, get_or-set_other}
-use Rattle.std.proofs.Math.Nat.{add-mul}
+use Rattle.std.proofs.Common.{◌≡◌, ℕ, suc, List, [], ◌∷◌, ◌++◌, Bool, refl, arith, ap, ◌∙◌, ◌≤◌, ◌<◌, ◌+◌, ◌-◌, ◌*◌}
+use Rattle.std.proofs.Common.{false, length, take, get_or, set, get_or-set_other}
 use Rattle.std.proofs.Math.ListN.{replicate}
+use Rattle.std.specs.Prelude.{Some}
+use Rattle.std.proofs.Math.Nat.{add-mul}
 use Rattle.std.proofs.lemmas.List.{length-replicate, length-take-le, take_all, take_more}
 use Rattle.vbi_words.specs.declared.system.System.{System}
 use Rattle.vbi_words.specs.declared.system.System.TheVariants.{Ntsc, Pal}
 use Rattle.vbi_words.specs.Geometry.{start_of, width_of}
 use Rattle.vbi_words.specs.Drawn.{boundary}
 use Rattle.vbi_words.specs.Words.{halves_of}
+use Rattle.vbi_near.specs.Pictures.{half_length, word_length, picture_of}
+use Rattle.vbi_near.specs.Stretched.{stretched_half, stretched_length, stretched_picture, halves_with, stretched_offset}
+use Rattle.vbi_near.specs.Stretched.{halves_cost, stretched_cost, stretched_word_cost, stretched_row_cost}
 use Rattle.vbi_near.specs.Distances.{Shades}
 use Rattle.vbi_near.specs.Sums.{span, total_in}
-use Rattle.vbi_near.specs.Stretched.{stretched_offset, stretched_half, halves_cost, stretched_cost, stretched_length}
-use Rattle.vbi_near.specs.Stretched.{stretched_word_cost, stretched_row_cost}
+use Rattle.vbi_near.proofs.Costs.{drawn-with, many-halves, halves_cost-append}
 use Rattle.vbi_near.proofs.CellsAt.{set-more}
-use Rattle.vbi_near.proofs.Costs.{many-halves}
-use Rattle.vbi_near.proofs.Halves.{halves_cost-append}
 
 -- ---- columns
 
@@ -26,7 +27,7 @@ offset-rises Ntsc rate j = grind (arith, add-mul)
 offset-rises Pal rate j = grind (arith, add-mul)
 
 pub offset-first : (system : System) (rate : ℕ) → stretched_offset system rate 0 ≡ 0
-offset-first x1 rate = grind arith
+offset-first system rate = grind arith
 
 pub offset-next : (system : System) (rate j : ℕ)
     → stretched_offset system rate j + stretched_half system rate j ≡ stretched_offset system rate (suc j)
@@ -34,7 +35,7 @@ offset-next system rate j = omega (arith, offset-rises system rate j)
 
 -- there are 302 starts at most
 pub few-starts : (system : System) (rate : ℕ) → 98 ≤ rate → width_of system + 1 ≤ stretched_length system rate + 302
-few-starts x1 rate le = grind arith
+few-starts system rate le = grind arith
 
 pub starts-long : (system : System) (rate width length_of : ℕ) → 98 ≤ rate → width ≡ width_of system
     → length_of ≡ stretched_length system rate
@@ -43,7 +44,7 @@ starts-long system rate width length_of le w l = grind (arith, length-take-le, r
 
 -- at 100 hundredths they are those of a drawn word
 pub offset-whole : (system : System) (j : ℕ) → start_of system + stretched_offset system 100 j ≡ boundary system j
-offset-whole x1 j = grind arith
+offset-whole system j = grind arith
 
 -- ---- what they cost
 
@@ -78,20 +79,20 @@ half-read sums system rate start j level begin end b e = grind (arith, offset-ri
 pub record IsPaid (sums : List ℕ) (begin end : ℕ) (old new : List ℕ) (i : ℕ) : Type 0 where
   pub below : (k : ℕ) → k < i → get_or new k 0 ≡ get_or old k 0 + total_in sums (k + begin) (end - begin)
   pub few : (k : ℕ) → k < i → get_or new k 0 ≤ 1834980 * (k + end)
-  pub behind : (k : ℕ) → i ≤ k → get_or new k 0 ≡ get_or old k 0
+  pub after : (k : ℕ) → i ≤ k → get_or new k 0 ≡ get_or old k 0
 
 pub paid-more : (sums : List ℕ) (begin end : ℕ) (old new : List ℕ) (i more : ℕ) → i < length new → begin ≤ end
     → get_or old i 0 ≤ 1834980 * (i + begin) → more ≡ total_in sums (i + begin) (end - begin)
     → more ≤ 1834980 * (end - begin) → IsPaid sums begin end old new i
     → IsPaid sums begin end old (set new i (get_or new i 0 + more)) (i + 1)
 paid-more sums begin end old new i more inside order low exact few is =
-    let here : get_or new i 0 ≡ get_or old i 0 = is.behind i (omega arith) in record {
+    let here : get_or new i 0 ≡ get_or old i 0 = is.after i (omega arith) in record {
       below = set-more (λ (j x : ℕ). x ≡ get_or old j 0 + total_in sums (j + begin) (end - begin)) new i
           (get_or new i 0 + more) inside is.below (omega (arith, here, exact));
       few = set-more (λ (j x : ℕ). x ≤ 1834980 * (j + end)) new i (get_or new i 0 + more) inside is.few
           (omega (arith, here, few, low));
-      behind = λ k le. get_or-set_other new i k (get_or new i 0 + more) 0 (λ e. omega arith)
-          ∙ is.behind k (omega arith);
+      after = λ k le. get_or-set_other new i k (get_or new i 0 + more) 0 (λ e. omega arith)
+          ∙ is.after k (omega arith);
     }
 
 -- all of a word's
@@ -105,3 +106,25 @@ pub row-read : (sums : Shades) (system : System) (w rate start cost begin width 
     → width ≡ width_of system → tail ≡ span sums false begin (width - begin)
     → cost + tail ≡ stretched_row_cost sums system w rate start
 row-read sums system w rate start cost begin width tail c b wide t = grind arith
+
+-- ---- cells of a hundred hundredths
+
+-- half cells of the same lengths
+halves-same : (a b : ℕ → ℕ) → ((j : ℕ) → a j ≡ b j) → (j : ℕ) (halves : List Bool)
+    → halves_with a j halves ≡ halves_with b j halves
+unfolding halves_with
+halves-same a b same j [] = refl
+halves-same a b same j (half ∷ halves) =
+    ap (λ (n : ℕ). replicate n half ++ halves_with a (suc j) halves) (same j)
+    ∙ ap (λ (rest : List Bool). replicate (b j) half ++ rest) (halves-same a b same (suc j) halves)
+
+half-whole : (system : System) (j : ℕ) → stretched_half system 100 j ≡ half_length system j
+half-whole system j = omega (arith, offset-whole system j, offset-whole system (suc j))
+
+length-whole : (system : System) → stretched_length system 100 ≡ word_length system
+length-whole system = omega (arith, offset-whole system 48)
+
+pub picture-whole : (system : System) (word start : ℕ)
+    → stretched_picture system 100 word start ≡ picture_of system (Some word) start
+unfolding stretched_picture picture_of
+picture-whole system word start = grind (arith, halves-same, half-whole, drawn-with, replicate, length-whole)

@@ -12,7 +12,7 @@ use Rattle.vbi_words.specs.declared.system.System.TheVariants.{Ntsc, Pal}
 use Rattle.vbi_words.specs.Geometry.{width_of}
 use Rattle.vbi_words.specs.Levels.{samples_of}
 use Rattle.vbi_line.proofs.Slicing.{sample_of, length-samples_of}
-use Rattle.vbi_near.specs.Levelled.{window_of, first_of, columns_of, window_start, off_mean, off_in, swing_of}
+use Rattle.vbi_near.specs.Levelled.{window_of, first_of, columns_of, off_mean, off_in, swing_of}
 
 -- samples of 16 bits
 abbrev pub AreShort : List ℕ → Type 0
@@ -38,7 +38,7 @@ few-sum samples start n short =
 -- a column is no farther from the mean of its window
 few-off : (system : System) (samples : List ℕ) (column : ℕ) → AreShort samples → column < length samples
     → off_mean system samples column ≤ 13959168
-few-off x1 samples column short less = grind (arith, few-sum)
+few-off system samples column short less = grind (arith, few-sum)
 
 -- nor are so many columns
 few-offs : (system : System) (samples : List ℕ) (n : ℕ) → AreShort samples → first_of system + n ≤ length samples
@@ -68,7 +68,7 @@ by-pal off n few = div-le_of_le-mul (213 * n) (omega (arith, few))
 
 -- the columns of words lie within the line
 room : (system : System) (n : ℕ) → n ≡ width_of system → first_of system + columns_of system ≤ n
-room x1 n e = grind arith
+room system n e = grind arith
 
 -- so the swing is less than 2 ^ 19
 few-swing : (system : System) (samples : List ℕ) → AreShort samples → length samples ≡ width_of system
@@ -83,4 +83,4 @@ few-swing Pal samples short long =
 pub scale_fits : (system : System) (samples : List ℕ) (window swing : ℕ) → AreShort samples
     → length samples ≡ width_of system → window ≡ window_of system → swing ≡ swing_of system samples
     → window * swing < 2 ^ 32
-scale_fits x1 samples window swing short long w s = grind (arith, few-swing)
+scale_fits system samples window swing short long w s = grind (arith, few-swing)

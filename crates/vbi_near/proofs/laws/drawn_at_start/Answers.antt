@@ -1,4 +1,4 @@
-use Rattle.vbi_near.proofs.DrawnFirst.{drawn_first}
+use Rattle.vbi_near.proofs.DrawnNearest.{drawn_first}
 use Rattle.vbi_near.proofs.laws.drawn_at_start.Goals as goal
 
 pub returns : goal.returns

@@ -2,7 +2,7 @@ use Rattle.std.proofs.Common.{◌≡◌, ℕ, ◌+◌, ◌-◌, ◌/◌, ◌≤�
 use Rattle.vbi_words.specs.Levels.{samples_of}
 use Rattle.vbi_near.specs.Levelled.{window_of, first_of, end_of, sum_from, window_sum}
 use Rattle.vbi_near.proofs.Counting.{line-samples}
-use Rattle.vbi_near.proofs.Levelling.{windows_more, window_before, window_behind, amid_by_sums, ordered_windows}
+use Rattle.vbi_near.proofs.Levelling.{windows_more, window_before, window_after, amid_by_sums, ordered_windows}
 use Rattle.vbi_near.proofs.Levelling.{wide-fits}
 use Rattle.vbi_near.proofs.levelled.sum_windows.Goals as goal
 
@@ -106,7 +106,7 @@ loop-column-3-preserved c =
     = omega (arith, c.loop-column-3.auto.column, to) in
     let is : c.window_sum-after.result ≡ window_sum system samples column
     = c.window_sum-after.ensures ∙ ap (window_sum system samples) to
-    ∙ ap (λ (start : ℕ). sum_from samples start (window_of system)) (sym (window_behind system column more)) in
+    ∙ ap (λ (start : ℕ). sum_from samples start (window_of system)) (sym (window_after system column more)) in
     record {
       windows = windows_more system samples c.loop-column-3.windows column c.window_sum-after.result
           (omega (

@@ -1,6 +1,6 @@
 use Rattle.std.proofs.Common.{cond, eqb, ℕ}
 use Rattle.vbi_near.specs.Leads.{IsSeen, at_start}
-use Rattle.vbi_near.proofs.Merged.{turned, merged_is, lead-by, behind-by}
+use Rattle.vbi_near.proofs.Looks.{turned, merged_is, lead-by, next-by}
 use Rattle.vbi_near.proofs.order.nearer_lead.Goals as goal
 
 pub returns-then-comes_first-clause-lead : goal.returns-then-comes_first-clause-lead
@@ -12,7 +12,7 @@ returns-then-comes_first-clause-lead c cost looks at words is are =
     lead-by cost _ _ _ _ _ c.ahead.result
     (merged_is cost (at_start at words) (IsSeen looks) other one are is
     (c.comes_first.ensures.yes c.if-comes_first.true)
-    behind (behind-by other one)) e.word e.start e.distance e.rival
+    behind (next-by other one)) e.word e.start e.distance e.rival
 
 pub returns-else-comes_first-clause-lead : goal.returns-else-comes_first-clause-lead
 returns-else-comes_first-clause-lead c cost looks at words is are =
@@ -23,4 +23,4 @@ returns-else-comes_first-clause-lead c cost looks at words is are =
     turned cost (IsSeen looks) (at_start at words) c.ahead-else-comes_first.result
     (lead-by cost _ _ _ _ _ c.ahead-else-comes_first.result
     (merged_is cost (IsSeen looks) (at_start at words) one other is are
-    (c.comes_first.ensures.no c.if-comes_first.false) behind (behind-by one other)) e.word e.start e.distance e.rival)
+    (c.comes_first.ensures.no c.if-comes_first.false) behind (next-by one other)) e.word e.start e.distance e.rival)

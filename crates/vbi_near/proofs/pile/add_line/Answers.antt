@@ -8,7 +8,7 @@ pub overflow_add-darks : goal.overflow_add-darks
 overflow_add-darks c =
     omega (
       arith,
-      c.loop-column.invariant.dark.behind c.loop-column.column (omega arith),
+      c.loop-column.invariant.dark.after c.loop-column.column (omega arith),
       c.requires.dark c.loop-column.column,
     )
 
@@ -16,7 +16,7 @@ pub overflow_add-lights : goal.overflow_add-lights
 overflow_add-lights c =
     omega (
       arith,
-      c.loop-column.invariant.light.behind c.loop-column.column (omega arith),
+      c.loop-column.invariant.light.after c.loop-column.column (omega arith),
       c.requires.light c.loop-column.column,
     )
 

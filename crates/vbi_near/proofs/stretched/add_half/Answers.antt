@@ -17,7 +17,7 @@ overflow_add-costs c =
       arith,
       is.few,
       c.requires.few k (omega arith),
-      c.loop-start.invariant.behind k (omega arith),
+      c.loop-start.invariant.after k (omega arith),
       c.requires.short,
       c.requires.inside,
       c.requires.order,
