@@ -1,4 +1,18 @@
 //! Lines whose running mean is taken off, and whose swing is made that of white and black.
+//!
+//! Each cell of a word is black in one half and white in the other, so the mean of some whole cells is half way between
+//! black and white, wherever the level of the signal wanders and however weak it is. `fill` puts that middle into erased
+//! columns, `sum_samples` and `sum_windows` give each column the sum of a window about it, `swing` is twice how far the
+//! samples are from their means, in the mean of the columns, and `level` writes the line. candidates.rt calls them in
+//! this order, and `is_swing` tells between them whether the line swings as one with a word does.
+//!
+//! A window has six cells of two microseconds, 172 columns in NTSC and 213 in PAL: enough that a word's bits hardly show
+//! in its mean, and few enough that the mean follows hum and tilt. No window leaves the columns that a word and the
+//! black about it can have (`first`, `end`). A sum stands for a mean, and what is compared with it is multiplied by the
+//! columns of the window, so that nothing is rounded before the one division (`quotient`).
+//!
+//! specs/Levelled.antt has the same numbers, and levelled_laws.rt has worked lines. A change of what a line becomes
+//! changes what fields show, and so the tables of docs/measured.
 
 ghost use Rattle.std.specs.Prelude.{◌≡◌, ◌≢◌, ℕ, ◌+◌, ◌*◌, ◌/◌, ◌^◌, ◌≤◌, ◌<◌, min, length, slice_index, IsTrue};
 ghost use Rattle.std.specs.Prelude.{IsFalse};
@@ -190,7 +204,8 @@ pub(crate) fn swing(line: &Summed) -> u32
     (2 * off / (u64::from(window(system)) * columns)) as u32
 }
 
-/// Whether a line of this swing is levelled.
+/// Whether a line of this swing is levelled: from 3 to 16 tenths of what white is from black. With less it is noise
+/// about a level, and with more no signal of black and white.
 pub(crate) fn is_swing(unit: u32, swing: u32) -> bool
     ensures { result ≡ is_swing unit swing }
 {

@@ -1,6 +1,6 @@
 use Rattle.std.proofs.Common.{ℕ, ◌+◌, ◌*◌, get_or, refl}
 use Rattle.vbi_near.proofs.InRange.{in_range_is, in-digits}
-use Rattle.vbi_near.proofs.codes.in_range.Goals as goal
+use Rattle.vbi_near.proofs.codes.nearest_in_range.Goals as goal
 
 pub returns-clause-lead : goal.returns-clause-lead
 returns-clause-lead c cost priced =
