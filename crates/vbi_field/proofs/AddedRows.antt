@@ -14,8 +14,7 @@ use Rattle.vbi_field.proofs.FeedTexts.{begun_same, begun_next}
 
 -- the whole fields of whole rows
 pub fields_at : (c : ConfigView) (z : List ℕ) (p : Progress) → IsProgress c z p → fields_of c z ≡ p.fields
-fields_at c z p at =
-    whole_fields c.system (length z) p.fields p.row 0 at.inside (sizes_of c.system).some (at.whole ∙ sym (add-zero _))
+fields_at c z p at = grind (arith, whole_fields, add-zero)
 
 -- the number of rows, and the looks, one row further
 pub record Further (c : ConfigView) (p p' : Progress) (looked : ℕ) : Type 0 where
@@ -43,12 +42,10 @@ module _ (t : Kind) {W : Type 0} (contents : W → Option (List ℕ)) (o o' : Ou
     -- the entry was put whole
     pub added_whole : Puts contents o o' text → written_of o' ≡ written_of o + length text
         → AddsRow t contents c o o' z b p' (Ok tt)
-    added_whole puts whole =
-        (next, record { text = text; due = entry_due; wrote = wrote_whole contents o o' text puts whole })
+    added_whole puts whole = grind (arith, entry_due, wrote_whole)
 
     -- the entry was put in part, so the answer is a fault
     pub added_in_part : Puts contents o o' text → written_of o' < written_of o + length text
         → (r : Result (Unit {0}) RunFault) → IsErr r → AddsRow t contents c o o' z b p' r
     added_in_part puts short (Ok u) is = cc
-    added_in_part puts short (Err fault) is =
-        (next, record { text = text; due = entry_due; wrote = put_in_part contents o o' text puts short })
+    added_in_part puts short (Err fault) is = grind (arith, entry_due, put_in_part)

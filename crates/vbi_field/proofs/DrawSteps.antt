@@ -1,4 +1,5 @@
 -- What a run of drawing keeps from row to row.
+use Rattle.std.proofs.Common.{rules}
 use Rattle.std.proofs.Common.{◌≡◌, ℕ, ◌+◌, ◌*◌, ◌≤◌, ◌<◌, inl, inr, List, [], ◌∷◌, ◌++◌}
 use Rattle.std.proofs.Common.{length, refl, sym, ap, ◌∙◌, arith, append_assoc}
 use Rattle.std.specs.Prelude.{Option, Some, None, Result, Ok, Err, IsErrAnd}
@@ -145,9 +146,7 @@ module _ {R W : Type 0} {remaining : R → Option (List ℕ)} {contents : W → 
     module _ (p : Outlet W) (wrote : outlets.Wrote contents o p (drawn_field_of c words))
         (no_error : NoError (outlets.counted_of o) (outlets.counted_of p)) where
       wrote_more : outlets.Wrote contents o0 p (draw_out c (g.rows ++ words ∷ []))
-      wrote_more =
-          rw (draw_out-more c g.rows words)
-          (wrote_twice contents o0 o p (draw_out c g.rows) (drawn_field_of c words) g.wrote wrote)
+      wrote_more = search (rules, draw_out-more, wrote_twice)
 
       written_more : p.written ≡ length (draw_out c (g.rows ++ words ∷ []))
       written_more = omega (arith, longer, g.written, wrote.written)
@@ -166,7 +165,17 @@ module _ {R W : Type 0} {remaining : R → Option (List ℕ)} {contents : W → 
           ≤ (failures_of (outlets.counted_of o)).all + tries * (length (drawn_field_of c words) + most_rows)
           → Drawn remaining contents c i0 o0 (done + 1) j p line
       next_row line same black ends short reads writes =
-          grind (arith, length-drawn_field_of, length-append, fetches_more, fetched_more, well_formed_more, rows_count, wrote_more, written_more)
+          grind (
+            arith,
+            length-drawn_field_of,
+            length-append,
+            fetches_more,
+            fetched_more,
+            well_formed_more,
+            rows_count,
+            wrote_more,
+            written_more,
+          )
 
   -- ---- the same of a row with its newline, and of a last one without
 
@@ -185,9 +194,7 @@ module _ {R W : Type 0} {remaining : R → Option (List ℕ)} {contents : W → 
     pub row_failed : (r : Result ℕ DrawFault) → outlets.WrotePart contents o p (drawn_field_of c words)
         → HasCause (outlets.counted_of o) (outlets.counted_of p)
         → IsErrAnd r (λ e. e ≡ faults.Write p.written) → RunsDrawing remaining contents c i0 j o0 p r
-    row_failed =
-        write_failed j t.bytes words t.fetches t.caused (line_one t.bytes t.got.0 t.got.1 t.got.2)
-        (line_is t.bytes t.got.0 words t.got.1 t.got.2 t.got.3) few p
+    row_failed = search (rules, write_failed, line_one, line_is)
 
     pub row_drawn : (line : List ℕ) → outlets.Wrote contents o p (drawn_field_of c words)
         → NoError (outlets.counted_of o) (outlets.counted_of p)
@@ -195,19 +202,14 @@ module _ {R W : Type 0} {remaining : R → Option (List ℕ)} {contents : W → 
         → (failures_of (outlets.counted_of p)).all
         ≤ (failures_of (outlets.counted_of o)).all + tries * (length (drawn_field_of c words) + most_rows)
         → line ≡ drawn_line_of c.system c.levels None → Drawn remaining contents c i0 o0 (done + 1) j p line
-    row_drawn line wrote no_error same writes black =
-        next_row j t.bytes words t.fetches t.caused (line_one t.bytes t.got.0 t.got.1 t.got.2)
-        (line_is t.bytes t.got.0 words t.got.1 t.got.2 t.got.3)
-        few p wrote no_error line same black (line_ends t.bytes t.got.0 t.got.2) t.short t.most writes
+    row_drawn line wrote no_error same writes black = search (rules, next_row, line_one, line_is, line_ends)
 
   module _ (j : RowIntake R) (words : WordRow) (t : TakesRow remaining i j (LastRow words))
       (few : done < c.max_fields) (p : Outlet W) where
     pub last_row_failed : (r : Result ℕ DrawFault) → outlets.WrotePart contents o p (drawn_field_of c words)
         → HasCause (outlets.counted_of o) (outlets.counted_of p)
         → IsErrAnd r (λ e. e ≡ faults.Write p.written) → RunsDrawing remaining contents c i0 j o0 p r
-    last_row_failed =
-        write_failed j t.bytes words t.fetches t.caused (rows_of-part t.bytes t.got.0 t.got.1)
-        (row_words-part t.bytes t.got.0 ∙ t.got.2) few p
+    last_row_failed = search (rules, write_failed, rows_of-part, row_words-part)
 
     pub last_row_drawn : outlets.Wrote contents o p (drawn_field_of c words)
         → NoError (outlets.counted_of o) (outlets.counted_of p)

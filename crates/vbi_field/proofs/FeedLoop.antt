@@ -123,8 +123,7 @@ pub fault_since : {W : Type 0} {contents : W → Option (List ℕ)} {old : Feedi
     {piece : List ℕ} {at : ℕ} → Taken contents old was o0 o piece at → (o' : Outlet W) (fault : RunFault)
     → IsFeedFault o o' fault
     → IsFeedFault o0 o' fault
-fault_since {o0 = o0} {o = o} t o' (Write written) f =
-    let least = t.rises.least in (f.0, cause_later o0.device o.device o'.device t.errors least f.1)
+fault_since {o0 = o0} {o = o} t o' (Write written) f = grind (arith, cause_later)
 fault_since t o' TooManyFields f = f ∙ t.errors
 fault_since t o' Failed f = tt
 fault_since t o' (Read field offset) f = f

@@ -63,8 +63,7 @@ begun_grows t c z b =
 pub completes_twice : (t : Kind) (c : ConfigView) (x y z first second : List ℕ) → IsTextBetween t c x y first
     → IsTextBetween t c y z second
     → IsTextBetween t c x z (first ++ second)
-completes_twice t c x y z first second h k =
-    sym (append_assoc (text_before_tail t c x) first second) ∙ ap (λ l. l ++ second) h ∙ k
+completes_twice t c x y z first second h k = grind (arith, append_assoc)
 
 -- the stream up to a limit that it hasn't reached yet
 pub cut_longer : (z bytes : List ℕ) (m : ℕ) → length z ≤ m → (more : List ℕ) × (z ++ more ≡ take m (z ++ bytes))

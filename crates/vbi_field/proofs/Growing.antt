@@ -1,4 +1,5 @@
 -- Rows of a stream that grows.
+use Rattle.std.proofs.Common.{rules}
 use Rattle.std.proofs.Common.{◌≡◌, ℕ, ◌+◌, ◌*◌, ◌≤◌, ◌<◌, inl, inr, List, ◌++◌, length, take, drop, sym, ap, ◌∙◌}
 use Rattle.std.proofs.Common.{◌-◌, refl, arith, lit≤}
 use Rattle.std.specs.Prelude.{Option, Some, None}
@@ -58,7 +59,17 @@ reads_next : (c : ConfigView) (z b : List ℕ) (i row r : ℕ) (o was now : Opti
     → length z ≡ (i * height_of c.system + row) * line_bytes c.system → IsLineOf c b row o
     → was ≡ reading_among c z i row r → IsKept r row o was now → now ≡ reading_among c (z ++ b) i (row + 1) r
 reads_next c z b i row r o was now low high long whole before kept =
-    grind (arith, eq-zero-or-pos, among_none, eq-or-lt_of_le, long, line_at-new, among_some, mul-le-mul_right, reading_at-more)
+    grind (
+      arith,
+      eq-zero-or-pos,
+      among_none,
+      eq-or-lt_of_le,
+      long,
+      line_at-new,
+      among_some,
+      mul-le-mul_right,
+      reading_at-more,
+    )
 
 -- the readings one row further
 record ReadsNext (c : ConfigView) (z : List ℕ) (i row : ℕ) (now : PartialReadings) : Type 0 where
@@ -69,17 +80,7 @@ record ReadsNext (c : ConfigView) (z : List ℕ) (i row : ℕ) (now : PartialRea
 module _ (c : ConfigView) (z b : List ℕ) (p : Progress) (o : Option Reading) (now : PartialReadings)
     (at : IsProgress c z p) (whole : IsLineOf c b p.row o) (kept : TakesReading p.row o p.readings now) where
   reads : ReadsNext c (z ++ b) p.fields (p.row + 1) now
-  reads = record {
-    first =
-        reads_next c z b p.fields p.row 15 o p.readings.first now.first (lit≤ tt) (lit≤ tt) at.whole whole at.first
-        kept.first;
-    second =
-        reads_next c z b p.fields p.row 16 o p.readings.second now.second (lit≤ tt) (lit≤ tt) at.whole whole at.second
-        kept.second;
-    third =
-        reads_next c z b p.fields p.row 17 o p.readings.third now.third (lit≤ tt) (lit≤ tt) at.whole whole at.third
-        kept.third;
-  }
+  reads = search (rules, reads_next, lit≤)
 
   long : length (z ++ b) ≡ (p.fields * height_of c.system + p.row + 1) * line_bytes c.system
   long = grind (arith, length-append, times-next)

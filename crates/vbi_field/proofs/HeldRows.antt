@@ -25,10 +25,7 @@ module _ (c : ConfigView) (z b : List ℕ) (i row : ℕ) (held now : List ℕ)
           let here : length z ≡ (i * height_of c.system + r) * line_bytes c.system = long
           ∙ ap (λ k. (i * height_of c.system + k) * line_bytes c.system) (sym e) in
           kept.0 (sym e) ∙ sym (line_at-new c.system z b i r here whole)
-      go (inr k) =
-          let later : i * height_of c.system + r + 1 ≤ i * height_of c.system + row = omega arith in
-          let m = mul-le-mul_right (line_bytes c.system) later in
-          kept.1 (λ e. omega arith) ∙ before k ∙ sym (line_at-more c.system z b i r (omega arith))
+      go (inr k) = grind (arith, mul-le-mul_right, before, line_at-more)
 
   pub holds_more : HoldsRows c z i row held → HoldsOn c.system row b held now → HoldsRows c (z ++ b) i (row + 1) now
   holds_more was on = grind (arith, placed)

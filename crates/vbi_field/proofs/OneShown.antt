@@ -1,4 +1,5 @@
 -- What the definitions of `Shown` have is all that there is.
+use Rattle.std.proofs.Common.{rules}
 use Rattle.std.proofs.Common.{◌≡◌, ℕ, ◌*◌, ◌≤◌, Bool, false, List, [], ◌∷◌, take, replicate, get_or, ap, ◌∙◌, sym}
 use Rattle.std.proofs.Common.{subst, arith}
 use Rattle.std.proofs.lemmas.List.{take-replicate}
@@ -50,9 +51,7 @@ is_shown system slicing rows marks = (some_recovered system slicing rows marks).
 
 pub only_shown : (system : System) (slicing : Slicing) (rows : List ℕ) (marks : List Bool) (shown : List Recovered)
     → IsRecovered system slicing rows marks shown → shown ≡ recovery_of system slicing rows marks
-only_shown system slicing rows marks shown is =
-    one_recovered system slicing rows marks shown (recovery_of system slicing rows marks) is
-    (is_shown system slicing rows marks)
+only_shown system slicing rows marks shown is = search (rules, one_recovered, is_shown)
 
 pub one_shown : (system : System) (slicing : Slicing) (rows : List ℕ) (marks : List Bool) (shown : List Recovered)
     → IsRecovered system slicing rows marks shown ↔ (shown ≡ recovery_of system slicing rows marks)

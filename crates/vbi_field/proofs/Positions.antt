@@ -32,8 +32,7 @@ module _ (c : ConfigView) (z held : List ℕ) (p : Progress) (s : Split c z held
   split_rest = grind (arith, past_fields, split_long)
 
   pub split_rows : rest_of c z / line_bytes c.system ≡ p.row
-  split_rows = ap (λ m. m / line_bytes c.system) split_rest
-      ∙ div-mul-add p.row (line_bytes c.system) (length held) s.short
+  split_rows = grind (arith, split_rest, div-mul-add)
 
   split_held : held ≡ drop (length z - rest_of c z % line_bytes c.system) z
   split_held = grind (arith, split_rest, mod-mul-add, length-append, drop_at)

@@ -37,8 +37,7 @@ module _ {t : Kind} {R W : Type 0} {remaining : R → Option (List ℕ)} {conten
     pub kept_field : {keeps : Bool} {now : List ℕ}
         → (IsTrue keeps → HoldsRows c (g.z ++ row.bytes) p.fields (p.row + 1) now) → IsTrue keeps
         → p.row + 1 ≡ height_of c.system → rows_in c.system now ≡ rows_at c (g.z ++ row.bytes) p.fields
-    kept_field more kept ends =
-        holds_field c (g.z ++ row.bytes) p.fields (p.row + 1) _ (more kept) (omega (arith, ends, tall c.system))
+    kept_field more kept ends = grind (arith, holds_field, tall)
 
     pub kept_next : {keeps : Bool} {now z : List ℕ} (p' : Progress) → z ≡ g.z ++ row.bytes
         → (IsTrue keeps → HoldsRows c (g.z ++ row.bytes) p.fields (p.row + 1) now) → IsTrue keeps → MovesOneRow c p p'

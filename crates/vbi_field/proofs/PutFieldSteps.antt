@@ -1,4 +1,5 @@
 -- What the writing of a field keeps from row to row.
+use Rattle.std.proofs.Common.{rules}
 use Rattle.std.proofs.Common.{◌≡◌, ℕ, ◌+◌, ◌-◌, ◌*◌, ◌≤◌, ◌<◌, List, ◌++◌, length, refl, sym, ap, subst, ◌∙◌, arith}
 use Rattle.std.specs.Prelude.{Option, None}
 use Rattle.std.specs.Io.KnownBytes.{Appends}
@@ -31,16 +32,7 @@ module _ {W : Type 0} (contents : W → Option (List ℕ)) (c : ConfigView) (wor
     pub drawn : line ≡ drawn_line_of c.system c.levels (word_at words (row - 1))
 
   pub Putting-none : (line : List ℕ) → line ≡ drawn_line_of c.system c.levels None → Putting old line 0
-  Putting-none line e = record {
-    appended = rw (drawn_rows_of-none c words) (Appends-nil _);
-    written = rw (drawn_rows_of-none c words) (omega arith);
-    small = omega arith;
-    least = omega arith;
-    most = omega arith;
-    errors = refl;
-    same = refl;
-    drawn = e;
-  }
+  Putting-none line e = search (rules, drawn_rows_of-none)
 
 -- the length of a drawn line
 long_line : (c : ConfigView) (line : List ℕ) (word : Option ℕ) → line ≡ drawn_line_of c.system c.levels word

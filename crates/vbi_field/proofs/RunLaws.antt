@@ -40,6 +40,5 @@ pub prompt : (t : Kind) (c : ConfigView) (input : Option (List ℕ)) (z text : L
     → (rest_of c z ≡ 0) ⊎ (IsAtEnd input × (length (text_before_tail t c z) ≤ length text))
 prompt t c input z text (inl (none, ends)) = inl (ap (rest_of c) none ∙ zero-mod (field_bytes c.system))
 prompt t c input z text (inr (inl (before, last, both, fields, field, ends))) =
-    inl (ap (rest_of c) (sym both) ∙ ap (λ n. n % field_bytes c.system) (length-append before last)
-    ∙ rest-next c.system (length before) (length last) fields field)
+    grind (arith, length-append, rest-next)
 prompt t c input z text (inr (inr (ended, ends))) = grind (arith, length-append)

@@ -119,8 +119,7 @@ row_at : (rows : List (List ℕ)) (all : List WordRow) (i : ℕ) (words : WordRo
     → slice_get all i ≡ Some words → (row : List ℕ) × (row_words row ≡ Some words)
 row_at rows [] i words e f = cc
 row_at [] (first ∷ all) i words e f = cc
-row_at (row ∷ rows) (first ∷ all) zero words e f =
-    (row, let same : row_words row ≡ Some first = cc in let here : first ≡ words = cc in cc)
+row_at (row ∷ rows) (first ∷ all) zero words e f = grind arith
 row_at (row ∷ rows) (first ∷ all) (suc i) words e f =
     row_at rows all i words (let rest : map row_words rows ≡ map Some all = cc in rest) f
 

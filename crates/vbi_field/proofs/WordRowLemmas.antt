@@ -55,8 +55,7 @@ pub three_parts : (row first rest second third : List ℕ) → parts_of row ≡ 
     → parts_of rest ≡ second ∷ parts_of third
     → parts_of third ≡ third ∷ [] → row_of_items (item_of first) (item_of second) (item_of third) ≡ word_row_of row
 unfolding word_row_of
-three_parts row first rest second third e f g =
-    ap row_of_parts (sym (e ∙ ap (λ (l : List (List ℕ)). first ∷ l) (f ∙ ap (λ (l : List (List ℕ)). second ∷ l) g)))
+three_parts row first rest second third e f g = grind arith
 
 too_many_parts : (first second third : List ℕ) (parts : List (List ℕ)) (n : ℕ) → length parts ≡ n + 1
     → None ≡ row_of_parts (first ∷ second ∷ third ∷ parts)

@@ -172,7 +172,8 @@ fn field_texts(
     requires rows { length rows.now ≡ 3 * line_bytes config.now.system }
     requires erased { length erased.now ≡ 3 * width_of config.now.system }
     ensures { readings.now ≡ readings_of config.now (rows_in config.now.system rows.now) → (number : ℕ)
-        → record_with number result.lines result.causes result.nears.bytes ≡ recovered_record_of config.now.levels number
+        → record_with number result.lines result.causes result.nears.bytes
+        ≡ recovered_record_of config.now.levels number
         (recovered_without config.now.system config.now.levels (rows_in config.now.system rows.now) erased.now) }
 {
     let lines = shown_lines(config, readings, rows, erased);
