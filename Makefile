@@ -147,7 +147,7 @@ install: places said-from $(BUILT)ldvbi $(if $(wildcard $(BUILT)libldvbi.a),inst
 	install -d $(patsubst %/,$(ROOT)/share/ldvbi/%,$(sort $(dir $(PYTHON))))
 	$(foreach module,$(PYTHON),install -m 644 $(module) $(ROOT)/share/ldvbi/$(module) &&) :
 	install -d $(DOCUMENTS)/docs/pictures $(DOCUMENTS)/examples/rust/src
-	install -m 644 README.md CHANGELOG.md $(DOCUMENTS)
+	install -m 644 README.md CHANGELOG.md LICENSE $(DOCUMENTS)
 	install -m 644 $(wildcard docs/*.md) $(DOCUMENTS)/docs
 	install -m 644 $(wildcard docs/pictures/*.svg docs/pictures/*.png) $(DOCUMENTS)/docs/pictures
 	install -m 644 $(wildcard examples/*.*) $(DOCUMENTS)/examples
@@ -264,7 +264,7 @@ bench: ldvbi lib rust
 	sh bench/all.sh ./ldvbi
 
 peers:
-	sh peers/compare.sh $(PROGRAM) 200 docs/measured/peers.txt
+	sh bench/peers/compare.sh $(PROGRAM) 200 docs/measured/peers.txt
 
 # The library beside the program, or the one at the top
 channel:

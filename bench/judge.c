@@ -59,11 +59,11 @@ static LdvbiReading reading_of(uint32_t word)
 static void fill(size_t first, size_t second)
 {
     uint32_t picture = 0;
-    size_t behind = 0;
+    size_t lasts = 0;
 
     memset(readings, 0, sizeof readings);
-    for (size_t field = 0; field < FIELDS; field += behind) {
-        behind = picture % 2 == 0 ? first : second;
+    for (size_t field = 0; field < FIELDS; field += lasts) {
+        lasts = picture % 2 == 0 ? first : second;
         for (size_t line = 1; line < 3; line++) {
             readings[field].lines[line] = reading_of(picture_word(picture));
             if (field + 1 < FIELDS)

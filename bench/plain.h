@@ -124,7 +124,7 @@ static LdvbiCode plain_code(uint32_t word)
 
     for (int i = 0; i < 6; i++)
         d[i] = word >> (20 - 4 * i) & 15;
-    /* from codes/classes.txt: code */
+    /* from texts/classes.txt: code */
     if (word == 0x88FFFF)
         return code_of(LDVBI_LEAD_IN, 0, 0);
     if (word == 0x80EEEE)

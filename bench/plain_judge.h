@@ -84,11 +84,11 @@ static size_t plain_neighbour(const LdvbiNumber *numbers, size_t count, size_t f
 }
 
 /* Whether the believed numbers between two fields are near enough to this one. */
-static int are_near(uint32_t pace, const LdvbiNumber *numbers, size_t before, size_t behind, size_t field, long number)
+static int are_near(uint32_t pace, const LdvbiNumber *numbers, size_t before, size_t after, size_t field, long number)
 {
-    long slack = behind - before <= 8;
+    long slack = after - before <= 8;
 
-    for (size_t other = before + 1; other < behind; other++) {
+    for (size_t other = before + 1; other < after; other++) {
         long fields = (long)other - (long)field, pictures = (long)numbers[other].number - number;
 
         if (numbers[other].state == LDVBI_BELIEVED && !(pace == LDVBI_VIDEO ? labs(fields - 2 * pictures) <= slack
@@ -102,14 +102,14 @@ static void plain_due(uint32_t pace, LdvbiNumber *numbers, size_t count, size_t 
 {
     int fields = pace == LDVBI_VIDEO ? 2 : 5, pictures = pace == LDVBI_VIDEO ? 1 : 2;
     size_t before = plain_neighbour(numbers, count, field, -fields);
-    size_t behind = plain_neighbour(numbers, count, field, fields);
+    size_t after = plain_neighbour(numbers, count, field, fields);
 
-    if (before == count || behind == count)
+    if (before == count || after == count)
         return;
     long number = (long)numbers[before].number + (long)(field - before) / fields * pictures;
-    if (number + (long)(behind - field) / fields * pictures != (long)numbers[behind].number)
+    if (number + (long)(after - field) / fields * pictures != (long)numbers[after].number)
         return;
-    if (are_near(pace, numbers, before, behind, field, number)) {
+    if (are_near(pace, numbers, before, after, field, number)) {
         numbers[field].number = (uint32_t)number;
         numbers[field].state = LDVBI_DUE;
     }

@@ -217,7 +217,7 @@ static size_t first_shown(const Side *side, const Wanted *wanted, const Room *ro
     return field;
 }
 
-/* The first field of which the wanted number is believed or due. If no chapter is believed on the side, or no number,
+/* The first field for which the wanted number is believed or due. If no chapter is believed on the side, or no number,
  * whether as a picture or as a time, the side is too short to be judged, or has too few of them. For such a side, and
  * only for such a one, what the lines say is taken as it is, and `is_raw` is 1. */
 static uint32_t find(const Side *side, const Wanted *wanted, const Room *room, size_t *found, int *is_raw) {

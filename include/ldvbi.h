@@ -18,7 +18,7 @@
  *     while (field < count && stops[field] != LDVBI_BELIEVED) field++;
  *     printf("the player stops in field %zu\n", field + 1);
  *
- * If nothing is found, `field` is `count`. Without the call of madvise the system reads ahead: ten pages or more for
+ * If nothing is found, `field` is `count`. Without the call of madvise the system reads ahead, ten pages or more for
  * each one that is wanted. The programs in examples/ also test what the system answers. In docs/, LIBRARY.md says how
  * to link, which line has which code, and how to read frames, lines of other sample rates and mapped files; PROMISES.md
  * says what is proved. Both folders are installed in share/doc/ldvbi.
@@ -29,7 +29,7 @@
  * Numbers are uint32_t, and all of their 32 bits are tested: 257 is not taken for system 1. C cuts a wider number to 32
  * bits before the call, so test such a number first. No call tests the following. The caller has to ensure it:
  *   - Each pointer points to as many bytes or values as the length or count beside it says, or to one value of its
- *     type. It may be null only if that length or count is 0, as that of an empty std::vector.
+ *     type. It may be null only if that length or count is 0, as in an empty std::vector.
  *   - Pointers to structs are aligned as their types are. Pointers to samples needn't be.
  *   - The memory that a call writes overlaps nothing else that the call is given. What it held before doesn't matter.
  *     During the call no other thread touches the memory that it writes, and none writes the memory that it reads.
@@ -180,14 +180,14 @@ LDVBI_RESULT LDVBI_POINTER(6) uint32_t ldvbi_nearest(uint32_t system, uint32_t b
  *     either, if they don't agree                           10                       12
  *
  * Lines 17 and 18 are taken together if neither shows a word that stays, neither is blank, they agree, and each bears
- * the common word or code. They agree if each has the same nearest word or code, or if the common one is at most
- * 30 columns farther from the two lines than the nearest one of each is from its own line. Each bears it if the common
- * one is nearer to both lines together, by 20 columns, than the nearest one of either line is to that line and no word
- * to the other. The margin of both together also has to be a part of how much nearer the word is than none: at least
+ * the common word or code. They agree if each has the same nearest word or code, or if the common one is at most 30
+ * columns farther from the two lines than the nearest one of each is from its own line. Each bears it if the common one
+ * is nearer to both lines together, by 20 columns, than the nearest one of either line is to that line and no word to
+ * the other. The margin of both together also has to be a share of how much nearer the word is than none: at least
  * 4/144 for a code, and 3/144 for any other word.
  *
  * Nothing is recovered if the row with one more cell (`longer`), or with one or two cells black at an end, is nearer by
- * more than 4 columns in each line; nor if the row with twelve cells black at an end isn't farther by a quarter of how
+ * more than 4 columns in each line; nor unless the row with twelve cells black at an end is farther by a quarter of how
  * much farther none is. Two lines aren't taken together if, for each by itself, the row with one more cell is nearer by
  * more than 4 columns.
  *
@@ -255,7 +255,7 @@ LDVBI_RESULT LDVBI_POINTER(10) uint32_t ldvbi_recover_pile(uint32_t system, uint
 
 /* ---- What words say */
 enum LdvbiKind {
-    /* from codes/classes.txt: kinds */
+    /* from texts/classes.txt: kinds */
     LDVBI_OTHER = 0,
     LDVBI_PICTURE = 1,       /* first: the number of a picture of a CAV disc, 0 to 79999 */
     LDVBI_CHAPTER = 2,       /* first: the chapter, 0 to 79 */
@@ -312,9 +312,8 @@ LDVBI_RESULT LDVBI_POINTER(4) uint32_t ldvbi_format(uint32_t first, uint32_t sec
  * LDVBI_REACH fields, count to one number in it, it has that number.
  *
  * Nothing is promised if, within LDVBI_REACH fields, the player jumped, the capture lost a field, or the clock of an
- * NTSC CLV disc leaves out a number. Nor is anything promised if film stands still, or at a pace that isn't the disc's.
- * Errors are rare there too. ldvbi_judge_side judges lost fields; minutes without their seconds are judged by
- * `ldvbi-side` alone. */
+ * NTSC CLV disc leaves out a number. The same is true if film stands still, or if the pace isn't the disc's. Errors are
+ * rare there too. ldvbi_judge_side judges lost fields; minutes without seconds are judged by `ldvbi-side` alone. */
 
 enum { LDVBI_REACH = 24 }; /* how many fields before a field, and how many after it, are looked at */
 
@@ -351,10 +350,11 @@ typedef struct LdvbiNumber {
     uint32_t state; /* of enum LdvbiState */
 } LdvbiNumber;
 
-/* Judges the numbers of `count` fields that follow each other. `numbers` gets the answers. `seen` is room for the call
- * to work in, and gets what each field shows. Both have `count` values. If a capture goes on, judge it again with its
- * new fields. If the pace is given, these may change what is believed of the last LDVBI_REACH fields, and what is due
- * in twice as many; all answers before those stay. With LDVBI_FIND_PACE the pace may change, and with it any answer. */
+/* Judges the numbers of `count` fields that follow each other. `numbers` gets the answers. `seen` is a buffer for the
+ * call to work in, and gets what each field shows. Both have `count` values. If a capture goes on, judge it again with
+ * its new fields. If the pace is given, these may change what is believed for the last LDVBI_REACH fields, and what is
+ * due in twice as many; all answers before those stay. With LDVBI_FIND_PACE the pace may change, and with it any
+ * answer. */
 LDVBI_RESULT uint32_t ldvbi_judge(uint32_t system, uint32_t counted, uint32_t pace, const LdvbiFieldReadings *readings,
     size_t count, LdvbiSightings *seen, size_t seen_count, LdvbiNumber *numbers, size_t number_count);
 
@@ -383,10 +383,11 @@ LDVBI_RESULT LDVBI_POINTER(7) uint32_t ldvbi_find_pace(uint32_t system, uint32_t
 enum { LDVBI_PART = 97 }; /* the answer for a field depends on it and on 2 * LDVBI_REACH fields on either side */
 
 /* Judges the field `field`, counted from 0, of at most LDVBI_PART fields that follow each other. It is for a player
- * that jumps about and has no room to give. This is proved: if the readings have 2 * LDVBI_REACH fields before it, or
- * begin with the side, and have as many after it, or end with the side, `number` is what ldvbi_judge answers for it in
- * the whole side at the same pace. `pace` is LDVBI_VIDEO or LDVBI_FILM, as ldvbi_find_pace answers for the side: a few
- * fields have no pace of their own. LDVBI_BAD_LENGTH is returned also if `field` isn't below `count`. */
+ * that jumps about and has no buffer for a whole side. This is proved: if the readings have 2 * LDVBI_REACH fields
+ * before it, or begin with the side, and have as many after it, or end with the side, `number` is what ldvbi_judge
+ * answers for it in the whole side at the same pace. `pace` is LDVBI_VIDEO or LDVBI_FILM, as ldvbi_find_pace answers
+ * for the side: a few fields have no pace of their own. LDVBI_BAD_LENGTH is returned also if `field` isn't below
+ * `count`. */
 LDVBI_RESULT LDVBI_POINTER(7) uint32_t ldvbi_judge_field(uint32_t system, uint32_t counted, uint32_t pace,
     const LdvbiFieldReadings *readings, size_t count, size_t field, LdvbiNumber *number);
 
@@ -403,13 +404,13 @@ enum { LDVBI_LOOKED = 1000 };
  * `pace` is as for ldvbi_judge. With LDVBI_FIND_PACE the call finds a pace by the few fields that it judges, and names
  * it in `sought`. It needn't be the one that ldvbi_find_pace answers for the side. A cut last field is left out.
  *
- * This is proved: the field that is answered has the number as ldvbi_judge answers it, at this pace, by what
- * ldvbi_recover_fields reads of all fields, and the field before it hasn't. The first field with a number is found if
- * the side has at most a million fields and its numbers lead there. They do if three things hold: along a sixteenth of
- * the side or more, any 12 fields in a row tell a number together; elsewhere none do; lower numbers are told before
- * the field, higher ones after it. It isn't proved that a side is like this. The sides that were tried are, if the
- * player runs on, with any lead-in and lead-out, and each line is read. Otherwise a number may be missed: to be sure
- * that it isn't there, judge the whole side. */
+ * This is proved: the field that is answered has the number, and the field before it hasn't, as ldvbi_judge answers at
+ * this pace by what ldvbi_recover_fields reads of all fields. The first field with a number is found if the side has at
+ * most a million fields and its numbers lead there. They do if three things hold: along a sixteenth of the side or
+ * more, any 12 fields in a row tell a number together; elsewhere none do; lower numbers are told before the field,
+ * higher ones after it. It isn't proved that a side is like this. The sides that were tried are, if the player runs on,
+ * with any lead-in and lead-out, and each line is read. Otherwise a number may be missed: to be sure that it isn't
+ * there, judge the whole side. */
 LDVBI_RESULT LDVBI_POINTER(9) uint32_t ldvbi_seek(uint32_t system, uint32_t black, uint32_t white, uint32_t counted,
     uint32_t pace, const void *bytes, size_t length, uint32_t number, LdvbiSought *sought);
 
@@ -423,18 +424,18 @@ LDVBI_RESULT LDVBI_POINTER(9) uint32_t ldvbi_seek(uint32_t system, uint32_t blac
  * This is proved, whatever the disc and the player do: if the chapter codes within LDVBI_REACH fields of a field that
  * aren't what the disc has there weigh less than 10, a believed chapter is one that the disc has within these fields.
  * And if the codes of one chapter weigh 10 or more within LDVBI_REACH fields before a field, and 10 or more within as
- * many after it, no other chapter is believed of that field.
+ * many after it, no other chapter is believed for that field.
  *
  * So a chapter can seem longer by a few fields if codes near its ends are misread as its own. If a player goes back to
- * an earlier chapter, it may be that no chapter is believed for LDVBI_REACH fields before and after. */
+ * an earlier chapter, there may be no believed chapter for LDVBI_REACH fields before and after. */
 
 /* Judges the chapters of fields as ldvbi_judge does their numbers. `chapters` gets the answers: the number is the
- * chapter, and the state is never LDVBI_DUE. Most fields have no chapter code. They have LDVBI_NOTHING, and are of the
- * chapter that was believed last. `seen` gets the chapters that lines 17 and 18 show, with `instead` 0. */
+ * chapter, and the state is never LDVBI_DUE. Most fields have no chapter code. They have LDVBI_NOTHING, and belong to
+ * the chapter that was believed last. `seen` gets the chapters that lines 17 and 18 show, with `instead` 0. */
 LDVBI_RESULT uint32_t ldvbi_judge_chapters(const LdvbiFieldReadings *readings, size_t count, LdvbiSightings *seen,
     size_t seen_count, LdvbiNumber *chapters, size_t chapter_count);
 
-/* Returns the first field, counted from 0, of which this number or chapter is believed or due; else `count`. */
+/* Returns the first field, counted from 0, for which this number or chapter is believed or due; else `count`. */
 size_t ldvbi_first_of(const LdvbiNumber *numbers, size_t count, uint32_t number);
 
 /* ---- Judging stops
@@ -442,7 +443,7 @@ size_t ldvbi_first_of(const LdvbiNumber *numbers, size_t count, uint32_t number)
  * A disc has a stop on lines 16 and 17. It is believed if one of the two shows it in pass 1, or if both do, in whatever
  * pass. Other fields have no say, since a stop may stand anywhere on a side.
  *
- * This is proved: if the disc has no stop in a field, and one is believed of it, a word of pass 1 was misread on its
+ * This is proved: if the disc has no stop in a field, and one is believed there, a word of pass 1 was misread on its
  * lines 16 and 17, or both words were. A stop that the disc has is believed if one line was read right in pass 1, or if
  * both were read right. */
 
@@ -475,8 +476,8 @@ LDVBI_RESULT uint32_t ldvbi_judge_stops(const LdvbiFieldReadings *readings, size
  * each end of a gap of video weigh less than 10, the capture isn't one run of the disc from LDVBI_REACH fields before
  * the gap to as many after it.
  *
- * Not each fault is seen. Lost fields and as many doubled ones leave no gap if no number between is believed. Swapped
- * fields aren't seen if their numbers weren't read, nor on film, nor with numbers on both fields. And a disc whose own
+ * Some faults go unseen. Lost fields and as many doubled ones leave no gap if no number between is believed. Swapped
+ * fields go unseen if their numbers weren't read, on film, and with numbers on both fields. And a disc whose own
  * numbers leave some out looks as if fields were lost. */
 enum LdvbiGapKind {
     LDVBI_LOST = 1,   /* fields of the disc are lost */
@@ -595,7 +596,7 @@ static inline const char *ldvbi_cause_text(uint32_t cause) {
 
 static inline const char *ldvbi_kind_text(uint32_t kind) {
     static const char *const texts[] = {
-        /* from codes/classes.txt: texts */
+        /* from texts/classes.txt: texts */
         "other", "picture", "chapter", "time", "clv picture", "cx on", "cx off", "users", "lead-in", "lead-out",
         "picture stop", "clv"
         /* to here */

@@ -32,6 +32,8 @@ strip --strip-unneeded "$folder/usr/bin/ldvbi" "$folder"/usr/lib/*/libldvbi.so.[
 strip -g --enable-deterministic-archives "$folder"/usr/lib/*/libldvbi.a
 chmod 644 "$folder"/usr/lib/*/libldvbi.so.[0-9]
 gzip -9n "$folder"/usr/share/man/man1/*.1
+# In a package of Debian's this file stands for LICENSE.
+rm "$documents/LICENSE"
 cp "$top/packaging/copyright" "$documents"
 gzip -9nc > "$documents/changelog.Debian.gz" << END
 ldvbi ($version) unstable; urgency=medium

@@ -84,7 +84,8 @@ def members(library, name, version, tag):
     about = "%s-%s.dist-info/" % (name, version)
     metadata, scripts = description(name, version)
     wheel = "Wheel-Version: 1.0\nGenerator: ldvbi %s\nRoot-Is-Purelib: false\nTag: %s\n" % (version, tag)
-    for place, text in (("METADATA", metadata), ("WHEEL", wheel), ("entry_points.txt", scripts)):
+    for place, text in (("METADATA", metadata), ("WHEEL", wheel), ("entry_points.txt", scripts),
+                        ("LICENSE", text_of("LICENSE"))):
         found[about + place] = text.encode()
     rows = ["%s,sha256=%s,%d" % (place, base64.urlsafe_b64encode(hashlib.sha256(data).digest()).decode().rstrip("="),
                                  len(data)) for place, data in found.items()]

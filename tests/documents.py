@@ -74,7 +74,7 @@ def paths():
 
 
 SOURCES = ("crates/*/src/*.rt", "crates/*/specs/*.antt", "include/*.h", "python/**/*.py", "rust/hand/src/*.rs",
-           "share/schema/*.json", "[rt]*/*.sh", "tests/unit/*.py", "bench/sides/*.py", "examples/*.c")
+           "share/schema/*.json", "[rt]*/*.sh", "tests/unit/*.py", "simulated/*.py", "examples/*.c")
 # Words of other programs, and of the machine
 NOT_OURS = {"chdman", "console", "manylinux_2_17", "memcpy", "memset", "pipefail", "pv", "siglongjmp", "WILLNEED"}
 
@@ -151,7 +151,7 @@ NUMBERS = (
     (SIDE + "Votes.antt", r"^vote_reach = (\d+)$", "in the # fields before it and the # after it that",
      "times within # fields that go on", "ran on within # fields, and (?:wrong|the misread)"),
     (SIDE + "Parts.antt", r"^part_most = (\d+)$", "of at most # readings"),
-    ("crates/vbi_c/specs/Seeking.antt", r"^looked_most = (\d+)$", "at most # fields (?:are|as) read",
+    ("crates/vbi_c/specs/Seeking.antt", r"^looked_most = (\d+)$", "[Aa]t most # fields (?:are|as) read",
      "at most # fields, as"),
     ("python/ldvbi/near.py", r"^MOST_LINES = (\d+) ", "of 1 to # lines", "that 1 to # lines", "be 1 to # times"),
     (SAID, "^lone" + TWO, "one line # #"),

@@ -17,7 +17,7 @@ JITTER = "crates/vbi_words/specs/Jitter.antt"
 RAN = ".ci/ran.txt"
 RATES = "tests/library/lines.py"
 READER = "docs/RECIPES.md"  # of a map, in C
-SIDES = "docs/measured/sides.txt"  # what bench/sides/measure.py printed
+SIDES = "docs/measured/sides.txt"  # what simulated/measure.py printed
 
 
 def read(path: str) -> str:

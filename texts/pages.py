@@ -34,10 +34,10 @@ def plain(words: List[str]) -> List[str]:
 def macro(word: str) -> str:
     """The line of a word that has a macro, or an empty text."""
     option, code = OPTION.match(word), CODE.match(word)
-    behind = " ".join((option or code)[2]) if option or code else ""
+    after = " ".join((option or code)[2]) if option or code else ""
     if option:
-        return (".Fl -%s %s" % (option[1], behind)).rstrip()
-    return (".Ql %s %s" % (code[1], behind)).rstrip() if code else ""
+        return (".Fl -%s %s" % (option[1], after)).rstrip()
+    return (".Ql %s %s" % (code[1], after)).rstrip() if code else ""
 
 
 def mdoc(text: str) -> str:

@@ -1,7 +1,8 @@
 #!/usr/bin/env python3
-"""Writes what people read of commands, options, statuses, members and sizes from the source that has them: the
-completions whole; of the manual pages and documents what stands between a comment `from SOURCE: PART` and `to here`,
-and the numbers of documents that stand after their name."""
+"""Writes the texts that have their source elsewhere: the completions whole; in manual pages, documents, the header for
+C and two more files what stands between a comment `from SOURCE: PART` and `to here`; in a schema the list of kinds; and
+the numbers of documents that stand after their name. The sources are the commands and options, the schemas, what was
+measured, and the table of the classes of code words (classes.txt)."""
 
 import argparse
 import functools
@@ -9,16 +10,15 @@ import os
 import re
 import sys
 
+import classes_parts
 import completions
 import documents
 import numbers_of
 import pages
 from program import TOP, ldvbi, ldvbi_side
 
-# What stands between these two lines is written here; each is a comment of its file's language. Of this source
-# codes/write.py writes such parts.
+# What stands between these two lines is written here; each is a comment of its file's language.
 PART = re.compile(r"^([^\w\n]+ from ([\w./-]+): (\w+)\b[^\n]*\n)(.*?)(^[^\w\n]+ to here\b)", re.M | re.S)
-OF_OTHERS = ("codes/classes.txt",)
 
 
 def read(path):
@@ -26,14 +26,16 @@ def read(path):
         return file.read()
 
 
-def with_parts(path, parts):
-    """The text of a file with its parts, each a source and a function of no argument, as their source has them."""
+def with_parts(path, of_program=None):
+    """The text of a file with its parts, each a source and a function of no argument, as their source has them. A
+    manual page has parts of its program, too."""
     text = read(path)
-    found = [(one[3], one[2]) for one in PART.finditer(text) if one[2] not in OF_OTHERS]
+    parts = {**(of_program or {}), **documents.PARTS.get(path, {}), **classes_parts.PARTS.get(path, {})}
+    found = [(one[3], one[2]) for one in PART.finditer(text)]
     wanted = [(name, source) for name, (source, _) in parts.items()]
     if sorted(found) != sorted(wanted):
         raise SystemExit("write: %s has the parts %s, and not %s" % (path, sorted(found), sorted(wanted)))
-    return PART.sub(lambda one: one[0] if one[2] in OF_OTHERS else one[1] + parts[one[3]][1]() + one[5], text)
+    return PART.sub(lambda one: one[1] + parts[one[3]][1]() + one[5], text)
 
 
 def written():
@@ -41,14 +43,16 @@ def written():
     for program in (ldvbi(), ldvbi_side()):
         yield "share/completions/%s.bash" % program.name, completions.bash(program)
         yield "share/completions/_%s" % program.name, completions.zsh(program)
-        parts = {name: (program.source, functools.partial(part, program))
-                 for name, part in pages.PARTS[program.name].items()}
-        yield "share/man/%s.1" % program.name, with_parts("share/man/%s.1" % program.name, parts)
-    yield "include/ldvbi.h", with_parts("include/ldvbi.h", documents.PARTS["include/ldvbi.h"])
+        of_program = {name: (program.source, functools.partial(part, program))
+                      for name, part in pages.PARTS[program.name].items()}
+        yield "share/man/%s.1" % program.name, with_parts("share/man/%s.1" % program.name, of_program)
+    for path in ("include/ldvbi.h", "bench/plain.h", "python/ldvbi/classes.py"):
+        yield path, with_parts(path)
+    yield classes_parts.SCHEMA, classes_parts.with_kinds(read(classes_parts.SCHEMA))
     numbers, named = numbers_of.all_numbers(), set()
     for path in ["README.md", "CONTRIBUTING.md", *sorted(numbers_of.paths("docs/*.md"))]:
         named |= {one[2] for one in numbers_of.MARK.finditer(read(path))}
-        yield path, numbers_of.with_numbers(with_parts(path, documents.PARTS.get(path, {})), numbers)
+        yield path, numbers_of.with_numbers(with_parts(path), numbers)
     if not {*numbers_of.of_tests(), *numbers_of.package()} <= named:
         raise SystemExit("write: no document has %s" % ({*numbers_of.of_tests(), *numbers_of.package()} - named))
 

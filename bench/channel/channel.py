@@ -109,9 +109,9 @@ def sampled(lines, places):
     """The values at these places, by cubics through four samples."""
     samples = numpy.clip(places.astype(int), 1, GRID_SAMPLES - 3)
     rest = (places - samples).astype(numpy.float32)
-    before, left, right, behind = (numpy.take_along_axis(lines, samples + by, 1) for by in (-1, 0, 1, 2))
-    cubic = 3 * (left - right) + behind - before
-    square = 2 * before - 5 * left + 4 * right - behind
+    before, left, right, after = (numpy.take_along_axis(lines, samples + by, 1) for by in (-1, 0, 1, 2))
+    cubic = 3 * (left - right) + after - before
+    square = 2 * before - 5 * left + 4 * right - after
     return left + .5 * rest * (right - before + rest * (square + rest * cubic))
 
 

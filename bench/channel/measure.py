@@ -7,15 +7,15 @@ passes 1 and 2     ldvbi_read_line
 one line           ldvbi_recover_rows, the line alone in its field
 both lines         the same where lines 17 and 18 have one word, each damaged by itself
 .. with the list   the same, with the columns of dropouts that a decoder would list, though a fifth is missing
-MAME, by edges     those of peers/: of line 17, and of both lines, where they don't differ
+MAME, by edges     those of bench/peers/: of line 17, and of both lines, where they don't differ
 
 A row has FIELDS fields, which are the same for each library. It needs Debian's python3-numpy and python3-scipy, and
 with --peers mame-tools; tables.sh runs it for both systems.
 
 usage: measure.py SYSTEM FIELDS SEED [--library FILE] [--peers FOLDER] [--only TEXT] [--table words|pairs]
 
-Without --library its columns are left out, without --peers those of peers/: FOLDER is the one with peers/edges.c
-built. TEXT is a part of the names of the rows that are read."""
+Without --library its columns are left out, without --peers those of bench/peers/: FOLDER is the one in which edges.c of
+bench/peers/ is built. TEXT is a part of the names of the rows that are read."""
 
 import argparse
 import functools

@@ -1,5 +1,5 @@
 """The readers, over lines as arrays of samples: each answers a word for each line, or 0 where it says none. The library
-is called by python/ldvbi; MAME's decoder and the reader by edges are those of peers/."""
+is called by python/ldvbi; MAME's decoder and the reader by edges are those of bench/peers/."""
 
 import array
 import ctypes
@@ -9,7 +9,7 @@ import sys
 import numpy
 
 TOP = os.path.join(os.path.dirname(os.path.abspath(__file__)), os.pardir, os.pardir)
-sys.path += [os.path.join(TOP, folder) for folder in ("peers", "python")]
+sys.path += [os.path.join(TOP, folder) for folder in ("bench/peers", "python")]
 
 import readers  # noqa: E402
 from ldvbi.library import later_call, library  # noqa: E402
@@ -91,7 +91,7 @@ def merged(words):
     return numpy.where((second == 0) | (second == one), one, 0)
 
 
-# ---- Those of peers/
+# ---- Those of bench/peers/
 
 def by_mame(system, lines):
     """The words of MAME's decoder, of lines in 8 bits and interpolated to 13.5 MHz."""

@@ -51,8 +51,8 @@ def multiburst(system, count, chance):
 def pulse_and_bar(_system, count, chance):
     start = chance.uniform(11, 14, (count, 1))
     lines = numpy.where((TIMES > start) & (TIMES < start + 18), 100, 0).astype(numpy.float32)
-    for behind, half_width in ((24, .25), (32, 1.56)):
-        from_middle = numpy.clip((TIMES - start - behind) / (2 * half_width), -.5, .5)
+    for after, half_width in ((24, .25), (32, 1.56)):
+        from_middle = numpy.clip((TIMES - start - after) / (2 * half_width), -.5, .5)
         lines = lines + (100 * numpy.cos(numpy.pi * from_middle) ** 2).astype(numpy.float32)
     return lines
 

@@ -15,7 +15,7 @@ work=$(mktemp -d)
 trap 'rm -rf "$work"' EXIT
 readers="--library=$1"
 if [ "$1" = peers ]; then
-    "${CC:-cc}" -std=c99 -O2 -Wall -o "$work/edges" "$here/../../peers/edges.c"
+    "${CC:-cc}" -std=c99 -O2 -Wall -o "$work/edges" "$here/../peers/edges.c"
     readers="--peers=$work"
 fi
 

@@ -8,7 +8,7 @@ lines of each field have the same signal, each with noise of its own. Without --
 It needs Debian's python3-numpy and python3-scipy; tables.sh runs it for both systems.
 
 usage: without_words.py SYSTEM LINES SEED [--library FILE] [--peers FOLDER] [--same] [--only TEXT]
-FOLDER is the one with peers/edges.c built. TEXT is a part of the names of the kinds that are read."""
+FOLDER is the one in which edges.c of bench/peers/ is built. TEXT is a part of the names of the kinds that are read."""
 
 import argparse
 

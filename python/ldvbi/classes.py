@@ -10,7 +10,7 @@ from typing import Collection, Dict, NamedTuple, SupportsIndex, Tuple
 
 class Kind(enum.IntEnum):
     """The kind of a word."""
-    # from codes/classes.txt: kinds
+    # from texts/classes.txt: kinds
     other = 0
     picture = 1
     chapter = 2
@@ -51,7 +51,7 @@ class Class(NamedTuple):
     disc: str
 
 
-# from codes/classes.txt: classes
+# from texts/classes.txt: classes
 CLASSES = (
     Class(Kind.lead_in, "lead-in", (), (17, 18), ""),
     Class(Kind.lead_out, "lead-out", (), (17, 18), ""),
@@ -92,7 +92,7 @@ def classify(word: SupportsIndex) -> Code:
 
 def _code_of(word, first, second, third, fourth, fifth, sixth):
     """The code of a word with these six digits."""
-    # from codes/classes.txt: code
+    # from texts/classes.txt: code
     if word == 0x88FFFF:
         return Code(Kind.lead_in, 0, 0)
     if word == 0x80EEEE:

@@ -101,13 +101,13 @@ def complete_times(readings: Any, system: AnySystem) -> bytes:
 
 def judge_chapters(readings: Any) -> List[Number]:
     """The chapter of each field as a `Number`, in a list: `number` is the chapter, from 0 to 79, and `state` is never
-    `due`. Most fields have no chapter code. They have `nothing`, and are of the chapter that was believed last.
-    `readings` are as for `judge`.
+    `due`. Most fields have no chapter code. They have `nothing`, and belong to the chapter that was believed
+    last. `readings` are as for `judge`.
 
     If the chapter codes in the field, in the 24 fields before it and in the 24 after it that aren't what the disc has
     there weigh less than 10 (a word of pass 1 weighs 2, one of pass 2 or 3 weighs 1), a believed chapter is one that
     the disc has within these fields. And if the codes of one chapter weigh 10 or more before a field and 10 or more
-    after it, no other chapter is believed of it."""
+    after it, no other chapter is believed there."""
     return _judged(readings, later_call("ldvbi_judge_chapters"))
 
 
@@ -116,9 +116,9 @@ def judge_stops(readings: Any) -> List[State]:
     or both show it; `doubtful` if either shows it otherwise; else `nothing`. Each field is judged by itself. `readings`
     are as for `judge`.
 
-    If the disc has no stop in a field, and one is believed of it, a word of pass 1 was misread on its lines 16 and 17,
-    or both words were. A stop that the disc has is believed if one of the two was read right in pass 1, or if both were
-    read right."""
+    If the disc has no stop in a field, and one is believed there, a word of pass 1 was misread on its lines 16 and
+    17, or both words were. A stop that the disc has is believed if one of the two was read right in pass 1, or if both
+    were read right."""
     return _states(readings, later_call("ldvbi_judge_stops"), _STATES)
 
 
@@ -203,8 +203,8 @@ def _packed_field(number: int, readings: FieldReadings) -> bytes:
 
 
 def first_of(numbers: Iterable[Number], number: int) -> Optional[int]:
-    """The index, from 0, of the first field of which this number is believed or due; None if there is none. `numbers`
-    is what `judge` or `judge_chapters` returned."""
+    """The index, from 0, of the first field for which this number is believed or due; None if there is none.
+    `numbers` is what `judge` or `judge_chapters` returned."""
     for field, (known, state) in enumerate(numbers):
         if known == number and state in (State.believed, State.due):
             return field

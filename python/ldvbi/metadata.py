@@ -90,7 +90,7 @@ def _of_text(file: BinaryIO, on_field: Optional[OnField], on_member: Optional[On
         try:
             for name in scanner.members():
                 if name == "fields" and scanner.comes("["):
-                    first, dropouts = _of_each(_told(scanner, on_field) if on_field else scanner.values())
+                    first, dropouts = _firsts_and_dropouts(_told(scanner, on_field) if on_field else scanner.values())
                     continue
                 value = scanner.value()
                 if on_member:
@@ -105,7 +105,7 @@ def _of_text(file: BinaryIO, on_field: Optional[OnField], on_member: Optional[On
     return _Found(parameters, first, dropouts)
 
 
-def _of_each(fields: Iterable[List[Any]]) -> Tuple[List[Any], List[Dropout]]:
+def _firsts_and_dropouts(fields: Iterable[List[Any]]) -> Tuple[List[Any], List[Dropout]]:
     """The `isFirstField` of each of the fields, which come some at a time, and the dropouts of all."""
     first: List[Any] = []
     dropouts: List[Dropout] = []

@@ -47,8 +47,8 @@ def nearest(lines: Any, system: AnySystem, black: int, white: int) -> Near:
 
 def recover_pile(lines: Any, system: AnySystem, black: int, white: int, line: int,
                  dropouts: Optional[Iterable[Tuple[int, int, int]]] = None) -> Optional[int]:
-    """The word that 1 to 28 lines say together, which all have the same word, such as one line of several captures;
-    None if they say none. `line` is the number of all these lines, 16, 17 or 18. Columns of `dropouts` count for
+    """The word that 1 to 28 lines say together, or None if they say none. They all have the same word, such as one
+    line of several captures. `line` is the number of all these lines, 16, 17 or 18. Columns of `dropouts` count for
     nothing. Each is given by the place of its line among these, its first column and its last, counted from 0. If
     `dropouts` are given, even none, they are known: then a code has to be ahead of any other by 6 columns, else by
     10."""

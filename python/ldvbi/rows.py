@@ -1,5 +1,5 @@
-"""A TBC file of which only lines 16, 17 and 18 of each field are read. If a mapped file becomes shorter, a signal ends
-the process; if a file that is read in this way becomes shorter, that is a fault with its name."""
+"""A TBC file in which only lines 16, 17 and 18 of each field are read. If a mapped file becomes shorter, a signal ends
+the process. If a file that is read in this way becomes shorter, that is a fault with its name."""
 
 import ctypes
 import errno

@@ -22,12 +22,12 @@ class Sought(NamedTuple):
 
 def seek(stream: Stream, number: int, counted: Union[Counted, str] = Counted.pictures,
          pace: Union[Pace, str] = Pace.find) -> Optional[Sought]:
-    """Where a number is in a stream, of which at most 1,000 fields are read. The field has the number as `judge`
-    answers it by what all fields of the stream show with recovered words, and the field before it hasn't. None if none
-    was found. On the sides that were tried each number was found if the player runs on, with any lead-in and lead-out,
-    and each line is read. Otherwise one may be missed: to be sure that it isn't there, judge the whole side. `counted`
-    and `pace` are as for `judge`. `Pace.find` finds a pace by the few fields that are judged, which needn't be the one
-    that `find_pace` answers for the side."""
+    """Where a number is in a stream, or None if it wasn't found. At most 1,000 fields are read. The field has the
+    number, and the field before it hasn't, as `judge` answers by what all fields of the stream show with recovered
+    words. On the sides that were tried each number was found if the player runs on, with any lead-in and lead-out, and
+    each line is read. Otherwise one may be missed: to be sure that it isn't there, judge the whole side. `counted` and
+    `pace` are as for `judge`. `Pace.find` finds a pace by the few fields that are judged; it needn't be the one that
+    `find_pace` answers for the side."""
     call = later_call("ldvbi_seek")
     packed = ctypes.create_string_buffer(_PACKED_SOUGHT.size)
     system, black, white, address, length = stream.arguments()

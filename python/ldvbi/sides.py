@@ -109,7 +109,7 @@ def judge_side(readings: Any, system: AnySystem, counted: Union[Counted, str] = 
 
     If a capture of video is `whole`, its fields stand in the disc's order, the disc counts on, and the words misread
     around the first number and around the last weigh less than 10, then no field of the disc is lost from 24 fields
-    after the first to 24 before the last. Not each fault is seen: ldvbi.h says which aren't."""
+    after the first to 24 before the last. Some faults go unseen: ldvbi.h says which."""
     call, judge, judge_ends = map(later_call, ("ldvbi_judge_side", "ldvbi_judge", "ldvbi_judge_ends"))
     find_both = later_call("ldvbi_find_both")
     asked = system_number(system), counted_number(counted)

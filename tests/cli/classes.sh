@@ -1,13 +1,13 @@
 #!/bin/sh
-# Compares what the table of classes (codes/classes.txt) says of words with what the built program's `show` says of
+# Compares what the table of classes (texts/classes.txt) says of words with what the built program's `show` says of
 # them: words of each class with any other digit at each place, and any words.
 # usage: sh tests/cli/classes.sh PROGRAM
 # runs: everywhere rust
-# fails where: codes/classes.txt|s/^words     8, x, d, DDD/words     8, d, d, DDD/
+# fails where: texts/classes.txt|s/^words     8, x, d, DDD/words     8, d, d, DDD/
 
 . "$(dirname "$0")/../helpers.sh"
 
-python3 -B - "$top/codes" > words << 'END'
+python3 -B - "$top/texts" > words << 'END'
 import random, sys
 sys.path.append(sys.argv[1])
 from classes import read_classes
@@ -26,9 +26,9 @@ for place in range(0, len(words), 3):
     print(*words[place:place + 3])
 END
 output_of draw $ntsc words | bounded "$program" show $ntsc | sed -n 's/^1[678] \([0-9A-F]\{6\} \)/\1/p' > reported
-tr ' ' '\n' < words | grep -v -x -e - | python3 "$top/codes/classes.py" > tabled
+tr ' ' '\n' < words | grep -v -x -e - | python3 "$top/texts/classes.py" > tabled
 check 'each drawn word is reported as the table of classes has it' cmp reported tabled
-sed -n 's/^text  *//p' "$top/codes/classes.txt" | sed 's/ {.*//' | while read -r kind; do
+sed -n 's/^text  *//p' "$top/texts/classes.txt" | sed 's/ {.*//' | while read -r kind; do
     grep -q "^[0-9A-F]\{6\} $kind" reported || echo "no word is $kind"
 done > err
 check 'some word is of each class' [ ! -s err ]

@@ -96,8 +96,8 @@ page() {
 # In a copy of the documents it is seen what somebody has written otherwise, as often as a number says.
 mkdir copy
 ln -s "$top"/* "$top/.ci" "$top/.github" "$top/.gitignore" copy
-rm copy/codes copy/docs copy/texts
-cp -r "$top/codes" "$top/docs" "$top/texts" copy
+rm copy/docs copy/texts
+cp -r "$top/docs" "$top/texts" copy
 while read -r name alterations; do
     sed -i "$alterations" "copy/docs/$name.md"
 done << 'END'
@@ -113,8 +113,7 @@ while read -r count said; do
     in_folder copy python3 $said
     check "$said sees other texts" [ "$status $(grep -vc 'looked at$' out)" = "1 $count" ]
 done << 'END'
-1 codes/write.py --check
-1 texts/write.py --check
+2 texts/write.py --check
 12 tests/documents.py
 END
 

@@ -40,8 +40,8 @@ has() {
 # each folder that has files of ours
 {
     printf '%s\n' bin/ldvbi bin/ldvbi-side
-    printf 'share/%s\n' doc/ldvbi/CHANGELOG.md doc/ldvbi/README.md bash-completion/completions/ldvbi \
-        bash-completion/completions/ldvbi-side man/man1/ldvbi-side.1 man/man1/ldvbi.1 \
+    printf 'share/%s\n' doc/ldvbi/CHANGELOG.md doc/ldvbi/LICENSE doc/ldvbi/README.md man/man1/ldvbi-side.1 \
+        man/man1/ldvbi.1 bash-completion/completions/ldvbi bash-completion/completions/ldvbi-side \
         zsh/site-functions/_ldvbi zsh/site-functions/_ldvbi-side
     printf 'share/ldvbi/ldvbi%s.schema.json\n' '' -join -recovered -scan -side
     (cd tree && git ls-files 'docs/*.md' 'docs/pictures/*.[ps]*g' examples | sed 's,^,share/doc/ldvbi/,' &&
@@ -165,7 +165,7 @@ if [ -e "$built/libldvbi.a" ]; then
     check 'a wheel and a package beside it' [ "$status $(echo tree/dist/*.whl tree/dist/*.deb | wc -w)" = '0 2' ]
     dpkg-deb -x tree/dist/*.deb package
     printf 'share/%s\n' doc/ldvbi/changelog.Debian.gz doc/ldvbi/copyright lintian/overrides/ldvbi |
-        cat - files_of_both > files_of_package
+        cat - files_of_both | grep -v /LICENSE > files_of_package
     check 'what is in the package' has package/usr files_of_package 's,^lib/x86_64-linux-gnu,lib,; s/[.]1[.]gz$/.1/'
     touch tree/crates.txt
     made dist

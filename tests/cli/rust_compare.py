@@ -17,7 +17,7 @@ import tempfile
 from collections import namedtuple
 
 TOP = pathlib.Path(__file__).resolve().parents[2]
-sys.path.insert(0, str(TOP / "bench" / "sides"))
+sys.path.insert(0, str(TOP / "simulated"))
 from simulate import simulated
 
 COMMANDS = ["line", "extract", "show", "draw"]

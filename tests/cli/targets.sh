@@ -8,12 +8,12 @@
 . "$(dirname "$0")/../helpers.sh"
 
 # A tree in which each script says its name and its words, and nothing has to be built
-mkdir -p tree/tests tree/bench/channel tree/peers tree/rust tree/.ci tree/crates bin
+mkdir -p tree/tests tree/bench/channel tree/bench/peers tree/rust tree/.ci tree/crates bin
 cp "$top/Makefile" tree
 cp "$top/.ci/run" tree/.ci
 : > tree/crates.txt
 for script_path in tests/tools.sh tests/gate.sh tests/scripts.sh bench/all.sh bench/channel/tables.sh \
-    peers/compare.sh rust/build.sh; do
+    bench/peers/compare.sh rust/build.sh; do
     stub tree/$script_path "echo $script_path \"\$@\"; [ \"\${FAULT:-}\" != $script_path ]"
 done
 touch tree/libldvbi.a tree/libldvbi.so.1 tree/ldvbi
@@ -47,7 +47,7 @@ rust TARGET=mips|rust/build.sh mips
 rust-compare|tests/scripts.sh rust/ldvbi rust_compare
 rust-compare TARGET=x-windows-y|tests/scripts.sh rust/x-windows-y/ldvbi.exe rust_compare
 bench|rust/build.sh,bench/all.sh ./ldvbi
-peers|peers/compare.sh ./ldvbi 200 docs/measured/peers.txt
+peers|bench/peers/compare.sh ./ldvbi 200 docs/measured/peers.txt
 channel|bench/channel/tables.sh ./libldvbi.so.1 docs/measured/channel
 channel PROGRAM=/a/ldvbi|bench/channel/tables.sh libldvbi.so.1 docs/measured/channel
 END

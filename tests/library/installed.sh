@@ -95,7 +95,7 @@ check 'its name has version and tag' [ "$(ls wheels)" = "$wheel" ]
 {
     (cd "$top/python" && find ldvbi ldvbi_side -name '*.py')
     echo ldvbi-$version.data/data/share/man/man1/ldvbi-side.1
-    printf "ldvbi-$version.dist-info/%s\n" METADATA RECORD WHEEL entry_points.txt
+    printf "ldvbi-$version.dist-info/%s\n" LICENSE METADATA RECORD WHEEL entry_points.txt
 } | sed 's/^/100644 /' > files
 echo 100755 ldvbi/libldvbi.so.1 >> files
 sort files > wanted
@@ -113,7 +113,7 @@ if [ $from = rust ]; then
 fi
 check 'its record has the hash of each file' does /usr/bin/python3 -m wheel unpack -d unpacked wheels/$wheel
 
-# The lines of LIBRARY.md, of somebody at home: the library alone, then the commands and Python
+# The lines of LIBRARY.md, for one user without root: the library alone, then the commands and Python
 # by_lines PATTERN WANTED COMMAND: whether the two lines of LIBRARY.md from this pattern on, and then this, print that
 by_lines() {
     sed -n "$1" "$top/docs/LIBRARY.md" > lines.sh

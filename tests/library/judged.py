@@ -35,8 +35,8 @@ def tables(name):
 def expanded(text):
     """What a text with {a,b} stands for."""
     before, _, more = text.partition("{")
-    choices, brace, behind = more.partition("}")
-    return [before + choice + behind for choice in choices.split(",")] if brace else [text]
+    choices, brace, after = more.partition("}")
+    return [before + choice + after for choice in choices.split(",")] if brace else [text]
 
 
 def spread(text, of_part, nothing):

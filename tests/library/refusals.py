@@ -56,14 +56,14 @@ def answered(name, words, is_open, is_listed=True):
     """The status of a call. Arrays are as long as the numbers after them say, and end where no page follows; null
     stands for those of no bytes."""
     arguments, taken = [], parameters(name)
-    for (key, kind, is_pointer), (behind, behind_kind, _) in zip(taken, [*taken[1:], ("", "", False)]):
+    for (key, kind, is_pointer), (after, after_kind, _) in zip(taken, [*taken[1:], ("", "", False)]):
         size = {"void": 1, "uint32_t": 4}.get(kind) or is_pointer and layout(kind).size
         if not is_pointer:
             arguments.append(words[key])
         elif isinstance(words.get(key), bytes) and is_listed:
             arguments.append(OPEN[key].put(words[key]) if words[key] else None)
         elif is_open:
-            size *= words[behind] if behind_kind == "size_t" else 1
+            size *= words[after] if after_kind == "size_t" else 1
             arguments.append(OPEN[key].put(b"\x55" * size) if size else None)
         else:
             arguments.append(CLOSED.end - 8)

@@ -104,7 +104,7 @@ def rows_are_recovered(tv, row, rows):
 
 def test_worn(tv):
     """Each row alone; all as the fields of a stream, between other lines; and so those of which nothing is erased."""
-    before, behind = (array("H", b"\xAA" * 2 * tv.samples * lines) for lines in (15, tv.lines - 18))
+    before, after = (array("H", b"\xAA" * 2 * tv.samples * lines) for lines in (15, tv.lines - 18))
     for row in (*EVEN, LAST_CELL[tv]):
         rows_are_recovered(tv, row, worn_rows(tv, *row[:2], 0))
     for row in WORN:
@@ -112,7 +112,7 @@ def test_worn(tv):
                                           erased=erased_of(tv, 0, *row[1::2])))
     plain = [row for row in WORN if not row[3]]
     for name, fields in (("recover_fields_without", WORN), ("recover_fields", plain)):
-        stream = sum((before + worn_rows(tv, *row[:2]) + behind for row in fields), array("H"))
+        stream = sum((before + worn_rows(tv, *row[:2]) + after for row in fields), array("H"))
         entries = [entry for field, row in enumerate(fields) for entry in erased_of(tv, field, *row[1::2])]
         packed = answered(name, tv[:3], stream, 24 * len(fields), len(fields), erased=entries or None)
         are_recovered(tv, fields, packed)

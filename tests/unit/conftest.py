@@ -14,7 +14,7 @@ BUILT = next((place for place in (TOP, os.path.join(TOP, "rust"))
               if os.path.exists(os.path.join(place, "libldvbi.so.1"))), TOP)
 os.environ.setdefault("LDVBI_LIBRARY", os.path.join(BUILT, "libldvbi.so.1"))
 os.environ.setdefault("LDVBI_PROGRAM", os.path.join(BUILT, "ldvbi"))
-FOLDERS = [os.path.join(TOP, *names) for names in (("python",), ("bench", "sides"))]
+FOLDERS = [os.path.join(TOP, name) for name in ("python", "simulated")]
 if "COVERAGE_PROCESS_START" not in os.environ:  # else python.sh has set it
     os.environ["PYTHONPATH"] = os.pathsep.join(FOLDERS)  # of the processes that tests start
 sys.path[:0] = [*FOLDERS, os.path.join(TOP, "tests", "cli")]

@@ -11,7 +11,7 @@
 
 export LDVBI_LIBRARY="$built/libldvbi.so.1" LDVBI_PROGRAM="$program" COVERAGE_PROCESS_START="$work/coveragerc"
 # Python reads sitecustomize in as it starts: in pytest's processes, and in those that tests start.
-export PYTHONPATH="$top/python:$top/bench/sides:$work/site"
+export PYTHONPATH="$top/python:$top/simulated:$work/site"
 # What is compiled once serves all processes, and nothing is written beside the package.
 export PYTHONPYCACHEPREFIX="$work/compiled"
 unset PYTHONDONTWRITEBYTECODE

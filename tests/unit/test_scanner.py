@@ -44,8 +44,8 @@ def scanned(file, piece):
 
 @given(some.lists(VALUES, max_size=5) | some.dictionaries(some.text(max_size=3), VALUES, max_size=5),
        some.sampled_from([None, 0, 3]), some.booleans(), BLANKS, BLANKS)
-def test_whatever_the_pieces_are(whole, indent, is_ascii, before, behind):
-    text = before + json.dumps(whole, indent=indent, ensure_ascii=is_ascii) + behind
+def test_whatever_the_pieces_are(whole, indent, is_ascii, before, after):
+    text = before + json.dumps(whole, indent=indent, ensure_ascii=is_ascii) + after
     for piece in (1, 2, 3, 5, 7, 16, 1 << 18):
         found = scanned(text, piece)
         assert [(name, value) for name, value, _, _ in found] == list(

@@ -211,7 +211,7 @@ pub mark_are : (before : List LdvbiErased) (entry : LdvbiErased) (system : Syste
     → ((k : ℕ) → width_of system * q + come ≤ k
     → get_or new k false ≡ get_or (erased_of before system entry.field) k false)
     → new ≡ erased_of (before ++ entry ∷ []) system entry.field
-mark_are before entry system new q end come long line_is narrow last whole done near far within below behind =
+mark_are before entry system new q end come long line_is narrow last whole done near far within below after =
     marks_are (before ++ entry ∷ []) system entry.field new long
     (λ row column few inside.
     let w = width_of system in
@@ -237,7 +237,7 @@ mark_are before entry system new q end come long line_is narrow last whole done 
           = all ∙ ap (λ (t : Bool). old || (t || false)) else ∙ or_false old in
           elim (cases_lt k (w * q + entry.first)) [
             | inl under ↦ below k under ∙ had ∙ sym none
-            | inr from ↦ behind k (outside w q row column end come entry.first entry.last inside narrow last near far
+            | inr from ↦ after k (outside w q row column end come entry.first entry.last inside narrow last near far
                 from (λ same first_in. erases-else field line column entry else refl (omega (arith, same)) first_in))
                 ∙ had ∙ sym none
           ]

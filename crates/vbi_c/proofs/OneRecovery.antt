@@ -8,7 +8,7 @@ use Rattle.vbi_near.specs.declared.recovery.Recovered.{Recovered}
 use Rattle.vbi_field.specs.Shown.{recovery_of}
 use Rattle.vbi_field.proofs.OneShown.{is_shown, only_shown}
 use Rattle.vbi_c.specs.declared.fields.LdvbiFieldReadings.{LdvbiFieldReadings}
-use Rattle.vbi_c.specs.declared.probing.Seek.{Seek}
+use Rattle.vbi_c.specs.declared.search.Seek.{Seek}
 use Rattle.vbi_c.specs.declared.setup.Setup.{Setup}
 use Rattle.vbi_c.specs.Erased.{none_erased}
 use Rattle.vbi_c.specs.Fields.{field_in}

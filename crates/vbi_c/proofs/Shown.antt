@@ -5,7 +5,7 @@ use Rattle.std.proofs.lemmas.List.{take_more_set}
 use Rattle.std.proofs.lemmas.List.FromFn.{map-range_with_len_more}
 use Rattle.std.specs.List.{range_with_len}
 use Rattle.vbi_side.specs.declared.sighting.Sightings.{Sightings}
-use Rattle.vbi_c.specs.declared.probing.Looked.{Looked}
+use Rattle.vbi_c.specs.declared.search.Looked.{Looked}
 
 -- what the first i fields show stands there, and what the next one shows is put after it
 pub shown_more : (show : ℕ → Sightings) (seen : List Sightings) (field i : ℕ) (here : Sightings) → i < length seen

@@ -1,9 +1,9 @@
 -- What is judged of a part of a side, read field by field, is what is judged of the whole side.
 use Rattle.std.proofs.Common.{◌≡◌, ℕ, ◌+◌, ◌*◌, ◌-◌, ◌<◌, ◌≤◌, List, length, map, take, drop, ap, sym, subst, ◌∙◌}
-use Rattle.std.proofs.Common.{refl, arith, inl, inr, zero-add, zero, suc, nat_eq, false, IsTrue}
+use Rattle.std.proofs.Common.{arith, inl, inr, zero-add, refl}
 use Rattle.std.specs.Prelude.{◌⊎◌, Some, None, get_or, slice_get, min}
 use Rattle.std.specs.List.{range_with_len}
-use Rattle.std.proofs.lemmas.Bool.Decides.{leb_tells, nat_tests}
+use Rattle.std.proofs.lemmas.Bool.Decides.{leb_tells}
 use Rattle.std.proofs.lemmas.List.{get_or-take, get_or-drop, length-take, length-drop}
 use Rattle.std.proofs.lemmas.List.FromFn.{get_or-map-range_with_len, length-map-range_with_len}
 use Rattle.std.proofs.lemmas.Option.{slice_get_past, slice_get_within, slice_get-get_or, get_or_from_slice_get}
@@ -11,14 +11,16 @@ use Rattle.vbi_side.specs.declared.number.Number.{Number}
 use Rattle.vbi_side.specs.declared.pace.Pace as paces
 use Rattle.vbi_side.specs.declared.sighting.Sightings.{Sightings}
 use Rattle.vbi_side.specs.Beliefs.{reach}
-use Rattle.vbi_side.specs.Numbers.{AreAnswers, IsAnswer, IsFirst, IsKnown}
+use Rattle.vbi_side.specs.Numbers.{IsAnswer, IsFirst, IsKnown}
 use Rattle.vbi_side.specs.Parts.{IsPart}
 use Rattle.vbi_side.proofs.Filling.{one_answer}
 use Rattle.vbi_side.proofs.Parts.{same_in_part}
-use Rattle.vbi_c.specs.declared.probing.Seek.{Seek}
-use Rattle.vbi_c.specs.Leads.{IsFirstKnown}
-use Rattle.vbi_c.specs.Seeking.{shown_at, shown_of, around_most, HasOther, IsJudgedIn}
-use Rattle.vbi_c.specs.Judging.{IsAskedPace}
+use Rattle.vbi_c.specs.declared.narrowing.Between.{Between}
+use Rattle.vbi_c.specs.declared.search.Search.{Search}
+use Rattle.vbi_c.specs.declared.seeking.Around.{Around}
+use Rattle.vbi_c.specs.Leads.{IsFirstKnown, IsPlaced}
+use Rattle.vbi_c.specs.Searches.{shows, shown_from, among, IsWindow, IsJudgedAround}
+use Rattle.vbi_c.specs.Seeking.{shown_of, HasOther, IsJudgedIn}
 
 -- ---- lists
 
@@ -37,14 +39,6 @@ past f first count i outside =
     (omega (arith, length-map-range_with_len f first count, outside))
 
 -- an element of a piece of a list
-in_piece : {A : Type 0} (list : List A) (from count i : ℕ) (x : A) → from + count ≤ length list → i < count
-    → slice_get list (from + i) ≡ Some x → slice_get (take count (drop from list)) i ≡ Some x
-in_piece list from count i x inside near is =
-    slice_get-get_or (take count (drop from list)) i x
-    (omega (arith, length-take count (drop from list), length-drop from list, inside, near))
-    ∙ ap Some (get_or-take count (drop from list) i x near ∙ get_or-drop from list i x
-    ∙ get_or_from_slice_get list (from + i) x x is)
-
 of_piece : {A : Type 0} (list : List A) (from count i : ℕ) (x : A) → from + count ≤ length list
     → slice_get (take count (drop from list)) i ≡ Some x → (i < count) × (slice_get list (from + i) ≡ Some x)
 of_piece list from count i x inside is = (
@@ -59,176 +53,168 @@ of_piece list from count i x inside is = (
 
 -- ---- a side
 
--- the fields from one on are a part of the side from which field i of them can be judged
-part_of : (seek : Seek) (bytes : List ℕ) (count first many i : ℕ) → first + many ≤ count
-    → (first ≡ 0) ⊎ (2 * reach ≤ i) → (i + 2 * reach < many) ⊎ (first + many ≡ count)
-    → IsPart Sightings (shown_of seek bytes count) (map (shown_at seek bytes) (range_with_len first many)) first i
-part_of seek bytes count first many i inside before behind = record { before = before; same = same }
-  where
-    show : ℕ → Sightings
-    show = shown_at seek bytes
+-- what all its fields show
+abbrev pub all_shown : Search → List Sightings
+all_shown search = shown_of search.seek search.bytes.now search.count
 
+-- the fields that are judged are a part of the side from which those can be judged in which the number is looked for
+part_of : (search : Search) (a : Around) (i : ℕ) → IsWindow search.count a → a.from ≤ a.first + i → a.first + i < a.to
+    → IsPart Sightings (all_shown search) (shown_from search a.first (a.end - a.first)) a.first i
+part_of search a i window after before = record {
+  before = elim window.before [ inl none ↦ inl none | inr far ↦ inr (omega (arith, far, after)) ];
+  same = same;
+}
+  where
     same : (j : ℕ) → j ≤ i + 2 * reach
-        → slice_get (map show (range_with_len first many)) j ≡ slice_get (shown_of seek bytes count) (first + j)
-    same j within = elim (leb_tells many j) [
-      | inr (t, less) ↦ at show first many j (first + j) less refl
-          ∙ sym (at show 0 count (first + j) (first + j) (omega (arith, inside, less)) (zero-add (first + j)))
-      | inl (t, more) ↦ past show first many j more
-          ∙ sym (past show 0 count (first + j) (elim behind [
-            | inl far ↦ absurd (omega (arith, far, within, more))
-            | inr all ↦ omega (arith, all, more)
+        → slice_get (shown_from search a.first (a.end - a.first)) j ≡ slice_get (all_shown search) (a.first + j)
+    same j within = elim (leb_tells (a.end - a.first) j) [
+      | inr (t, less) ↦ at (shows search) a.first (a.end - a.first) j (a.first + j) less refl
+          ∙ sym (at (shows search) 0 search.count (a.first + j) (a.first + j)
+          (omega (arith, window.order, less)) (zero-add (a.first + j)))
+      | inl (t, more) ↦ past (shows search) a.first (a.end - a.first) j more
+          ∙ sym (past (shows search) 0 search.count (a.first + j) (elim window.after [
+            | inl all ↦ omega (arith, all, more)
+            | inr far ↦ absurd (omega (arith, far, within, more, before))
           ]))
     ]
 
--- what is answered of one of these fields is what is answered of it in the whole side
-pub answer_of_whole : (seek : Seek) (bytes : List ℕ) (count first many i : ℕ) (pace : paces.Pace)
-    (numbers : List Number) (answer : Number) → first + many ≤ count → (first ≡ 0) ⊎ (2 * reach ≤ i)
-    → (i + 2 * reach < many) ⊎ (first + many ≡ count)
-    → AreAnswers pace (map (shown_at seek bytes) (range_with_len first many)) numbers
-    → slice_get numbers i ≡ Some answer → IsAnswer pace (shown_of seek bytes count) (first + i) answer
-answer_of_whole seek bytes count first many i pace numbers answer inside before behind answers is =
-    (same_in_part pace (shown_of seek bytes count) (map (shown_at seek bytes) (range_with_len first many))
-    first i answer (part_of seek bytes count first many i inside before behind)).0 (answers.each i answer is)
+-- what is answered of field i of those in which the number is looked for is answered of it in the whole side
+judged_among : (search : Search) (a : Around) (pace : paces.Pace) (numbers : List Number) (i : ℕ) (n : Number)
+    → IsJudgedAround search a pace numbers → slice_get (among a numbers) i ≡ Some n
+    → (a.from + i < a.to) × (slice_get numbers (a.from - a.first + i) ≡ Some n)
+    × IsAnswer pace (all_shown search) (a.from + i) n
+judged_among search a pace numbers i n judged is = (
+  omega (arith, piece.0),
+  piece.1,
+  subst (λ f. IsAnswer pace (all_shown search) f n) (omega (arith, judged.window.order))
+      ((same_in_part pace (all_shown search) (shown_from search a.first (a.end - a.first)) a.first
+      (a.from - a.first + i) n
+      (part_of search a (a.from - a.first + i) judged.window (omega arith)
+      (omega (arith, piece.0, judged.window.order)))).0
+      (judged.answers.each (a.from - a.first + i) n piece.1)),
+)
+  where
+    long : length numbers ≡ a.end - a.first
+    long = judged.answers.count ∙ length-map-range_with_len (shows search) a.first (a.end - a.first)
+
+    piece : (i < a.to - a.first - (a.from - a.first)) × (slice_get numbers (a.from - a.first + i) ≡ Some n)
+    piece = of_piece numbers (a.from - a.first) (a.to - a.first - (a.from - a.first)) i n
+        (omega (arith, long, judged.window.order)) is
+
+-- each of those is answered
+one_among : (search : Search) (a : Around) (pace : paces.Pace) (numbers : List Number) (i : ℕ) (none : Number)
+    → IsJudgedAround search a pace numbers → a.from + i < a.to
+    → slice_get (among a numbers) i ≡ Some (get_or (among a numbers) i none)
+one_among search a pace numbers i none judged inside = slice_get-get_or (among a numbers) i none (omega (
+  arith,
+  length-take (a.to - a.first - (a.from - a.first)) (drop (a.from - a.first) numbers),
+  length-drop (a.from - a.first) numbers,
+  judged.answers.count ∙ length-map-range_with_len (shows search) a.first (a.end - a.first),
+  judged.window.order,
+  inside,
+))
+
+-- each of those is judged with all on which its answer depends
+judged_in : (search : Search) (a : Around) (pace : paces.Pace) (numbers : List Number) (t : ℕ)
+    → IsJudgedAround search a pace numbers → a.from ≤ t → t < a.to
+    → IsJudgedIn search.seek search.bytes.now search.count t a.first (a.end - a.first) pace
+judged_in search a pace numbers t judged from to = record {
+  inside = omega (arith, judged.window.order);
+  before = elim judged.window.before [ inl none ↦ inl none | inr far ↦ inr (omega (arith, far, from)) ];
+  after = elim judged.window.after [
+    | inl all ↦ inl (omega (arith, all, judged.window.order))
+    | inr far ↦ inr (omega (arith, far, to, judged.window.order))
+  ];
+  asked = judged.asked;
+}
 
 -- ---- a number
 
 -- what is known of the field at which a number is found
-pub record IsAt (seek : Seek) (bytes : List ℕ) (count number : ℕ) (pace : paces.Pace) (field : ℕ) (found : Number)
-    : Type 0 where
-  pub inside : field < count
-  pub known : IsKnown found number
-  pub answer : IsAnswer pace (shown_of seek bytes count) field found
+pub record IsAt (search : Search) (a : Around) (pace : paces.Pace) (field : ℕ) (found : Number) : Type 0 where
+  pub inside : field < search.count
+  pub judged : IsJudgedIn search.seek search.bytes.now search.count field a.first (a.end - a.first) pace
+  pub known : IsKnown found search.number
+  pub answer : IsAnswer pace (all_shown search) field found
   pub begins : (field ≡ 0)
-      ⊎ ((before : ℕ) × (before + 1 ≡ field) × HasOther pace (shown_of seek bytes count) number before)
+      ⊎ ((before : ℕ) × (before + 1 ≡ field) × HasOther pace (all_shown search) search.number before)
 
--- the first field with a number, among those from `back` to `ahead` of so many that are judged, where it isn't the very
--- first of these, or is the first of the side
-pub found_at : (seek : Seek) (bytes : List ℕ) (count first many back ahead place field number : ℕ) (pace : paces.Pace)
-    (numbers : List Number) (none : Number) → first + (back + place) ≡ field → first + many ≤ count
-    → (first ≡ 0) ⊎ (2 * reach ≤ back)
-    → (ahead + 2 * reach ≤ many) ⊎ (first + many ≡ count) → back ≤ ahead → ahead ≤ many
-    → AreAnswers pace (map (shown_at seek bytes) (range_with_len first many)) numbers
-    → IsFirst (take (ahead - back) (drop back numbers)) number (Some place) → (0 < place) ⊎ (first + back ≡ 0)
-    → IsAt seek bytes count number pace field (get_or numbers (back + place) none)
-found_at seek bytes count first many back ahead place field number pace numbers none is inside before behind order few
-    answers ((answer, shown, known), others) begun
-    = subst (λ f. IsAt seek bytes count number pace f (get_or numbers (back + place) none)) is (record {
-      inside = omega (arith, piece.0, few, inside);
-      known = subst (λ a. IsKnown a number) (sym here) known;
-      answer = subst (λ a. IsAnswer pace (shown_of seek bytes count) (first + (back + place)) a) (sym here)
-          (judged place answer piece.0 piece.1);
-      begins = elim begun [ inl later ↦ inr (other_at later) | inr none ↦ begins_at none ];
-    })
+-- the first of them that has the number has it in the whole side, if it isn't the very first of them, or is the first
+-- of the side
+pub found_at : (search : Search) (a : Around) (pace : paces.Pace) (numbers : List Number) (place : ℕ) (none : Number)
+    → IsJudgedAround search a pace numbers → IsFirst (among a numbers) search.number (Some place)
+    → (0 < place) ⊎ (a.from ≡ 0) → IsAt search a pace (a.from + place) (get_or numbers (a.from - a.first + place) none)
+found_at search a pace numbers place none judged ((answer, shown, known), others) begun = record {
+  inside = omega (arith, here.0, judged.window.order);
+  judged = judged_in search a pace numbers (a.from + place) judged (omega arith) here.0;
+  known = subst (λ n. IsKnown n search.number) (sym is) known;
+  answer = subst (λ n. IsAnswer pace (all_shown search) (a.from + place) n) (sym is) here.2;
+  begins = elim (leb_tells 1 place) [
+    | inl (t, later) ↦ inr (other_at later)
+    | inr (t, now) ↦ inl (elim begun [
+      | inl later ↦ absurd (omega (arith, later, now))
+      | inr begins ↦ omega (arith, begins, now)
+    ])
+  ];
+}
   where
-    long : length numbers ≡ many
-    long = answers.count ∙ length-map-range_with_len (shown_at seek bytes) first many
+    here : (a.from + place < a.to) × (slice_get numbers (a.from - a.first + place) ≡ Some answer)
+        × IsAnswer pace (all_shown search) (a.from + place) answer
+    here = judged_among search a pace numbers place answer judged shown
 
-    piece : (place < ahead - back) × (slice_get numbers (back + place) ≡ Some answer)
-    piece = of_piece numbers back (ahead - back) place answer (omega (arith, long, order, few)) shown
+    is : get_or numbers (a.from - a.first + place) none ≡ answer
+    is = get_or_from_slice_get numbers (a.from - a.first + place) answer none here.1
 
-    here : get_or numbers (back + place) none ≡ answer
-    here = get_or_from_slice_get numbers (back + place) answer none piece.1
-
-    judged : (i : ℕ) (n : Number) → i < ahead - back → slice_get numbers (back + i) ≡ Some n
-        → IsAnswer pace (shown_of seek bytes count) (first + (back + i)) n
-    judged i n near is =
-        answer_of_whole seek bytes count first many (back + i) pace numbers n inside
-        (elim before [ inl none ↦ inl none | inr far ↦ inr (omega (arith, far)) ])
-        (elim behind [ inl far ↦ inl (omega (arith, far, near)) | inr all ↦ inr all ])
-        answers is
-
-    other_at : 0 < place → (b : ℕ) × (b + 1 ≡ first + (back + place))
-        × HasOther pace (shown_of seek bytes count) number b
+    other_at : 0 < place → (before : ℕ) × (before + 1 ≡ a.from + place)
+        × HasOther pace (all_shown search) search.number before
     other_at later =
         let i = place - 1 in
-        let n = get_or numbers (back + i) none in
-        let is = slice_get-get_or numbers (back + i) none (omega (arith, long, few, piece.0, later)) in (
-          first + (back + i),
+        let n = get_or (among a numbers) i none in
+        let there = one_among search a pace numbers i none judged (omega (arith, here.0)) in (
+          a.from + i,
           omega (arith, later),
-          (
-            n,
-            judged i n (omega (arith, piece.0, later)) is,
-            others i n (omega (arith, later))
-                (in_piece numbers back (ahead - back) i n (omega (arith, long, order, few))
-                (omega (arith, piece.0, later)) is),
-          ),
+          (n, (judged_among search a pace numbers i n judged there).2, others i n (omega (arith, later)) there),
         )
-
-    begins_at : first + back ≡ 0 → (first + (back + place) ≡ 0)
-        ⊎ ((b : ℕ) × (b + 1 ≡ first + (back + place)) × HasOther pace (shown_of seek bytes count) number b)
-    begins_at none = elim (leb_tells 1 place) [
-      | inl (t, later) ↦ inr (other_at later)
-      | inr (t, now) ↦ inl (omega (arith, none, now))
-    ]
 
 -- ---- the first field with a number
 
--- of the fields that are judged, those from `back` to `ahead` are answered as in the whole side
-judged_at : (seek : Seek) (bytes : List ℕ) (count first many back ahead i : ℕ) (pace : paces.Pace)
-    (numbers : List Number) (n : Number) → first + many ≤ count → (first ≡ 0) ⊎ (2 * reach ≤ back)
-    → (ahead + 2 * reach ≤ many) ⊎ (first + many ≡ count)
-    → AreAnswers pace (map (shown_at seek bytes) (range_with_len first many)) numbers → i < ahead - back
-    → slice_get numbers (back + i) ≡ Some n → IsAnswer pace (shown_of seek bytes count) (first + (back + i)) n
-judged_at seek bytes count first many back ahead i pace numbers n inside before behind answers near is =
-    answer_of_whole seek bytes count first many (back + i) pace numbers n inside
-    (elim before [ inl none ↦ inl none | inr far ↦ inr (omega (arith, far)) ])
-    (elim behind [ inl far ↦ inl (omega (arith, far, near)) | inr all ↦ inr all ])
-    answers is
-
 -- if the first field of the side with a number is among these, the number is found there
-pub record IsFoundAt (seek : Seek) (bytes : List ℕ) (count first back ahead t number : ℕ) (numbers : List Number)
-    : Type 0 where
-  pub there : IsFirst (take (ahead - back) (drop back numbers)) number None → ⊥
-  pub at : (place : ℕ) → IsFirst (take (ahead - back) (drop back numbers)) number (Some place)
-      → first + (back + place) ≡ t
+pub record IsFoundAt (search : Search) (a : Around) (t : ℕ) (numbers : List Number) : Type 0 where
+  pub there : IsFirst (among a numbers) search.number None → ⊥
+  pub at : (place : ℕ) → IsFirst (among a numbers) search.number (Some place) → a.from + place ≡ t
 
-pub first_found : (seek : Seek) (bytes : List ℕ) (count first many back ahead t number : ℕ) (pace : paces.Pace)
-    (numbers : List Number) (none : Number) → first + many ≤ count → (first ≡ 0) ⊎ (2 * reach ≤ back)
-    → (ahead + 2 * reach ≤ many) ⊎ (first + many ≡ count) → back ≤ ahead → ahead ≤ many
-    → AreAnswers pace (map (shown_at seek bytes) (range_with_len first many)) numbers
-    → IsFirstKnown seek bytes count number t pace → first + back ≤ t → t < first + ahead
-    → IsFoundAt seek bytes count first back ahead t number numbers
-first_found seek bytes count first many back ahead t number pace numbers none inside before behind order few answers
-    known from to
-    = record { there = λ others. others i n there has; at = λ place found. at place found }
+first_found : (search : Search) (a : Around) (t : ℕ) (pace : paces.Pace) (numbers : List Number) (none : Number)
+    → IsJudgedAround search a pace numbers
+    → IsFirstKnown search.seek search.bytes.now search.count search.number t pace → a.from ≤ t → t < a.to
+    → IsFoundAt search a t numbers
+first_found search a t pace numbers none judged known from to =
+    record { there = λ others. others i n there has; at = λ place found. at place found }
   where
-    long : length numbers ≡ many
-    long = answers.count ∙ length-map-range_with_len (shown_at seek bytes) first many
-
     i : ℕ
-    i = t - (first + back)
-
-    near : i < ahead - back
-    near = omega (arith, from, to)
+    i = t - a.from
 
     n : Number
-    n = get_or numbers (back + i) none
+    n = get_or (among a numbers) i none
 
-    is : slice_get numbers (back + i) ≡ Some n
-    is = slice_get-get_or numbers (back + i) none (omega (arith, long, few, near))
+    there : slice_get (among a numbers) i ≡ Some n
+    there = one_among search a pace numbers i none judged (omega (arith, from, to))
 
-    there : slice_get (take (ahead - back) (drop back numbers)) i ≡ Some n
-    there = in_piece numbers back (ahead - back) i n (omega (arith, long, order, few)) near is
-
-    has : IsKnown n number
-    has = subst (λ a. IsKnown a number)
-        (one_answer pace (shown_of seek bytes count) t known.known.0 n known.known.1
-        (subst (λ f. IsAnswer pace (shown_of seek bytes count) f n) (omega (arith, from))
-        (judged_at seek bytes count first many back ahead i pace numbers n inside before behind answers near is)))
+    has : IsKnown n search.number
+    has = subst (λ m. IsKnown m search.number)
+        (one_answer pace (all_shown search) t known.known.0 n known.known.1
+        (subst (λ f. IsAnswer pace (all_shown search) f n) (omega (arith, from))
+        (judged_among search a pace numbers i n judged there).2))
         known.known.2
 
-    other : (place : ℕ) (answer : Number) → slice_get (take (ahead - back) (drop back numbers)) place ≡ Some answer
-        → IsKnown answer number → place < i → ⊥
+    other : (place : ℕ) (answer : Number) → slice_get (among a numbers) place ≡ Some answer
+        → IsKnown answer search.number → place < i → ⊥
     other place answer shown its less =
-        let piece = of_piece numbers back (ahead - back) place answer (omega (arith, long, order, few)) shown in
-        let (rest, answered, unlike) = known.others (first + (back + place)) (omega (arith, less)) in
-        unlike (subst (λ a. IsKnown a number)
-        (one_answer pace (shown_of seek bytes count) (first + (back + place)) answer rest
-        (judged_at seek bytes count first many back ahead place pace numbers answer inside before behind answers piece.0
-        piece.1) answered) its)
+        let (rest, answered, unlike) = known.others (a.from + place) (omega (arith, less)) in
+        unlike (subst (λ m. IsKnown m search.number)
+        (one_answer pace (all_shown search) (a.from + place) answer rest
+        (judged_among search a pace numbers place answer judged shown).2 answered) its)
 
-    at : (place : ℕ) → IsFirst (take (ahead - back) (drop back numbers)) number (Some place)
-        → first + (back + place) ≡ t
+    at : (place : ℕ) → IsFirst (among a numbers) search.number (Some place) → a.from + place ≡ t
     at place ((answer, shown, its), others) = elim (leb_tells (i + 1) place) [
       | inl (s, more) ↦ absurd (others i n (omega (arith, more)) there has)
       | inr (s, up_to) ↦ elim (leb_tells i place) [
@@ -237,78 +223,51 @@ first_found seek bytes count first many back ahead t number pace numbers none in
       ]
     ]
 
+-- so it is, if the fields lead to it, whatever pace was found
+pub first_sought : (search : Search) (a : Around) (t : ℕ) (pace here : paces.Pace) (numbers : List Number)
+    → IsJudgedAround search a here numbers
+    → IsFirstKnown search.seek search.bytes.now search.count search.number t pace → (a.from ≤ t) × (t < a.to)
+    → IsFoundAt search a t numbers
+first_sought search a t pace here numbers judged known (from, to) =
+    first_found search a t here numbers (record { number = 0; state = 0 }) judged
+    (subst (IsFirstKnown search.seek search.bytes.now search.count search.number t)
+    (sym (known.asked a.first (a.end - a.first) here (omega (arith, judged.window.few))
+    (judged_in search a here numbers t judged from to))) known)
+    from to
+
 -- ---- the fields that are judged
 
--- which fields are judged, and among which of them the number is looked for
-pub record IsWindow (count from to first many : ℕ) : Type 0 where
-  pub inside : first + many ≤ count
-  pub before : (first ≡ 0) ⊎ (2 * reach ≤ from - first)
-  pub behind : (to - first + 2 * reach ≤ many) ⊎ (first + many ≡ count)
-  pub order : from - first ≤ to - first
-  pub ahead : to - first ≤ many
-  pub few : many ≤ around_most
-  pub read : (count ≤ many) ⊎ (72 ≤ many)
-  pub from_is : first + (from - first) ≡ from
-  pub to_is : first + (to - first) ≡ to
-
-pub window : (low high count from to first end : ℕ) → low ≤ high → high ≤ count → from ≡ low - 24
-    → to ≡ low + min (count - low) (min (high - low) 32 + 12 + 24) → first ≡ from - 48
-    → end ≡ to + min (count - to) 48 → IsWindow count from to first (end - first)
-window low high count from to first end order inside from_is to_is first_is end_is = record {
-  inside = omega (arith, order, inside, from_is, to_is, first_is, end_is);
-  before = elim (leb_tells 48 from) [
+pub window : (low high count : ℕ) (a : Around) → low ≤ high → high ≤ count → a.from ≡ low - 24
+    → a.to ≡ low + min (count - low) (min (high - low) 32 + 12 + 24) → a.first ≡ a.from - 48
+    → a.end ≡ a.to + min (count - a.to) 48 → IsWindow count a
+window low high count a order inside from_is to_is first_is end_is = record {
+  order = (
+    omega (arith, first_is),
+    omega (arith, from_is, to_is),
+    omega (arith, end_is),
+    omega (arith, order, inside, to_is, end_is),
+  );
+  before = elim (leb_tells 48 a.from) [
     | inl (t, far) ↦ inr (omega (arith, first_is, far))
     | inr (t, close) ↦ inl (omega (arith, first_is, close))
   ];
-  behind = elim (leb_tells 48 (count - to)) [
-    | inl (t, far) ↦ inl (omega (arith, end_is, far, first_is, from_is, to_is))
-    | inr (t, close) ↦ inr (omega (arith, order, inside, end_is, to_is, close, first_is, from_is))
+  after = elim (leb_tells 48 (count - a.to)) [
+    | inl (t, far) ↦ inr (omega (arith, end_is, far))
+    | inr (t, close) ↦ inl (omega (arith, order, inside, end_is, to_is, close))
   ];
-  order = omega (arith, from_is, to_is, first_is);
-  ahead = omega (arith, first_is, from_is, to_is, end_is);
   few = omega (arith, from_is, to_is, first_is, end_is);
-  read = elim (leb_tells 72 (end - first)) [
+  read = elim (leb_tells 72 (a.end - a.first)) [
     | inl (t, much) ↦ inr much
     | inr (t, little) ↦ inl (omega (arith, order, inside, from_is, to_is, first_is, end_is, little))
   ];
-  from_is = omega (arith, first_is);
-  to_is = omega (arith, from_is, to_is, first_is);
 }
 
 -- a field to which the fields lead is among those in which the number is looked for
-pub reached : (t low high count from to : ℕ) → low ≤ t → t < high + 12 → high ≤ low + 32 → t < count
-    → from ≡ low - 24 → to ≡ low + min (count - low) (min (high - low) 32 + 12 + 24) → (from ≤ t) × (t < to)
-reached t low high count from to after before few inside from_is to_is = (
-  omega (arith, after, from_is),
-  omega (arith, after, before, few, inside, to_is),
+pub reached : (t : ℕ) (place : Between) (count : ℕ) (a : Around) → IsPlaced t place → t < count
+    → a.from ≡ place.low - 24
+    → a.to ≡ place.low + min (count - place.low) (min (place.high - place.low) 32 + 12 + 24)
+    → (a.from ≤ t) × (t < a.to)
+reached t place count a placed inside from_is to_is = (
+  omega (arith, placed.from, from_is),
+  omega (arith, placed.from, placed.to, placed.near, inside, to_is),
 )
-
--- one of them is judged with all on which its answer depends
-pub judged_in : (seek : Seek) (bytes : List ℕ) (count from to first many t : ℕ) (pace : paces.Pace)
-    → IsWindow count from to first many → from ≤ t → t < to
-    → IsAskedPace seek.judging (map (shown_at seek bytes) (range_with_len first many)) pace
-    → IsJudgedIn seek bytes count t first many pace
-judged_in seek bytes count from to first many t pace window after before asked = record {
-  inside = window.inside;
-  before = elim window.before [ inl none ↦ inl none | inr far ↦ inr (omega (arith, far, after, window.from_is)) ];
-  behind = elim window.behind [ inl far ↦ inr (omega (arith, far, before, window.to_is)) | inr all ↦ inl all ];
-  asked = asked;
-}
-
--- a test of the first field
-pub begins_there : (from : ℕ) → IsTrue (nat_eq from 0) → from ≡ 0
-begins_there from is = grind (arith, nat_tests)
-
-pub begins_elsewhere : (from low t : ℕ) → nat_eq from 0 ≡ false → from ≡ t → low ≤ t → from ≡ low - 24 → ⊥
-begins_elsewhere zero low t isnt same after is = cc
-begins_elsewhere (suc from) low t isnt same after is = omega (arith, same, after, is)
-
--- what is found among some fields is one of them
-pub found_within : (numbers : List Number) (back ahead place number : ℕ)
-    → IsFirst (take (ahead - back) (drop back numbers)) number (Some place) → place < ahead - back
-found_within numbers back ahead place number ((answer, shown, its), others) =
-    omega (
-      arith,
-      slice_get_within (take (ahead - back) (drop back numbers)) place answer shown,
-      length-take (ahead - back) (drop back numbers),
-    )

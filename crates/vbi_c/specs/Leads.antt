@@ -5,7 +5,7 @@ use Rattle.vbi_side.specs.declared.number.Number.{Number}
 use Rattle.vbi_side.specs.declared.pace.Pace as paces
 use Rattle.vbi_side.specs.Numbers.{IsAnswer, IsKnown}
 use Rattle.vbi_c.specs.declared.narrowing.Between.{Between}
-use Rattle.vbi_c.specs.declared.probing.Seek.{Seek}
+use Rattle.vbi_c.specs.declared.search.Seek.{Seek}
 use Rattle.vbi_c.specs.declared.seeking.LdvbiSought.{LdvbiSought}
 use Rattle.vbi_c.specs.Seeking.{shown_of, probe_most, probe_longest, around_most, left_most, HasOther, IsJudgedIn}
 use Rattle.vbi_c.specs.Telling.{TellsFrom, told_at}

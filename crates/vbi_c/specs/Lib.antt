@@ -12,6 +12,7 @@ pub mod Recovering
 pub mod Record
 pub mod Piling
 pub mod Seeking
+pub mod Searches
 pub mod Chapters
 pub mod Stops
 pub mod Ends

@@ -8,7 +8,7 @@ use Rattle.vbi_side.specs.declared.pace.Pace as paces
 use Rattle.vbi_side.specs.declared.sighting.Sightings.{Sightings}
 use Rattle.vbi_side.specs.Beliefs.{reach}
 use Rattle.vbi_side.specs.Numbers.{nothing, IsAnswer, IsKnown}
-use Rattle.vbi_c.specs.declared.probing.Seek.{Seek}
+use Rattle.vbi_c.specs.declared.search.Seek.{Seek}
 use Rattle.vbi_c.specs.declared.seeking.LdvbiSought.{LdvbiSought}
 use Rattle.vbi_c.specs.declared.status.Refusal.{Refusal}
 use Rattle.vbi_c.specs.Fields.{field_in}
@@ -62,7 +62,7 @@ HasOther pace shown number i = (other : Number) × IsAnswer pace shown i other �
 pub record IsJudgedIn (seek : Seek) (bytes : List ℕ) (count field first many : ℕ) (pace : paces.Pace) : Type 0 where
   pub inside : first + many ≤ count
   pub before : (first ≡ 0) ⊎ (first + 2 * reach ≤ field)
-  pub behind : (first + many ≡ count) ⊎ (field + 2 * reach < first + many)
+  pub after : (first + many ≡ count) ⊎ (field + 2 * reach < first + many)
   pub asked : IsAskedPace seek.judging (map (shown_at seek bytes) (range_with_len first many)) pace
 
 -- the number is found: it is what is answered of its field, by what all fields of the side show at this pace, which is

@@ -10,8 +10,8 @@ use Rattle.vbi_side.specs.Beliefs.{field_weight, support_of}
 use Rattle.vbi_side.specs.Paces.{fits}
 use Rattle.vbi_side.specs.Sightings.{IsSeen, Shows}
 use Rattle.vbi_c.specs.declared.narrowing.Between.{Between}
-use Rattle.vbi_c.specs.declared.probing.Seek.{Seek}
-use Rattle.vbi_c.specs.Seeking.{shown_at, probe_most, probe_longest}
+use Rattle.vbi_c.specs.declared.search.Seek.{Seek}
+use Rattle.vbi_c.specs.Seeking.{shown_at, probe_most}
 
 -- the weight from which on a number is told; one field alone weighs 4 at most
 abbrev pub together : ℕ
@@ -43,11 +43,6 @@ TellsIn seen n = (i : ℕ) × Shows (slice_get seen i) n × IsTold seen i n
 abbrev pub TellsFrom : Seek → List ℕ → ℕ → ℕ → ℕ → Type 0
 TellsFrom seek bytes field k n = TellsIn (map (shown_at seek bytes) (range_with_len field k)) n
 
--- the fields from this one on tell no number: no 12 of them do, or fewer
-abbrev pub IsSilent : Seek → List ℕ → ℕ → ℕ → Type 0
-IsSilent seek bytes count field =
-    (k n : ℕ) → k ≤ probe_most → field + k ≤ count → TellsFrom seek bytes field k n → ⊥
-
 -- if some fields from this one on tell a number, the place at which it is told: the first of them, or the first of
 -- the last 12
 abbrev pub told_at : ℕ → ℕ → ℕ
@@ -59,16 +54,6 @@ abbrev pub IsNarrowed : ℕ → ℕ → ℕ → Between → Between → Type 0
 IsNarrowed n field told old new =
     ((told < n) × (new ≡ record old { low = field; lower = Some told }))
     ⊎ ((n ≤ told) × (new ≡ record old { high = field; higher = Some told }))
-
--- so it is by what some fields from this one on tell, so many more than 12 at most, if fewer tell none
-pub record IsNarrowedAt (seek : Seek) (bytes : List ℕ) (count n field more : ℕ) (old new : Between) : Type 0 where
-  pub read : ℕ
-  pub number : ℕ
-  pub few : (read ≤ probe_longest) × (read ≤ probe_most + more)
-  pub inside : field + read ≤ count
-  pub told : TellsFrom seek bytes field read number
-  pub first : (k m : ℕ) → k < read → TellsFrom seek bytes field k m → ⊥
-  pub narrowed : IsNarrowed n (told_at field read) number old new
 
 -- field i of these shows number n, which is between two others
 abbrev pub IsShownBetween : List Sightings → ℕ → ℕ → ℕ → ℕ → Type 0

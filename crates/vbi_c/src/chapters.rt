@@ -17,7 +17,7 @@ fn chapters_in(readings: &LdvbiFieldReadings) -> Sightings
 }
 
 /// Puts what each field shows of its chapter into its place.
-fn see_all(readings: &[LdvbiFieldReadings], seen: &mut [Sightings])
+fn sight_chapters(readings: &[LdvbiFieldReadings], seen: &mut [Sightings])
     requires { length seen.old ≡ length readings.now }
     ensures { seen.new ≡ map chapters_in readings.now }
 {
@@ -42,7 +42,7 @@ pub extern "C" fn ldvbi_judge_chapters(
     if seen.len() != readings.len() || chapters.len() != readings.len() {
         return Refusal::Length.status();
     }
-    see_all(readings, seen);
+    sight_chapters(readings, seen);
     judge_chapters(seen, chapters);
     DONE
 }

@@ -13,7 +13,7 @@ use vbi_words::{Code, Word24, classify};
 #[derive(Clone, Copy)]
 #[repr(C)]
 pub struct LdvbiCode {
-    /// The number of its class in codes/classes.txt, 0 for a word of none.
+    /// The number of its class in texts/classes.txt, 0 for a word of none.
     pub kind: u32,
     /// The picture number, the chapter, the hours, the seconds, the three last digits of a status code as a number, or
     /// the digit of a users' code; else 0.

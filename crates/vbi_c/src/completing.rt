@@ -6,9 +6,8 @@ ghost use Rattle.vbi_c.specs.Completing.{completing_of, times_of, read_as, with_
 ghost use Rattle.vbi_c.specs.Statuses.{status_of};
 
 use crate::fields::LdvbiFieldReadings;
-use crate::judging::{Asked, Judging, see_all, shown_by};
+use crate::judging::{Asked, Judging, are_as_long, see_all, shown_by, with_lengths};
 use crate::reading::LdvbiReading;
-use crate::setup::system_of;
 use crate::status::{DONE, Refusal};
 use vbi_side::{Counted, Shown, Sightings, completed_time};
 use vbi_words::{System, Word24};
@@ -22,11 +21,7 @@ fn completing_of(
 ) -> Result<System, Refusal>
     ensures { result ≡ completing_of system count seen completed }
 {
-    let system = system_of(system).ok_or(Refusal::System)?;
-    if seen != count || completed != count {
-        return Err(Refusal::Length);
-    }
-    Ok(system)
+    with_lengths(system, are_as_long(count, seen, completed))
 }
 
 /// What asks for the times that fields show.

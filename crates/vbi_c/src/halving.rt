@@ -1,20 +1,27 @@
 //! The place of a number in a side, by few of its fields.
 //!
-//! Numbers rise along a side, so the place of one is found by halving: some fields in the middle are read, until enough
-//! of their lines show one number together, which tells the half. Before the first number of a side and after its last
-//! one no field tells any, so the middles of ever smaller parts are asked until one tells a number. From then on
-//! silence tells the half, too, as long as only one end has told a number: the number is on the side of that end. A
-//! side whose player went back or stood still can lead astray, so what is found here is no more than a place to look
-//! at: seeking.rt judges the fields around it.
+//! Numbers rise along a side, so the place of one is found by halving (`halve`): some fields in the middle are read,
+//! until enough of their lines show one number together, which tells the half. Before the first number of a side and
+//! after its last one no field tells any, so the middles of ever smaller parts are asked until one tells a number
+//! (`begin`, `sweep`). From then on silence tells the half, too, as long as only one end has told a number: the number
+//! is on the side of that end (`narrow_in_silence`). A side whose player went back or stood still can lead astray, so
+//! what is found here is no more than a place to look at: seeking.rt judges the fields around it.
+//!
+//! The numbers make 1,000 fields at most. 188 are judged around the place (seeking.rt), so 812 are left. 31 spots are
+//! asked until the first number is told, in 1, 2, 4, 8 and 16 parts, and 36 steps leave 32 of a million fields, since
+//! each leaves three quarters at most: of 12 fields each that makes 372 and 432, or 804 in all. What is left over, on
+//! a shorter side more, is spare for spots with worn lines. 16 parts find any numbers that fill a sixteenth of the side,
+//! as `Leads` of specs/Leads.antt asks; specs/Seeking.antt has these numbers for proofs, and include/ldvbi.h the 1,000.
 
-ghost use Rattle.std.specs.Prelude.{◌≡◌, ℕ, ◌+◌, ◌-◌, ◌*◌, ◌/◌, ◌^◌, ◌<◌, ◌≤◌, length, false, true, None};
-ghost use Rattle.vbi_words.specs.Geometry.{field_bytes};
-ghost use Rattle.vbi_c.specs.Leads.{Leads, IsWithin, IsToldAt, IsNarrower, IsPlaced, left_after};
-ghost use Rattle.vbi_c.specs.Seeking.{probe_most, probe_longest, probed_most, looked_most, left_most};
-ghost use Rattle.vbi_c.specs.Telling.{IsSilent, IsNarrowedAt, middle_of};
+ghost use Rattle.std.specs.Prelude.{◌≡◌, ℕ, ◌+◌, ◌-◌, ◌*◌, ◌/◌, ◌^◌, ◌<◌, ◌≤◌, false, true};
+ghost use Rattle.vbi_c.specs.Leads.{IsPlaced, left_after};
+ghost use Rattle.vbi_c.specs.Searches.{IsAlone, IsHalved, IsHalving, IsNarrowedAt, IsPart, IsSilent, LeadsTo, middle_in};
+ghost use Rattle.vbi_c.specs.Seeking.{probe_most, probed_most, looked_most, left_most};
+ghost use Rattle.vbi_c.specs.Telling.{middle_of};
 
-use crate::narrowing::{Between, narrow, narrow_between, narrow_either};
-use crate::probing::{LONGEST, Looked, NOTHING_SEEN, PROBE, Seek};
+use crate::narrowing::{Between, Spot, Told, narrow, narrow_between, narrow_either};
+use crate::probing::{LONGEST, NOTHING_SEEN, PROBE};
+use crate::search::{Looked, Search};
 
 /// Halving ends when no more fields than these are left.
 pub(crate) const LEFT: usize = 32;
@@ -22,203 +29,149 @@ pub(crate) const LEFT: usize = 32;
 /// So many fields at most are read while the place is sought.
 const PROBED: u32 = 812;
 
-/// So many places at most are asked until the first number is told.
-const PLACES: u32 = 31;
+/// So many spots at most are asked until the first number is told.
+const SPOTS: u32 = 31;
 
 /// A million fields are halved so often at most.
 const STEPS: u32 = 36;
 
 /// The field in the middle of one of so many equal parts of a side.
-fn middle_of(count: usize, parts: usize, part: usize) -> usize
+fn middle_of(search: &Search, parts: usize, part: usize) -> usize
     requires some { part < parts }
     requires few { parts ≤ 16 }
-    requires fits { 32 * count < 2 ^ 64 }
-    ensures middle { result ≡ middle_of count parts part }
-    ensures inside { result ≤ count }
+    ensures middle { result ≡ middle_of search.now.count parts part }
+    ensures inside { result ≤ search.now.count }
 {
-    (count * (2 * part + 1) / (2 * parts)).min(count)
+    (search.count * (2 * part + 1) / (2 * parts)).min(search.count)
 }
 
 /// Narrows the fields between which the number is sought, by the first of the middles of so many equal parts of the
 /// side at which a number is told. Answers whether one is.
-fn sweep(
-    seek: &Seek,
-    bytes: &[u8],
-    count: usize,
-    number: u32,
-    parts: usize,
-    between: &mut Between,
-    looked: &mut Looked,
-) -> bool
-    requires whole { count * field_bytes seek.now.setup.system ≤ length bytes.now }
-    requires fits { 32 * count < 2 ^ 64 }
+fn sweep(search: &Search, parts: usize, between: &mut Between, looked: &mut Looked) -> bool
     requires few { parts ≤ 16 }
     requires room { looked.old.fields + looked.old.spare + probe_most * parts ≤ looked_most }
     ensures few { looked.new.fields + looked.new.spare ≤ looked.old.fields + looked.old.spare + probe_most * parts }
     ensures kept { result ≡ false → between.new ≡ between.old }
     ensures silent { result ≡ false → (part : ℕ) → part < parts
-        → IsSilent seek.now bytes.now count (middle_of count parts part) }
-    ensures narrowed { result ≡ true → (field more : ℕ) × (field ≤ count)
-        × IsNarrowedAt seek.now bytes.now count number field more between.old between.new }
+        → IsSilent search.now (middle_of search.now.count parts part) }
+    ensures narrowed { result ≡ true → (spot : Spot) × (spot.field ≤ search.now.count)
+        × IsNarrowedAt search.now spot between.old between.new }
 {
-    let mut all_seen = [NOTHING_SEEN; LONGEST];
-    let seen = &mut all_seen[..];
+    let mut seen = [NOTHING_SEEN; LONGEST];
     for part in 0..parts {
-        let field = middle_of(count, parts, part);
-        if narrow(
-            seek, bytes, count, number, field, LONGEST, between, seen, looked,
-        ) {
+        let spot = Spot {
+            field: middle_of(search, parts, part),
+            more: LONGEST,
+        };
+        if narrow(search, spot, between, &mut seen, looked) {
             return true;
         }
     }
     false
 }
 
-/// Narrows the fields of a side between which the number is sought, by the first place at which one is told: in the
+/// Narrows the fields of a side between which the number is sought, by the first spot at which one is told: in the
 /// middle of the side, of its halves, quarters, eighths and sixteenths.
-fn begin(
-    seek: &Seek,
-    bytes: &[u8],
-    count: usize,
-    number: u32,
-    between: &mut Between,
-    looked: &mut Looked,
-) -> bool
-    requires whole { count * field_bytes seek.now.setup.system ≤ length bytes.now }
-    requires fits { 32 * count < 2 ^ 64 }
-    requires room { looked.old.fields + looked.old.spare + 31 * probe_most ≤ looked_most }
+fn begin(search: &Search, between: &mut Between, looked: &mut Looked) -> bool
+    requires { looked.old.fields + looked.old.spare + 31 * probe_most ≤ looked_most }
     ensures few { looked.new.fields + looked.new.spare ≤ looked.old.fields + looked.old.spare + 31 * probe_most }
     ensures kept { result ≡ false → between.new ≡ between.old }
     ensures silent { result ≡ false → (part : ℕ) → part < 16
-        → IsSilent seek.now bytes.now count (middle_of count 16 part) }
-    ensures narrowed { result ≡ true → (field more : ℕ) × (field ≤ count)
-        × IsNarrowedAt seek.now bytes.now count number field more between.old between.new }
+        → IsSilent search.now (middle_of search.now.count 16 part) }
+    ensures narrowed { result ≡ true → (spot : Spot) × (spot.field ≤ search.now.count)
+        × IsNarrowedAt search.now spot between.old between.new }
 {
-    sweep(seek, bytes, count, number, 1, between, looked)
-        || sweep(seek, bytes, count, number, 2, between, looked)
-        || sweep(seek, bytes, count, number, 4, between, looked)
-        || sweep(seek, bytes, count, number, 8, between, looked)
-        || sweep(seek, bytes, count, number, 16, between, looked)
+    sweep(search, 1, between, looked)
+        || sweep(search, 2, between, looked)
+        || sweep(search, 4, between, looked)
+        || sweep(search, 8, between, looked)
+        || sweep(search, 16, between, looked)
 }
 
-/// Narrows the fields between which the number is sought if the middle is silent, and only the last end has told a
-/// number: by what is told a little before the middle, or else to the fields after it.
-fn narrow_before(
-    seek: &Seek,
-    bytes: &[u8],
-    count: usize,
-    number: u32,
-    between: &mut Between,
-    looked: &mut Looked,
-)
-    requires whole { count * field_bytes seek.now.setup.system ≤ length bytes.now }
-    requires wide { between.old.low + left_most < between.old.high }
-    requires inside { between.old.high ≤ count }
-    requires fits { 32 * count < 2 ^ 64 }
-    requires room { looked.old.fields + looked.old.spare ≤ looked_most }
-    requires silent { IsSilent seek.now bytes.now count
-        (between.old.low + (between.old.high - between.old.low) / 2) }
-    requires before { between.old.lower ≡ None }
-    ensures order { between.new.low ≤ between.new.high }
-    ensures inside { between.new.high ≤ count }
-    ensures few { looked.new.fields + looked.new.spare ≤ looked.old.fields + looked.old.spare }
-    ensures leads { (t a b : ℕ) → Leads seek.now bytes.now count number t a b → IsWithin t a b between.old
-        → IsToldAt between.old → IsNarrower t a b between.old between.new }
-{
-    let width = between.high - between.low;
-    let from = between.low + width / 2;
-    let (first, second) = (between.low + 3 * width / 8, between.low + 5 * width / 16);
-    let more = width / 16;
-    if narrow_either(
-        seek, bytes, count, number, first, second, more, between, looked,
-    ) {
-        return;
-    }
-    between.low = from;
+/// An end of the fields between which a number is sought.
+#[derive(Clone, Copy)]
+enum End {
+    First,
+    Last,
 }
 
-/// The same, if only the first end has told a number, or none has: by what is told a little after the middle, or
-/// else to the fields before it.
-fn narrow_behind(
-    seek: &Seek,
-    bytes: &[u8],
-    count: usize,
-    number: u32,
-    between: &mut Between,
-    looked: &mut Looked,
-)
-    requires whole { count * field_bytes seek.now.setup.system ≤ length bytes.now }
-    requires wide { between.old.low + left_most < between.old.high }
-    requires inside { between.old.high ≤ count }
-    requires fits { 32 * count < 2 ^ 64 }
-    requires room { looked.old.fields + looked.old.spare ≤ looked_most }
-    requires silent { IsSilent seek.now bytes.now count
-        (between.old.low + (between.old.high - between.old.low) / 2) }
-    requires behind { between.old.higher ≡ None }
-    ensures order { between.new.low ≤ between.new.high }
-    ensures inside { between.new.high ≤ count }
-    ensures few { looked.new.fields + looked.new.spare ≤ looked.old.fields + looked.old.spare }
-    ensures leads { (t a b : ℕ) → Leads seek.now bytes.now count number t a b → IsWithin t a b between.old
-        → IsToldAt between.old → IsNarrower t a b between.old between.new }
+/// The spot at so many sixteenths of these fields.
+fn spot_at(search: &Search, between: &Between, sixteenths: usize) -> Spot
+    requires part { IsPart search.now between.now }
+    requires few { sixteenths ≤ 16 }
+    ensures field { result.field ≡ between.now.low + sixteenths * (between.now.high - between.now.low) / 16 }
+    ensures more { result.more ≡ (between.now.high - between.now.low) / 16 }
 {
     let width = between.high - between.low;
-    let to = between.low + width / 2;
-    let (first, second) = (between.low + 5 * width / 8, between.low + 11 * width / 16);
-    let more = width / 16;
-    if narrow_either(
-        seek, bytes, count, number, first, second, more, between, looked,
-    ) {
+    Spot {
+        field: between.low + sixteenths * width / 16,
+        more: width / 16,
+    }
+}
+
+/// The spots that are asked if the middle is silent and only this end has told a number: two that are a little further
+/// from that end than the middle, the nearer one first.
+fn beyond_middle(search: &Search, between: &Between, end: End) -> (Spot, Spot)
+    requires part { IsPart search.now between.now }
+    requires wide { between.now.low + left_most < between.now.high }
+    ensures first { IsHalving between.now result.0 }
+    ensures second { IsHalving between.now result.1 }
+{
+    match end {
+        End::First => (spot_at(search, between, 10), spot_at(search, between, 11)),
+        End::Last => (spot_at(search, between, 6), spot_at(search, between, 5)),
+    }
+}
+
+/// Narrows the fields between which the number is sought if the middle is silent, and no other end than this one has
+/// told a number: by what is told a little beyond the middle, or else to the half on the side of this end.
+fn narrow_in_silence(search: &Search, end: End, between: &mut Between, looked: &mut Looked)
+    requires part { IsPart search.now between.old }
+    requires wide { between.old.low + left_most < between.old.high }
+    requires silent { IsSilent search.now (middle_in between.old) }
+    requires alone { IsAlone end between.old }
+    requires room { looked.old.fields + looked.old.spare ≤ looked_most }
+    ensures part { IsPart search.now between.new }
+    ensures few { looked.new.fields + looked.new.spare ≤ looked.old.fields + looked.old.spare }
+    ensures halved { IsHalved search.now between.old between.new }
+{
+    let middle = between.low + (between.high - between.low) / 2;
+    let (first, second) = beyond_middle(search, between, end);
+    if narrow_either(search, first, second, between, looked) {
         return;
     }
-    between.high = to;
+    match end {
+        End::First => between.high = middle,
+        End::Last => between.low = middle,
+    }
 }
 
 /// Narrows the fields between which the number is sought, by what is told in the middle. Silence there says that the
 /// number is on the side of the end that has told one, if only one has.
-fn halve(
-    seek: &Seek,
-    bytes: &[u8],
-    count: usize,
-    number: u32,
-    between: &mut Between,
-    looked: &mut Looked,
-)
-    requires whole { count * field_bytes seek.now.setup.system ≤ length bytes.now }
+fn halve(search: &Search, between: &mut Between, looked: &mut Looked)
+    requires part { IsPart search.now between.old }
     requires wide { between.old.low + left_most < between.old.high }
-    requires inside { between.old.high ≤ count }
-    requires fits { 32 * count < 2 ^ 64 }
     requires room { looked.old.fields + looked.old.spare + probe_most ≤ looked_most }
-    ensures order { between.new.low ≤ between.new.high }
-    ensures inside { between.new.high ≤ count }
+    ensures part { IsPart search.now between.new }
     ensures few { looked.new.fields + looked.new.spare ≤ looked.old.fields + looked.old.spare + probe_most }
-    ensures leads { (t a b : ℕ) → Leads seek.now bytes.now count number t a b → IsWithin t a b between.old
-        → IsToldAt between.old → IsNarrower t a b between.old between.new }
+    ensures halved { IsHalved search.now between.old between.new }
 {
     let width = between.high - between.low;
-    let middle = between.low + width / 2;
-    let mut all_seen = [NOTHING_SEEN; LONGEST];
-    let seen = &mut all_seen[..];
-    if narrow(
-        seek,
-        bytes,
-        count,
-        number,
-        middle,
-        width / 8,
-        between,
-        seen,
-        looked,
-    ) {
+    let middle = Spot {
+        field: between.low + width / 2,
+        more: width / 8,
+    };
+    let mut seen = [NOTHING_SEEN; LONGEST];
+    if narrow(search, middle, between, &mut seen, looked) {
         return;
     }
     match between.higher {
-        None => narrow_behind(seek, bytes, count, number, between, looked),
+        None => narrow_in_silence(search, End::First, between, looked),
         Some(higher) => match between.lower {
-            None => narrow_before(seek, bytes, count, number, between, looked),
+            None => narrow_in_silence(search, End::Last, between, looked),
             Some(lower) => {
-                narrow_between(
-                    seek, bytes, count, number, lower, higher, seen, between, looked,
-                );
+                let told = Told { lower, higher };
+                narrow_between(search, told, &seen, between, looked);
             }
         },
     }
@@ -226,7 +179,7 @@ fn halve(
 
 /// How often so many fields are halved, or a million, if they are more.
 fn steps_of(count: usize) -> u32
-    requires fits { 32 * count < 2 ^ 64 }
+    requires { 32 * count < 2 ^ 64 }
     ensures few { result ≤ 36 }
     ensures enough { count ≤ 1000000 → left_after count result ≤ left_most }
 {
@@ -240,37 +193,31 @@ fn steps_of(count: usize) -> u32
     STEPS
 }
 
-/// A place that is near the first field with this number, if the numbers rise along the side.
-pub(crate) fn place_of(
-    seek: &Seek,
-    bytes: &[u8],
-    count: usize,
-    number: u32,
-    looked: &mut Looked,
-) -> Between
-    requires whole { count * field_bytes seek.now.setup.system ≤ length bytes.now }
-    requires first { looked.old.fields ≡ 0 }
-    ensures order { result.low ≤ result.high }
-    ensures inside { result.high ≤ count }
-    ensures few { looked.new.fields ≤ probed_most }
-    ensures leads { (t a b : ℕ) → count ≤ 1000000 → Leads seek.now bytes.now count number t a b
-        → IsPlaced t result }
+/// A place that is near the first field with the number, if the numbers rise along the side, and how many fields were
+/// read until it was found.
+pub(crate) fn place_of(search: &Search) -> (Between, Looked)
+    ensures part { IsPart search.now result.0 }
+    ensures few { result.1.fields ≤ probed_most }
+    ensures leads { (t a b : ℕ) → search.now.count ≤ 1000000 → LeadsTo search.now t a b → IsPlaced t result.0 }
 {
     let mut between = Between {
         low: 0,
-        high: count,
+        high: search.count,
         lower: None,
         higher: None,
     };
-    let steps = steps_of(count);
+    let steps = steps_of(search.count);
     let probed = PROBED - PROBE as u32 * steps;
-    looked.spare = probed - PROBE as u32 * PLACES;
-    begin(seek, bytes, count, number, &mut between, looked);
+    let mut looked = Looked {
+        fields: 0,
+        spare: probed - PROBE as u32 * SPOTS,
+    };
+    begin(search, &mut between, &mut looked);
     looked.spare = probed - looked.fields;
     for step in 0..steps {
         if between.high - between.low > LEFT {
-            halve(seek, bytes, count, number, &mut between, looked);
+            halve(search, &mut between, &mut looked);
         }
     }
-    between
+    (between, looked)
 }

@@ -1,9 +1,11 @@
 //! Judging the numbers of fields.
 
-ghost use Rattle.std.specs.Prelude.{◌≡◌, ◌≢◌, ◌<◌, ◌≤◌, length, map, IfOk, Some, None};
+ghost use Rattle.std.specs.Prelude.{◌≡◌, ◌≢◌, ◌<◌, ◌≤◌, ◌==◌, ◌&&◌, length, map, IfOk, Some, None, Ok};
 ghost use Rattle.vbi_side.specs.declared.pace.Pace as paces;
 ghost use Rattle.vbi_side.specs.Numbers.{IsFirst};
 ghost use Rattle.vbi_c.specs.Judging.{counted_of, asked_of, judging_of, shown_by, seen_in, IsAskedPace, AreJudged};
+ghost use Rattle.vbi_c.specs.Judging.{with_lengths, with_pace};
+ghost use Rattle.vbi_c.specs.Setups.{system_of};
 ghost use Rattle.vbi_c.specs.Statuses.{status_of};
 
 use crate::fields::LdvbiFieldReadings;
@@ -53,28 +55,52 @@ pub(crate) fn asked_of(number: u32) -> Option<Asked>
     }
 }
 
-/// What these numbers ask for, or why they are refused: both arrays have to be as long as that of the readings.
-pub(crate) fn judging_of(
-    system: u32,
-    counted: u32,
-    pace: u32,
-    count: usize,
-    seen: usize,
-    numbers: usize,
-) -> Result<Judging, Refusal>
-    ensures { result ≡ judging_of system counted pace count seen numbers }
+/// Whether both other arrays of a call are as long as its first.
+pub(crate) fn are_as_long(count: usize, first: usize, second: usize) -> bool
+    ensures { result ≡ (first == count && second == count) }
+{
+    first == count && second == count
+}
+
+/// The system of a number, if the lengths of the arrays fit, or why the call is refused.
+pub(crate) fn with_lengths(system: u32, fit: bool) -> Result<System, Refusal>
+    ensures { result ≡ with_lengths (system_of system) fit }
 {
     let system = system_of(system).ok_or(Refusal::System)?;
-    if seen != count || numbers != count {
+    if !fit {
         return Err(Refusal::Length);
     }
+    Ok(system)
+}
+
+/// What is to be judged of a system, by the number of what is counted and the pace, or why the call is refused.
+pub(crate) fn with_pace(
+    system: System,
+    counted: u32,
+    asked: Option<Asked>,
+) -> Result<Judging, Refusal>
+    ensures { result ≡ with_pace (Ok system) (counted_of counted) asked }
+{
     let counted = counted_of(counted).ok_or(Refusal::Counted)?;
-    let asked = asked_of(pace).ok_or(Refusal::Pace)?;
+    let asked = asked.ok_or(Refusal::Pace)?;
     Ok(Judging {
         system,
         counted,
         asked,
     })
+}
+
+/// What these numbers ask for, if the lengths of the arrays fit, or why they are refused.
+pub(crate) fn judging_of(
+    system: u32,
+    counted: u32,
+    pace: u32,
+    fit: bool,
+) -> Result<Judging, Refusal>
+    ensures { result ≡ with_pace (with_lengths (system_of system) fit) (counted_of counted) (asked_of pace) }
+{
+    let system = with_lengths(system, fit)?;
+    with_pace(system, counted, asked_of(pace))
 }
 
 /// What a line shows by its reading, of which C may have made anything.
@@ -135,14 +161,8 @@ pub extern "C" fn ldvbi_judge(
         (λ judging. (pace : paces.Pace) × AreJudged judging readings.now seen.new numbers.new pace) }
     ensures unwritten { result ≢ 0 → (seen.new ≡ seen.old) × (numbers.new ≡ numbers.old) }
 {
-    match judging_of(
-        system,
-        counted,
-        pace,
-        readings.len(),
-        seen.len(),
-        numbers.len(),
-    ) {
+    let fit = are_as_long(readings.len(), seen.len(), numbers.len());
+    match judging_of(system, counted, pace, fit) {
         Ok(judging) => {
             see_all(&judging, readings, seen);
             judge(seen, pace_for(&judging, seen), numbers);

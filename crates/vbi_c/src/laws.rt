@@ -14,7 +14,7 @@ ghost use Rattle.vbi_side.specs.declared.pace.Pace.TheVariants.{Video, Film};
 ghost use Rattle.vbi_side.specs.Worked.{field_of};
 ghost use Rattle.vbi_c.specs.declared.judging.Asked.TheVariants.{Given, Found};
 ghost use Rattle.vbi_c.specs.declared.fields.LdvbiFieldReadings.{LdvbiFieldReadings};
-ghost use Rattle.vbi_c.specs.declared.probing.Seek.{Seek};
+ghost use Rattle.vbi_c.specs.declared.search.Seek.{Seek};
 ghost use Rattle.vbi_c.specs.declared.record.LdvbiRecord.{LdvbiRecord};
 ghost use Rattle.vbi_c.specs.declared.seeking.LdvbiSought.{LdvbiSought};
 ghost use Rattle.vbi_c.specs.declared.setup.Setup.{Setup};

@@ -31,6 +31,7 @@ mod reading;
 mod record;
 mod recovering;
 pub mod refusal_laws;
+mod search;
 mod seeking;
 mod setup;
 mod sizes;

@@ -1,12 +1,23 @@
-//! Narrowing the fields between which a number is sought, by what is told or shown at a place among them.
+//! Narrowing the fields between which a number is sought, by what is told or shown at a spot among them.
+//!
+//! `narrow` is the one step: the fields from a spot on are read until they tell a number, which becomes the first or the
+//! last of the fields between which the number is sought. `narrow_by_spare` does it if fields may be read besides, and
+//! `narrow_either` at two spots. That is all that a proof speaks of: what is told is right if `Leads` holds of the side.
+//! `narrow_between` is for a silent middle between two ends that have told numbers, which no side has to which the
+//! fields lead: there anything goes that leaves fewer fields, so even a single line that shows a number between the two
+//! (`narrow_by_one`) is believed, and at last where the number stands between the two (`is_after`).
+//!
+//! A spot is read for 12 fields, which each step of halving has, and for more out of a spare that all steps share, so
+//! that `Looked` never passes 1,000. A sixteenth of the fields at most is read beyond the 12, so that a number that is
+//! told late at a quarter is still told among them. halving.rt chooses the spots: both change together.
 
-ghost use Rattle.std.specs.Prelude.{◌≡◌, ◌↔◌, ◌⊎◌, ℕ, ◌+◌, ◌-◌, ◌*◌, ◌/◌, ◌^◌, ◌<◌, ◌≤◌, length, false, true, None};
-ghost use Rattle.std.specs.Prelude.{IfSome};
-ghost use Rattle.vbi_words.specs.Geometry.{field_bytes};
-ghost use Rattle.vbi_c.specs.Seeking.{probe_most, probe_longest, looked_most};
-ghost use Rattle.vbi_c.specs.Telling.{IsSilent, IsNarrowedAt, IsShownBetween};
+ghost use Rattle.std.specs.Prelude.{◌≡◌, ◌↔◌, ◌⊎◌, ℕ, ◌+◌, ◌-◌, ◌*◌, ◌<◌, ◌≤◌, false, true, None, IfSome};
+ghost use Rattle.vbi_c.specs.Searches.{IsNarrowedAt, IsPart, IsSilent, IsSpotIn};
+ghost use Rattle.vbi_c.specs.Seeking.{probe_most, looked_most};
+ghost use Rattle.vbi_c.specs.Telling.{IsShownBetween};
 
-use crate::probing::{LONGEST, Looked, NOTHING_SEEN, PROBE, Seek, probe};
+use crate::probing::{LONGEST, NOTHING_SEEN, PROBE, probe};
+use crate::search::{Looked, Search};
 use vbi_side::Sightings;
 
 /// The fields between which a number is sought.
@@ -19,41 +30,50 @@ pub(crate) struct Between {
     pub(crate) higher: Option<u32>,
 }
 
-/// Narrows the fields between which the number is sought, by the number that the fields from this one on tell, if so
-/// many more than `PROBE` at most tell one. Answers whether they do. What they show stands in `seen`.
+/// The numbers that were told at both ends.
+#[derive(Clone, Copy)]
+pub(crate) struct Told {
+    pub(crate) lower: u32,
+    pub(crate) higher: u32,
+}
+
+/// A spot of a side at which fields are read until they tell a number.
+#[derive(Clone, Copy)]
+pub(crate) struct Spot {
+    /// The first of them.
+    pub(crate) field: usize,
+    /// How many more than `PROBE` are read at most.
+    pub(crate) more: usize,
+}
+
+/// Narrows the fields between which the number is sought, by the number that the fields at this spot tell, if they
+/// do. Answers whether they do. What they show stands in `seen`.
 pub(crate) fn narrow(
-    seek: &Seek,
-    bytes: &[u8],
-    count: usize,
-    number: u32,
-    field: usize,
-    more: usize,
+    search: &Search,
+    spot: Spot,
     between: &mut Between,
-    seen: &mut [Sightings],
+    seen: &mut [Sightings; LONGEST],
     looked: &mut Looked,
 ) -> bool
-    requires whole { count * field_bytes seek.now.setup.system ≤ length bytes.now }
-    requires inside { field ≤ count }
-    requires places { length seen.old ≡ probe_longest }
+    requires inside { spot.field ≤ search.now.count }
     requires room { looked.old.fields + looked.old.spare + probe_most ≤ looked_most }
     ensures few { looked.new.fields + looked.new.spare ≤ looked.old.fields + looked.old.spare + probe_most }
     ensures kept { result ≡ false → between.new ≡ between.old }
-    ensures silent { result ≡ false → IsSilent seek.now bytes.now count field }
-    ensures narrowed { result ≡ true → IsNarrowedAt seek.now bytes.now count number field more
-        between.old between.new }
+    ensures silent { result ≡ false → IsSilent search.now spot.field }
+    ensures narrowed { result ≡ true → IsNarrowedAt search.now spot between.old between.new }
 {
-    let longest = PROBE + more.min(LONGEST - PROBE).min(looked.spare as usize);
-    let (told, read) = probe(seek, bytes, count, field, longest, seen, looked);
-    let behind = read.saturating_sub(PROBE as u32);
-    looked.spare -= behind;
+    let longest = PROBE + spot.more.min(LONGEST - PROBE).min(looked.spare as usize);
+    let (told, read) = probe(search, spot.field, longest, seen, looked);
+    let after = read.saturating_sub(PROBE as u32);
+    looked.spare -= after;
     let Some(told) = told else {
         return false;
     };
-    if told < number {
-        between.low = field + behind as usize;
+    if told < search.number {
+        between.low = spot.field + after as usize;
         between.lower = Some(told);
     } else {
-        between.high = field + behind as usize;
+        between.high = spot.field + after as usize;
         between.higher = Some(told);
     }
     true
@@ -82,69 +102,57 @@ fn one_between(seen: &[Sightings], lower: u32, higher: u32) -> Option<(usize, u3
 
 /// Whether the number is more likely after this field than before it, if nothing is told there: by where it stands
 /// between the numbers that were told at both ends.
-fn is_behind(number: u32, field: usize, between: &Between, lower: u32, higher: u32) -> bool
-    requires before { between.now.low ≤ field }
-    requires behind { field ≤ between.now.high }
-    ensures { (result ≡ true) ↔ ((field - between.now.low) * (higher - lower)
-        < (between.now.high - between.now.low) * (number - lower)) }
+fn is_after(number: u32, field: usize, between: &Between, told: Told) -> bool
+    requires { (between.now.low ≤ field) × (field ≤ between.now.high) }
+    ensures { (result ≡ true) ↔ ((field - between.now.low) * (told.higher - told.lower)
+        < (between.now.high - between.now.low) * (number - told.lower)) }
 {
     let (part, whole) = (field - between.low, between.high - between.low);
-    let (number_part, number_whole) = (number.saturating_sub(lower), higher.saturating_sub(lower));
+    let number_part = number.saturating_sub(told.lower);
+    let number_whole = told.higher.saturating_sub(told.lower);
     part as u128 * u128::from(number_whole) < whole as u128 * u128::from(number_part)
 }
 
-/// As `narrow`, if so many fields may be read besides.
+/// As `narrow`, if `PROBE` fields may be read besides.
 fn narrow_by_spare(
-    seek: &Seek,
-    bytes: &[u8],
-    count: usize,
-    number: u32,
-    field: usize,
-    more: usize,
+    search: &Search,
+    spot: Spot,
     between: &mut Between,
-    seen: &mut [Sightings],
+    seen: &mut [Sightings; LONGEST],
     looked: &mut Looked,
 ) -> bool
-    requires whole { count * field_bytes seek.now.setup.system ≤ length bytes.now }
-    requires inside { field ≤ count }
-    requires places { length seen.old ≡ probe_longest }
+    requires inside { spot.field ≤ search.now.count }
     requires room { looked.old.fields + looked.old.spare ≤ looked_most }
     ensures few { looked.new.fields + looked.new.spare ≤ looked.old.fields + looked.old.spare }
     ensures kept { result ≡ false → between.new ≡ between.old }
-    ensures narrowed { result ≡ true → IsNarrowedAt seek.now bytes.now count number field more
-        between.old between.new }
+    ensures narrowed { result ≡ true → IsNarrowedAt search.now spot between.old between.new }
 {
     if looked.spare < PROBE as u32 {
         return false;
     }
     looked.spare -= PROBE as u32;
-    narrow(
-        seek, bytes, count, number, field, more, between, seen, looked,
-    )
+    narrow(search, spot, between, seen, looked)
 }
 
 /// Narrows the fields between which the number is sought by a single line of those from this field on that shows a
 /// number between those of both ends. Answers whether one does.
 fn narrow_by_one(
-    number: u32,
+    search: &Search,
     field: usize,
-    lower: u32,
-    higher: u32,
-    seen: &[Sightings],
+    told: Told,
+    seen: &[Sightings; LONGEST],
     between: &mut Between,
 ) -> bool
-    requires few { field + length seen.now < 2 ^ 64 }
-    requires before { between.old.low ≤ field }
-    requires behind { field ≤ between.old.high }
+    requires part { IsPart search.now between.old }
+    requires inside { (between.old.low ≤ field) × (field ≤ between.old.high) }
     ensures kept { result ≡ false → between.new ≡ between.old }
-    ensures order { between.new.low ≤ between.new.high }
-    ensures inside { between.new.high ≤ between.old.high }
+    ensures part { IsPart search.now between.new }
 {
-    let Some((at, shown)) = one_between(seen, lower, higher) else {
+    let Some((at, shown)) = one_between(seen, told.lower, told.higher) else {
         return false;
     };
     let place = (field + at).min(between.high);
-    if shown < number {
+    if shown < search.number {
         between.low = place;
         between.lower = Some(shown);
     } else {
@@ -154,109 +162,82 @@ fn narrow_by_one(
     true
 }
 
-/// Narrows the fields between which the number is sought, by what is told from this field on, if so many fields may
-/// be read besides, or by a single line.
+/// Narrows the fields between which the number is sought, by what is told at this spot, if so many fields may be read
+/// besides, or by a single line.
 fn narrow_near(
-    seek: &Seek,
-    bytes: &[u8],
-    count: usize,
-    number: u32,
-    field: usize,
-    lower: u32,
-    higher: u32,
+    search: &Search,
+    spot: Spot,
+    told: Told,
     between: &mut Between,
     looked: &mut Looked,
 ) -> bool
-    requires whole { count * field_bytes seek.now.setup.system ≤ length bytes.now }
-    requires before { between.old.low ≤ field }
-    requires behind { field + (between.old.high - between.old.low) / 16 ≤ between.old.high }
-    requires inside { between.old.high ≤ count }
-    requires fits { 32 * count < 2 ^ 64 }
+    requires part { IsPart search.now between.old }
+    requires inside { IsSpotIn between.old spot }
     requires room { looked.old.fields + looked.old.spare ≤ looked_most }
     ensures few { looked.new.fields + looked.new.spare ≤ looked.old.fields + looked.old.spare }
     ensures kept { result ≡ false → between.new ≡ between.old }
-    ensures order { between.new.low ≤ between.new.high }
-    ensures inside { between.new.high ≤ count }
+    ensures part { IsPart search.now between.new }
 {
-    let more = (between.high - between.low) / 16;
-    let mut all_seen = [NOTHING_SEEN; LONGEST];
-    let seen = &mut all_seen[..];
-    narrow_by_spare(
-        seek, bytes, count, number, field, more, between, seen, looked,
-    ) || narrow_by_one(number, field, lower, higher, seen, between)
+    let mut seen = [NOTHING_SEEN; LONGEST];
+    narrow_by_spare(search, spot, between, &mut seen, looked)
+        || narrow_by_one(search, spot.field, told, &seen, between)
 }
 
 /// Narrows the fields between which the number is sought if both ends have told a number, and the middle none: by a
 /// single line there that shows a number between those two, by what is shown at three quarters or at one quarter of the
 /// fields, or else by where the number stands between those two.
 pub(crate) fn narrow_between(
-    seek: &Seek,
-    bytes: &[u8],
-    count: usize,
-    number: u32,
-    lower: u32,
-    higher: u32,
-    seen: &[Sightings],
+    search: &Search,
+    told: Told,
+    seen: &[Sightings; LONGEST],
     between: &mut Between,
     looked: &mut Looked,
 )
-    requires whole { count * field_bytes seek.now.setup.system ≤ length bytes.now }
-    requires order { between.old.low ≤ between.old.high }
-    requires inside { between.old.high ≤ count }
-    requires fits { 32 * count < 2 ^ 64 }
-    requires places { length seen.now ≡ probe_longest }
+    requires part { IsPart search.now between.old }
     requires room { looked.old.fields + looked.old.spare ≤ looked_most }
-    ensures order { between.new.low ≤ between.new.high }
-    ensures inside { between.new.high ≤ count }
+    ensures part { IsPart search.now between.new }
     ensures few { looked.new.fields + looked.new.spare ≤ looked.old.fields + looked.old.spare }
 {
     let width = between.high - between.low;
     let middle = between.low + width / 2;
-    let (later, earlier) = (middle + width / 4, between.low + width / 4);
-    if narrow_by_one(number, middle, lower, higher, seen, between)
-        || narrow_near(
-            seek, bytes, count, number, later, lower, higher, between, looked,
-        )
-        || narrow_near(
-            seek, bytes, count, number, earlier, lower, higher, between, looked,
-        )
+    let later = Spot {
+        field: middle + width / 4,
+        more: width / 16,
+    };
+    let earlier = Spot {
+        field: between.low + width / 4,
+        more: width / 16,
+    };
+    if narrow_by_one(search, middle, told, seen, between)
+        || narrow_near(search, later, told, between, looked)
+        || narrow_near(search, earlier, told, between, looked)
     {
         return;
     }
-    if is_behind(number, middle, between, lower, higher) {
+    if is_after(search.number, middle, between, told) {
         between.low = middle;
     } else {
         between.high = middle;
     }
 }
 
-/// Narrows the fields between which the number is sought, by what is told from one of two fields on. Answers whether
-/// from one of them on a number is.
+/// Narrows the fields between which the number is sought, by what is told at one of two spots, if so many fields may be
+/// read besides. Answers whether one of them tells a number.
 pub(crate) fn narrow_either(
-    seek: &Seek,
-    bytes: &[u8],
-    count: usize,
-    number: u32,
-    first: usize,
-    second: usize,
-    more: usize,
+    search: &Search,
+    first: Spot,
+    second: Spot,
     between: &mut Between,
     looked: &mut Looked,
 ) -> bool
-    requires whole { count * field_bytes seek.now.setup.system ≤ length bytes.now }
-    requires inside { (first ≤ count) × (second ≤ count) }
+    requires inside { (first.field ≤ search.now.count) × (second.field ≤ search.now.count) }
     requires room { looked.old.fields + looked.old.spare ≤ looked_most }
     ensures few { looked.new.fields + looked.new.spare ≤ looked.old.fields + looked.old.spare }
     ensures kept { result ≡ false → between.new ≡ between.old }
-    ensures narrowed { result ≡ true →
-        IsNarrowedAt seek.now bytes.now count number first more between.old between.new
-        ⊎ IsNarrowedAt seek.now bytes.now count number second more between.old between.new }
+    ensures narrowed { result ≡ true → IsNarrowedAt search.now first between.old between.new
+        ⊎ IsNarrowedAt search.now second between.old between.new }
 {
-    let mut all_seen = [NOTHING_SEEN; LONGEST];
-    let seen = &mut all_seen[..];
-    narrow_by_spare(
-        seek, bytes, count, number, first, more, between, seen, looked,
-    ) || narrow_by_spare(
-        seek, bytes, count, number, second, more, between, seen, looked,
-    )
+    let mut seen = [NOTHING_SEEN; LONGEST];
+    narrow_by_spare(search, first, between, &mut seen, looked)
+        || narrow_by_spare(search, second, between, &mut seen, looked)
 }

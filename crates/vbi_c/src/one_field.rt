@@ -7,8 +7,7 @@ ghost use Rattle.vbi_c.specs.Judging.{given_of, one_judging_of, IsJudgedField};
 ghost use Rattle.vbi_c.specs.Statuses.{status_of};
 
 use crate::fields::LdvbiFieldReadings;
-use crate::judging::{Asked, Judging, asked_of, counted_of, pace_for, see_all};
-use crate::setup::system_of;
+use crate::judging::{Asked, Judging, asked_of, pace_for, see_all, with_lengths, with_pace};
 use crate::status::{DONE, Refusal};
 use vbi_side::{Number, PART, Sighting, Sightings, judge_one};
 
@@ -32,17 +31,8 @@ fn one_judging_of(
 ) -> Result<Judging, Refusal>
     ensures { result ≡ one_judging_of system counted pace count field }
 {
-    let system = system_of(system).ok_or(Refusal::System)?;
-    if count > PART || field >= count {
-        return Err(Refusal::Length);
-    }
-    let counted = counted_of(counted).ok_or(Refusal::Counted)?;
-    let asked = given_of(pace).ok_or(Refusal::Pace)?;
-    Ok(Judging {
-        system,
-        counted,
-        asked,
-    })
+    let system = with_lengths(system, count <= PART && field < count)?;
+    with_pace(system, counted, given_of(pace))
 }
 
 /// The answer for one of at most 97 fields.

@@ -6,7 +6,7 @@ ghost use Rattle.vbi_c.specs.Judging.{judging_of, seen_in, IsAskedPace, pace_for
 ghost use Rattle.vbi_c.specs.Statuses.{status_of};
 
 use crate::fields::LdvbiFieldReadings;
-use crate::judging::{judging_of, pace_for, see_all};
+use crate::judging::{are_as_long, judging_of, pace_for, see_all};
 use crate::status::DONE;
 use vbi_side::{Pace, Sightings};
 
@@ -41,14 +41,8 @@ pub extern "C" fn ldvbi_find_pace(
         (λ judging. (found : paces.Pace) × IsAskedPace judging seen.new found × (pace.new ≡ pace_for_c found)) }
     ensures unwritten { result ≢ 0 → (seen.new ≡ seen.old) × (pace.new ≡ pace.old) }
 {
-    match judging_of(
-        system,
-        counted,
-        FIND,
-        readings.len(),
-        seen.len(),
-        readings.len(),
-    ) {
+    let fit = are_as_long(readings.len(), seen.len(), readings.len());
+    match judging_of(system, counted, FIND, fit) {
         Ok(judging) => {
             see_all(&judging, readings, seen);
             *pace = pace_for_c(pace_for(&judging, seen));

@@ -68,28 +68,43 @@ fn with_list(
     Ok(setup)
 }
 
+/// What a call says of its lines.
+#[derive(Clone, Copy)]
+struct Lines {
+    /// The number that they all have.
+    line: u32,
+    /// Whether their dropouts are known: 0 or 1.
+    known: u32,
+    /// How many bytes they have.
+    length: usize,
+}
+
 /// The setup of a call with lines of one number, or why the call is refused.
 fn pile_setup(
     system: u32,
     black: u32,
     white: u32,
-    line: u32,
-    known: u32,
-    length: usize,
+    lines: Lines,
     list: &[LdvbiErased],
 ) -> Result<Setup, Refusal>
-    ensures setup { result ≡ pile_setup system black white line known length list.now }
-    ensures lines { IfOk result (λ setup. (length ≡ length / line_bytes setup.system * line_bytes setup.system)
-        × (length / line_bytes setup.system ≤ 28)) }
-    ensures line { IfOk result (λ setup. IsTrue (is_code_line line)) }
-    ensures list { IfOk result (λ setup. IsTrue (is_taken (length / line_bytes setup.system) list.now)) }
+    ensures setup { result ≡ pile_setup system black white lines.line lines.known lines.length list.now }
+    ensures lines { IfOk result (λ setup.
+        (lines.length ≡ lines.length / line_bytes setup.system * line_bytes setup.system)
+        × (lines.length / line_bytes setup.system ≤ 28)) }
+    ensures line { IfOk result (λ setup. IsTrue (is_code_line lines.line)) }
+    ensures list { IfOk result (λ setup. IsTrue (is_taken (lines.length / line_bytes setup.system) list.now)) }
 {
-    let lines = lines_setup(system, black, white, length);
+    let Lines {
+        line,
+        known,
+        length,
+    } = lines;
+    let asked = lines_setup(system, black, white, length);
     with_list(
         line,
         length,
         list,
-        with_known(known, with_line(line, lines)),
+        with_known(known, with_line(line, asked)),
     )
 }
 
@@ -171,7 +186,12 @@ pub extern "C" fn ldvbi_recover_pile(
         IsWordOf setup line known bytes.now erased.now word.new) }
     ensures unwritten { result ≢ 0 → word.new ≡ word.old }
 {
-    match pile_setup(system, black, white, line, known, bytes.len(), erased) {
+    let lines = Lines {
+        line,
+        known,
+        length: bytes.len(),
+    };
+    match pile_setup(system, black, white, lines, erased) {
         Ok(setup) => {
             *word = word_of(&setup, line, known, bytes, erased);
             DONE

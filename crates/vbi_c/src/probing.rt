@@ -1,38 +1,34 @@
 //! Which number some fields of a side tell together. Each field that is read is counted.
+//!
+//! `shown_at` reads one field, and `see_from` some in a row. `probe` reads one after the other until what was read tells
+//! a number, or no more may be read. A number is told (`is_together`) if what supports it weighs 6 in the judge's
+//! votes, at either pace, or if what all these fields show does that lies as far from it as numbers of video do: so a
+//! few words that could be read tell a number, however far apart they are. One field alone weighs 4 at most, so that
+//! its two lines, misread alike, tell nothing.
+//!
+//! 12 fields are read at a spot at least, since they tell a number on any disc that is in good order: video has a number
+//! every 2 fields, film every 2 or 3. 144 are read at most if lines are worn. specs/Telling.antt has the rule, and
+//! specs/Seeking.antt these numbers: whoever changes one changes how many fields `ldvbi_seek` reads (halving.rt has the
+//! sum), and what `Leads` of specs/Leads.antt promises.
 
-ghost use Rattle.std.specs.Prelude.{◌≡◌, ◌↔◌, ℕ, ◌+◌, ◌-◌, ◌*◌, ◌<◌, ◌≤◌, min, length, map, take, slice_get, true};
+ghost use Rattle.std.specs.Prelude.{◌≡◌, ◌↔◌, ℕ, ◌+◌, ◌-◌, ◌*◌, ◌<◌, ◌≤◌, min, length, take, slice_get, true};
 ghost use Rattle.std.specs.Prelude.{IfSome, None};
-ghost use Rattle.std.specs.List.{range_with_len};
-ghost use Rattle.vbi_words.specs.Geometry.{field_bytes};
-ghost use Rattle.vbi_c.specs.Seeking.{shown_at, probe_longest, looked_most};
-ghost use Rattle.vbi_c.specs.Telling.{IsTogether, TellsIn, TellsFrom, run_weight};
+ghost use Rattle.vbi_c.specs.Seeking.{probe_longest, looked_most};
+ghost use Rattle.vbi_c.specs.Searches.{shows, shown_from, TellsAt};
+ghost use Rattle.vbi_c.specs.Telling.{IsTogether, TellsIn, run_weight};
 ghost use Rattle.vbi_side.specs.Beliefs.{field_weight, sighting_weight};
 ghost use Rattle.vbi_side.specs.Paces.{fits};
 ghost use Rattle.vbi_side.specs.declared.pace.Pace.TheVariants.{Video};
 
-use crate::judging::{Judging, seen_in};
+use crate::judging::seen_in;
 use crate::recovering::recover_whole;
-use crate::setup::Setup;
+use crate::search::{Looked, Search};
 use vbi_side::{Pace, Sighting, Sightings, support};
 
-/// How a number is sought.
-#[derive(Clone, Copy)]
-pub(crate) struct Seek {
-    pub(crate) setup: Setup,
-    pub(crate) judging: Judging,
-}
-
-/// How many fields were read, and how many more than `PROBE` may be if few lines show a number.
-#[derive(Clone, Copy)]
-pub(crate) struct Looked {
-    pub(crate) fields: u32,
-    pub(crate) spare: u32,
-}
-
-/// So many fields tell a number at one place.
+/// So many fields tell a number at one spot, on a disc that is in good order.
 pub(crate) const PROBE: usize = 12;
 
-/// So many at most are read there.
+/// So many at most are read there: a side whose every twelfth field can be read still tells.
 pub(crate) const LONGEST: usize = 144;
 
 /// What is shown together weighs so much. No field alone does, even if both its lines were misread alike.
@@ -52,36 +48,31 @@ const NO_SIGHTING: Sighting = Sighting {
 };
 
 /// What a field shows of its number, with the nearest words of worn lines.
-fn shown_at(seek: &Seek, bytes: &[u8], count: usize, field: usize, looked: &mut Looked) -> Sightings
-    requires whole { count * field_bytes seek.now.setup.system ≤ length bytes.now }
-    requires inside { field < count }
+fn shown_at(search: &Search, field: usize, looked: &mut Looked) -> Sightings
+    requires inside { field < search.now.count }
     requires room { looked.old.fields < looked_most }
-    ensures shown { result ≡ shown_at seek.now bytes.now field }
+    ensures shown { result ≡ shows search.now field }
     ensures counted { looked.new ≡ record looked.old { fields = looked.old.fields + 1 } }
 {
     looked.fields += 1;
+    let seek = &search.seek;
     let size = seek.setup.system.field_bytes();
-    let readings = recover_whole(&seek.setup, &bytes[size * field..size * field + size]);
+    let readings = recover_whole(
+        &seek.setup,
+        &search.bytes[size * field..size * field + size],
+    );
     seen_in(&seek.judging, &readings)
 }
 
 /// Puts what each field from this one on shows into its place.
-pub(crate) fn see_from(
-    seek: &Seek,
-    bytes: &[u8],
-    count: usize,
-    first: usize,
-    seen: &mut [Sightings],
-    looked: &mut Looked,
-)
-    requires whole { count * field_bytes seek.now.setup.system ≤ length bytes.now }
-    requires inside { first + length seen.old ≤ count }
+pub(crate) fn see_from(search: &Search, first: usize, seen: &mut [Sightings], looked: &mut Looked)
+    requires inside { first + length seen.old ≤ search.now.count }
     requires room { looked.old.fields + length seen.old ≤ looked_most }
-    ensures seen { seen.new ≡ map (shown_at seek.now bytes.now) (range_with_len first (length seen.old)) }
+    ensures seen { seen.new ≡ shown_from search.now first (length seen.old) }
     ensures counted { looked.new.fields ≡ looked.old.fields + length seen.old }
 {
     for i in 0..seen.len() {
-        seen[i] = shown_at(seek, bytes, count, first + i, looked);
+        seen[i] = shown_at(search, first + i, looked);
     }
 }
 
@@ -162,33 +153,28 @@ fn number_together(seen: &[Sightings]) -> Option<u32>
 /// The number that the fields from this one on tell together, if so many at most tell one, and how many of them were
 /// read for it. What these show stands in `seen`.
 pub(crate) fn probe(
-    seek: &Seek,
-    bytes: &[u8],
-    count: usize,
+    search: &Search,
     field: usize,
     longest: usize,
-    seen: &mut [Sightings],
+    seen: &mut [Sightings; LONGEST],
     looked: &mut Looked,
 ) -> (Option<u32>, u32)
-    requires whole { count * field_bytes seek.now.setup.system ≤ length bytes.now }
-    requires inside { field ≤ count }
+    requires inside { field ≤ search.now.count }
     requires longest { longest ≤ probe_longest }
-    requires places { length seen.old ≡ probe_longest }
     requires room { looked.old.fields + longest ≤ looked_most }
     ensures few { result.1 ≤ longest }
-    ensures inside { field + result.1 ≤ count }
+    ensures inside { field + result.1 ≤ search.now.count }
     ensures counted { looked.new ≡ record looked.old { fields = looked.old.fields + result.1 } }
-    ensures seen { take result.1 seen.new ≡ map (shown_at seek.now bytes.now) (range_with_len field result.1) }
-    ensures told { IfSome result.0 (λ number. TellsFrom seek.now bytes.now field result.1 number) }
+    ensures seen { take result.1 seen.new ≡ shown_from search.now field result.1 }
+    ensures told { IfSome result.0 (λ number. TellsAt search.now field result.1 number) }
     ensures first { IfSome result.0 (λ told. (k number : ℕ) → k < result.1
-        → TellsFrom seek.now bytes.now field k number → ⊥) }
-    ensures all { result.0 ≡ None → result.1 ≡ min longest (count - field) }
-    ensures silent { result.0 ≡ None → (k number : ℕ) → k ≤ result.1
-        → TellsFrom seek.now bytes.now field k number → ⊥ }
+        → TellsAt search.now field k number → ⊥) }
+    ensures all { result.0 ≡ None → result.1 ≡ min longest (search.now.count - field) }
+    ensures silent { result.0 ≡ None → (k number : ℕ) → k ≤ result.1 → TellsAt search.now field k number → ⊥ }
 {
-    let most = longest.min(count - field);
+    let most = longest.min(search.count - field);
     for i in 0..most {
-        seen[i] = shown_at(seek, bytes, count, field + i, looked);
+        seen[i] = shown_at(search, field + i, looked);
         if let Some(number) = number_together(&seen[..i + 1]) {
             return (Some(number), i as u32 + 1);
         }

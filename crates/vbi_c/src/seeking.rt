@@ -3,23 +3,27 @@
 //! halving.rt tells where it may be, and that what is answered is right rests on none of that: the fields around that
 //! place are read and judged, and the number is answered only of a field that has it by `ldvbi_judge` of the whole
 //! side.
+//!
+//! The number is looked for (`first_among`) from 24 fields before the place to 24 after it (`fields_around`), which
+//! is 32 fields wide at most, and told by 12 fields more. An answer depends on 48 fields before its own and as many after
+//! it, 97 with its own, so 24 + 32 + 12 + 24 + 96 = 188 fields are judged at most (`judge_around`). The very first of
+//! those in which the number is looked for isn't answered unless the side begins there: the number may have begun
+//! before it. 188 and the 812 of halving.rt are the 1,000 of include/ldvbi.h; specs/Seeking.antt has all three.
 
-ghost use Rattle.std.specs.Prelude.{◌≡◌, ◌≢◌, ℕ, ◌+◌, ◌-◌, ◌*◌, ◌<◌, ◌≤◌, ◌⊎◌, length, map, take, drop, false, Some};
-ghost use Rattle.std.specs.Prelude.{None, IfOk, IfSome, IsTrue, min};
-ghost use Rattle.std.specs.List.{range_with_len};
-ghost use Rattle.vbi_words.specs.Geometry.{field_bytes};
+ghost use Rattle.std.specs.Prelude.{◌≡◌, ◌≢◌, ℕ, ◌+◌, ◌-◌, ◌<◌, ◌≤◌, ◌⊎◌, length, Some, None, IfOk, IfSome};
 ghost use Rattle.vbi_side.specs.declared.pace.Pace as paces;
-ghost use Rattle.vbi_side.specs.Numbers.{AreAnswers, IsFirst};
-ghost use Rattle.vbi_c.specs.Judging.{IsAskedPace};
+ghost use Rattle.vbi_side.specs.Numbers.{IsFirst};
 ghost use Rattle.vbi_c.specs.Leads.{IsFirstKnown, IsPlaced, IsComplete};
-ghost use Rattle.vbi_c.specs.Seeking.{seek_of, shown_at, probed_most, around_most, IsSought, IsSoughtIn};
+ghost use Rattle.vbi_c.specs.Searches.{IsPart, IsWindow, IsJudgedAround, among};
+ghost use Rattle.vbi_c.specs.Seeking.{seek_of, probed_most, IsSought, IsSoughtIn};
 ghost use Rattle.vbi_c.specs.Statuses.{status_of};
 
 use crate::halving::{LEFT, place_of};
-use crate::judging::{Judging, asked_of, counted_of, pace_for};
+use crate::judging::{asked_of, pace_for, with_pace};
 use crate::narrowing::Between;
 use crate::pace::pace_for_c;
-use crate::probing::{Looked, NOTHING_SEEN, PROBE, Seek, see_from};
+use crate::probing::{NOTHING_SEEN, PROBE, see_from};
+use crate::search::{Looked, Search, Seek};
 use crate::setup::setup_of;
 use crate::status::{DONE, Refusal};
 use std::mem::size_of;
@@ -59,70 +63,8 @@ fn seek_of(system: u32, black: u32, white: u32, counted: u32, pace: u32) -> Resu
     ensures { result ≡ seek_of system black white counted pace }
 {
     let setup = setup_of(system, black, white)?;
-    let counted = counted_of(counted).ok_or(Refusal::Counted)?;
-    let asked = asked_of(pace).ok_or(Refusal::Pace)?;
-    let judging = Judging {
-        system: setup.system,
-        counted,
-        asked,
-    };
+    let judging = with_pace(setup.system, counted, asked_of(pace))?;
     Ok(Seek { setup, judging })
-}
-
-/// Puts the number of each field from `first` to before `end` into its place, by what these fields show, and answers
-/// the pace at which they are.
-fn judge_from(
-    seek: &Seek,
-    bytes: &[u8],
-    count: usize,
-    first: usize,
-    end: usize,
-    numbers: &mut [Number],
-    looked: &mut Looked,
-) -> Pace
-    requires whole { count * field_bytes seek.now.setup.system ≤ length bytes.now }
-    requires order { first ≤ end }
-    requires inside { end ≤ count }
-    requires few { end - first ≤ around_most }
-    requires places { length numbers.old ≡ end - first }
-    requires room { looked.old.fields ≤ probed_most }
-    ensures counted { looked.new.fields ≡ looked.old.fields + (end - first) }
-    ensures asked { IsAskedPace seek.now.judging
-        (map (shown_at seek.now bytes.now) (range_with_len first (end - first))) result }
-    ensures answers { AreAnswers result (map (shown_at seek.now bytes.now)
-        (range_with_len first (end - first))) numbers.new }
-{
-    let mut all_seen = [NOTHING_SEEN; AROUND];
-    let seen = &mut all_seen[..end - first];
-    see_from(seek, bytes, count, first, seen, looked);
-    let pace = pace_for(&seek.judging, seen);
-    judge(seen, pace, numbers);
-    pace
-}
-
-/// The first of these numbers from one to before another that is this one, counted from there. None if it is the
-/// very first of these, unless the side begins there: of the field before it it isn't known that it has another number.
-fn first_between(
-    numbers: &[Number],
-    from: usize,
-    to: usize,
-    number: u32,
-    begins: bool,
-) -> Option<usize>
-    requires order { from ≤ to }
-    requires inside { to ≤ length numbers.now }
-    ensures first { IfSome result (λ at. IsFirst (take (to - from) (drop from numbers.now)) number (Some at)) }
-    ensures known { IfSome result (λ at. (0 < at) ⊎ IsTrue begins) }
-    ensures none { result ≡ None → IsFirst (take (to - from) (drop from numbers.now)) number None
-        ⊎ IsFirst (take (to - from) (drop from numbers.now)) number (Some 0) × (begins ≡ false) }
-{
-    let Some(at) = first_of(&numbers[from..to], number) else {
-        return None;
-    };
-    if at == 0 && !begins {
-        return None;
-    }
-    Some(at)
 }
 
 /// Fields of a side, each counted from its first.
@@ -140,61 +82,87 @@ struct Around {
 
 /// The fields around a place: so many in which the number is looked for, and as many before and after them as their
 /// answers depend on.
-fn fields_around(place: Between, count: usize) -> Around
-    requires order { place.low ≤ place.high }
-    requires inside { place.high ≤ count }
-    ensures from { result.from ≡ place.low - 24 }
-    ensures to { result.to ≡ place.low + min (count - place.low) (min (place.high - place.low) 32 + 12 + 24) }
-    ensures first { result.first ≡ result.from - 48 }
-    ensures end { result.end ≡ result.to + min (count - result.to) 48 }
+fn fields_around(search: &Search, place: &Between) -> Around
+    requires { IsPart search.now place.now }
+    ensures window { IsWindow search.now.count result }
+    ensures reached { (t : ℕ) → IsPlaced t place.now → t < search.now.count → (result.from ≤ t) × (t < result.to) }
+    ensures early { (0 < result.from) → result.from < place.now.low }
 {
     let from = place.low.saturating_sub(BESIDE);
     let wide = (place.high - place.low).min(LEFT) + PROBE + BESIDE;
-    let to = place.low + (count - place.low).min(wide);
+    let to = place.low + (search.count - place.low).min(wide);
     Around {
         first: from.saturating_sub(2 * REACH),
         from,
         to,
-        end: to + (count - to).min(2 * REACH),
+        end: to + (search.count - to).min(2 * REACH),
     }
 }
 
-/// Looks for the number in the fields around its place.
-fn look_around(
-    seek: &Seek,
-    bytes: &[u8],
-    count: usize,
-    number: u32,
-    place: Between,
+/// Puts the number of each field that is judged into its place, by what these fields show, and answers the pace at
+/// which they are.
+fn judge_around(
+    search: &Search,
+    around: &Around,
+    numbers: &mut [Number],
     looked: &mut Looked,
-) -> LdvbiSought
-    requires whole { count * field_bytes seek.now.setup.system ≤ length bytes.now }
-    requires order { place.low ≤ place.high }
-    requires inside { place.high ≤ count }
-    requires few { looked.old.fields ≤ probed_most }
-    ensures sought { IsSoughtIn seek.now bytes.now count number result }
-    ensures complete { (t : ℕ) (pace : paces.Pace) → IsFirstKnown seek.now bytes.now count number t pace
-        → IsPlaced t place → result.field ≡ t }
+) -> Pace
+    requires window { IsWindow search.now.count around.now }
+    requires places { length numbers.old ≡ around.now.end - around.now.first }
+    requires room { looked.old.fields ≤ probed_most }
+    ensures counted { looked.new.fields ≡ looked.old.fields + (around.now.end - around.now.first) }
+    ensures judged { IsJudgedAround search.now around.now result numbers.new }
 {
-    let Around {
-        first,
-        from,
-        to,
-        end,
-    } = fields_around(place, count);
+    let mut all_seen = [NOTHING_SEEN; AROUND];
+    let seen = &mut all_seen[..around.end - around.first];
+    see_from(search, around.first, seen, looked);
+    let pace = pace_for(&search.seek.judging, seen);
+    judge(seen, pace, numbers);
+    pace
+}
+
+/// The first field in which the number is looked for that has it, counted from the first of these. None if it is the
+/// very first of these, unless the side begins there: of the field before it it isn't known that it has another number.
+fn first_among(around: &Around, numbers: &[Number], number: u32) -> Option<usize>
+    requires order { (around.now.first ≤ around.now.from) × (around.now.from ≤ around.now.to) }
+    requires inside { around.now.to - around.now.first ≤ length numbers.now }
+    ensures first { IfSome result (λ at. IsFirst (among around.now numbers.now) number (Some at)) }
+    ensures known { IfSome result (λ at. (0 < at) ⊎ (around.now.from ≡ 0)) }
+    ensures none { result ≡ None → IsFirst (among around.now numbers.now) number None
+        ⊎ IsFirst (among around.now numbers.now) number (Some 0) × (0 < around.now.from) }
+{
+    let (from, to) = (around.from - around.first, around.to - around.first);
+    let Some(at) = first_of(&numbers[from..to], number) else {
+        return None;
+    };
+    if at == 0 && around.from > 0 {
+        return None;
+    }
+    Some(at)
+}
+
+/// Looks for the number in the fields around its place.
+fn look_around(search: &Search, place: &Between, mut looked: Looked) -> LdvbiSought
+    requires part { IsPart search.now place.now }
+    requires few { looked.fields ≤ probed_most }
+    ensures sought { IsSoughtIn search.now.seek search.now.bytes.now search.now.count search.now.number result }
+    ensures complete { (t : ℕ) (pace : paces.Pace)
+        → IsFirstKnown search.now.seek search.now.bytes.now search.now.count search.now.number t pace
+        → IsPlaced t place.now → result.field ≡ t }
+{
+    let around = fields_around(search, place);
     let mut all_numbers = [NO_NUMBER; AROUND];
-    let numbers = &mut all_numbers[..end - first];
-    let pace = judge_from(seek, bytes, count, first, end, numbers, looked);
-    let found = first_between(numbers, from - first, to - first, number, from == 0);
-    match found {
+    let numbers = &mut all_numbers[..around.end - around.first];
+    let pace = judge_around(search, &around, numbers, &mut looked);
+    match first_among(&around, numbers, search.number) {
         Some(at) => LdvbiSought {
-            field: from + at,
-            number: numbers[from - first + at],
+            field: around.from + at,
+            number: numbers[around.from - around.first + at],
             pace: pace_for_c(pace),
             looked: looked.fields,
         },
         None => LdvbiSought {
-            field: count,
+            field: search.count,
             number: NO_NUMBER,
             pace: 0,
             looked: looked.fields,
@@ -226,13 +194,14 @@ pub extern "C" fn ldvbi_seek(
 {
     match seek_of(system, black, white, counted, pace) {
         Ok(seek) => {
-            let count = bytes.len() / seek.setup.system.field_bytes();
-            let mut looked = Looked {
-                fields: 0,
-                spare: 0,
+            let search = Search {
+                seek,
+                bytes,
+                count: bytes.len() / seek.setup.system.field_bytes(),
+                number,
             };
-            let place = place_of(&seek, bytes, count, number, &mut looked);
-            *sought = look_around(&seek, bytes, count, number, place, &mut looked);
+            let (place, looked) = place_of(&search);
+            *sought = look_around(&search, &place, looked);
             DONE
         }
         Err(refusal) => refusal.status(),

@@ -3,13 +3,16 @@
 ghost use Rattle.std.specs.Prelude.{◌≡◌, ◌≢◌, ◌≤◌, length, IfOk};
 ghost use Rattle.vbi_side.specs.declared.pace.Pace as paces;
 ghost use Rattle.vbi_side.specs.Verdicts.{IsFinding};
-ghost use Rattle.vbi_c.specs.WholeSides.{pace_given, siding_of, both_by, both_for_c, slack_by, may_end_by};
+ghost use Rattle.vbi_c.specs.Judging.{counted_of, with_lengths};
+ghost use Rattle.vbi_c.specs.Setups.{system_of};
+ghost use Rattle.vbi_c.specs.WholeSides.{pace_given, siding_of, with_given, both_by, both_for_c, slack_by, may_end_by};
 ghost use Rattle.vbi_c.specs.Statuses.{status_of};
 
-use crate::judging::counted_of;
-use crate::setup::system_of;
+use crate::judging::{are_as_long, counted_of, with_lengths};
 use crate::status::{DONE, Refusal};
-use vbi_side::{Clock, Finding, Gap, Number, Numbering, Pace, Rule, Sightings, is_on_both, judge_whole};
+use vbi_side::{
+    Clock, Finding, Gap, Number, Numbering, Pace, Rule, Sightings, is_on_both, judge_whole,
+};
 
 /// What a side is judged by.
 #[derive(Clone, Copy)]
@@ -29,21 +32,11 @@ fn pace_given(number: u32) -> Option<Pace>
     }
 }
 
-/// What these numbers ask for, or why they are refused: the arrays have to be equally long.
-fn siding_of(
-    system: u32,
-    counted: u32,
-    pace: u32,
-    seen: usize,
-    numbers: usize,
-    ends: usize,
-) -> Result<Siding, Refusal>
-    ensures { result ≡ siding_of system counted pace seen numbers ends }
+/// What these numbers ask for, if the lengths of the arrays fit, or why they are refused.
+fn siding_of(system: u32, counted: u32, pace: u32, fit: bool) -> Result<Siding, Refusal>
+    ensures { result ≡ with_given (with_lengths (system_of system) fit) (counted_of counted) (pace_given pace) }
 {
-    let system = system_of(system).ok_or(Refusal::System)?;
-    if numbers != seen || ends != seen {
-        return Err(Refusal::Length);
-    }
+    let system = with_lengths(system, fit)?;
     let counted = counted_of(counted).ok_or(Refusal::Counted)?;
     let pace = pace_given(pace).ok_or(Refusal::Pace)?;
     Ok(Siding {
@@ -110,7 +103,8 @@ pub extern "C" fn ldvbi_judge_side(
         seen.now numbers.now ends.now side.new gaps.old gaps.new) }
     ensures unwritten { result ≢ 0 → (gaps.new ≡ gaps.old) × (side.new ≡ side.old) }
 {
-    match siding_of(system, counted, pace, seen.len(), numbers.len(), ends.len()) {
+    let fit = are_as_long(seen.len(), numbers.len(), ends.len());
+    match siding_of(system, counted, pace, fit) {
         Ok(siding) => {
             let rule = Rule {
                 pace: siding.pace,

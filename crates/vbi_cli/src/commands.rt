@@ -1,4 +1,12 @@
 //! The commands and options of the program, with the texts of their help.
+//!
+//! `COMMANDS` and `OPTIONS` are tables of texts, and `program` makes clap's commands of them: of each command one by
+//! `command`, with the options that all commands have, and the flag `--recover` for those that write what fields show.
+//! What the words of a command line put into a job is read in command_line.rt, by the names that stand here.
+//!
+//! A text that changes here changes the manual pages, the completions and the documents, which `python3 texts/write.py`
+//! renews, and the plain Rust program, which has the same help. tests/cli and vbi_cli_tests/src/refusals.rt have the
+//! texts of refusals. `VERSION` says that this build is proved; it changes with the version in the Makefile.
 
 ghost use Rattle.std.specs.Prelude.{◌≡◌, IfOk, true, false};
 ghost use Rattle.clap.specs.declared.builder.command.Command.TheViews.{out-Command as fields_of};

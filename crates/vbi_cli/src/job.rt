@@ -7,7 +7,7 @@ ghost use Rattle.vbi_field.specs.Outlet as outlets;
 ghost use Rattle.vbi_field.specs.RowIntake as row_intakes;
 ghost use Rattle.vbi_meta.specs.DocumentValue.{IsConfig};
 ghost use Rattle.vbi_cli.specs.Jobs.{Settles, Refuses, Under, Counting, Did, IfMeta, UnlessMeta, IsEndedBy};
-ghost use Rattle.vbi_cli.specs.Jobs.{IsAnsweredBy, IsDrawnBy, Does, app_status};
+ghost use Rattle.vbi_cli.specs.Jobs.{IsAnsweredBy, IsDrawnBy, Does, source_of, app_status};
 ghost use Rattle.vbi_cli.specs.Jobs as sources;
 ghost use Rattle.vbi_cli.specs.declared.source.Source.TheVariants as source;
 
@@ -106,19 +106,19 @@ pub fn do_command<R: Read, W: Write>(
         Source::Extract {
             intake,
             recover: false,
-        } => extract_job(config, intake, outlet),
+        } => text_job(config, Text::Document, intake, outlet),
         Source::Extract {
             intake,
             recover: true,
-        } => extract_recovered_job(config, intake, outlet),
+        } => text_job(config, Text::RecoveredDocument, intake, outlet),
         Source::Show {
             intake,
             recover: false,
-        } => show_job(config, intake, outlet),
+        } => text_job(config, Text::Report, intake, outlet),
         Source::Show {
             intake,
             recover: true,
-        } => show_recovered_job(config, intake, outlet),
+        } => text_job(config, Text::RecoveredReport, intake, outlet),
         Source::Draw(rows) => draw_job(config, rows, outlet),
     }
 }
@@ -155,10 +155,24 @@ fn line_end(system: System, outcome: Result<Outcome, LineFault>) -> Result<Ended
     }
 }
 
-/// The command `extract` without recovered words, whose document is also known to be read back as the words that the
-/// lines show.
-fn extract_job<R: Read, W: Write>(
+/// A text of a stream.
+#[derive(Clone, Copy)]
+enum Text {
+    /// What `extract` writes.
+    Document,
+    /// What `extract --recover` writes.
+    RecoveredDocument,
+    /// What `show` writes.
+    Report,
+    /// What `show --recover` writes.
+    RecoveredReport,
+}
+
+/// The commands `extract` and `show`, by their text. The document without recovered words is also known to be read back
+/// as the words that the lines show.
+fn text_job<R: Read, W: Write>(
     config: &Config,
+    text: Text,
     intake: &mut Intake<R>,
     outlet: &mut Outlet<W>,
 ) -> Result<Ended, AppFault>
@@ -166,11 +180,18 @@ fn extract_job<R: Read, W: Write>(
     requires outlet { outlets.IsFresh outlet.old }
     ensures same_reader { IsSameDevice (lines.counted_of intake.old) (lines.counted_of intake.new) }
     ensures same_writer { IsSameDevice (outlets.counted_of outlet.old) (outlets.counted_of outlet.new) }
-    ensures did { Does R.remaining W.contents config.now (source.Extract intake.old false)
-        (source.Extract intake.new false) outlet.old outlet.new result }
+    ensures did { Does R.remaining W.contents config.now (source_of text intake.old) (source_of text intake.new)
+        outlet.old outlet.new result }
 {
-    numbers(config);
-    end_of(extract(config, intake, outlet))
+    match text {
+        Text::Document => {
+            numbers(config);
+            end_of(extract(config, intake, outlet))
+        }
+        Text::RecoveredDocument => end_of(extract_recovered(config, intake, outlet)),
+        Text::Report => end_of(show(config, intake, outlet)),
+        Text::RecoveredReport => end_of(show_recovered(config, intake, outlet)),
+    }
 }
 
 /// What is known of a config's numbers: black and white have 16 bits, and the fields a greatest count. Their types say
@@ -181,54 +202,6 @@ fn numbers(config: &Config)
 {
     let _levels = config.levels();
     let _max_fields = config.max_fields();
-}
-
-/// The command `extract` with recovered words.
-fn extract_recovered_job<R: Read, W: Write>(
-    config: &Config,
-    intake: &mut Intake<R>,
-    outlet: &mut Outlet<W>,
-) -> Result<Ended, AppFault>
-    requires intake { lines.IsFresh intake.old config.now.system }
-    requires outlet { outlets.IsFresh outlet.old }
-    ensures same_reader { IsSameDevice (lines.counted_of intake.old) (lines.counted_of intake.new) }
-    ensures same_writer { IsSameDevice (outlets.counted_of outlet.old) (outlets.counted_of outlet.new) }
-    ensures did { Does R.remaining W.contents config.now (source.Extract intake.old true)
-        (source.Extract intake.new true) outlet.old outlet.new result }
-{
-    end_of(extract_recovered(config, intake, outlet))
-}
-
-/// The command `show` without recovered words.
-fn show_job<R: Read, W: Write>(
-    config: &Config,
-    intake: &mut Intake<R>,
-    outlet: &mut Outlet<W>,
-) -> Result<Ended, AppFault>
-    requires intake { lines.IsFresh intake.old config.now.system }
-    requires outlet { outlets.IsFresh outlet.old }
-    ensures same_reader { IsSameDevice (lines.counted_of intake.old) (lines.counted_of intake.new) }
-    ensures same_writer { IsSameDevice (outlets.counted_of outlet.old) (outlets.counted_of outlet.new) }
-    ensures did { Does R.remaining W.contents config.now (source.Show intake.old false)
-        (source.Show intake.new false) outlet.old outlet.new result }
-{
-    end_of(show(config, intake, outlet))
-}
-
-/// The command `show` with recovered words.
-fn show_recovered_job<R: Read, W: Write>(
-    config: &Config,
-    intake: &mut Intake<R>,
-    outlet: &mut Outlet<W>,
-) -> Result<Ended, AppFault>
-    requires intake { lines.IsFresh intake.old config.now.system }
-    requires outlet { outlets.IsFresh outlet.old }
-    ensures same_reader { IsSameDevice (lines.counted_of intake.old) (lines.counted_of intake.new) }
-    ensures same_writer { IsSameDevice (outlets.counted_of outlet.old) (outlets.counted_of outlet.new) }
-    ensures did { Does R.remaining W.contents config.now (source.Show intake.old true)
-        (source.Show intake.new true) outlet.old outlet.new result }
-{
-    end_of(show_recovered(config, intake, outlet))
 }
 
 /// The job's answer to a run over a stream.

@@ -14,8 +14,7 @@ use Rattle.vbi_field.proofs.FeedTexts.{begun_same, begun_next}
 
 -- the whole fields of whole rows
 pub fields_at : (c : ConfigView) (z : List ℕ) (p : Progress) → IsProgress c z p → fields_of c z ≡ p.fields
-fields_at c z p at =
-    whole_fields c.system (length z) p.fields p.row 0 at.inside (sizes_of c.system).some (at.whole ∙ sym (add-zero _))
+fields_at c z p at = grind (arith, whole_fields, add-zero)
 
 -- the number of rows, and the looks, one row further
 pub record Further (c : ConfigView) (p p' : Progress) (looked : ℕ) : Type 0 where
@@ -31,38 +30,22 @@ module _ (t : Kind) {W : Type 0} (contents : W → Option (List ℕ)) (o o' : Ou
     {p : Progress} (at : IsProgress c z p) (b : List ℕ) {p' : Progress} (next : IsProgress c (z ++ b) p') where
   -- no field is whole now, and nothing is due
   pub added_inside : p'.fields ≡ p.fields → AddsRow t contents c o o z b p' (Ok tt)
-  added_inside same = (
-    next,
-    record {
-      text = [];
-      due = append-nil _ ∙ begun_same t c z b (fields_at c (z ++ b) p' next ∙ same ∙ sym (fields_at c z p at));
-      wrote = wrote_none contents o;
-    },
-  )
+  added_inside same = grind (arith, append-nil, begun_same, fields_at, wrote_none)
 
   module _ (fields : p'.fields ≡ p.fields + 1) (rows : FieldRows)
       (reads : rows ≡ rows_at c (z ++ b) p.fields)
       (before : ℕ) (counts : before ≡ p.fields) (text : List ℕ) (is : text ≡ joined_entry_of t c before rows) where
     -- the entry of a field is due
     entry_due : IsTextBetween t c z (z ++ b) text
-    entry_due =
-        let first = fields_at c z p at in
-        let longer = fields_at c (z ++ b) p' next ∙ fields ∙ ap (λ n. n + 1) (sym first) in
-        let entry : text ≡ joined_entry_of t c (fields_of c z) (rows_at c (z ++ b) (fields_of c z)) =
-        is ∙ ap (joined_entry_of t c before) reads
-        ∙ ap (λ n. joined_entry_of t c n (rows_at c (z ++ b) p.fields)) (counts ∙ sym first)
-        ∙ ap (λ n. joined_entry_of t c (fields_of c z) (rows_at c (z ++ b) n)) (sym first) in
-        ap (λ x. text_before_tail t c z ++ x) entry ∙ begun_next t c z b longer
+    entry_due = grind (arith, fields_at, begun_next)
 
     -- the entry was put whole
     pub added_whole : Puts contents o o' text → written_of o' ≡ written_of o + length text
         → AddsRow t contents c o o' z b p' (Ok tt)
-    added_whole puts whole =
-        (next, record { text = text; due = entry_due; wrote = wrote_whole contents o o' text puts whole })
+    added_whole puts whole = grind (arith, entry_due, wrote_whole)
 
     -- the entry was put in part, so the answer is a fault
     pub added_in_part : Puts contents o o' text → written_of o' < written_of o + length text
         → (r : Result (Unit {0}) RunFault) → IsErr r → AddsRow t contents c o o' z b p' r
     added_in_part puts short (Ok u) is = cc
-    added_in_part puts short (Err fault) is =
-        (next, record { text = text; due = entry_due; wrote = put_in_part contents o o' text puts short })
+    added_in_part puts short (Err fault) is = grind (arith, entry_due, put_in_part)

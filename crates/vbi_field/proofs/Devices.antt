@@ -25,13 +25,7 @@ wrote_twice contents a b c xs ys first second = record {
 pub longer_part : {W : Type 0} (contents : W → Option (List ℕ)) (o o' : Outlet W) (xs ys : List ℕ)
     → WrotePart contents o o' xs
     → WrotePart contents o o' (xs ++ ys)
-longer_part contents o o' xs ys w = record {
-  part = w.part;
-  rest = w.rest ++ ys;
-  parts = sym (append_assoc w.part w.rest ys) ∙ ap (λ l. l ++ ys) w.parts;
-  short = omega (arith, w.short, length-append w.rest ys);
-  wrote = w.wrote;
-}
+longer_part contents o o' xs ys w = grind (arith, append_assoc, length-append)
 
 -- a text and the first of another are the first of both
 pub later_part : {W : Type 0} (contents : W → Option (List ℕ)) (a b c : Outlet W) (xs ys : List ℕ)
@@ -49,9 +43,7 @@ module _ {W : Type 0} (contents : W → Option (List ℕ)) (o o' : Outlet W) whe
   -- all of the bytes were put
   pub wrote_whole : (bytes : List ℕ) → Puts contents o o' bytes → written_of o' ≡ written_of o + length bytes
       → Wrote contents o o' bytes
-  wrote_whole bytes p e =
-      let whole = take_all p.count bytes (omega arith) in
-      record { appended = rw whole at p.appended; written = e }
+  wrote_whole bytes p e = grind (arith, take_all)
 
   -- the first of them were, and not all
   pub put_in_part : (bytes : List ℕ) → Puts contents o o' bytes → written_of o' < written_of o + length bytes
@@ -77,10 +69,4 @@ has_failed old new none h = grind arith
 -- the first of a text, and not all of it
 pub inside_of : {W : Type 0} (contents : W → Option (List ℕ)) (o o' : Outlet W) (before text due : List ℕ)
     (w : outlets.WrotePart contents o o' text) → before ++ text ≡ due → EndsInside before due (before ++ w.part)
-inside_of contents o o' before text due w is = record {
-  part = w.part;
-  rest = w.rest;
-  begun = refl;
-  more = append_assoc before w.part w.rest ∙ ap (λ l. before ++ l) w.parts ∙ is;
-  short = w.short;
-}
+inside_of contents o o' before text due w is = grind (arith, append_assoc)

@@ -114,39 +114,19 @@ module _ {R W : Type 0} {remaining : R → Option (List ℕ)} {contents : W → 
         (((b ≡ row) × (0 < length row) × IsAtEnd (remaining (device_of (intakes.counted_of j))))
         ⊎ ((b ≡ row) × (length row ≡ longest_row)))
         → RunsDrawing remaining contents c i0 j o0 o (Err (faults.Row (done + 1)))
-    bad_as row plain none (inl e) =
-        bad (rw e (rows_of-line row plain)) (rw e (row_words-line row plain ∙ none)) (inl (row, e))
-    bad_as row plain none (inr (inl e)) =
-        bad (let e0 = e.0 in rw e0 (rows_of-part row plain e.1))
-        (ap row_words e.0 ∙ row_words-part row plain ∙ none) (inr (inl e.2))
-    bad_as row plain none (inr (inr e)) =
-        bad (let e0 = e.0 in rw e0 (rows_of-part row plain (omega (arith, e.1))))
-        (ap row_words e.0 ∙ row_words-part row plain ∙ none)
-        (inr (inr (ap length e.0 ∙ e.1)))
+    bad_as row plain none (inl e) = grind (arith, bad, rows_of-line, row_words-line)
+    bad_as row plain none (inr (inl e)) = grind (arith, bad, rows_of-part, row_words-part)
+    bad_as row plain none (inr (inr e)) = grind (arith, bad, rows_of-part, row_words-part)
 
   pub bad_row : (j : RowIntake R) (t : TakesRow remaining i j Malformed) → done < c.max_fields
       → RunsDrawing remaining contents c i0 j o0 o (Err (faults.Row (done + 1)))
   bad_row j t few = bad_as j t.bytes t.fetches t.caused few t.got.row t.got.plain t.got.malformed t.got.read_to
 
-  -- the reader ended after whole rows, or failed in the next
-  pub row_ended : (j : RowIntake R) (t : TakesRow remaining i j AtEnd) → done ≤ c.max_fields
-      → RunsDrawing remaining contents c i0 j o0 o (Ok done)
-  row_ended j t few = grind arith
-
   pub row_read_failed : (j : RowIntake R) (t : TakesRow remaining i j Failed) → done < c.max_fields
       → RunsDrawing remaining contents c i0 j o0 o (Err (faults.Read (done + 1)))
   row_read_failed j t few = read_failed j t.bytes t.fetches t.got t.caused (inl (omega arith))
 
-  pub byte_ended : (j : RowIntake R) → TakesByte remaining i j bytes.AtEnd → (n : ℕ) → n ≡ c.max_fields → done ≡ n
-      → RunsDrawing remaining contents c i0 j o0 o (Ok n)
-  byte_ended j t n max last = grind arith
-
   pub byte_read_failed : (j : RowIntake R) → TakesByte remaining i j bytes.Failed → (n : ℕ) → n ≡ c.max_fields
       → done ≡ n
       → RunsDrawing remaining contents c i0 j o0 o (Err (faults.Read (n + 1)))
-  byte_read_failed j t n max last =
-      let P : ℕ → Type 0 = λ k. RunsDrawing remaining contents c i0 j o0 o (Err (faults.Read (k + 1))) in
-      subst P last (read_failed j [] t.fetches no_newline t.got (inr (omega arith, refl)))
-    where
-      no_newline : HasNoNewline []
-      no_newline = λ k d inside. absurd (omega arith)
+  byte_read_failed j t n max last = grind (arith, read_failed)

@@ -1,4 +1,5 @@
 -- What a run of drawing keeps from row to row.
+use Rattle.std.proofs.Common.{rules}
 use Rattle.std.proofs.Common.{◌≡◌, ℕ, ◌+◌, ◌*◌, ◌≤◌, ◌<◌, inl, inr, List, [], ◌∷◌, ◌++◌}
 use Rattle.std.proofs.Common.{length, refl, sym, ap, ◌∙◌, arith, append_assoc}
 use Rattle.std.specs.Prelude.{Option, Some, None, Result, Ok, Err, IsErrAnd}
@@ -27,9 +28,7 @@ use Rattle.vbi_field.proofs.WordRowLemmas.{rows_of-line, rows_of-part, row_words
 draw_out-more : (c : ConfigView) (rows : List WordRow) (words : WordRow)
     → draw_out c (rows ++ words ∷ []) ≡ draw_out c rows ++ drawn_field_of c words
 unfolding draw_out
-draw_out-more c rows words =
-    flat_map-append (drawn_field_of c) rows (words ∷ [])
-    ∙ ap (λ (l : List ℕ). flat_map (drawn_field_of c) rows ++ l) (append-nil (drawn_field_of c words))
+draw_out-more c rows words = grind (arith, flat_map-append, append-nil)
 
 draw_out-none : (c : ConfigView) → draw_out c [] ≡ []
 unfolding draw_out
@@ -147,9 +146,7 @@ module _ {R W : Type 0} {remaining : R → Option (List ℕ)} {contents : W → 
     module _ (p : Outlet W) (wrote : outlets.Wrote contents o p (drawn_field_of c words))
         (no_error : NoError (outlets.counted_of o) (outlets.counted_of p)) where
       wrote_more : outlets.Wrote contents o0 p (draw_out c (g.rows ++ words ∷ []))
-      wrote_more =
-          rw (draw_out-more c g.rows words)
-          (wrote_twice contents o0 o p (draw_out c g.rows) (drawn_field_of c words) g.wrote wrote)
+      wrote_more = search (rules, draw_out-more, wrote_twice)
 
       written_more : p.written ≡ length (draw_out c (g.rows ++ words ∷ []))
       written_more = omega (arith, longer, g.written, wrote.written)
@@ -157,28 +154,7 @@ module _ {R W : Type 0} {remaining : R → Option (List ℕ)} {contents : W → 
       -- the field is written, and the row was the last
       last_row : IsAtEnd (remaining (device_of (intakes.counted_of j)))
           → RunsDrawing remaining contents c i0 j o0 p (Ok (done + 1))
-      last_row end =
-          let all = fetches_more j b f in
-          let drew = wrote_more in
-          record {
-            z = g.z ++ b;
-            text = draw_out c (g.rows ++ words ∷ []);
-            consumed = all.consumed;
-            appended = drew.appended;
-            fetched = fetched_more j b f;
-            written = written_more;
-            says = record {
-              devices = (calm ∙ g.calm_reads, no_error ∙ g.calm_writes);
-              came = record {
-                rows = g.rows ++ words ∷ [];
-                well_formed = well_formed_more;
-                number = sym (rows_count words);
-                few = omega arith;
-                at_end = end;
-                drawn = refl;
-              };
-            };
-          }
+      last_row end = grind (arith, fetches_more, wrote_more, fetched_more, written_more, well_formed_more, rows_count)
 
       -- the field is written, and rows may follow
       next_row : (line : List ℕ) → IsSameDevice (outlets.counted_of o) (outlets.counted_of p)
@@ -189,31 +165,17 @@ module _ {R W : Type 0} {remaining : R → Option (List ℕ)} {contents : W → 
           ≤ (failures_of (outlets.counted_of o)).all + tries * (length (drawn_field_of c words) + most_rows)
           → Drawn remaining contents c i0 o0 (done + 1) j p line
       next_row line same black ends short reads writes =
-          let size = length-drawn_field_of c words in
-          let sizes = sizes_of c.system in
-          let l = length-append g.z b in
-          let w = wrote.written in
-          let before = g.small in
-          let was = g.writes in
-          record {
-            z = g.z ++ b;
-            rows = g.rows ++ words ∷ [];
-            fetches = fetches_more j b f;
-            fetched = fetched_more j b f;
-            ends = ends;
-            well_formed = well_formed_more;
-            count = rows_count words;
-            long = omega (arith, g.long);
-            reads = omega (arith, g.reads);
-            wrote = wrote_more;
-            written = written_more;
-            small = omega arith;
-            writes = omega arith;
-            calm_reads = calm ∙ g.calm_reads;
-            calm_writes = no_error ∙ g.calm_writes;
-            same_writer = same ∙ g.same_writer;
-            black = black;
-          }
+          grind (
+            arith,
+            length-drawn_field_of,
+            length-append,
+            fetches_more,
+            fetched_more,
+            well_formed_more,
+            rows_count,
+            wrote_more,
+            written_more,
+          )
 
   -- ---- the same of a row with its newline, and of a last one without
 
@@ -232,9 +194,7 @@ module _ {R W : Type 0} {remaining : R → Option (List ℕ)} {contents : W → 
     pub row_failed : (r : Result ℕ DrawFault) → outlets.WrotePart contents o p (drawn_field_of c words)
         → HasCause (outlets.counted_of o) (outlets.counted_of p)
         → IsErrAnd r (λ e. e ≡ faults.Write p.written) → RunsDrawing remaining contents c i0 j o0 p r
-    row_failed =
-        write_failed j t.bytes words t.fetches t.caused (line_one t.bytes t.got.0 t.got.1 t.got.2)
-        (line_is t.bytes t.got.0 words t.got.1 t.got.2 t.got.3) few p
+    row_failed = search (rules, write_failed, line_one, line_is)
 
     pub row_drawn : (line : List ℕ) → outlets.Wrote contents o p (drawn_field_of c words)
         → NoError (outlets.counted_of o) (outlets.counted_of p)
@@ -242,24 +202,16 @@ module _ {R W : Type 0} {remaining : R → Option (List ℕ)} {contents : W → 
         → (failures_of (outlets.counted_of p)).all
         ≤ (failures_of (outlets.counted_of o)).all + tries * (length (drawn_field_of c words) + most_rows)
         → line ≡ drawn_line_of c.system c.levels None → Drawn remaining contents c i0 o0 (done + 1) j p line
-    row_drawn line wrote no_error same writes black =
-        next_row j t.bytes words t.fetches t.caused (line_one t.bytes t.got.0 t.got.1 t.got.2)
-        (line_is t.bytes t.got.0 words t.got.1 t.got.2 t.got.3)
-        few p wrote no_error line same black (line_ends t.bytes t.got.0 t.got.2) t.short t.most writes
+    row_drawn line wrote no_error same writes black = search (rules, next_row, line_one, line_is, line_ends)
 
   module _ (j : RowIntake R) (words : WordRow) (t : TakesRow remaining i j (LastRow words))
       (few : done < c.max_fields) (p : Outlet W) where
     pub last_row_failed : (r : Result ℕ DrawFault) → outlets.WrotePart contents o p (drawn_field_of c words)
         → HasCause (outlets.counted_of o) (outlets.counted_of p)
         → IsErrAnd r (λ e. e ≡ faults.Write p.written) → RunsDrawing remaining contents c i0 j o0 p r
-    last_row_failed =
-        write_failed j t.bytes words t.fetches t.caused (rows_of-part t.bytes t.got.0 t.got.1)
-        (row_words-part t.bytes t.got.0 ∙ t.got.2) few p
+    last_row_failed = search (rules, write_failed, rows_of-part, row_words-part)
 
     pub last_row_drawn : outlets.Wrote contents o p (drawn_field_of c words)
         → NoError (outlets.counted_of o) (outlets.counted_of p)
         → RunsDrawing remaining contents c i0 j o0 p (Ok (done + 1))
-    last_row_drawn wrote no_error =
-        last_row j t.bytes words t.fetches t.caused (rows_of-part t.bytes t.got.0 t.got.1)
-        (row_words-part t.bytes t.got.0 ∙ t.got.2)
-        few p wrote no_error t.got.3
+    last_row_drawn wrote no_error = grind (arith, last_row, rows_of-part, row_words-part)

@@ -30,9 +30,7 @@ module _ {X : Type 0} (f : ℕ → List X) where
 
   -- one more
   pub flat_range_more : (n : ℕ) → flat_map f (range_with_len 0 (n + 1)) ≡ flat_map f (range_with_len 0 n) ++ f n
-  flat_range_more n =
-      flat_range_split 0 n 1
-      ∙ ap (λ (l : List X). flat_map f (range_with_len 0 n) ++ l) (append-nil (f (0 + n)) ∙ ap f (zero-add n))
+  flat_range_more n = grind (arith, flat_range_split, append-nil, zero-add)
 
   -- of equally many each
   pub length-flat_range : (a n w : ℕ) → ((k : ℕ) → length (f k) ≡ w) → length (flat_map f (range_with_len a n)) ≡ n * w
@@ -45,14 +43,6 @@ module _ {X : Type 0} (f : ℕ → List X) where
 
 -- ---- rows of a field
 
--- a row without a word
-pub no_word : (words : WordRow) (r : ℕ) → r ≢ 15 → r ≢ 16 → r ≢ 17 → word_at words r ≡ None
-no_word words r a b c = grind (arith, nat_tests)
-
--- a row that is as the row before
-pub same_word : (words : WordRow) (r : ℕ) → (r < 15) ⊎ (18 < r) → word_at words (r - 1) ≡ word_at words r
-same_word words r h = grind arith
-
 -- ---- fields
 
 -- the first rows of a drawn field
@@ -62,9 +52,7 @@ drawn_rows_of c words n = flat_map (λ r. drawn_line_of c.system c.levels (word_
 pub length-drawn_rows_of : (c : ConfigView) (words : WordRow) (n : ℕ)
     → length (drawn_rows_of c words n) ≡ n * line_bytes c.system
 unfolding drawn_rows_of
-length-drawn_rows_of c words n =
-    length-flat_range (λ r. drawn_line_of c.system c.levels (word_at words r)) 0 n (line_bytes c.system)
-    (λ k. length-drawn_line_of c.system c.levels (word_at words k))
+length-drawn_rows_of c words n = grind (arith, length-flat_range, length-drawn_line_of)
 
 pub drawn_rows_of-more : (c : ConfigView) (words : WordRow) (n : ℕ)
     → drawn_rows_of c words (n + 1) ≡ drawn_rows_of c words n ++ drawn_line_of c.system c.levels (word_at words n)

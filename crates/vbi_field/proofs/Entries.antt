@@ -20,11 +20,7 @@ range-push a (suc n) =
 -- one piece more
 joined-push : {X : Type 0} (f : X → List ℕ) (joint : List ℕ) (x : X) (xs : List X) (y : X)
     → join_by f joint ((x ∷ xs) ++ y ∷ []) ≡ join_by f joint (x ∷ xs) ++ (joint ++ f y)
-joined-push f joint x xs y =
-    ap (λ l. f x ++ l)
-    (flat_map-append (λ y. joint ++ f y) xs (y ∷ [])
-    ∙ ap (λ l. flat_map (λ y. joint ++ f y) xs ++ l) (append-nil (joint ++ f y)))
-    ∙ sym (append_assoc (f x) (flat_map (λ y. joint ++ f y) xs) (joint ++ f y))
+joined-push f joint x xs y = grind (arith, flat_map-append, append-nil, append_assoc)
 
 -- one number more, joined
 joined-more : (f : ℕ → List ℕ) (joint : List ℕ) (n : ℕ)
@@ -73,19 +69,13 @@ stood-none t c z = append-nil (t.head c)
 pub stood-more : (t : Kind) (c : ConfigView) (z : List ℕ) (n : ℕ)
     → stood t c z (n + 1) ≡ stood t c z n ++ joined_entry_of t c n (rows_at c z n)
 unfolding stood
-stood-more t c z n =
-    ap (λ l. t.head c ++ l) (joined-more (entry_of t c z) t.joint n)
-    ∙ sym (append_assoc (t.head c) (join_by (entry_of t c z) t.joint (range_with_len 0 n))
-    (joined_entry_of t c n (rows_at c z n)))
+stood-more t c z n = grind (arith, joined-more, append_assoc)
 
 -- the text of whole fields stays as the stream grows
 pub stood-stays : (t : Kind) (c : ConfigView) (z b : List ℕ) (n rows : ℕ) → n * height_of c.system ≤ rows
     → rows * line_bytes c.system ≤ length z → stood t c (z ++ b) n ≡ stood t c z n
 unfolding stood
-stood-stays t c z b n rows le long =
-    let same : (i : ℕ) → i < n → entry_of t c (z ++ b) i ≡ entry_of t c z i =
-    λ i lt. ap (t.entry c (i + 1)) (rows_at-more c z b i rows (grind (arith, lt, le)) long) in
-    ap (λ l. t.head c ++ l) (joined-same (entry_of t c (z ++ b)) (entry_of t c z) t.joint n same)
+stood-stays t c z b n rows le long = grind (arith, rows_at-more, joined-same)
 
 -- it is the text written for a stream with this number of whole fields
 pub text_before_tail-stood : (t : Kind) (c : ConfigView) (z : List ℕ) (n : ℕ) → fields_of c z ≡ n

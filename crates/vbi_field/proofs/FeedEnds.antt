@@ -16,9 +16,7 @@ use Rattle.vbi_field.proofs.Devices.{wrote_whole, put_in_part}
 -- what was put is the first of it
 pub in_part : {W : Type 0} (contents : W → Option (List ℕ)) (o o' : Outlet W) (bytes whole : List ℕ) → bytes ≡ whole
     → Puts contents o o' bytes → written_of o' < written_of o + length bytes → WrotePart contents o o' whole
-in_part contents o o' bytes whole is puts less =
-    let P : List ℕ → Type 0 = WrotePart contents o o' in
-    subst P is (put_in_part contents o o' bytes puts less)
+in_part contents o o' bytes whole is puts less = grind (arith, put_in_part)
 
 module _ {W : Type 0} (contents : W → Option (List ℕ)) (c : ConfigView) (l : Line) (p : Progress)
     (st : IsFeederState c l p)
@@ -43,15 +41,5 @@ module _ {W : Type 0} (contents : W → Option (List ℕ)) (c : ConfigView) (l :
   -- the tail was put, or the first of it
   pub finished : (looked : ℕ) (r : Result Summary RunFault) → looked ≡ l.looked
       → PutsTail document contents o o' p.fields rest looked r → IsFinished contents c o o' z r
-  finished looked (Ok s) ls put =
-      let says = put.ok in
-      let same : s.looked ≡ l.looked = ap (λ s. s.looked) says ∙ ls in (
-        rw (← tail) (wrote_whole contents o o' (document.tail p.fields rest) put.puts put.written),
-        ap (λ s. s.fields) says ∙ fields,
-        ap (λ s. s.cut) says ∙ ap cut_of past,
-        same ∙ looks,
-      )
-  finished looked (Err e) ls put =
-      rw put.fault
-      (in_part contents o o' (document.tail p.fields rest) (document.tail (fields_of c z) (rest_of c z)) tail put.puts
-      put.short)
+  finished looked (Ok s) ls put = grind (arith, tail, wrote_whole, fields, past, looks)
+  finished looked (Err e) ls put = grind (arith, in_part, tail, fields)

@@ -23,17 +23,7 @@ module _ {W : Type 0} (contents : W → Option (List ℕ)) (c : ConfigView) wher
   -- no byte was pushed
   pub fed_none : (o : Outlet W) (z piece : List ℕ) (now : Position) → IsAt c z now
       → IsFed contents c o o z (take 0 piece) now (Ok tt)
-  fed_none o z piece now at =
-      let P : List ℕ → Type 0 = λ l. IsFed contents c o o z [] now (Ok tt) in
-      let Q : List ℕ → Type 0 = λ l. IsAt c l now in (
-        subst Q (sym (append-nil z)) at,
-        record {
-          text = [];
-          due = append-nil (text_before_tail document c z)
-              ∙ ap (text_before_tail document c) (sym (append-nil z));
-          wrote = wrote_none contents o;
-        },
-      )
+  fed_none o z piece now at = grind (arith, append-nil, wrote_none)
 
   module _ (o0 o o' : Outlet W) (z first bytes : List ℕ) (was now : Position)
       (before : IsFed contents c o0 o z first was (Ok tt)) where
@@ -133,8 +123,7 @@ pub fault_since : {W : Type 0} {contents : W → Option (List ℕ)} {old : Feedi
     {piece : List ℕ} {at : ℕ} → Taken contents old was o0 o piece at → (o' : Outlet W) (fault : RunFault)
     → IsFeedFault o o' fault
     → IsFeedFault o0 o' fault
-fault_since {o0 = o0} {o = o} t o' (Write written) f =
-    let least = t.rises.least in (f.0, cause_later o0.device o.device o'.device t.errors least f.1)
+fault_since {o0 = o0} {o = o} t o' (Write written) f = grind (arith, cause_later)
 fault_since t o' TooManyFields f = f ∙ t.errors
 fault_since t o' Failed f = tt
 fault_since t o' (Read field offset) f = f

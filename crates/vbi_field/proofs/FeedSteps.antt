@@ -45,20 +45,7 @@ module _ {W : Type 0} (contents : W → Option (List ℕ)) {c : ConfigView} {l :
   pub too_many : (o : Outlet W) (bytes : List ℕ) → 0 < length bytes → p.fields ≡ c.max_fields
       → IsFed contents c o o z bytes (position_in c l p) (Err TooManyFields)
   too_many o bytes some last =
-      let m = allowed_bytes c in
-      let le : length z ≤ p.fields * field_bytes c.system = rw last at.allowed in
-      let exact : length z ≡ m =
-      exactly_fields c.system (length z) p.fields p.row (length l.held) (split_long c z l.held p before) le
-      ∙ ap (λ n. n * field_bytes c.system) last in
-      let long = length-append z bytes in (
-        omega arith,
-        record {
-          text = [];
-          due = append-nil (text_before_tail document c z)
-              ∙ ap (text_before_tail document c) (sym (take_at z bytes m exact));
-          wrote = wrote_none contents o;
-        },
-      )
+      grind (arith, exactly_fields, split_long, before, length-append, append-nil, take_at, wrote_none)
 
   -- the line holds b now
   module _ (more b : List ℕ) (bs : b ≡ l.held ++ more) (le : length b ≤ line_bytes l.system)
@@ -67,12 +54,7 @@ module _ {W : Type 0} (contents : W → Option (List ℕ)) {c : ConfigView} {l :
     cut = ap (λ x. x ++ more) before.split ∙ append_assoc before.rows l.held more ∙ ap (λ x. before.rows ++ x) (sym bs)
 
     fits : length (z ++ more) ≤ allowed_bytes c
-    fits =
-        let whole = before.position in
-        let long = ap length cut ∙ length-append before.rows b ∙ ap (λ n. n + length b) whole.whole in
-        rw long
-        (row_fits c.system _ c.max_fields (length b)
-        (row_before c.system p.fields p.row c.max_fields left st.inside) (rw (← st.system) le))
+    fits = grind (arith, before, cut, length-append, row_fits, row_before)
 
     -- nothing is written where no field is whole now
     still : (l' : Line) (p' : Progress) → Split c (z ++ more) l'.held p' → p'.fields ≡ p.fields → (o : Outlet W)
@@ -105,26 +87,12 @@ module _ {W : Type 0} (contents : W → Option (List ℕ)) {c : ConfigView} {l :
     -- the row is whole
     after_row : (l' : Line) (p' : Progress) → l'.held ≡ [] → IsProgress c (before.rows ++ b) p'
         → Split c (z ++ more) l'.held p'
-    after_row l' p' e whole =
-        let sizes = sizes_of c.system in
-        let l1 = ap length e in
-        record {
-          rows = before.rows ++ b;
-          split = cut ∙ sym (append-nil (before.rows ++ b)) ∙ ap (λ x. (before.rows ++ b) ++ x) (sym e);
-          position = whole;
-          short = omega arith;
-        }
+    after_row l' p' e whole = grind (arith, before, cut, append-nil)
 
     -- the text that is due with the row is that by which the text of the longer stream is longer
     due_more : (text : List ℕ) → IsTextBetween document c before.rows (before.rows ++ b) text
         → IsTextBetween document c z (z ++ more) text
-    due_more text due =
-        let same : fields_of c (before.rows ++ l.held) ≡ fields_of c before.rows =
-        ap (fields_of c) (sym before.split) ∙ split_fields c z l.held p before
-        ∙ sym (fields_at c before.rows p before.position) in
-        let begun : text_before_tail document c z ≡ text_before_tail document c before.rows =
-        ap (text_before_tail document c) before.split ∙ sym (begun_same document c before.rows l.held same) in
-        ap (λ x. x ++ text) begun ∙ due ∙ ap (text_before_tail document c) (sym cut)
+    due_more text due = grind (arith, before, split_fields, fields_at, begun_same, cut)
 
     -- the row was read, and it is added
     module _ {s : System} (ss : s ≡ l.system) (whole : length b ≡ line_bytes s) {is_selected : Bool}

@@ -13,10 +13,7 @@ use Rattle.vbi_field.proofs.Entries.{stood, stood-more, stood-stays, text_before
 module _ (t : Kind) (c : ConfigView) (z b : List ℕ) where
   -- the text of the fields that were whole
   stays : stood t c (z ++ b) (fields_of c z) ≡ text_before_tail t c z
-  stays =
-      stood-stays t c z b (fields_of c z) (fields_of c z * height_of c.system) (le_refl _)
-      (whole_rows_fit c.system (length z))
-      ∙ sym (text_before_tail-stood t c z (fields_of c z) refl)
+  stays = grind (arith, stood-stays, le_refl, whole_rows_fit, text_before_tail-stood)
 
   -- no field more is whole
   pub begun_same : fields_of c (z ++ b) ≡ fields_of c z → text_before_tail t c z ≡ text_before_tail t c (z ++ b)
@@ -66,8 +63,7 @@ begun_grows t c z b =
 pub completes_twice : (t : Kind) (c : ConfigView) (x y z first second : List ℕ) → IsTextBetween t c x y first
     → IsTextBetween t c y z second
     → IsTextBetween t c x z (first ++ second)
-completes_twice t c x y z first second h k =
-    sym (append_assoc (text_before_tail t c x) first second) ∙ ap (λ l. l ++ second) h ∙ k
+completes_twice t c x y z first second h k = grind (arith, append_assoc)
 
 -- the stream up to a limit that it hasn't reached yet
 pub cut_longer : (z bytes : List ℕ) (m : ℕ) → length z ≤ m → (more : List ℕ) × (z ++ more ≡ take m (z ++ bytes))

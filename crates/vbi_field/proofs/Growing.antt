@@ -1,4 +1,5 @@
 -- Rows of a stream that grows.
+use Rattle.std.proofs.Common.{rules}
 use Rattle.std.proofs.Common.{◌≡◌, ℕ, ◌+◌, ◌*◌, ◌≤◌, ◌<◌, inl, inr, List, ◌++◌, length, take, drop, sym, ap, ◌∙◌}
 use Rattle.std.proofs.Common.{◌-◌, refl, arith, lit≤}
 use Rattle.std.specs.Prelude.{Option, Some, None}
@@ -16,21 +17,12 @@ use Rattle.vbi_field.proofs.Counts.{sizes_of, times-next, bytes_before}
 -- a row that is whole stays as it is
 pub line_at-more : (s : System) (z b : List ℕ) (i r : ℕ) → (i * height_of s + r + 1) * line_bytes s ≤ length z
     → line_at s (z ++ b) i r ≡ line_at s z i r
-line_at-more s z b i r le =
-    let p = i * field_bytes s + line_bytes s * r in
-    let at = bytes_before s i r in
-    let next = times-next (i * height_of s + r) (line_bytes s) in
-    let rest = length-drop p z in
-    ap (take (line_bytes s)) (drop-append-le p z b (omega arith))
-    ∙ take-append-le (line_bytes s) (drop p z) b (omega arith)
+line_at-more s z b i r le = grind (arith, bytes_before, times-next, length-drop, drop-append-le, take-append-le)
 
 -- the row after the stream so far
 pub line_at-new : (s : System) (z b : List ℕ) (i r : ℕ) → length z ≡ (i * height_of s + r) * line_bytes s
     → length b ≡ line_bytes s → line_at s (z ++ b) i r ≡ b
-line_at-new s z b i r long whole =
-    let p = i * field_bytes s + line_bytes s * r in
-    ap (take (line_bytes s)) (drop_at z b p (long ∙ sym (bytes_before s i r)))
-    ∙ take_all (line_bytes s) b (omega arith)
+line_at-new s z b i r long whole = grind (arith, drop_at, long, bytes_before, take_all)
 
 -- the reading of a row that is whole stays
 pub reading_at-more : (c : ConfigView) (z b : List ℕ) (i r : ℕ)
@@ -47,27 +39,7 @@ inner s i r n small le = grind arith
 pub rows_at-more : (c : ConfigView) (z b : List ℕ) (i n : ℕ)
     → (i + 1) * height_of c.system ≤ n → n * line_bytes c.system ≤ length z
     → rows_at c (z ++ b) i ≡ rows_at c z i
-rows_at-more c z b i n le long =
-    let at : (r : ℕ) → r ≤ 17 → (i * height_of c.system + r + 1) * line_bytes c.system ≤ length z =
-    λ r small. le_trans (inner c.system i r n small le) long in
-    λ j. record {
-      first = line_at-more c.system z b i 15 (at 15 (lit≤ tt)) j;
-      second = line_at-more c.system z b i 16 (at 16 (lit≤ tt)) j;
-      third = line_at-more c.system z b i 17 (at 17 (lit≤ tt)) j;
-    }
-
--- the readings of a whole field stay
-pub readings_at-more : (c : ConfigView) (z b : List ℕ) (i n : ℕ)
-    → (i + 1) * height_of c.system ≤ n → n * line_bytes c.system ≤ length z
-    → readings_at c (z ++ b) i ≡ readings_at c z i
-readings_at-more c z b i n le long =
-    let at : (r : ℕ) → r ≤ 17 → (i * height_of c.system + r + 1) * line_bytes c.system ≤ length z =
-    λ r small. le_trans (inner c.system i r n small le) long in
-    λ j. record {
-      first = reading_at-more c z b i 15 (at 15 (lit≤ tt)) j;
-      second = reading_at-more c z b i 16 (at 16 (lit≤ tt)) j;
-      third = reading_at-more c z b i 17 (at 17 (lit≤ tt)) j;
-    }
+rows_at-more c z b i n le long = grind (arith, le_trans, inner, long, line_at-more, lit≤)
 
 -- the reading of a row that is whole, and of one that isn't
 among_some : (c : ConfigView) (z : List ℕ) (i rows r : ℕ) → r < rows
@@ -87,27 +59,17 @@ reads_next : (c : ConfigView) (z b : List ℕ) (i row r : ℕ) (o was now : Opti
     → length z ≡ (i * height_of c.system + row) * line_bytes c.system → IsLineOf c b row o
     → was ≡ reading_among c z i row r → IsKept r row o was now → now ≡ reading_among c (z ++ b) i (row + 1) r
 reads_next c z b i row r o was now low high long whole before kept =
-    elim (eq-zero-or-pos (r - row)) [
-      | inr later ↦
-          kept.1 (λ e. let zero : r - row ≡ 0 = omega arith in omega arith)
-          ∙ before ∙ sym (among_none c z i row r (omega arith)) ∙ among_none c (z ++ b) i (row + 1) r (omega arith)
-      | inl come ↦
-          elim (eq-or-lt_of_le {n = r} {m = row} (omega arith)) [
-            | inl e ↦
-                let here : length z ≡ (i * height_of c.system + r) * line_bytes c.system = long
-                ∙ ap (λ k. (i * height_of c.system + k) * line_bytes c.system) (sym e) in
-                kept.0 (sym e) ∙ whole.shows (omega arith) (omega arith)
-                ∙ ap (λ l. Some (reading_of c.system (row_levels c.levels l)))
-                (sym (line_at-new c.system z b i r here whole.whole))
-                ∙ among_some c (z ++ b) i (row + 1) r (omega arith)
-            | inr k ↦
-                let later : i * height_of c.system + r + 1 ≤ i * height_of c.system + row = omega arith in
-                let m = mul-le-mul_right (line_bytes c.system) later in
-                kept.1 (λ e. omega arith) ∙ before ∙ sym (among_some c z i row r k)
-                ∙ ap Some (sym (reading_at-more c z b i r (omega arith)))
-                ∙ among_some c (z ++ b) i (row + 1) r (omega arith)
-          ]
-    ]
+    grind (
+      arith,
+      eq-zero-or-pos,
+      among_none,
+      eq-or-lt_of_le,
+      long,
+      line_at-new,
+      among_some,
+      mul-le-mul_right,
+      reading_at-more,
+    )
 
 -- the readings one row further
 record ReadsNext (c : ConfigView) (z : List ℕ) (i row : ℕ) (now : PartialReadings) : Type 0 where
@@ -118,25 +80,10 @@ record ReadsNext (c : ConfigView) (z : List ℕ) (i row : ℕ) (now : PartialRea
 module _ (c : ConfigView) (z b : List ℕ) (p : Progress) (o : Option Reading) (now : PartialReadings)
     (at : IsProgress c z p) (whole : IsLineOf c b p.row o) (kept : TakesReading p.row o p.readings now) where
   reads : ReadsNext c (z ++ b) p.fields (p.row + 1) now
-  reads = record {
-    first =
-        reads_next c z b p.fields p.row 15 o p.readings.first now.first (lit≤ tt) (lit≤ tt) at.whole whole at.first
-        kept.first;
-    second =
-        reads_next c z b p.fields p.row 16 o p.readings.second now.second (lit≤ tt) (lit≤ tt) at.whole whole at.second
-        kept.second;
-    third =
-        reads_next c z b p.fields p.row 17 o p.readings.third now.third (lit≤ tt) (lit≤ tt) at.whole whole at.third
-        kept.third;
-  }
+  reads = search (rules, reads_next, lit≤)
 
   long : length (z ++ b) ≡ (p.fields * height_of c.system + p.row + 1) * line_bytes c.system
-  long =
-      let l = length-append z b in
-      let n = times-next (p.fields * height_of c.system + p.row) (line_bytes c.system) in
-      let w = whole.whole in
-      let a = at.whole in
-      omega arith
+  long = grind (arith, length-append, times-next)
 
 -- a row more inside a field
 pub within_field : (c : ConfigView) (p p' : Progress) (o : Option Reading) → TakesReading p.row o p.readings p'.readings

@@ -25,34 +25,19 @@ module _ (c : ConfigView) (z b : List ℕ) (i row : ℕ) (held now : List ℕ)
           let here : length z ≡ (i * height_of c.system + r) * line_bytes c.system = long
           ∙ ap (λ k. (i * height_of c.system + k) * line_bytes c.system) (sym e) in
           kept.0 (sym e) ∙ sym (line_at-new c.system z b i r here whole)
-      go (inr k) =
-          let later : i * height_of c.system + r + 1 ≤ i * height_of c.system + row = omega arith in
-          let m = mul-le-mul_right (line_bytes c.system) later in
-          kept.1 (λ e. omega arith) ∙ before k ∙ sym (line_at-more c.system z b i r (omega arith))
+      go (inr k) = grind (arith, mul-le-mul_right, before, line_at-more)
 
   pub holds_more : HoldsRows c z i row held → HoldsOn c.system row b held now → HoldsRows c (z ++ b) i (row + 1) now
-  holds_more was on = record {
-    first = placed 15 0 was.first on.first;
-    second = placed 16 1 was.second on.second;
-    third = placed 17 2 was.third on.third;
-  }
+  holds_more was on = grind (arith, placed)
 
 -- a whole field's
 pub holds_field : (c : ConfigView) (z : List ℕ) (i rows : ℕ) (held : List ℕ) → HoldsRows c z i rows held → 17 < rows
     → rows_in c.system held ≡ rows_at c z i
-holds_field c z i rows held holds all = λ j. record {
-  first = holds.first (omega arith) j;
-  second = holds.second (omega arith) j;
-  third = holds.third all j;
-}
+holds_field c z i rows held holds all = grind arith
 
 -- none yet
 pub holds_none : (c : ConfigView) (z : List ℕ) (i row : ℕ) (held : List ℕ) → row ≡ 0 → HoldsRows c z i row held
-holds_none c z i row held e = record {
-  first = λ less. absurd (omega arith);
-  second = λ less. absurd (omega arith);
-  third = λ less. absurd (omega arith);
-}
+holds_none c z i row held e = grind arith
 
 -- one row further
 pub holds_next : (c : ConfigView) (z : List ℕ) (p p' : Progress) (held : List ℕ)
@@ -88,11 +73,7 @@ module _ (s : System) (held b : List ℕ) (r : ℕ) (small : r ≤ 2) (room : 3 
   times-row = grind arith
 
   here : line_at s spliced 0 r ≡ b
-  here =
-      ap (λ (l : List ℕ). line_at s l 0 r) again
-      ∙ line_at-more s (take from held ++ b) (drop (from + length b) held) 0 r
-      (grind (arith, length-append (take from held) b, long-first, whole, times-row))
-      ∙ line_at-new s (take from held) b 0 r (long-first ∙ sym times-row) whole
+  here = grind (arith, again, line_at-more, length-append, long-first, times-row, line_at-new)
 
   before : (q : ℕ) → q < r → line_at s spliced 0 q ≡ line_at s held 0 q
   before q less =
@@ -116,30 +97,10 @@ module _ (s : System) (held b : List ℕ) (r : ℕ) (small : r ≤ 2) (room : 3 
       ∙ ap (λ n. drop n held) (sym e))
 
   held_at : (row q : ℕ) → row ≡ 15 + r → IsHeld s (15 + q) q row b held spliced
-  held_at row q is = (
-    λ e. let same : q ≡ r = omega arith in ap (λ (n : ℕ). line_at s spliced 0 n) same ∙ here,
-    λ differs. go (cases_lt q r) (cases_lt r q) differs,
-  )
-    where
-      go : (q < r) ⊎ (r ≤ q) → (r < q) ⊎ (q ≤ r) → row ≢ 15 + q → line_at s spliced 0 q ≡ line_at s held 0 q
-      go (inl less) more differs = before q less
-      go (inr le) (inl more) differs = behind q more
-      go (inr le) (inr ge) differs = absurd (differs (omega arith))
+  held_at row q is = grind (arith, here, cases_lt, before, behind)
 
   pub put_on : (row : ℕ) → row ≡ 15 + r → HoldsOn s row b held spliced
-  put_on row is = record {
-    long = grind (
-      arith,
-      within,
-      long-first,
-      length-append (take from held) (b ++ drop (from + length b) held),
-      length-append b (drop (from + length b) held),
-      length-drop (from + length b) held,
-    );
-    first = held_at row 0 is;
-    second = held_at row 1 is;
-    third = held_at row 2 is;
-  }
+  put_on row is = grind (arith, within, long-first, length-append, length-drop, held_at)
 
 -- ---- three rows one after the other
 

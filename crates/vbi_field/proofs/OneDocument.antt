@@ -1,4 +1,5 @@
 -- A stream has one text of each kind.
+use Rattle.std.proofs.Common.{arith}
 use Rattle.std.proofs.Common.{◌≡◌, ℕ, ◌+◌, List, ◌++◌, ap, ◌∙◌}
 use Rattle.std.specs.Prelude.{◌↔◌}
 use Rattle.vbi_field.specs.Stream.{row_levels, line_at, fields_of, rest_of, readings_at, FieldReadings}
@@ -9,11 +10,7 @@ use Rattle.vbi_field.proofs.Entries.{entry_of, joined-same}
 
 -- a field has no other readings
 pub only_field : (c : ConfigView) (z : List ℕ) (i : ℕ) (r : FieldReadings) → FieldReads c z i r → r ≡ readings_at c z i
-only_field c z i r h = λ j. record {
-  first = only_reading c.system (row_levels c.levels (line_at c.system z i 15)) r.first h.first j;
-  second = only_reading c.system (row_levels c.levels (line_at c.system z i 16)) r.second h.second j;
-  third = only_reading c.system (row_levels c.levels (line_at c.system z i 17)) r.third h.third j;
-}
+only_field c z i r h = grind (arith, only_reading)
 
 pub is_field : (c : ConfigView) (z : List ℕ) (i : ℕ) → FieldReads c z i (readings_at c z i)
 is_field c z i = record { first = is_reading c.system _; second = is_reading c.system _; third = is_reading c.system _ }

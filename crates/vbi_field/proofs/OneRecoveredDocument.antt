@@ -1,4 +1,5 @@
 -- A stream has one document and one report with recovered words.
+use Rattle.std.proofs.Common.{rules}
 use Rattle.std.proofs.Common.{◌≡◌, ℕ, ◌+◌, Bool, List, ◌++◌, ap, ◌∙◌, sym, subst}
 use Rattle.std.specs.Prelude.{◌↔◌}
 use Rattle.vbi_words.specs.Levels.{Slicing}
@@ -29,15 +30,7 @@ only_one system slicing rows marks f h = λ j. record {
 
 pub is_one : (system : System) (slicing : Slicing) (rows : FieldRows) (marks : List Bool)
     → RowsRecover system slicing rows marks (recovered_without system slicing rows marks)
-is_one system slicing rows marks = record {
-  first_reads = is_reading system _;
-  second_reads = is_reading system _;
-  third_reads = is_reading system _;
-  shown = is_shown system slicing _ marks;
-  first = is_near system slicing _;
-  second = is_near system slicing _;
-  third = is_near system slicing _;
-}
+is_one system slicing rows marks = search (rules, is_reading, is_shown, is_near)
 
 pub one_field : (system : System) (slicing : Slicing) (rows : FieldRows) (marks : List Bool) (f : FieldRecovered)
     → RowsRecover system slicing rows marks f ↔ (f ≡ recovered_without system slicing rows marks)

@@ -1,4 +1,5 @@
 -- What the definitions of `Shown` have is all that there is.
+use Rattle.std.proofs.Common.{rules}
 use Rattle.std.proofs.Common.{◌≡◌, ℕ, ◌*◌, ◌≤◌, Bool, false, List, [], ◌∷◌, take, replicate, get_or, ap, ◌∙◌, sym}
 use Rattle.std.proofs.Common.{subst, arith}
 use Rattle.std.proofs.lemmas.List.{take-replicate}
@@ -25,9 +26,7 @@ use Rattle.vbi_field.specs.Shown.{IsNearRow, near_of, recovery_of, as_readings, 
 pub is_near : (system : System) (slicing : Slicing) (row : Row)
     → IsNearRow system slicing row (near_of system slicing row)
 unfolding near_of
-is_near system slicing row =
-    let there = some_near system slicing (given_samples row ∷ []) in
-    record { nearest = there.1; first = there.2; longer = there.3; shorter = there.4 }
+is_near system slicing row = grind (arith, some_near)
 
 pub only_near : (system : System) (slicing : Slicing) (row : Row) (near : Near) → IsNearRow system slicing row near
     → near ≡ near_of system slicing row
@@ -52,9 +51,7 @@ is_shown system slicing rows marks = (some_recovered system slicing rows marks).
 
 pub only_shown : (system : System) (slicing : Slicing) (rows : List ℕ) (marks : List Bool) (shown : List Recovered)
     → IsRecovered system slicing rows marks shown → shown ≡ recovery_of system slicing rows marks
-only_shown system slicing rows marks shown is =
-    one_recovered system slicing rows marks shown (recovery_of system slicing rows marks) is
-    (is_shown system slicing rows marks)
+only_shown system slicing rows marks shown is = search (rules, one_recovered, is_shown)
 
 pub one_shown : (system : System) (slicing : Slicing) (rows : List ℕ) (marks : List Bool) (shown : List Recovered)
     → IsRecovered system slicing rows marks shown ↔ (shown ≡ recovery_of system slicing rows marks)
@@ -83,13 +80,7 @@ pub has_three : (system : System) (slicing : Slicing) (rows : List ℕ) (marks :
       second = reading_as (get_or l 1 b);
       third = reading_as (get_or l 2 c);
     } ≡ as_readings l
-has_three system slicing rows marks l a b c (first, second, third, both, seen, e) =
-    (λ j. record {
-      first = reading_as (get_or (e j) 0 a);
-      second = reading_as (get_or (e j) 1 b);
-      third = reading_as (get_or (e j) 2 c);
-    })
-    ∙ ap as_readings (sym e)
+has_three system slicing rows marks l a b c (first, second, third, both, seen, e) = grind arith
 
 -- ---- rows that are sure
 
@@ -104,9 +95,4 @@ pub sure_rows : (system : System) (slicing : Slicing) (rows : List ℕ) (marks :
     → IsSureBy a.outcome a.pass → IsSureBy b.outcome b.pass → IsSureBy c.outcome c.pass
     → shown ≡ as_read a ∷ as_read b ∷ as_read c ∷ []
 sure_rows system slicing rows marks shown a b c (first, second, third, both, seen, e) one two three s t u =
-    let unit = unit_of slicing in
-    let stands = stands_of unit second third both in
-    let p = sure-shown alone unit first both a (seen.line_16.reading ∙ sym one) s in
-    let q = sure-shown stands unit second both b (seen.line_17.reading ∙ sym two) t in
-    let r = sure-shown stands unit third both c (seen.line_18.reading ∙ sym three) u in
-    e ∙ (λ j. p j ∷ q j ∷ r j ∷ [])
+    grind (arith, sure-shown)

@@ -90,15 +90,13 @@ module _ {W : Type 0} (contents : W → Option (List ℕ)) where
       then_fed f.config o outlet o' z piece (concat pieces) next.position f'.position result (fed.fed z stands) after
 
   -- a feeder that took all pieces has kept its config, and stands after them
-  stands_behind : (f f' : Feeding) (o o' : Outlet W) (z : List ℕ) (pieces : List (List ℕ)) → StandsAt f z
+  stands_after : (f f' : Feeding) (o o' : Outlet W) (z : List ℕ) (pieces : List (List ℕ)) → StandsAt f z
       → FeedsAll contents f f' o o' pieces (Ok tt)
       → (f'.config ≡ f.config) × StandsAt f' (z ++ concat pieces)
-  stands_behind f f' o o' z [] stands (same, outlet, ok) =
-      let P : Feeding → Type 0 = λ f'. StandsAt f' (z ++ []) in
-      (ap (λ f. f.config) same, subst P (sym same) (rw (append-nil z) stands))
-  stands_behind f f' o o' z (piece ∷ pieces) stands (inl (fails, fed)) = absurd (cc)
-  stands_behind f f' o o' z (piece ∷ pieces) stands (inr (next, outlet, fed, rest)) =
-      let after = stands_behind next f' outlet o' (z ++ piece) pieces (stands_next f next o outlet z piece fed stands)
+  stands_after f f' o o' z [] stands (same, outlet, ok) = grind (arith, append-nil)
+  stands_after f f' o o' z (piece ∷ pieces) stands (inl (fails, fed)) = absurd (cc)
+  stands_after f f' o o' z (piece ∷ pieces) stands (inr (next, outlet, fed, rest)) =
+      let after = stands_after next f' outlet o' (z ++ piece) pieces (stands_next f next o outlet z piece fed stands)
       rest in
       let P : List ℕ → Type 0 = StandsAt f' in
       (after.0 ∙ fed.config, subst P (append_assoc z piece (concat pieces)) after.1)
@@ -109,7 +107,7 @@ module _ {W : Type 0} (contents : W → Option (List ℕ)) where
     z = concat pieces
 
     behind : (pushes.last.config ≡ pushes.first.config) × StandsAt pushes.last z
-    behind = stands_behind _ _ _ _ [] pieces pushes.begins.stands pushes.feeds
+    behind = stands_after _ _ _ _ [] pieces pushes.begins.stands pushes.feeds
 
     fed : IsFed contents c pushes.begun pushes.fed [] z pushes.last.position (Ok tt)
     fed =
@@ -117,9 +115,7 @@ module _ {W : Type 0} (contents : W → Option (List ℕ)) where
         subst P pushes.begins.config (pieces_join _ _ _ _ [] pieces (Ok tt) pushes.begins.stands pushes.feeds)
 
     finished : IsFinished contents c pushes.fed o' z (Ok s)
-    finished =
-        let P : ConfigView → Type 0 = λ c. IsFinished contents c pushes.fed o' z (Ok s) in
-        subst P (behind.0 ∙ pushes.begins.config) (pushes.finishes z behind.1)
+    finished = grind (arith, fed, behind)
 
     -- the head, the records and the tail are the whole text
     pub text : Wrote contents o o' (whole_text document c z)
@@ -135,8 +131,4 @@ module _ {W : Type 0} (contents : W → Option (List ℕ)) where
     -- so it is the text that a run over the same bytes writes, and the summary is the run's
     pub pulled : (s' : Summary) (input : Option (List ℕ)) (written : List ℕ)
         → ExtractsAll document c input z written s' → Wrote contents o o' written × (s ≡ s')
-    pulled s' input written all =
-        let P : List ℕ → Type 0 = Wrote contents o o' in
-        let summary : s ≡ record { fields = fields_of c z; cut = cut_of (rest_of c z); looked = looks_of c z } =
-        λ i. record { fields = finished.1 i; cut = finished.2 i; looked = finished.3 i } in
-        (subst P (sym all.document) text, summary ∙ sym all.summary)
+    pulled s' input written all = grind (arith, finished, text)

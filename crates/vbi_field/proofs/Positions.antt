@@ -23,65 +23,32 @@ pub record Split (c : ConfigView) (z held : List ℕ) (p : Progress) : Type 0 wh
 module _ (c : ConfigView) (z held : List ℕ) (p : Progress) (s : Split c z held p) where
   -- how long it is
   pub split_long : length z ≡ (p.fields * height_of c.system + p.row) * line_bytes c.system + length held
-  split_long =
-      let at = s.position in
-      ap length s.split ∙ length-append s.rows held ∙ ap (λ n. n + length held) at.whole
+  split_long = grind (arith, length-append)
 
   pub split_fields : fields_of c z ≡ p.fields
-  split_fields =
-      let at = s.position in
-      whole_fields c.system (length z) p.fields p.row (length held) at.inside s.short split_long
+  split_fields = grind (arith, whole_fields, split_long)
 
   pub split_rest : rest_of c z ≡ p.row * line_bytes c.system + length held
-  split_rest =
-      let at = s.position in
-      past_fields c.system (length z) p.fields p.row (length held) at.inside s.short split_long
+  split_rest = grind (arith, past_fields, split_long)
 
   pub split_rows : rest_of c z / line_bytes c.system ≡ p.row
-  split_rows = ap (λ m. m / line_bytes c.system) split_rest
-      ∙ div-mul-add p.row (line_bytes c.system) (length held) s.short
+  split_rows = grind (arith, split_rest, div-mul-add)
 
   split_held : held ≡ drop (length z - rest_of c z % line_bytes c.system) z
-  split_held =
-      let past : rest_of c z % line_bytes c.system ≡ length held =
-      ap (λ m. m % line_bytes c.system) split_rest ∙ mod-mul-add p.row (line_bytes c.system) (length held) s.short in
-      let long = ap length s.split in
-      let both = length-append s.rows held in
-      let at : length z - rest_of c z % line_bytes c.system ≡ length s.rows = omega arith in
-      sym (ap (λ m. drop m z) at ∙ ap (drop (length s.rows)) s.split ∙ drop_at s.rows held (length s.rows) refl)
+  split_held = grind (arith, split_rest, mod-mul-add, length-append, drop_at)
 
   -- the reading of a row that has come
   stays : (r : ℕ) → r < p.row → reading_at c z p.fields r ≡ reading_at c s.rows p.fields r
-  stays r lt =
-      let at = s.position in
-      ap (λ l. reading_at c l p.fields r) s.split
-      ∙ reading_at-more c s.rows held p.fields r
-      (le_trans (mul-le-mul_right {m = p.fields * height_of c.system + r + 1} (line_bytes c.system) (omega arith))
-      (le_of_eq (sym at.whole)))
+  stays r lt = grind (arith, reading_at-more, le_trans, mul-le-mul_right, le_of_eq)
 
   -- that of a row which may not have come yet
   split_reading : (r : ℕ) → reading_among c s.rows p.fields p.row r
       ≡ reading_among c z (fields_of c z) (rest_of c z / line_bytes c.system) r
-  split_reading r =
-      among_same c s.rows z p.fields p.row r (λ lt. sym (stays r lt))
-      ∙ ap (λ n. reading_among c z p.fields n r) (sym split_rows)
-      ∙ ap (λ n. reading_among c z n (rest_of c z / line_bytes c.system) r) (sym split_fields)
+  split_reading r = grind (arith, among_same, stays, split_rows, split_fields)
 
   -- so its position is that of the line and the progress
   pub at_of : (l : Line) → l.held ≡ held → length z ≤ allowed_bytes c → IsAt c z (position_in c l p)
-  at_of l e le =
-      let at = s.position in
-      record {
-        allowed = le;
-        position = λ j. record {
-          fields = sym split_fields j;
-          rest = (ap (λ h. p.row * line_bytes c.system + length h) e ∙ sym split_rest) j;
-          held = (e ∙ split_held) j;
-          first = (at.first ∙ split_reading 15) j;
-          second = (at.second ∙ split_reading 16) j;
-          third = (at.third ∙ split_reading 17) j;
-        };
-      }
+  at_of l e le = grind (arith, split_fields, split_rest, split_held, split_reading)
 
 -- what has come to a position is whole rows and the bytes that are held
 pub split_of : (c : ConfigView) (z : List ℕ) (l : Line) (p : Progress) → length l.held < line_bytes c.system

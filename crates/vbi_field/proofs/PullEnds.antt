@@ -36,8 +36,7 @@ module _ {t : Kind} {R W : Type 0} {remaining : R → Option (List ℕ)} {conten
 
     -- the whole fields
     fields_are : fields_of c (g.z ++ b) ≡ p.fields
-    fields_are = let at =
-        g.at in whole_fields c.system (length (g.z ++ b)) p.fields p.row (length b) at.inside short long
+    fields_are = grind (arith, whole_fields, long)
 
     -- the bytes past the whole fields
     rest_is : rest_of c (g.z ++ b) ≡ p.row * line_bytes c.system + length b
@@ -45,11 +44,7 @@ module _ {t : Kind} {R W : Type 0} {remaining : R → Option (List ℕ)} {conten
 
     -- what was looked at
     looks_are : i.line.looked ≡ looks_of c (g.z ++ b)
-    looks_are =
-        let at = g.at in
-        g.looks
-        ∙ ap (λ n. width_of c.system * n)
-        (sym (selected_is c.system (length (g.z ++ b)) p.fields p.row (length b) at.inside short long))
+    looks_are = grind (arith, selected_is, long)
 
     -- the text that is written by then
     begun_is : text_before_tail t c g.z ≡ text_before_tail t c (g.z ++ b)
@@ -77,23 +72,17 @@ module _ {t : Kind} {R W : Type 0} {remaining : R → Option (List ℕ)} {conten
       is_fields = fs ∙ sym (fields_are b short)
 
       is_rest : rest ≡ rest_of c (g.z ++ b)
-      is_rest = let got = row.got in rs ∙ ap (λ m. p.row * line_bytes c.system + m) got.count_of
-          ∙ sym (rest_is b short)
+      is_rest = grind (arith, rest_is, b, short)
 
       looks : i'.line.looked ≡ looks_of c (g.z ++ b)
       looks = let kept = row.fetches.kept in kept.looked ∙ looks_are b short
 
       few : length (g.z ++ b) ≤ allowed_bytes c
-      few = let got =
-          row.got in le_trans
-          (le_of_eq (all b short ∙ ap (λ m. k * line_bytes c.system + m) (sym got.count_of))) within
+      few = grind (arith, le_trans, le_of_eq, all, b, short)
 
       -- the text of the stream
       document_is : text_before_tail t c g.z ++ t.tail fields rest ≡ whole_text t c (g.z ++ b)
-      document_is =
-          ap (λ l. l ++ t.tail fields rest) (begun_is b short)
-          ∙ ap (λ n. text_before_tail t c (g.z ++ b) ++ t.tail n rest) is_fields
-          ∙ ap (λ n. text_before_tail t c (g.z ++ b) ++ t.tail (fields_of c (g.z ++ b)) n) is_rest
+      document_is = grind (arith, begun_is, b, short, is_fields, is_rest)
 
       by : (r : Result Summary RunFault) → PutsTail t contents o o' fields rest looked r
           → Runs t remaining contents c i0 i' o0 o' r

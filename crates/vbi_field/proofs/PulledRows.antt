@@ -31,20 +31,15 @@ module _ {t : Kind} {R W : Type 0} {remaining : R → Option (List ℕ)} {conten
         → (IsTrue keeps → HoldsRows c g.z p.fields p.row held)
         → (IsTrue keeps → HoldsOn c.system p.row filled.line.held held now)
         → IsTrue keeps → HoldsRows c (g.z ++ row.bytes) p.fields (p.row + 1) now
-    holds_kept {keeps} {reading} {held} {now} came was on kept =
-        holds_more c g.z row.bytes p.fields p.row held now (let at = g.at in at.whole) came.whole (was kept)
-        (subst (λ (b : List ℕ). HoldsOn c.system p.row b held now) line_held (on kept))
+    holds_kept {keeps} {reading} {held} {now} came was on kept = grind (arith, holds_more, line_held)
 
     -- at its field's end all three are held
     pub kept_field : {keeps : Bool} {now : List ℕ}
         → (IsTrue keeps → HoldsRows c (g.z ++ row.bytes) p.fields (p.row + 1) now) → IsTrue keeps
         → p.row + 1 ≡ height_of c.system → rows_in c.system now ≡ rows_at c (g.z ++ row.bytes) p.fields
-    kept_field more kept ends =
-        holds_field c (g.z ++ row.bytes) p.fields (p.row + 1) _ (more kept) (omega (arith, ends, tall c.system))
+    kept_field more kept ends = grind (arith, holds_field, tall)
 
     pub kept_next : {keeps : Bool} {now z : List ℕ} (p' : Progress) → z ≡ g.z ++ row.bytes
         → (IsTrue keeps → HoldsRows c (g.z ++ row.bytes) p.fields (p.row + 1) now) → IsTrue keeps → MovesOneRow c p p'
         → HoldsRows c z p'.fields p'.row now
-    kept_next {keeps} {now} {z} p' e more kept next =
-        subst (λ (l : List ℕ). HoldsRows c l p'.fields p'.row now) (sym e)
-        (holds_next c (g.z ++ row.bytes) p p' now (more kept) next)
+    kept_next {keeps} {now} {z} p' e more kept next = grind (arith, holds_next)

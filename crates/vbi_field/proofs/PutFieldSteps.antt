@@ -1,4 +1,5 @@
 -- What the writing of a field keeps from row to row.
+use Rattle.std.proofs.Common.{rules}
 use Rattle.std.proofs.Common.{◌≡◌, ℕ, ◌+◌, ◌-◌, ◌*◌, ◌≤◌, ◌<◌, List, ◌++◌, length, refl, sym, ap, subst, ◌∙◌, arith}
 use Rattle.std.specs.Prelude.{Option, None}
 use Rattle.std.specs.Io.KnownBytes.{Appends}
@@ -31,16 +32,7 @@ module _ {W : Type 0} (contents : W → Option (List ℕ)) (c : ConfigView) (wor
     pub drawn : line ≡ drawn_line_of c.system c.levels (word_at words (row - 1))
 
   pub Putting-none : (line : List ℕ) → line ≡ drawn_line_of c.system c.levels None → Putting old line 0
-  Putting-none line e = record {
-    appended = rw (drawn_rows_of-none c words) (Appends-nil _);
-    written = rw (drawn_rows_of-none c words) (omega arith);
-    small = omega arith;
-    least = omega arith;
-    most = omega arith;
-    errors = refl;
-    same = refl;
-    drawn = e;
-  }
+  Putting-none line e = search (rules, drawn_rows_of-none)
 
 -- the length of a drawn line
 long_line : (c : ConfigView) (line : List ℕ) (word : Option ℕ) → line ≡ drawn_line_of c.system c.levels word
@@ -86,18 +78,7 @@ module _ {W : Type 0} {contents : W → Option (List ℕ)} {c : ConfigView} {wor
       → Wrote contents old now (drawn_field_of c words) × (before ≡ drawn_line_of c.system c.levels None)
       × ((failures_of (counted_of now)).all ≤ (failures_of (counted_of old)).all
       + tries * (length (drawn_field_of c words) + most_rows))
-  put_whole e =
-      let whole : drawn_rows_of c words row ≡ drawn_field_of c words =
-      ap (drawn_rows_of c words) e ∙ drawn_rows_of-all c words in
-      let long = ap length whole in
-      let w = p.written in
-      let most = p.most in
-      let sizes = sizes_of c.system in (
-        record { appended = rw (← whole) p.appended; written = omega arith },
-        p.drawn ∙ ap (λ (r : ℕ). drawn_line_of c.system c.levels (word_at words (r - 1))) e
-            ∙ ap (drawn_line_of c.system c.levels) (last_word c words),
-        omega arith,
-      )
+  put_whole e = grind (arith, drawn_rows_of, drawn_rows_of-all, last_word)
 
   -- the writer failed in this row
   pub put_part : {new : Outlet W} {line : List ℕ} → row < height_of c.system

@@ -57,41 +57,13 @@ module _ {R : Type 0} {remaining : R → Option (List ℕ)} {old now : RowIntake
 
     pub newline_came : (words : WordRow) → Some words ≡ word_row_of (take held row)
         → TakesRow remaining old new (Row words)
-    newline_came words w = record {
-      bytes = take held row ++ newline ∷ [];
-      fetches = with_newline;
-      short = few;
-      most = omega (arith, h.most, t.most);
-      got = (take held row, h.plain, refl, sym w);
-      caused = t.got ∙ h.errors;
-    }
+    newline_came words w = grind (arith, with_newline, short, few)
 
     pub bad_newline_came : None ≡ word_row_of (take held row) → TakesRow remaining old new Malformed
-    bad_newline_came w = record {
-      bytes = take held row ++ newline ∷ [];
-      fetches = with_newline;
-      short = few;
-      most = omega (arith, h.most, t.most);
-      got = record { row = take held row; plain = h.plain; malformed = sym w; read_to = inl refl };
-      caused = t.got ∙ h.errors;
-    }
+    bad_newline_came w = grind (arith, with_newline, short, few)
 
 -- a row as long as a malformed one may get
 pub too_long : {R : Type 0} {remaining : R → Option (List ℕ)} {old now : RowIntake R} {row : List ℕ}
     → Held remaining old now row longest_row
     → TakesRow remaining old now Malformed
-too_long {row = row} h =
-    let long = length-take-le longest_row row (omega (arith, h.long)) in
-    record {
-      bytes = take longest_row row;
-      fetches = h.fetches;
-      short = omega arith;
-      most = omega (arith, h.most);
-      got = record {
-        row = take longest_row row;
-        plain = h.plain;
-        malformed = long_row (take longest_row row) (omega arith);
-        read_to = inr (inr (refl, long));
-      };
-      caused = h.errors;
-    }
+too_long {row = row} h = grind (arith, length-take-le, short, long_row)

@@ -13,9 +13,7 @@ use Rattle.vbi_field.proofs.Counts.{rest-next, few_looks}
 pub first : (all z : List ℕ) (input : Option (List ℕ)) → Consumes (Some all) input z
     → (length z ≤ length all) × (z ≡ take (length z) all)
 first all z None came = absurd came
-first all z (Some left) came =
-    let l = ap length came ∙ length-append z left in
-    (omega arith, sym (ap (take (length z)) came ∙ take_at z left (length z) refl))
+first all z (Some left) came = grind (arith, length-append, take_at)
 
 pub whole : (all z : List ℕ) (input : Option (List ℕ)) → Consumes (Some all) input z → IsAtEnd input → z ≡ all
 whole all z None came end = absurd came
@@ -25,11 +23,7 @@ pub few : (c : ConfigView) (z : List ℕ) → looks_of c z ≤ 3 * width_of c.sy
 few c z = few_looks c.system (fields_of c z) (rest_of c z / line_bytes c.system)
 
 first_inside : (before due text : List ℕ) → EndsInside before due text → IsFirstOf text due
-first_inside before due text ends =
-    let l = ap length ends.more in
-    let m = length-append text ends.rest in
-    let short = ends.short in
-    (sym (ap (take (length text)) (sym ends.more) ∙ take_at text ends.rest (length text) refl), omega arith)
+first_inside before due text ends = grind (arith, length-append, take_at)
 
 pub first_of_text : (t : Kind) (c : ConfigView) (input : Option (List ℕ)) (z text : List ℕ)
     → EndsWithin t c input z text
@@ -46,9 +40,5 @@ pub prompt : (t : Kind) (c : ConfigView) (input : Option (List ℕ)) (z text : L
     → (rest_of c z ≡ 0) ⊎ (IsAtEnd input × (length (text_before_tail t c z) ≤ length text))
 prompt t c input z text (inl (none, ends)) = inl (ap (rest_of c) none ∙ zero-mod (field_bytes c.system))
 prompt t c input z text (inr (inl (before, last, both, fields, field, ends))) =
-    inl (ap (rest_of c) (sym both) ∙ ap (λ n. n % field_bytes c.system) (length-append before last)
-    ∙ rest-next c.system (length before) (length last) fields field)
-prompt t c input z text (inr (inr (ended, ends))) =
-    let l = ap length ends.begun in
-    let m = length-append (text_before_tail t c z) ends.part in
-    inr (ended, omega arith)
+    grind (arith, length-append, rest-next)
+prompt t c input z text (inr (inr (ended, ends))) = grind (arith, length-append)

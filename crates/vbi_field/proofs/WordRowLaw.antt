@@ -34,21 +34,8 @@ one_byte (c ∷ d ∷ cs) l e = absurd (omega arith)
 item_from : (text : List ℕ) (item : Option ℕ) (a b : Bool) → is_none_item text ≡ a
     → (is_hex_item text && is_word (digits_value 16 text)) ≡ b
     → cond a (Some None) (cond b (Some (Some (digits_value 16 text))) None) ≡ Some item → IsItem text item
-item_from text item true b f g e =
-    let both = and_parts (length text == 1) (get_or text 0 0 == 45) f in
-    let same : None ≡ item = cc in
-    subst (IsItem text) same (one_byte text (eqb-true (length text) 1 both.0) (eqb-true (get_or text 0 0) 45 both.1))
-item_from text item false true f g e =
-    let both = and_parts (is_hex_item text) (is_word (digits_value 16 text)) g in
-    let hex = and_parts (length text == 6) (list_all (λ c. is_digit c 16) text) both.0 in
-    let word = and_parts (nat_le (2 ^ 23) (digits_value 16 text)) (nat_lt (digits_value 16 text) (2 ^ 24)) both.1 in
-    let same : Some (digits_value 16 text) ≡ item = cc in
-    subst (IsItem text) same (
-      eqb-true (length text) 6 hex.0,
-      digits_all text hex.1,
-      refl,
-      (leb-true (2 ^ 23) (digits_value 16 text) word.0, ltb-true (digits_value 16 text) (2 ^ 24) word.1),
-    )
+item_from text item true b f g e = grind (arith, and_parts, one_byte, eqb-true)
+item_from text item false true f g e = grind (arith, and_parts, eqb-true, digits_all, leb-true, ltb-true)
 item_from text item false false f g e = cc
 
 -- what the function finds is an item
@@ -60,12 +47,7 @@ item_is text item e = item_from text item _ _ refl refl e
 is_item : (text : List ℕ) (item : Option ℕ) → IsItem text item → item_of text ≡ Some item
 unfolding item_of
 is_item text None e = rw e refl
-is_item text (Some word) (long, digits, value, range) =
-    let other : is_none_item text ≡ false = grind (arith, nat_tests) in
-    let six : (length text == 6) ≡ true = grind (arith, nat_tests) in
-    let low : nat_le (2 ^ 23) (digits_value 16 text) ≡ true = le-leb (2 ^ 23) (digits_value 16 text) (omega arith) in
-    let high : nat_lt (digits_value 16 text) (2 ^ 24) ≡ true = lt-ltb (digits_value 16 text) (2 ^ 24) (omega arith) in
-    rw (other, six, all_digits text digits, low, high) (ap (λ (w : ℕ). Some (Some w)) value)
+is_item text (Some word) (long, digits, value, range) = grind (arith, nat_tests, le-leb, lt-ltb, all_digits)
 
 -- an item has no space
 no_space : (c : ℕ) → digit_value c < 16 → (c == 32) ≡ false
@@ -125,20 +107,7 @@ is_word_row row words e = row_from row words (parts_of row) (join_with_byte-slic
 
 pub word_row_is : (row : List ℕ) (words : WordRow) → IsWordRow row words → word_row_of row ≡ Some words
 unfolding word_row_of
-word_row_is row words w =
-    let parts : parts_of row ≡ w.first ∷ w.second ∷ w.third ∷ [] =
-    ap parts_of (w.joined ∙ spaced w.first w.second w.third)
-    ∙ slice_split_at (λ c. c == 32) w.first 32 (w.second ++ 32 ∷ w.third) (item_plain w.first words.first w.first_is)
-    refl
-    ∙ ap (λ (l : List (List ℕ)). w.first ∷ l) (
-    slice_split_at (λ c. c == 32) w.second 32 w.third (item_plain w.second words.second w.second_is) refl
-    ∙ ap (λ (l : List (List ℕ)). w.second ∷ l)
-    (slice_split_none (λ c. c == 32) w.third (item_plain w.third words.third w.third_is))
-    ) in
-    let a = is_item w.first words.first w.first_is in
-    let b = is_item w.second words.second w.second_is in
-    let c = is_item w.third words.third w.third_is in
-    ap row_of_parts parts ∙ rw (a, b, c) refl
+word_row_is row words w = grind (arith, spaced, slice_split_at, item_plain, slice_split_none, is_item)
 
 -- ---- the rows of a text
 
@@ -150,8 +119,7 @@ row_at : (rows : List (List ℕ)) (all : List WordRow) (i : ℕ) (words : WordRo
     → slice_get all i ≡ Some words → (row : List ℕ) × (row_words row ≡ Some words)
 row_at rows [] i words e f = cc
 row_at [] (first ∷ all) i words e f = cc
-row_at (row ∷ rows) (first ∷ all) zero words e f =
-    (row, let same : row_words row ≡ Some first = cc in let here : first ≡ words = cc in cc)
+row_at (row ∷ rows) (first ∷ all) zero words e f = grind arith
 row_at (row ∷ rows) (first ∷ all) (suc i) words e f =
     row_at rows all i words (let rest : map row_words rows ≡ map Some all = cc in rest) f
 

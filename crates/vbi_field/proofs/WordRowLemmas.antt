@@ -22,13 +22,7 @@ cut_from : (text : List ℕ) (at n : ℕ) (b : Bool)
     → position_or_len (λ c. c == space) text ≡ n → nat_lt n (length text) ≡ b
     → cond b (Some n) None ≡ Some at
     → parts_of text ≡ take at text ∷ parts_of (take (length text - (at + 1)) (drop (at + 1) text))
-cut_from text at n true p t e =
-    let same : n ≡ at = cc in
-    let here : position_or_len (λ c. c == space) text ≡ at = p ∙ same in
-    let first = slice_split_first (λ c. c == space) text 0 (omega (arith, ltb-true n (length text) t, p)) in
-    first
-    ∙ ap (λ (k : ℕ). take k text ∷ parts_of (drop (k + 1) text)) here
-    ∙ ap (λ (l : List ℕ). take at text ∷ parts_of l) (sym (take_rest text (at + 1)))
+cut_from text at n true p t e = grind (arith, slice_split_first, ltb-true, take_rest)
 cut_from text at n false p t e = cc
 
 -- the part before the first space
@@ -40,10 +34,7 @@ uncut_from : (text : List ℕ) (n : ℕ) (b : Bool)
     → position_or_len (λ c. c == space) text ≡ n → nat_lt n (length text) ≡ b
     → cond b (Some n) None ≡ None → parts_of text ≡ text ∷ []
 uncut_from text n true p t e = cc
-uncut_from text n false p t e =
-    slice_split_none (λ c. c == space) text
-    (All-from_get_or (λ c. (c == space) ≡ false) text 0
-    (λ k l. fails_before_first (λ c. c == space) text k 0 (omega (arith, ltb-false n (length text) t, p, l))))
+uncut_from text n false p t e = grind (arith, slice_split_none, fails_before_first, ltb-false)
 
 -- without a space there is one part
 pub uncut : (text : List ℕ) → position (λ c. c == space) text ≡ None → parts_of text ≡ text ∷ []
@@ -64,8 +55,7 @@ pub three_parts : (row first rest second third : List ℕ) → parts_of row ≡ 
     → parts_of rest ≡ second ∷ parts_of third
     → parts_of third ≡ third ∷ [] → row_of_items (item_of first) (item_of second) (item_of third) ≡ word_row_of row
 unfolding word_row_of
-three_parts row first rest second third e f g =
-    ap row_of_parts (sym (e ∙ ap (λ (l : List (List ℕ)). first ∷ l) (f ∙ ap (λ (l : List (List ℕ)). second ∷ l) g)))
+three_parts row first rest second third e f g = grind arith
 
 too_many_parts : (first second third : List ℕ) (parts : List (List ℕ)) (n : ℕ) → length parts ≡ n + 1
     → None ≡ row_of_parts (first ∷ second ∷ third ∷ parts)
@@ -110,9 +100,7 @@ long_parts : (parts : List (List ℕ)) → 20 < length (join_with_byte 32 parts)
 long_parts [] l = refl
 long_parts (a ∷ []) l = refl
 long_parts (a ∷ b ∷ []) l = refl
-long_parts (a ∷ b ∷ c ∷ []) l =
-    long_items a b c (one_long (length a) (length b) (length c)
-    (omega (arith, length-append a (32 ∷ (b ++ 32 ∷ c)), length-append b (32 ∷ c))))
+long_parts (a ∷ b ∷ c ∷ []) l = grind (arith, long_items, one_long, length-append)
 long_parts (a ∷ b ∷ c ∷ d ∷ more) l = refl
 
 -- a row of more than 20 bytes
@@ -216,9 +204,4 @@ row_words-part row plain =
 -- one row more
 pub AreRows-more : (text line : List ℕ) (rows : List WordRow) (words : WordRow) → AreRows text rows → EndsRow text
     → rows_of line ≡ line ∷ [] → row_words line ≡ Some words → AreRows (text ++ line) (rows ++ words ∷ [])
-AreRows-more text line rows words are ends one is =
-    ap (map row_words) (rows_of-append text line ends ∙ ap (λ (l : List (List ℕ)). rows_of text ++ l) one)
-    ∙ map-append row_words (rows_of text) (line ∷ [])
-    ∙ ap (λ (l : List (Option WordRow)). l ++ row_words line ∷ []) are
-    ∙ ap (λ (w : Option WordRow). map Some rows ++ w ∷ []) is
-    ∙ sym (map-append Some rows (words ∷ []))
+AreRows-more text line rows words are ends one is = grind (arith, map, rows_of-append, map-append)

@@ -195,7 +195,8 @@ pub fn worked_recovered()
         ++ codes ",{\"word\":0,\"distance\":0,\"rival\":99}]}" }
     ensures fallen { recovered_record_of (plain_config Pal).levels 8 (record worn_field {
       shown = record { outcome = Change 34; pass = 0 } ∷ record { outcome = Blank; pass = 0 }
-          ∷ record { outcome = Word 0xF12346; pass = 1 } ∷ [] })
+          ∷ record { outcome = Word 0xF12346; pass = 1 } ∷ [];
+    })
         ≡ codes "{\"seqNo\":8,\"vbi\":{\"vbiData\":[0,0,15803206]},\"vbiCause\":[\"change 34\",\"blank\""
         ++ codes ",\"word\"],\"vbiPass\":[0,0,1],\"vbiNear\":[null,null,null]}" }
     ensures report_is { recovered_entry_of 7 (as_readings worn_field.shown)

@@ -1,7 +1,7 @@
 //! The texts of the document with recovered words, of version 3. It differs from that of version 2 (document.rt, whose
 //! pieces it takes) in the words of worn lines, and in `vbiNear`.
 
-ghost use Rattle.std.specs.Prelude.{true, IsTrue, [], ◌==◌, if◌then◌else◌, ◌≡◌, ◌+◌, ◌*◌, ◌-◌, ◌^◌, ◌<◌, ◌≤◌, ◌++◌};
+ghost use Rattle.std.specs.Prelude.{true, IsTrue, ℕ, [], ◌==◌, if◌then◌else◌, ◌≡◌, ◌+◌, ◌*◌, ◌-◌, ◌^◌, ◌<◌, ◌≤◌, ◌++◌};
 ghost use Rattle.std.specs.Prelude.{codes, decimal, length};
 ghost use Rattle.vbi_words.specs.Geometry.{line_bytes, width_of};
 ghost use Rattle.vbi_near.specs.Candidates.{row_of};
@@ -41,8 +41,8 @@ impl Kind for RecoveredDocument {
         readings: &FieldReadings,
         held: &[u8],
     ) -> ArrayString<TEXT_SIZE> {
-        let erased = none_erased(config);
-        record_text(config, before == 0, before + 1, readings, held, erased)
+        let field = field_texts(config, readings, held, none_erased(config));
+        record_with(before == 0, before + 1, &field)
     }
 
     fn tail(fields: u32, rest: u32) -> ArrayString<TEXT_SIZE> {
@@ -153,18 +153,44 @@ fn nears_text(
     text
 }
 
-/// The record of a field of these lines, causes and nearest words, with the joint before it unless it is the first.
+/// What the record of a field has beside its number: its lines as they are shown, those whose causes are written, and
+/// the text of their nearest words.
+#[derive(Drop)]
+struct FieldTexts {
+    lines: FieldReadings,
+    causes: FieldReadings,
+    nears: ArrayString<256>,
+}
+
+/// Those of a field, by the readings of its rows, their bytes and the marks of their erased columns.
+fn field_texts(
+    config: &Config,
+    readings: &FieldReadings,
+    rows: &[u8],
+    erased: &[bool],
+) -> FieldTexts
+    requires rows { length rows.now ≡ 3 * line_bytes config.now.system }
+    requires erased { length erased.now ≡ 3 * width_of config.now.system }
+    ensures { readings.now ≡ readings_of config.now (rows_in config.now.system rows.now) → (number : ℕ)
+        → record_with number result.lines result.causes result.nears.bytes
+        ≡ recovered_record_of config.now.levels number
+        (recovered_without config.now.system config.now.levels (rows_in config.now.system rows.now) erased.now) }
+{
+    let lines = shown_lines(config, readings, rows, erased);
+    let causes = cause_lines(&lines, readings);
+    let nears = nears_text(config, &lines, rows, erased);
+    FieldTexts {
+        lines,
+        causes,
+        nears,
+    }
+}
+
+/// The record of a field of this number, with the joint before it unless it is the first.
 #[tactic(auto, unfolding(crate::specs::Recovered::record_with))]
-fn record_with(
-    is_first: bool,
-    number: u32,
-    lines: &FieldReadings,
-    causes: &FieldReadings,
-    nears: &str,
-) -> ArrayString<TEXT_SIZE>
-    requires { length nears.now ≤ 256 }
-    ensures { result.bytes
-        ≡ (if is_first then [] else codes ",\n") ++ record_with number lines.now causes.now nears.now }
+fn record_with(is_first: bool, number: u32, field: &FieldTexts) -> ArrayString<TEXT_SIZE>
+    ensures { result.bytes ≡ (if is_first then [] else codes ",\n")
+        ++ record_with number field.now.lines field.now.causes field.now.nears.bytes }
 {
     let mut text = ArrayString::new();
     if !is_first {
@@ -172,34 +198,12 @@ fn record_with(
     }
     text.push_str("{\"seqNo\":");
     push_number(&mut text, number);
-    text.push_str(data_text(lines).as_str());
-    text.push_str(causes_text(causes).as_str());
-    text.push_str(passes_text(lines).as_str());
-    text.push_str(nears);
+    text.push_str(data_text(&field.lines).as_str());
+    text.push_str(causes_text(&field.causes).as_str());
+    text.push_str(passes_text(&field.lines).as_str());
+    text.push_str(field.nears.as_str());
     text.push_str("}");
     text
-}
-
-/// The record of a field of this number, with the joint before it unless it is the first: by the readings of its rows,
-/// their bytes and the marks of their erased columns.
-fn record_text(
-    config: &Config,
-    is_first: bool,
-    number: u32,
-    readings: &FieldReadings,
-    rows: &[u8],
-    erased: &[bool],
-) -> ArrayString<TEXT_SIZE>
-    requires rows { length rows.now ≡ 3 * line_bytes config.now.system }
-    requires erased { length erased.now ≡ 3 * width_of config.now.system }
-    ensures { readings.now ≡ readings_of config.now (rows_in config.now.system rows.now)
-        → result.bytes ≡ (if is_first then [] else codes ",\n") ++ recovered_record_of config.now.levels number
-        (recovered_without config.now.system config.now.levels (rows_in config.now.system rows.now) erased.now) }
-{
-    let lines = shown_lines(config, readings, rows, erased);
-    let causes = cause_lines(&lines, readings);
-    let nears = nears_text(config, &lines, rows, erased);
-    record_with(is_first, number, &lines, &causes, nears.as_str())
 }
 
 /// The readings of a field's rows.
@@ -235,5 +239,6 @@ pub fn recovered_record(
 {
     let config = Config::of_levels(system, levels);
     let readings = readings_of_rows(&config, rows);
-    record_text(&config, true, number, &readings, rows, erased)
+    let field = field_texts(&config, &readings, rows, erased);
+    record_with(true, number, &field)
 }

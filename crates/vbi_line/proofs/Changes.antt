@@ -1,6 +1,6 @@
 -- Runs of equal bits, found by the bits that are set where the level changes.
 use Rattle.std.proofs.Common.{◌≡◌, ◌≢◌, ℕ, zero, suc, ◌+◌, ◌-◌, ◌/◌, ◌%◌, ◌^◌, ◌<◌, ◌≤◌, ◌⊎◌, false}
-use Rattle.std.proofs.Common.{inl, inr, nat_eq, sym, ap, subst, ◌∙◌, arith, bit_xor, add-zero}
+use Rattle.std.proofs.Common.{inl, inr, sym, ap, subst, ◌∙◌, arith, bit_xor, add-zero}
 use Rattle.std.specs.Int.{bit_at}
 use Rattle.std.proofs.lemmas.Bool.{cases_lt}
 use Rattle.std.proofs.lemmas.Nat.Bits.{bit_at-lt, bit_at_xor}
@@ -8,7 +8,7 @@ use Rattle.vbi_words.specs.declared.system.System.{System}
 use Rattle.vbi_words.specs.Geometry.{half_max}
 use Rattle.vbi_line.specs.Packing.{level_of_bit, EqualBits}
 use Rattle.vbi_line.specs.Straight.{IsBitRun, IsHalf, IsOneRun, IsTwoRuns, ReachesMiddle}
-use Rattle.vbi_line.proofs.Packs.{bit_behind, low_bit}
+use Rattle.vbi_line.proofs.Packs.{bit_after, low_bit}
 
 -- a bit of it is set where the word's level changes after that bit
 abbrev pub changes_of : ℕ → ℕ
@@ -19,28 +19,14 @@ bit_change : (word i : ℕ) → bit_at (changes_of word) i ≡ (bit_at word i + 
 bit_change word i =
     let next : 1 + i ≡ i + 1 = omega arith in
     bit_at_xor word (word / 2 ^ 1) i
-    ∙ ap (λ (x : ℕ). (bit_at word i + x) % 2) (bit_behind word 1 i ∙ ap (bit_at word) next)
+    ∙ ap (λ (x : ℕ). (bit_at word i + x) % 2) (bit_after word 1 i ∙ ap (bit_at word) next)
 
 module _ (word i : ℕ) where
   pub same_level : level_of_bit (changes_of word) i ≡ false → level_of_bit word (i + 1) ≡ level_of_bit word i
-  same_level e =
-      let even = low_bit (changes_of word) i e in
-      let same : bit_at word (i + 1) ≡ bit_at word i
-      = omega (arith, bit_change word i, even, bit_at-lt word i, bit_at-lt word (i + 1)) in
-      ap (λ (x : ℕ). nat_eq x 1) same
+  same_level e = grind (arith, low_bit, bit_change, bit_at-lt)
 
   pub other_level : (level_of_bit (changes_of word) i ≡ false → ⊥) → level_of_bit word (i + 1) ≢ level_of_bit word i
-  other_level differs e =
-      let even : bit_at (changes_of word) i ≡ 0 = go (bit_at-lt word i) (bit_at-lt word (i + 1)) e in
-      differs (ap (λ (x : ℕ). nat_eq x 1) even)
-    where
-      go : bit_at word i < 2 → bit_at word (i + 1) < 2 → level_of_bit word (i + 1) ≡ level_of_bit word i
-          → bit_at (changes_of word) i ≡ 0
-      go = same_bits (bit_at word i) (bit_at word (i + 1)) (bit_change word i)
-        where
-          same_bits : (a b : ℕ) → bit_at (changes_of word) i ≡ (a + b) % 2 → a < 2 → b < 2 → nat_eq b 1 ≡ nat_eq a 1
-              → bit_at (changes_of word) i ≡ 0
-          same_bits a b is la lb e = grind arith
+  other_level differs e = grind (arith, bit_at-lt, bit_change)
 
 -- bits without a change before the last
 run_of_bits : (word place count : ℕ) → 0 < count
@@ -119,7 +105,4 @@ module _ {system : System} {word first far end rest : ℕ} (found : Found system
       )
 
   pub reaches : ReachesMiddle system word columns
-  reaches = elim found.is_end [
-    | inl two ↦ inr (end, omega (arith, found.whole), two_runs two.0 two.1)
-    | inr one ↦ inl (one_run one.0 one.1)
-  ]
+  reaches = grind (arith, two_runs, one_run)

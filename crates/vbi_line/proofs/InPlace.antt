@@ -1,5 +1,5 @@
 -- The bits of samples that lie in a row's bytes, and the levels that they are.
-use Rattle.std.proofs.Common.{◌≡◌, ℕ, ◌+◌, ◌-◌, ◌*◌, ◌/◌, ◌%◌, ◌^◌, ◌<◌, ◌≤◌, inl, inr, Bool, false, nat_eq, nat_lt}
+use Rattle.std.proofs.Common.{◌≡◌, ℕ, ◌+◌, ◌-◌, ◌*◌, ◌/◌, ◌%◌, ◌^◌, ◌<◌, ◌≤◌, inl, inr, Bool, false, nat_lt}
 use Rattle.std.proofs.Common.{List, ◌++◌, length, length-append, get_or, ap, sym, ◌∙◌, arith, lit<}
 use Rattle.std.proofs.Math.Nat.{mod-eq_of_lt, mul-lt-mul_of_pos_right, pow-le-pow_right, div-lt_iff_lt-mul}
 use Rattle.std.proofs.lemmas.Bool.{cases_lt}
@@ -10,7 +10,7 @@ use Rattle.std.proofs.lemmas.Nat.Bits.{bit_at_above}
 use Rattle.vbi_words.specs.Levels.{Slicing, is_high_of, level_at}
 use Rattle.vbi_line.specs.Line.{sample_at}
 use Rattle.vbi_line.specs.Packing.{level_of_bit, levels_in, TellsAbove}
-use Rattle.vbi_line.proofs.Packs.{bit_behind, joined, joined_below, joined_inside}
+use Rattle.vbi_line.proofs.Packs.{bit_after, joined, joined_below, joined_inside}
 use Rattle.vbi_line.proofs.Slicing.{Sliced, above, sliced_more}
 
 -- ---- more bits after those of the first samples
@@ -59,11 +59,7 @@ block_tells low bytes column samples bits long each are i l =
 -- the last bits of a block that ends with its samples
 pub last_tells : (low : ℕ) (bytes : List ℕ) (column count bits : ℕ) → 16 ≤ column + count → count < 16
     → TellsAbove low bytes (column + count - 16) 16 bits → TellsAbove low bytes column count (bits / 2 ^ (16 - count))
-last_tells low bytes column count bits block few tells i l =
-    let skipped : ℕ = 16 - count in
-    let place : (column + count - 16) + (skipped + i) ≡ column + i = omega arith in
-    ap (λ (b : ℕ). nat_eq b 1) (bit_behind bits skipped i) ∙ tells (skipped + i) (omega arith)
-    ∙ ap (λ (k : ℕ). nat_lt low (sample_at bytes k)) place
+last_tells low bytes column count bits block few tells i l = grind (arith, bit_after)
 
 -- no bit is left above them
 pub last-lt : (count bits : ℕ) → count < 16 → bits < 2 ^ 16 → bits / 2 ^ (16 - count) < 2 ^ count
@@ -77,16 +73,10 @@ last-lt count bits few small =
 
 module _ (levels : List Bool) (column count word : ℕ) (here : length levels ≡ column) where
   pub length_with_word : length (levels ++ levels_in count word) ≡ column + count
-  length_with_word =
-      let more = length-map-range_with_len (level_of_bit word) 0 count in
-      omega (arith, length-append levels (levels_in count word), more, here)
+  length_with_word = grind (arith, length-map-range_with_len, length-append)
 
   pub sliced_with_word : (slicing : Slicing) (bytes : List ℕ) (low : ℕ) → Sliced slicing bytes levels
       → ((sample : ℕ) → is_high_of slicing sample ≡ nat_lt low sample) → TellsAbove low bytes column count word
       → Sliced slicing bytes (levels ++ levels_in count word)
   sliced_with_word slicing bytes low sliced test tells =
-      sliced_more slicing bytes levels (levels_in count word) sliced (λ k l.
-      let inside : k < count = omega (arith, length-map-range_with_len (level_of_bit word) 0 count) in
-      let place : column + k ≡ length levels + k = omega (arith, here) in
-      get_or-map-range_with_len (level_of_bit word) 0 count k k false inside (omega arith) ∙ tells k inside
-      ∙ ap (λ (n : ℕ). nat_lt low (sample_at bytes n)) place ∙ sym (test (sample_at bytes (length levels + k))))
+      grind (arith, sliced_more, length-map-range_with_len, get_or-map-range_with_len)

@@ -35,12 +35,10 @@ module _ (system : System) where
 
   limit_high : (n : ℕ) (bits : List Bool) → length bits ≡ 24
       → limit_of system (second true n bits) ≡ Some (half_max system)
-  limit_high n bits full = limit_cases (sizes_of system) (λ o. o ≡ Some (half_max system)) true n bits
-      (λ few. absurd (omega arith)) (λ _ _. refl) (λ _ low. let e : true ≡ false = low in cc)
+  limit_high n bits full = grind (arith, limit_cases)
 
   limit_low : (n : ℕ) (bits : List Bool) → length bits ≡ 24 → limit_of system (second false n bits) ≡ None
-  limit_low n bits full = limit_cases (sizes_of system) (λ o. o ≡ None) false n bits
-      (λ few. absurd (omega arith)) (λ _ high. let e : false ≡ true = high in cc) (λ _ _. refl)
+  limit_low n bits full = grind (arith, limit_cases)
 
   -- ---- a change of level
 
@@ -71,19 +69,19 @@ module _ (system : System) where
 
   module _ {levels : List Bool} {column : ℕ} {v : Bool} {n : ℕ} (run : IsRun levels column v n) (begun : State)
       (is : next_of system (state_at system levels column) v ≡ begun) (alive : begun ≡ dead → ⊥) where
-    state_behind : state_at system levels (column + n)
+    state_past : state_at system levels (column + n)
         ≡ after_of system (state_at system levels column) (replicate n v)
-    state_behind = ap (state_after system) (run_levels run n (omega arith))
+    state_past = ap (state_after system) (run_levels run n (omega arith))
         ∙ after_append system (take column levels) (replicate n v)
 
-    behind_within : (m : ℕ) → limit_of system begun ≡ Some m → length_of begun + (n - 1) ≤ m
+    after_within : (m : ℕ) → limit_of system begun ≡ Some m → length_of begun + (n - 1) ≤ m
         → state_at system levels (column + n) ≡ grown (n - 1) begun
-    behind_within m limit within = state_behind
+    after_within m limit within = state_past
         ∙ Stays.run_within (sizes_of system) (state_at system levels column) v begun (sym is) alive n m run.some limit
         within
 
-    behind_free : limit_of system begun ≡ None → state_at system levels (column + n) ≡ grown (n - 1) begun
-    behind_free limit = state_behind
+    after_free : limit_of system begun ≡ None → state_at system levels (column + n) ≡ grown (n - 1) begun
+    after_free limit = state_past
         ∙ Stays.run_free (sizes_of system) (state_at system levels column) v begun (sym is) alive n run.some limit
 
   -- the length of a run whose first column is counted
@@ -95,20 +93,19 @@ module _ (system : System) where
   module _ {levels : List Bool} {n : ℕ} (run : IsRun levels 0 false n) (long : half_min system ≤ n)
       (inside : n < length levels) where
     -- the column after the lows
-    behind_lows : 0 + n ≡ n
-    behind_lows = omega arith
+    after_lows : 0 + n ≡ n
+    after_lows = omega arith
 
     pub first_high : level_at levels n ≡ true
-    first_high = other false (level_at levels n)
-        (λ e. run.ends (omega (arith, inside)) (ap (level_at levels) behind_lows ∙ e))
+    first_high = grind (arith, other, after_lows)
 
     pub first_is : IsMiddle system levels n (true ∷ [])
     first_is =
         let lows : state_at system levels (0 + n) ≡ lead ((0 + 1) + (n - 1))
-        = behind_free run (lead (0 + 1)) refl (λ e. cc) refl in
+        = after_free run (lead (0 + 1)) refl (λ e. cc) refl in
         let count : (0 + 1) + (n - 1) ≡ n = one_more n run.some in
         let there : state_at system levels n ≡ lead n
-        = ap (state_at system levels) (sym behind_lows) ∙ lows ∙ ap lead count in
+        = ap (state_at system levels) (sym after_lows) ∙ lows ∙ ap lead count in
         let turned : next_of system (state_at system levels n) true ≡ second true 1 (true ∷ [])
         = ap (λ (s : State). next_of system s true) there ∙ turn_lead n long in
         record {
@@ -128,7 +125,7 @@ module _ (system : System) where
     after_middle : {n : ℕ} → IsRun levels column level n → (m : ℕ) → limit_of system (second level 1 bits) ≡ Some m
         → n ≤ m → state_at system levels (column + n) ≡ second level n bits
     after_middle {n} run m limit l =
-        behind_within run (second level 1 bits) middle.turned (λ e. cc) m limit (omega (arith, one_more n run.some))
+        after_within run (second level 1 bits) middle.turned (λ e. cc) m limit (omega (arith, one_more n run.some))
         ∙ ap (λ (k : ℕ). second level k bits) (one_more n run.some)
 
     one_run : {n : ℕ} → IsRun levels column level n → length bits < 24 → 2 * half_min system ≤ n
@@ -160,7 +157,7 @@ module _ (system : System) where
         = ap (λ (s : State). next_of system s (not level)) there ∙ changed level _ _
         ∙ turn_single level a bits half few in
         let behind : state_at system levels ((column + a) + b) ≡ first (not level) b bits
-        = behind_within more (first (not level) 1 bits) begun (λ e. cc) (half_max system) refl
+        = after_within more (first (not level) 1 bits) begun (λ e. cc) (half_max system) refl
         (omega (arith, one_more b more.some, other_half.1))
         ∙ ap (λ (k : ℕ). first (not level) k bits) (one_more b more.some) in
         let next : level_at levels ((column + a) + b) ≡ not (not level)
@@ -186,7 +183,7 @@ module _ (system : System) where
           middle.turned in
           let lows : IsRun levels column false n = subst (λ (x : Bool). IsRun levels column x n) low run in
           let there : state_at system levels (column + n) ≡ second false n bits
-          = behind_free lows (second false 1 bits) begun (λ e. cc) (limit_low 1 bits full)
+          = after_free lows (second false 1 bits) begun (λ e. cc) (limit_low 1 bits full)
           ∙ ap (λ (k : ℕ). second false k bits) (one_more n run.some) in
           sym (whole system levels (column + n) (omega arith) (second false n bits) (sym there))
 
@@ -199,13 +196,13 @@ module _ (system : System) where
           middle.turned in
           let highs : IsRun levels column true n = subst (λ (x : Bool). IsRun levels column x n) high run in
           let there : state_at system levels (column + n) ≡ second true n bits
-          = behind_within highs (second true 1 bits) begun (λ e. cc) (half_max system) (limit_high 1 bits full)
+          = after_within highs (second true 1 bits) begun (λ e. cc) (half_max system) (limit_high 1 bits full)
           (omega (arith, one_more n run.some, half.1))
           ∙ ap (λ (k : ℕ). second true k bits) (one_more n run.some) in
           let turned : next_of system (state_at system levels (column + n)) false ≡ tail bits
           = ap (λ (s : State). next_of system s false) there ∙ turn_last n bits half full in
           let behind : state_at system levels ((column + n) + m) ≡ tail bits
-          = behind_free lows (tail bits) turned (λ e. cc) refl in
+          = after_free lows (tail bits) turned (λ e. cc) refl in
           sym (whole system levels ((column + n) + m) (omega arith) (tail bits) (sym behind))
 
   -- ---- the word

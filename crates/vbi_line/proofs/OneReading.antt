@@ -18,8 +18,7 @@ is_outcome system levels = (found system levels).1
 
 pub same_outcome : (system : System) (levels : List Bool) (o : Outcome) → IsOutcome system levels o
     → o ≡ outcome_of system levels
-same_outcome system levels o is =
-    one_outcome system levels o (outcome_of system levels) is (is_outcome system levels)
+same_outcome system levels o is = grind (arith, one_outcome, is_outcome)
 
 pub by_outcomes : (system : System) (levels : List Bool)
     → reading_of system levels ≡ reading_from (outcome_of system levels) (outcome_of system (smooth_of levels))
@@ -66,11 +65,7 @@ module _ (system : System) (levels : List Bool) where
 
   only_plain : (o : Outcome) (pass : ℕ) → NoWord o
       → (pass ≡ 0) × IsOutcome system levels o × ShowsNone system (smooth_of levels) → with_pass o pass ≡ from_both
-  only_plain o pass free (p, is, none) =
-      let second : NoWord smooth
-      = no_word system (smooth_of levels) smooth (is_outcome system (smooth_of levels)) none in
-      ap (with_pass o) p ∙ sym (reads_plain o smooth free second)
-      ∙ ap (λ (x : Outcome). reading_from x smooth) (same_outcome system levels o is)
+  only_plain o pass free (p, is, none) = grind (arith, no_word, is_outcome, reads_plain, same_outcome)
 
   only : (o : Outcome) (pass : ℕ) → Reads system levels o pass → with_pass o pass ≡ from_both
   only (Word w) pass (inl (p, shows)) =
@@ -101,8 +96,7 @@ only_reading system levels reading is = only system levels reading.outcome readi
 
 pub is_reading : (system : System) (levels : List Bool) → IsReading system levels (reading_of system levels)
 unfolding reading_of
-is_reading system levels = from_outcomes system levels (outcome_of system levels) (outcome_of system (smooth_of levels))
-    (is_outcome system levels) (is_outcome system (smooth_of levels))
+is_reading system levels = grind (arith, from_outcomes, is_outcome)
 
 -- a blank list is read as blank, whatever stands for its outcome
 pub blank_is_read : (system : System) (levels : List Bool) (outcome : Outcome) → outcome ≡ Blank

@@ -8,7 +8,7 @@ use Rattle.std.proofs.lemmas.Bool.{cases_lt}
 use Rattle.std.proofs.lemmas.Nat.Bits.{bit_at-lt, bit_at-zero, bit_at_not, bit_at-trailing_zeros, bit_at_above}
 use Rattle.vbi_words.specs.Levels.{level_at}
 use Rattle.vbi_line.specs.Packing.{level_of_bit, packed_level, unpacked, EqualBits, IsRun}
-use Rattle.vbi_line.proofs.Packs.{bit_low, bit_behind, length-unpacked, level_unpacked}
+use Rattle.vbi_line.proofs.Packs.{bit_low, bit_after, length-unpacked, level_unpacked}
 
 -- ---- equal bits of a word
 
@@ -33,9 +33,7 @@ other_bit word i true small l e same =
     let none : bit_at word i ≡ 0 = omega (arith, bit_at_not w64 word i small l, bit_at-lt word i) in
     let low : level_of_bit word i ≡ false = bit_low word i none in
     cc
-other_bit word i false small l e same =
-    let high : level_of_bit word i ≡ true = ap (λ (x : ℕ). nat_eq x 1) e in
-    cc
+other_bit word i false small l e same = grind arith
 
 module _ (word place : ℕ) (level : Bool) (small : word < 2 ^ 64) (within : place < 64) where
   -- the bits from the place on, set where the level is another
@@ -47,7 +45,7 @@ module _ (word place : ℕ) (level : Bool) (small : word < 2 ^ 64) (within : pla
   zeros = trailing_zeros w64 others
 
   bit_others : (i : ℕ) → bit_at others i ≡ bit_at (others_of word level) (place + i)
-  bit_others i = bit_behind (others_of word level) place i
+  bit_others i = bit_after (others_of word level) place i
 
   equal_at : (i : ℕ) → place + i < 64 → bit_at others i ≡ 0 → level_of_bit word (place + i) ≡ level
   equal_at i l none = equal_bit word (place + i) level small l (sym (bit_others i) ∙ none)
@@ -125,26 +123,14 @@ module _ {words : List ℕ} {width column end : ℕ} {level : Bool} {equal : ℕ
 
     ends : column + count < length (unpacked words width)
         → level_at (unpacked words width) (column + count) ≡ level → ⊥
-    ends l e =
-        let inside : end + equal < width = omega (arith, some, length-unpacked words width) in
-        let place : end + equal ≡ column + count = omega (arith, some) in
-        other (sym (level_unpacked words width (end + equal) inside) ∙ ap (level_at (unpacked words width)) place ∙ e)
+    ends l e = grind (arith, some, length-unpacked, other, level_unpacked)
 
     pub run_in_word : IsRun (unpacked words width) column level count
-    run_in_word = record {
-      some = omega (arith, some);
-      inside = omega (arith, some, length-unpacked words width);
-      each = λ i l. level_unpacked words width (column + i) (omega (arith, some)) ∙ each_on i (omega (arith, some));
-      ends = ends;
-    }
+    run_in_word = grind (arith, some, length-unpacked, level_unpacked, each_on, ends)
 
 -- a run up to the last column
 pub run_to_width : (words : List ℕ) (width column end : ℕ) (level : Bool) → column < width → width ≤ end
     → ((i : ℕ) → column + i < end → packed_level words (column + i) ≡ level)
     → IsRun (unpacked words width) column level (width - column)
-run_to_width words width column end level within past each = record {
-  some = omega arith;
-  inside = omega (arith, length-unpacked words width);
-  each = λ i l. level_unpacked words width (column + i) (omega arith) ∙ each i (omega arith);
-  ends = λ l. absurd (omega (arith, length-unpacked words width));
-}
+run_to_width words width column end level within past each =
+    grind (arith, some, length-unpacked, level_unpacked, ends)

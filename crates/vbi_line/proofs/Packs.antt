@@ -1,10 +1,10 @@
 -- Levels as the bits of words, and more levels added to them.
-use Rattle.std.proofs.Common.{◌≡◌, ℕ, zero, suc, ◌+◌, ◌-◌, ◌*◌, ◌/◌, ◌%◌, ◌^◌, ◌<◌, ◌≤◌}
-use Rattle.std.proofs.Common.{Bool, false, List, ◌∷◌, ◌++◌, inl, inr, map}
+use Rattle.std.proofs.Common.{◌≡◌, ℕ, zero, suc, ◌+◌, ◌*◌, ◌/◌, ◌%◌, ◌^◌, ◌<◌, ◌≤◌}
+use Rattle.std.proofs.Common.{Bool, false, List, ◌∷◌, ◌++◌, map}
 use Rattle.std.proofs.Common.{length, max, nat_eq, slice_index, refl, sym, ap, ◌∙◌, arith, add-zero, lit<, bit_or}
 use Rattle.std.specs.List.{range_with_len}
 use Rattle.std.specs.Int.{bit_at}
-use Rattle.std.proofs.Math.ListN.{set, get_or}
+use Rattle.std.proofs.Math.ListN.{set}
 use Rattle.std.proofs.Math.Nat.{mod-eq_of_lt, mul-lt-mul_of_pos_right, pow-le-pow_right, max-zero, zero-max}
 use Rattle.std.proofs.Math.Nat.{div-div-eq-div-mul}
 use Rattle.std.proofs.lemmas.Nat.{pow-add, pow_pos}
@@ -24,9 +24,8 @@ pub bit_low : (n i : ℕ) → bit_at n i ≡ 0 → level_of_bit n i ≡ false
 bit_low n i e = ap (λ (x : ℕ). nat_eq x 1) e
 
 -- the bits of a word from a place on
-pub bit_behind : (word place i : ℕ) → bit_at (word / 2 ^ place) i ≡ bit_at word (place + i)
-bit_behind word place i = ap (λ (x : ℕ). x % 2)
-    (div-div-eq-div-mul word (2 ^ place) (2 ^ i) ∙ ap (λ (x : ℕ). word / x) (sym (pow-add 2 place i)))
+pub bit_after : (word place i : ℕ) → bit_at (word / 2 ^ place) i ≡ bit_at word (place + i)
+bit_after word place i = grind (arith, div-div-eq-div-mul, pow-add)
 
 -- ---- lists of levels
 
@@ -50,10 +49,7 @@ same_levels f g a b (suc n) same =
 
 -- a list of levels in two parts
 two_parts : (f : ℕ → Bool) (a m n : ℕ) → levels_from f a (m + n) ≡ levels_from f a m ++ levels_from f (a + m) n
-two_parts f a zero n =
-    let none : zero + n ≡ n = omega arith in
-    let place : a ≡ a + zero = omega arith in
-    ap (levels_from f a) none ∙ ap (λ (k : ℕ). levels_from f k n) place
+two_parts f a zero n = grind arith
 two_parts f a (suc m) n =
     let more : suc m + n ≡ suc (m + n) = omega arith in
     let place : (a + 1) + m ≡ a + suc m = omega arith in
@@ -66,8 +62,7 @@ length-unpacked words width = length-map-range_with_len (packed_level words) 0 w
 
 pub level_unpacked : (words : List ℕ) (width column : ℕ) → column < width
     → level_at (unpacked words width) column ≡ packed_level words column
-level_unpacked words width column l =
-    get_or-map-range_with_len (packed_level words) 0 width column column false l (omega arith)
+level_unpacked words width column l = grind (arith, get_or-map-range_with_len)
 
 -- ---- more levels in a word
 
@@ -92,31 +87,22 @@ module _ (word bits place count : ℕ) (fits : place + count ≤ 64) (few : bits
           omega arith
 
   bit_joined : (i : ℕ) → bit_at (joined word bits place) i ≡ max (bit_at word i) (bit_at moved i)
-  bit_joined i = bit_at_or word (bits * 2 ^ place % 2 ^ 64) i
-      ∙ ap (λ (x : ℕ). max (bit_at word i) (bit_at x i)) moved_is
+  bit_joined i = grind (arith, bit_at_or, moved_is)
 
   -- where the word has no bit
   bit_new : (i : ℕ) → bit_at word i ≡ 0 → bit_at (joined word bits place) i ≡ bit_at moved i
   bit_new i none = bit_joined i ∙ ap (λ (x : ℕ). max x (bit_at moved i)) none ∙ zero-max (bit_at moved i)
 
   pub joined_below : (i : ℕ) → i < place → level_of_bit (joined word bits place) i ≡ level_of_bit word i
-  joined_below i l =
-      let none : bit_at moved i ≡ 0 = bit_at_cat_low bits place 0 i l ∙ bit_at-zero i in
-      ap (λ (x : ℕ). nat_eq x 1)
-      (bit_joined i ∙ ap (λ (x : ℕ). max (bit_at word i) x) none ∙ max-zero (bit_at word i))
+  joined_below i l = grind (arith, bit_at_cat_low, bit_at-zero, bit_joined, max-zero)
 
   pub joined_inside : (i : ℕ) → bit_at word (place + i) ≡ 0
       → level_of_bit (joined word bits place) (place + i) ≡ level_of_bit bits i
-  joined_inside i none =
-      let back : (place + i) - place ≡ i = omega arith in
-      ap (λ (x : ℕ). nat_eq x 1) (bit_new (place + i) none
-      ∙ bit_at_cat_high bits place 0 (place + i) (pow_pos place) (omega arith) ∙ ap (bit_at bits) back)
+  joined_inside i none = grind (arith, bit_new, bit_at_cat_high, pow_pos)
 
   pub joined_above : (i : ℕ) → place + count ≤ i → bit_at word i ≡ 0
       → level_of_bit (joined word bits place) i ≡ false
-  joined_above i l none = ap (λ (x : ℕ). nat_eq x 1) (bit_new i none
-      ∙ bit_at_cat_high bits place 0 i (pow_pos place) (omega arith)
-      ∙ bit_at_above bits count (i - place) few (omega arith))
+  joined_above i l none = grind (arith, bit_new, bit_at_cat_high, pow_pos, bit_at_above)
 
 -- ---- more levels in a line
 
@@ -150,24 +136,17 @@ module _ {words : List ℕ} {width bits count : ℕ} (has : HasRoom words width 
   inside = omega (arith, has.long, has.room, has.some)
 
   same_word : (column : ℕ) → column / 64 ≡ width / 64 → packed_level pushed column ≡ level_of_bit new_word (column % 64)
-  same_word column e = ap (λ (j : ℕ). level_of_bit (get_or pushed j 0) (column % 64)) e
-      ∙ ap (λ (w : ℕ). level_of_bit w (column % 64)) (get_or-set_same words (width / 64) new_word 0 inside)
+  same_word column e = grind (arith, get_or-set_same, inside)
 
   other_word : (column : ℕ) → (column / 64 ≡ width / 64 → ⊥) → packed_level pushed column ≡ packed_level words column
-  other_word column ne = ap (λ (w : ℕ). level_of_bit w (column % 64))
-      (get_or-set_other words (width / 64) (column / 64) new_word 0 ne)
+  other_word column ne = grind (arith, get_or-set_other)
 
   -- the last word has no level yet at this column
   empty : (column : ℕ) → width ≤ column → column < 1152 → column / 64 ≡ width / 64 → bit_at word (column % 64) ≡ 0
   empty column past inside e = grind arith
 
   kept : (column : ℕ) → column < width → packed_level pushed column ≡ packed_level words column
-  kept column l = elim (cases_eq (column / 64) (width / 64)) [
-    | inl e ↦
-        same_word column e ∙ joined_below word bits place count has.within has.few (column % 64) (omega arith)
-        ∙ ap (λ (j : ℕ). level_of_bit (get_or words j 0) (column % 64)) (sym e)
-    | inr ne ↦ other_word column ne
-  ]
+  kept column l = grind (arith, cases_eq, same_word, joined_below, other_word)
 
   added : (i : ℕ) → i < count → packed_level pushed (width + i) ≡ level_of_bit bits i
   added i l =
@@ -179,12 +158,7 @@ module _ {words : List ℕ} {width bits count : ℕ} (has : HasRoom words width 
       ∙ joined_inside word bits place count has.within has.few i none
 
   pub pushed_rest : (column : ℕ) → width + count ≤ column → column < 1152 → packed_level pushed column ≡ false
-  pushed_rest column past inside = elim (cases_eq (column / 64) (width / 64)) [
-    | inl e ↦
-        same_word column e ∙ joined_above word bits place count has.within has.few (column % 64) (omega arith)
-        (empty column (omega arith) inside e)
-    | inr ne ↦ other_word column ne ∙ has.rest column (omega arith) inside
-  ]
+  pushed_rest column past inside = grind (arith, cases_eq, same_word, joined_above, empty, inside, other_word)
 
   pub pushed_levels : unpacked pushed (width + count) ≡ unpacked words width ++ levels_in count bits
   pushed_levels =

@@ -10,7 +10,7 @@ use Rattle.vbi_words.specs.Levels.{level_at}
 use Rattle.vbi_words.proofs.Sizes.{sizes_of}
 use Rattle.vbi_words.proofs.Machine
 use Rattle.vbi_words.proofs.Machine.{State, lead, dead, level_of}
-use Rattle.vbi_words.proofs.SystemMachine.{next_of, after_of, state_after, state_at, after_append}
+use Rattle.vbi_words.proofs.SystemMachine.{next_of, after_of, state_at, after_append}
 use Rattle.vbi_words.proofs.Outcomes.{DiesAt, GoesOn, hold_outcome, change_outcome}
 use Rattle.vbi_line.specs.declared.decoder.Decoder.{Decoder}
 use Rattle.vbi_line.specs.Decoder.{state_of, DiesAfter}
@@ -58,9 +58,7 @@ module _ {levels : List Bool} {column : ℕ} {v : Bool} {count : ℕ} (run : IsR
   -- the decoder has read the levels before the run
   module _ (system : System) (decoder : Decoder) (so_far : state_of decoder ≡ state_at system levels column) where
     after_levels : (k : ℕ) → k ≤ count → after_run system (state_of decoder) k v ≡ state_at system levels (column + k)
-    after_levels k l = ap (λ (s : State). after_run system s k v) so_far
-        ∙ sym (after_append system (take column levels) (replicate k v))
-        ∙ ap (state_after system) (sym (run_levels k l))
+    after_levels k l = grind (arith, after_append, run_levels)
 
     pub goes_on : (new : State) → new ≡ after_of system (state_of decoder) (replicate count v)
         → new ≡ state_at system levels (column + count)
@@ -69,9 +67,7 @@ module _ {levels : List Bool} {column : ℕ} {v : Bool} {count : ℕ} (run : IsR
     -- the next run has the other level
     pub turned : (next : Decoder) → state_of next ≡ after_of system (state_of decoder) (replicate count v)
         → column + count < length levels → level_at levels (column + count) ≡ level_of (state_of next) → ⊥
-    turned next e l same =
-        let last = last_level system (state_of decoder) v count run.some (λ d. alive next (e ∙ d)) in
-        run.ends l (same ∙ ap level_of e ∙ last)
+    turned next e l same = grind (arith, last_level, alive)
 
     pub changes : (0 < column → column < length levels → level_at levels column ≡ level_of (state_of decoder) → ⊥)
         → (lived : ℕ) → lived ≡ 0 → DiesAfter system (state_of decoder) v lived
@@ -95,10 +91,6 @@ module _ {levels : List Bool} {column : ℕ} {v : Bool} {count : ℕ} (run : IsR
         gone : state_at system levels (column + 1) ≡ dead
         gone = sym (after_levels 1 (omega (arith, run.some))) ∙ at_once
 
-        -- the first level doesn't end the lows before a word, of which there are none
-        start : column ≡ 0 → GoesOn system levels column → ⊥
-        start e same = grind arith
-
         differs : GoesOn system levels column → ⊥
         differs same = grind arith
 
@@ -113,12 +105,7 @@ module _ {levels : List Bool} {column : ℕ} {v : Bool} {count : ℕ} (run : IsR
         place = omega arith
 
         at : DiesAt system levels (column + lived)
-        at = record {
-          within = omega (arith, run.inside);
-          alive = λ d. dies.0 (there ∙ d);
-          dies = ap (state_at system levels) place ∙ sym (after_levels (lived + 1) (omega arith)) ∙ dies.1;
-        }
+        at = grind (arith, alive, there, state_at, place, after_levels)
 
         same : GoesOn system levels (column + lived)
-        same = run.each lived few
-            ∙ sym (ap level_of (sym there) ∙ last_level system (state_of decoder) v lived some dies.0)
+        same = grind (arith, there, last_level)

@@ -1,5 +1,6 @@
 -- What reading a whole run needs.
-use Rattle.std.proofs.Common.{◌≡◌, ℕ, ◌+◌, ◌-◌, ◌<◌, ◌≤◌, Bool, Some, None, sym, subst}
+use Rattle.std.proofs.Common.{arith}
+use Rattle.std.proofs.Common.{◌≡◌, ℕ, ◌+◌, ◌-◌, ◌<◌, ◌≤◌, Bool, Some, None, sym}
 use Rattle.std.proofs.Math.ListN.{replicate}
 use Rattle.vbi_words.specs.declared.system.System.{System}
 use Rattle.vbi_words.proofs.Sizes.{sizes_of, apart_of}
@@ -25,9 +26,7 @@ module _ (system : System) (state : State) (v : Bool) (begun : Decoder)
 
   pub fits : (m : ℕ) → IsFit system state → Some m ≡ limit_of system (state_of begun)
       → length_of (state_of begun) ≤ m
-  fits m fit e =
-      let next : IsFit system (next_of system state v) = next_fit (sizes_of system) (apart_of system) state v fit in
-      Stays.fit_limit (sizes_of system) (state_of begun) m (subst (IsFit system) (sym is) next) (sym e)
+  fits m fit e = grind (arith, next_fit, apart_of)
 
   pub dies : (m : ℕ) → IsFit system state → Some m ≡ limit_of system (state_of begun)
       → DiesAfter system state v (1 + m - length_of (state_of begun))

@@ -32,10 +32,7 @@ levels_of_mask levels count long = ext_get_or false (levels_in count mask) level
     whole = length-map-range_with_len (level_of_bit mask) 0 count
 
     each : (i : ℕ) → i < length (levels_in count mask) → get_or (levels_in count mask) i false ≡ get_or levels i false
-    each i l =
-        let inside : i < count = omega (arith, whole) in
-        get_or-map-range_with_len (level_of_bit mask) 0 count i i false inside (omega arith)
-        ∙ ap (λ (x : ℕ). nat_eq x 1) (bit_mask_l levels i) ∙ bit_of_level (get_or levels i false)
+    each i l = grind (arith, whole, get_or-map-range_with_len, mask, bit_mask_l, bit_of_level)
 
 -- which samples are above this one
 abbrev pub above : ℕ → List ℕ → List Bool
@@ -60,9 +57,7 @@ levels_above samples low long =
     ap (levels_in 16) (mask_above samples low long) ∙ levels_of_mask (above low samples) 16 (rw (length-map, long) refl)
 
 pub above-lt : (samples : List ℕ) (low : ℕ) → length samples ≡ 16 → lanes_mask low samples < 2 ^ 16
-above-lt samples low long =
-    let e : length (above low samples) ≡ 16 = rw (length-map, long) refl in
-    rw (mask_above samples low long) (rw e at (mask_l-lt (above low samples)))
+above-lt samples low long = grind (arith, length-map, mask_above, mask_l-lt)
 
 -- ---- the samples of a row
 
@@ -124,10 +119,4 @@ module _ (slicing : Slicing) (levels : List Bool) (low : ℕ) {first old new : L
 
   pub block_sliced : Sliced slicing first.held levels
       → ((sample : ℕ) → is_high_of slicing sample ≡ nat_lt low sample) → Sliced slicing first.held (levels ++ more)
-  block_sliced sliced test = sliced_more slicing first.held levels more sliced (λ k l.
-      let inside : k < length block = omega (arith, length-block, gives.long) in
-      let sample : get_or block k 0 ≡ sample_at first.held (length levels + k)
-      = gives.samples k (omega (arith, gives.long))
-      ∙ ap (λ (held : List ℕ). sample_at held (length levels + k)) bytes.held in
-      ap (λ (t : List Bool). level_at t k) are ∙ get_or-map (λ sample. nat_lt low sample) block k 0 false inside
-      ∙ sym (test (get_or block k 0)) ∙ ap (is_high_of slicing) sample)
+  block_sliced sliced test = grind (arith, sliced_more, length-block, get_or-map)

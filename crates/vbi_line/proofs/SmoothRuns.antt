@@ -117,8 +117,7 @@ begins system levels = record {
 state_on : (system : System) (front : List Bool) (v : Bool) (n : ℕ) (state new : State)
     → state ≡ state_after system front → new ≡ after_of system state (replicate n v)
     → new ≡ state_after system (front ++ replicate n v)
-state_on system front v n state new is e =
-    e ∙ ap (λ (s : State). after_of system s (replicate n v)) is ∙ sym (after_append system front (replicate n v))
+state_on system front v n state new is e = grind (arith, after_of, after_append)
 
 -- no word is shown where the machine dies in a run of n levels v
 run_dies : (system : System) (s front rest : List Bool) (v : Bool) (n : ℕ) (state : State)
@@ -186,8 +185,7 @@ module _ {system : System} {levels : List Bool} {column : ℕ} {out : Bool} {sta
 
   long_whole : 4 ≤ count
       → smooth_of levels ≡ h.front ++ (replicate 3 out ++ (replicate (count - 3) x ++ steady x rest))
-  long_whole l = h.whole
-      ∙ ap (λ (t : List Bool). h.front ++ t) (spread h.a h.b h.c ∙ long_run out h.a h.b h.c x count rest turning l)
+  long_whole l = grind (arith, spread, long_run, turning)
 
   pub first_dies : 4 ≤ count → (lived : ℕ) → lived < 3 → DiesAfter system state out lived
       → ShowsNone system (smooth_of levels)
@@ -206,8 +204,7 @@ module _ {system : System} {levels : List Bool} {column : ℕ} {out : Bool} {sta
     middle_fits = subst (IsFit system) (sym middle_is) (fit_after system begun)
 
     middle_whole : smooth_of levels ≡ begun ++ (replicate (count - 3) x ++ steady x rest)
-    middle_whole =
-        long_whole l ∙ sym (append_assoc h.front (replicate 3 out) (replicate (count - 3) x ++ steady x rest))
+    middle_whole = grind (arith, long_whole, append_assoc, steady)
 
     pub long_on : (new : State) → new ≡ after_of system middle (replicate (count - 3) x)
         → Halfway system levels (column + count) x new
@@ -235,8 +232,7 @@ window_empty out a b c = refl
 module _ {system : System} {levels : List Bool} {column : ℕ} {out : Bool} {state : State}
     (h : Halfway system levels column out state) (past : length levels ≤ column) where
   all : smooth_of levels ≡ h.front
-  all = h.whole ∙ ap (λ (t : List Bool). h.front ++ window out h.a h.b h.c t) (drop_all column levels past)
-      ∙ ap (λ (t : List Bool). h.front ++ t) (window_empty out h.a h.b h.c) ∙ append-nil h.front
+  all = grind (arith, window, drop_all, window_empty, append-nil)
 
   at_end : state ≡ state_after system (smooth_of levels)
   at_end = h.state_is ∙ ap (state_after system) (sym all)

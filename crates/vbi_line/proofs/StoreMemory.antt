@@ -46,26 +46,18 @@ in_parts xs from to le =
 
 -- how long a part is
 pub length-part : (xs : List ℕ) (from to : ℕ) → from ≤ to → to ≤ length xs → length (part_of xs from to) ≡ to - from
-length-part xs from to le inside =
-    let l = length-drop from xs in
-    length-take-le (to - from) (drop from xs) (omega arith)
+length-part xs from to le inside = grind (arith, length-drop, length-take-le)
 
 -- a part is written over by as many bytes
 pub with_part-same : (xs : List ℕ) (from to : ℕ) (ws : List ℕ) → length ws ≡ to - from
     → take from xs ++ (ws ++ drop to xs) ≡ with_part xs from to ws
-with_part-same xs from to ws long =
-    ap (λ l. take from xs ++ (l ++ drop to xs)) (sym (take_at ws _ (to - from) long))
+with_part-same xs from to ws long = grind (arith, take_at)
 
 -- a list with a part written over is as long as it was
 pub length-with_part : (xs : List ℕ) (from to : ℕ) (ws : List ℕ) → from ≤ to → to ≤ length xs → length ws ≡ to - from
     → length (with_part xs from to ws) ≡ length xs
 length-with_part xs from to ws le inside long =
-    let whole = ap length (with_part-same xs from to ws long) in
-    let all = length-append (take from xs) (ws ++ drop to xs) in
-    let back = length-append ws (drop to xs) in
-    let front = length-take-le from xs (omega arith) in
-    let rest = length-drop to xs in
-    omega arith
+    grind (arith, with_part-same, length-append, length-take-le, length-drop)
 
 -- ---- the memory
 

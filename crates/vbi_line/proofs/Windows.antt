@@ -1,8 +1,7 @@
 -- The levels of 64 columns in one word.
-use Rattle.std.proofs.Common.{◌≡◌, ℕ, ◌+◌, ◌-◌, ◌*◌, ◌/◌, ◌%◌, ◌^◌, ◌<◌, ◌≤◌, false, List, inl, inr}
+use Rattle.std.proofs.Common.{◌≡◌, ℕ, ◌+◌, ◌-◌, ◌*◌, ◌/◌, ◌%◌, ◌^◌, ◌<◌, ◌≤◌, false, List}
 use Rattle.std.proofs.Common.{max, nat_eq, slice_index, sym, ap, ◌∙◌, arith, add-zero, bit_or}
 use Rattle.std.specs.Int.{bit_at}
-use Rattle.std.proofs.Math.ListN.{get_or}
 use Rattle.std.proofs.Math.Nat.{max-zero, zero-max}
 use Rattle.std.proofs.lemmas.Nat.{div-add-mod', pow_pos}
 use Rattle.std.proofs.lemmas.Bool.{cases_lt}
@@ -10,18 +9,13 @@ use Rattle.std.proofs.lemmas.List.{get_or_past}
 use Rattle.std.proofs.lemmas.Nat.Bits.{bit_at-zero, bit_at_or, bit_at_above, bit_at_cat_low, bit_at_cat_high}
 use Rattle.vbi_words.specs.Levels.{level_at}
 use Rattle.vbi_line.specs.Packing.{level_of_bit, packed_level, unpacked}
-use Rattle.vbi_line.proofs.Packs.{bit_behind, length-unpacked, level_unpacked}
+use Rattle.vbi_line.proofs.Packs.{bit_after, length-unpacked, level_unpacked}
 
 -- the level of any column for which there is a bit; past the width it is low
 pub level_packed : (words : List ℕ) (width column : ℕ) → column < 1152
     → ((k : ℕ) → width ≤ k → k < 1152 → packed_level words k ≡ false)
     → level_at (unpacked words width) column ≡ packed_level words column
-level_packed words width column room rest = elim (cases_lt column width) [
-  | inl inside ↦ level_unpacked words width column inside
-  | inr past ↦
-      get_or_past (unpacked words width) column false (omega (arith, length-unpacked words width))
-      ∙ sym (rest column past room)
-]
+level_packed words width column room rest = grind (arith, cases_lt, level_unpacked, get_or_past, length-unpacked)
 
 -- a bit of a word that was cut to 64 bits
 bit_cut : (n i : ℕ) → i < 64 → bit_at (n % 2 ^ 64) i ≡ bit_at n i
@@ -45,19 +39,14 @@ two_words here next place = bit_or (here / 2 ^ place) (next * 2 ^ (64 - place) %
 
 module _ (here next place : ℕ) (small : here < 2 ^ 64) (within : place < 64) where
   pub in_first : (i : ℕ) → place + i < 64 → level_of_bit (two_words here next place) i ≡ level_of_bit here (place + i)
-  in_first i l =
-      let none : bit_at (next * 2 ^ (64 - place) % 2 ^ 64) i ≡ 0
-      = bit_moved_low next (64 - place) i (omega arith) (omega arith) in
-      ap (λ (x : ℕ). nat_eq x 1) (bit_at_or (here / 2 ^ place) (next * 2 ^ (64 - place) % 2 ^ 64) i
-      ∙ ap (λ (x : ℕ). max (bit_at (here / 2 ^ place) i) x) none ∙ max-zero (bit_at (here / 2 ^ place) i)
-      ∙ bit_behind here place i)
+  in_first i l = grind (arith, bit_moved_low, bit_at_or, max-zero, bit_after)
 
   pub in_second : (i : ℕ) → 64 ≤ place + i → i < 64
       → level_of_bit (two_words here next place) i ≡ level_of_bit next (place + i - 64)
   in_second i past l =
       let moved : ℕ = next * 2 ^ (64 - place) % 2 ^ 64 in
       let none : bit_at (here / 2 ^ place) i ≡ 0
-      = bit_behind here place i ∙ bit_at_above here 64 (place + i) small past in
+      = bit_after here place i ∙ bit_at_above here 64 (place + i) small past in
       let at : i - (64 - place) ≡ place + i - 64 = omega arith in
       ap (λ (x : ℕ). nat_eq x 1) (bit_at_or (here / 2 ^ place) moved i
       ∙ ap (λ (x : ℕ). max x (bit_at moved i)) none ∙ zero-max (bit_at moved i)
@@ -69,34 +58,11 @@ module _ (words : List ℕ) (width column : ℕ)
   pub window_one : column ≤ 1088 → column % 64 ≡ 0 → (i : ℕ) → i < 64
       → level_of_bit (slice_index words (column / 64) / 2 ^ (column % 64)) i
       ≡ level_at (unpacked words width) (column + i)
-  window_one room first i l =
-      let word : ℕ = slice_index words (column / 64) in
-      let index : column / 64 ≡ (column + i) / 64 = omega (arith, first) in
-      let at : column % 64 + i ≡ (column + i) % 64 = omega (arith, first) in
-      ap (λ (x : ℕ). nat_eq x 1) (bit_behind word (column % 64) i) ∙ ap (level_of_bit word) at
-      ∙ ap (λ (j : ℕ). level_of_bit (get_or words j 0) ((column + i) % 64)) index
-      ∙ sym (level_packed words width (column + i) (omega arith) rest)
+  window_one room first i l = grind (arith, slice_index, bit_after, level_packed)
 
   -- where it isn't
   pub window_two : column ≤ 1088 → (column % 64 ≡ 0 → ⊥) → slice_index words (column / 64) < 2 ^ 64 → (i : ℕ) → i < 64
       → level_of_bit
       (two_words (slice_index words (column / 64)) (slice_index words (column / 64 + 1)) (column % 64)) i
       ≡ level_at (unpacked words width) (column + i)
-  window_two room later small i l =
-      let here : ℕ = slice_index words (column / 64) in
-      let next : ℕ = slice_index words (column / 64 + 1) in
-      let place : ℕ = column % 64 in
-      let within : column % 64 < 64 = omega arith in
-      let known = sym (level_packed words width (column + i) (omega (arith, later)) rest) in
-      elim (cases_lt (column % 64 + i) 64) [
-        | inl first ↦
-            let index : column / 64 ≡ (column + i) / 64 = omega (arith, first) in
-            let at : column % 64 + i ≡ (column + i) % 64 = omega (arith, first) in
-            in_first here next (column % 64) small within i first ∙ ap (level_of_bit here) at
-            ∙ ap (λ (j : ℕ). level_of_bit (get_or words j 0) ((column + i) % 64)) index ∙ known
-        | inr second ↦
-            let index : column / 64 + 1 ≡ (column + i) / 64 = omega (arith, second, l) in
-            let at : column % 64 + i - 64 ≡ (column + i) % 64 = omega (arith, second, l) in
-            in_second here next (column % 64) small within i second l ∙ ap (level_of_bit next) at
-            ∙ ap (λ (j : ℕ). level_of_bit (get_or words j 0) ((column + i) % 64)) index ∙ known
-      ]
+  window_two room later small i l = grind (arith, slice_index, level_packed, cases_lt, in_first, in_second)

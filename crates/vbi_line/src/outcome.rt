@@ -53,13 +53,13 @@ pub(crate) fn find_outcome(packed: &Packed, system: System) -> Outcome
 }
 
 /// The cause at the first hopeless column, which is this number of columns after the first column of its run.
-fn cause(begin: usize, behind: usize) -> Outcome
-    requires { begin + behind < 2 ^ 16 }
-    ensures change { behind ≡ 0 → result ≡ Outcome.Change (begin + behind) }
-    ensures hold { 0 < behind → result ≡ Outcome.Hold (begin + behind) }
+fn cause(begin: usize, after: usize) -> Outcome
+    requires { begin + after < 2 ^ 16 }
+    ensures change { after ≡ 0 → result ≡ Outcome.Change (begin + after) }
+    ensures hold { 0 < after → result ≡ Outcome.Hold (begin + after) }
 {
-    let at = (begin + behind) as u16;
-    if behind == 0 {
+    let at = (begin + after) as u16;
+    if after == 0 {
         Outcome::Change(at)
     } else {
         Outcome::Hold(at)

@@ -83,9 +83,7 @@ module _ (c : ConfigView) (z text : List ℕ) (is : read text ≡ Some (document
   field_is i = ap (λ d. option_and_then (at i) (member_of d (codes "fields"))) is
 
   found : (i : ℕ) → i < fields_of c z → field_in text i ≡ Some (field c z i)
-  found i inside =
-      let e : 0 + i ≡ i = omega arith in
-      field_is i ∙ item_at (field c z) 0 (fields_of c z) i inside ∙ ap (λ j. Some (field c z j)) e
+  found i inside = grind (arith, field_is, item_at)
 
   not_found : (i : ℕ) → fields_of c z ≤ i → field_in text i ≡ None
   not_found i past = field_is i ∙ no_item_at (field c z) 0 (fields_of c z) i past
@@ -103,10 +101,7 @@ module _ (c : ConfigView) (z text : List ℕ) (is : read text ≡ Some (document
 
   has_same_reading : (i k : ℕ) (reading : Reading) → i < fields_of c z → k < 3 → RowReads c z i (15 + k) reading
       → HasReading text i k reading
-  has_same_reading i k reading inside line reads =
-      let same : reading ≡ of_line c z i k = only_reading c.system
-      (row_levels c.levels (line_at c.system z i (15 + k))) reading reads in
-      subst (HasReading text i k) (sym same) (has_reading i k inside line)
+  has_same_reading i k reading inside line reads = grind (arith, only_reading, has_reading)
 
   reads_word : (i k word : ℕ) → word_of k (field_in text i) ≡ Some word → 0 < word → ReadsWord c z text i k word
   reads_word i k word e some = go (cases_lt i (fields_of c z)) (cases_lt k 3)

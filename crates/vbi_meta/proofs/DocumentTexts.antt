@@ -1,4 +1,5 @@
 -- The text of a whole document as tokens, each with a gap before it.
+use Rattle.std.proofs.Common.{arith}
 use Rattle.std.proofs.Common.{◌≡◌, ℕ, ◌+◌, ◌==◌, Bool, true, false, cond, List, [], ◌∷◌, ◌++◌, decimal, refl, sym, ap}
 use Rattle.std.proofs.Common.{◌∙◌, subst, append_assoc, append-nil, map, inr}
 use Rattle.std.specs.List.{join_by}
@@ -85,9 +86,7 @@ module _ (readings : ℕ → FieldReadings) where
     one : (before : Bool) (i : ℕ) (is : List ℕ) (qs : Pieces)
         → print_spaced before (entries (i ∷ is) ++ qs)
         ≡ cond before (44 ∷ []) [] ++ (10 ∷ (entry i ++ print_spaced true (entries is ++ qs)))
-    one before i is qs =
-        ap (print_spaced before) (append_assoc (one_entry i) (entries is) qs)
-        ∙ record_prints before (i + 1) (readings i) (entries is ++ qs) (shown i)
+    one before i is qs = grind (arith, append_assoc, record_prints)
 
     later : (is : List ℕ) (qs : Pieces)
         → print_spaced true (entries is ++ qs) ≡ flat_map (λ i. codes ",\n" ++ entry i) is ++ print_spaced true qs
@@ -226,9 +225,7 @@ module _ (c : ConfigView) (readings : ℕ → FieldReadings) (fields rest : ℕ)
       ∙ ap (λ l. head_tokens c ++ l) (entries_tokens readings is (last_gap is) (members_tokens cut))
 
   pub pieces_gaps : (is : List ℕ) → AreGaps (pieces is)
-  pieces_gaps is =
-      gaps_plain_then (head_tokens c) (entries readings is ++ last is)
-      (entries_gaps readings is (last is) (last_is_gap is, gaps_plain (members_tokens cut)))
+  pieces_gaps is = grind (arith, gaps_plain_then, entries_gaps, last_is_gap, gaps_plain)
 
   pub pieces_print : ((i : ℕ) → AreShown (readings i)) → (is : List ℕ)
       → print_spaced false (pieces is) ++ 10 ∷ [] ≡ (head_of c ++ join_by (entry readings) (codes ",\n") is)

@@ -32,14 +32,7 @@ digits-fed [] = refl
 digits-fed (x ∷ t) = ap (λ n. cond (is_ascii_digit x) (1 + n) 0) (digits-fed t)
 
 after_digits-fed : (t : List ℕ) → after_digits (fed t) ≡ option_map fed (after_digits t)
-after_digits-fed t =
-    ap (λ k. cond (k == 0) None (Some (drop k (fed t)))) (digits-fed t) ∙ go (prefix_len is_ascii_digit t == 0)
-  where
-    go : (b : Bool) → cond b None (Some (drop (prefix_len is_ascii_digit t) (fed t)))
-        ≡ option_map fed (cond b None (Some (drop (prefix_len is_ascii_digit t) t)))
-    go true = refl
-    go false = ap Some (drop-append-le (prefix_len is_ascii_digit t) t (10 ∷ [])
-        (prefix_len-le-length is_ascii_digit t))
+after_digits-fed t = grind (arith, cond, digits-fed, option_map, drop-append-le, prefix_len-le-length)
 
 -- the text after its first byte, or the whole
 past : (b : Bool) (x : ℕ) (t : List ℕ) → cond b (fed t) (fed (x ∷ t)) ≡ fed (cond b t (x ∷ t))
@@ -65,21 +58,11 @@ after_whole-fed (x ∷ t) = go (x == 48)
 
 after_fraction-fed : (t : List ℕ) → after_fraction (fed t) ≡ option_map fed (after_fraction t)
 after_fraction-fed [] = refl
-after_fraction-fed (x ∷ t) = go (x == 46)
-  where
-    go : (b : Bool)
-        → cond b (after_digits (fed t)) (Some (fed (x ∷ t))) ≡ option_map fed (cond b (after_digits t) (Some (x ∷ t)))
-    go true = after_digits-fed t
-    go false = refl
+after_fraction-fed (x ∷ t) = grind (arith, cond, option_map, after_digits-fed)
 
 after_exponent-fed : (t : List ℕ) → after_exponent (fed t) ≡ option_map fed (after_exponent t)
 after_exponent-fed [] = refl
-after_exponent-fed (x ∷ t) = go ((x == 101) || (x == 69))
-  where
-    go : (b : Bool) → cond b (after_digits (after_sign (fed t))) (Some (fed (x ∷ t)))
-        ≡ option_map fed (cond b (after_digits (after_sign t)) (Some (x ∷ t)))
-    go true = ap after_digits (after_sign-fed t) ∙ after_digits-fed (after_sign t)
-    go false = refl
+after_exponent-fed (x ∷ t) = grind (arith, cond, option_map, after_sign-fed, after_digits-fed)
 
 then-fed : (f : List ℕ → Option (List ℕ)) → ((t : List ℕ) → f (fed t) ≡ option_map fed (f t)) → (o : Option (List ℕ))
     → option_and_then f (option_map fed o) ≡ option_map fed (option_and_then f o)
@@ -89,20 +72,11 @@ then-fed f each (Some t) = each t
 after_number-fed : (t : List ℕ) → after_number (fed t) ≡ option_map fed (after_number t)
 unfolding after_number
 after_number-fed t =
-    let whole = after_whole (after_minus t) in
-    ap (λ left. option_and_then after_exponent (option_and_then after_fraction left))
-    (ap after_whole (after_minus-fed t) ∙ after_whole-fed (after_minus t))
-    ∙ ap (option_and_then after_exponent) (then-fed after_fraction after_fraction-fed whole)
-    ∙ then-fed after_exponent after_exponent-fed (option_and_then after_fraction whole)
+    grind (arith, option_and_then, after_minus-fed, after_whole-fed, then-fed, after_fraction-fed, after_exponent-fed)
 
 number_before-fed : (t : List ℕ) (o : Option (List ℕ)) → number_before (fed t) (option_map fed o) ≡ number_before t o
 number_before-fed t None = refl
-number_before-fed t (Some rest) =
-    let n : length (fed t) - length (fed rest) ≡ length t - length rest =
-    omega (arith, length-append t (10 ∷ []), length-append rest (10 ∷ [])) in
-    let same : take (length (fed t) - length (fed rest)) (fed t) ≡ take (length t - length rest) t =
-    ap (λ k. take k (fed t)) n ∙ take-append-le (length t - length rest) t (10 ∷ []) (omega arith) in
-    ap₂ (λ (e : Bool) (s : List ℕ). cond e (number s) bad) (ends-fed rest) same
+number_before-fed t (Some rest) = grind (arith, length-append, take-append-le, ap₂, cond, ends-fed)
 
 -- ---- literals
 
@@ -121,9 +95,7 @@ also-same false b c d e h = refl
 
 named-fed : (name t : List ℕ) → is_on_one_line name ≡ true → is_named name (fed t) ≡ is_named name t
 named-fed [] t h = ends-fed t
-named-fed (c ∷ cs) [] h =
-    ap (λ b. (b && pointwise nat_eq cs (take (length cs) [])) && ends_word (drop (length (c ∷ cs)) (10 ∷ [])))
-    (not-true (nat_eq c 10) (and_parts (not (nat_eq c 10)) (is_on_one_line cs) h).0)
+named-fed (c ∷ cs) [] h = grind (arith, not-true, and_parts, not)
 named-fed (c ∷ cs) (x ∷ t) h =
     also-same (nat_eq c x) (pointwise nat_eq cs (take (length cs) (fed t))) _
     (pointwise nat_eq cs (take (length cs) t)) _
@@ -198,9 +170,7 @@ content-fed (after_high h) (s ∷ []) = refl
 content-fed (after_high h) (s ∷ u ∷ []) = refl
 content-fed (after_high h) (s ∷ u ∷ a ∷ []) = refl
 content-fed (after_high h) (s ∷ u ∷ a ∷ b ∷ []) = refl
-content-fed (after_high h) (s ∷ u ∷ a ∷ b ∷ c ∷ []) =
-    ap (λ unit. cond ((s == 92) && (u == 117)) (after_pair h [] unit) None) (no_unit a b c)
-    ∙ no_pair ((s == 92) && (u == 117))
+content-fed (after_high h) (s ∷ u ∷ a ∷ b ∷ c ∷ []) = grind (arith, cond, no_unit, no_pair)
 content-fed (after_high h) (s ∷ u ∷ a ∷ b ∷ c ∷ d ∷ t) =
     ap (λ r. cond ((s == 92) && (u == 117)) r None) (after_pair-fed h t (λ w. content-fed w t) (code_unit a b c d))
 

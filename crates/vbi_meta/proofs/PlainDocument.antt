@@ -37,38 +37,14 @@ small_rest Pal bytes = omega arith
 plain_reading : (system : System) (levels : List Bool) → length levels < 2 ^ 64 → (outcome : Outcome) (pass : ℕ)
     → Reads system levels outcome pass → IsShown (record { outcome = outcome; pass = pass })
     → IsPlainReading (record { outcome = outcome; pass = pass })
-plain_reading system levels short (Word w) pass (inl (p, shows)) shown = record {
-  value = shows.is_word.1;
-  pass = omega arith;
-  free = shown.free;
-  cause = known (codes "word") refl;
-}
-plain_reading system levels short (Word w) pass (inr (p, none, high, shows)) shown = record {
-  value = shows.is_word.1;
-  pass = omega arith;
-  free = shown.free;
-  cause = known (codes "word") refl;
-}
+plain_reading system levels short (Word w) pass (inl (p, shows)) shown = grind (arith, known)
+plain_reading system levels short (Word w) pass (inr (p, none, high, shows)) shown = grind (arith, known)
 plain_reading system levels short Blank pass (p, is, none) shown =
     record { value = lit< tt; pass = omega arith; free = shown.free; cause = known (codes "blank") refl }
 plain_reading system levels short Unfinished pass (p, is, none) shown =
     record { value = lit< tt; pass = omega arith; free = shown.free; cause = known (codes "unfinished") refl }
-plain_reading system levels short (Change c) pass (p, is, none) shown =
-    let inside : c < length levels = is.2.inside in
-    record {
-      value = lit< tt;
-      pass = omega arith;
-      free = shown.free;
-      cause = then (known (codes "change ") refl) (count c (omega arith));
-    }
-plain_reading system levels short (Hold c) pass (p, is, none) shown =
-    let inside : c < length levels = is.2.inside in
-    record {
-      value = lit< tt;
-      pass = omega arith;
-      free = shown.free;
-      cause = then (known (codes "hold ") refl) (count c (omega arith));
-    }
+plain_reading system levels short (Change c) pass (p, is, none) shown = grind (arith, lit<, then, known, count)
+plain_reading system levels short (Hold c) pass (p, is, none) shown = grind (arith, lit<, then, known, count)
 
 row_plain : (c : ConfigView) (z : List ℕ) (i r : ℕ) → IsShown (reading_at c z i r) → IsPlainReading (reading_at c z i r)
 row_plain c z i r =

@@ -67,9 +67,7 @@ small_count : (n : ℕ) → n < 2 ^ 24 → Tree (count_json n)
 small_count n h = record { all = ((count n (omega arith), (n, h, refl)), tt) }
 
 plain_string : (s : List ℕ) → escape s ≡ s → Plain s → Tree (json.string s)
-plain_string s free h =
-    let text : Plain (34 ∷ (s ++ 34 ∷ [])) = then (known (34 ∷ []) refl) (then h (known (34 ∷ []) refl)) in
-    record { all = ((subst (λ (t : List ℕ). Plain (34 ∷ (t ++ 34 ∷ []))) (sym free) text, tt), tt) }
+plain_string s free h = grind (arith, then, known)
 
 null_tree : Tree json.null
 null_tree = record { all = ((known (codes "null") refl, tt), tt) }
@@ -88,9 +86,7 @@ no_member = record { all = ((known (codes "}") refl, tt), tt) }
 
 with_member : (k : List ℕ) → are_plain (quoted k ++ 58 ∷ []) ≡ true → {j : json.Json} {ms : json.Members} → Tree j
     → Members ms → Members (json.member k j ms)
-with_member k plain {j} {ms} one rest = record {
-  all = ((known (quoted k ++ 58 ∷ []) plain, tt), append (json_tokens j) (members_tokens ms) one.all rest.all);
-}
+with_member k plain {j} {ms} one rest = grind (arith, known, append)
 
 object_tree : {ms : json.Members} → Members ms → Tree (json.object ms)
 object_tree h = record { all = ((known (codes "{") refl, tt), h.all) }
@@ -115,23 +111,12 @@ lines_tree tree readings a b c = array_tree (with_item a (with_item b (with_item
 
 words_tree : (readings : FieldReadings) → ArePlainReadings readings → Tree (words_json readings)
 unfolding escape_byte
-words_tree readings h =
-    object_tree (with_member (codes "vbiData") refl
-    (lines_tree (λ x. count_json (value_of x.outcome)) readings (small_count _ h.first.value)
-    (small_count _ h.second.value) (small_count _ h.third.value)) no_member)
+words_tree readings h = grind (arith, object_tree, with_member, lines_tree, count_json, small_count, no_member)
 
 field_tree : (n : ℕ) (readings : FieldReadings) → n < 2 ^ 24 → ArePlainReadings readings → Tree (record_json n readings)
 unfolding escape_byte
 field_tree n readings small h =
-    object_tree
-    (with_member (codes "seqNo") refl (small_count n small)
-    (with_member (codes "vbi") refl (words_tree readings h)
-    (with_member (codes "vbiCause") refl
-    (lines_tree (λ x. json.string (cause_text_of x.outcome)) readings (plain_string _ h.first.free h.first.cause)
-    (plain_string _ h.second.free h.second.cause) (plain_string _ h.third.free h.third.cause))
-    (with_member (codes "vbiPass") refl
-    (lines_tree (λ x. count_json x.pass) readings (small_count _ h.first.pass) (small_count _ h.second.pass)
-    (small_count _ h.third.pass)) no_member))))
+    grind (arith, object_tree, with_member, small_count, words_tree, lines_tree, plain_string, count_json, no_member)
 
 -- ---- the document
 
@@ -151,19 +136,12 @@ name_tree Pal = plain_string (codes "PAL") refl (known (codes "PAL") refl)
 parameters_tree : (c : ConfigView) → c.levels.black < 2 ^ 24 → c.levels.white < 2 ^ 24 → Tree (parameters_json c)
 unfolding escape_byte
 parameters_tree c black white =
-    object_tree
-    (with_member (codes "system") refl (name_tree c.system)
-    (with_member (codes "fieldWidth") refl (small_count (width_of c.system) (small_width c.system))
-    (with_member (codes "fieldHeight") refl (small_count (height_of c.system) (small_height c.system))
-    (with_member (codes "black16bIre") refl (small_count c.levels.black black)
-    (with_member (codes "white16bIre") refl (small_count c.levels.white white) no_member)))))
+    grind (arith, object_tree, with_member, name_tree, small_count, small_width, small_height, no_member)
 
 cut_tree : (whole : Bool) (n bytes : ℕ) → n < 2 ^ 24 → bytes < 2 ^ 24 → Tree (cut_json whole n bytes)
 unfolding escape_byte
 cut_tree true n bytes hn hb = null_tree
-cut_tree false n bytes hn hb =
-    object_tree (with_member (codes "seqNo") refl (small_count n hn)
-    (with_member (codes "bytes") refl (small_count bytes hb) no_member))
+cut_tree false n bytes hn hb = grind (arith, object_tree, with_member, small_count, no_member)
 
 two : decimal 2 ≡ codes "2"
 unfolding digits

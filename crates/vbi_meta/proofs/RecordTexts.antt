@@ -1,4 +1,5 @@
 -- The record of a field as tokens, each with a gap before it.
+use Rattle.std.proofs.Common.{arith}
 use Rattle.std.proofs.Common.{◌≡◌, ℕ, Bool, true, false, cond, List, [], ◌∷◌, ◌++◌, decimal, sym, ap, ◌∙◌, append_assoc}
 use Rattle.std.specs.Prelude.{codes}
 use Rattle.json.specs.Json as json
@@ -114,9 +115,7 @@ list_then list readings r =
 list_text : (list : LineList) (readings : FieldReadings) (r : List ℕ)
     → list_then list readings r ≡ list_of list readings ++ r
 unfolding lines_of
-list_text list readings r =
-    sym (seven list.opening (list.text_of readings.first) (codes ",") (list.text_of readings.second) (codes ",")
-    (list.text_of readings.third) list.closing r)
+list_text list readings r = grind (arith, seven)
 
 -- a text that needs no escape, as a string
 quoted_as : (s : List ℕ) → escape s ≡ s → quoted s ≡ codes "\"" ++ s ++ codes "\""
@@ -130,11 +129,7 @@ unfolding lines_of
 lines_same opening closing f g readings first second third = rw (first, second, third)
 
 causes_same : (readings : FieldReadings) → AreShown readings → list_of quoted_causes readings ≡ list_of causes readings
-causes_same readings shown =
-    lines_same causes.opening causes.closing quoted_causes.text_of causes.text_of readings
-    (quoted_as (cause_text_of readings.first.outcome) shown.first.free)
-    (quoted_as (cause_text_of readings.second.outcome) shown.second.free)
-    (quoted_as (cause_text_of readings.third.outcome) shown.third.free)
+causes_same readings shown = grind (arith, lines_same, quoted_as)
 
 -- the record as it is printed, and the rest
 abbrev record_then : ℕ → FieldReadings → List ℕ → List ℕ

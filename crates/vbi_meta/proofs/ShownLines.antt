@@ -125,11 +125,7 @@ short_line Pal = lit< tt
 
 pub short_levels : (c : ConfigView) (z : List ℕ) (i r : ℕ)
     → length (row_levels c.levels (line_at c.system z i r)) < 2 ^ 64
-short_levels c z i r =
-    let row = line_at c.system z i r in
-    let long : length row ≤ line_bytes c.system =
-    omega (arith, length-take (line_bytes c.system) (drop (i * field_bytes c.system + line_bytes c.system * r) z)) in
-    omega (arith, length-map (samples_of row) (is_high_of c.levels), samples_below row, short_line c.system)
+short_levels c z i r = grind (arith, length-take, length-map, samples_below, short_line)
 
 row_shown : (c : ConfigView) (z : List ℕ) (i r : ℕ) → IsShown (reading_at c z i r)
 row_shown c z i r =

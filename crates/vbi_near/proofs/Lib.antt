@@ -37,3 +37,4 @@ pub mod SomeRecovered
 pub mod Swings
 pub mod Tables
 pub mod DrawnNearest
+pub mod PileOf

@@ -1,4 +1,4 @@
--- The best of some choices, and how far the next is behind it.
+-- The best of some choices, and how much more the next one costs.
 use Rattle.std.specs.Prelude.{◌≡◌, ◌≢◌, ◌≤◌, ◌<◌, ◌⊎◌, ℕ, suc, ◌+◌, ◌^◌, Bool, true, false, min, Some, None, List}
 use Rattle.std.specs.Prelude.{slice_index_or}
 use Rattle.vbi_words.specs.Words.{IsWord}
@@ -54,7 +54,7 @@ Grows best as_one as_zero more =
 pub record AreGrown (ones zeros : List ℕ) (old new : Every) (column : ℕ) : Type 0 where
   pub below : (start : ℕ) → start < column
       → Grows (bits_at old start) (slice_index_or ones start 0) (slice_index_or zeros start 0) (bits_at new start)
-  pub behind : (start : ℕ) → column ≤ start → bits_at new start ≡ bits_at old start
+  pub after : (start : ℕ) → column ≤ start → bits_at new start ≡ bits_at old start
 
 -- of all words that begin from `low` on and before `high` this has the least distance; `rival` is that of the nearest
 -- other word; of words that are as near it begins first, and of those that begin where it does it is the least

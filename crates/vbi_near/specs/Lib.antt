@@ -12,12 +12,13 @@ pub mod Stretched
 pub mod LineCodes
 pub mod Leads
 pub mod Rows
+pub mod Pile
 pub mod Priced
 pub mod Levelled
 pub mod WorkedLevels
 pub mod Said
 pub mod Candidates
-pub mod Lines
 pub mod Recovery
 pub mod Piled
+pub mod Lines
 pub mod WorkedRules

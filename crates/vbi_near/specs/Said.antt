@@ -53,7 +53,7 @@ is_cut unit lines near = nat_lt (near.shorter + 4 * lines * unit) near.distance
 abbrev pub is_whole : ℕ → ℕ → Near → Bool
 is_whole blank halved near = nat_le (4 * near.distance + blank) (4 * halved + near.distance)
 
--- any other word is so far behind, and the signal begins and ends with this one, and is all there
+-- any other word is farther by so much, and the signal begins and ends with this one, and is all there
 abbrev pub is_clear : ℕ → ℕ → ℕ → ℕ → ℕ → ℕ → Near → Bool
 is_clear unit columns share lines blank halved near =
     is_ahead unit columns near && is_ahead_by share blank near && not (goes_on unit lines near)

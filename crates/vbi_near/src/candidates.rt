@@ -9,12 +9,11 @@ ghost use Rattle.vbi_near.specs.Stretched.{IsStretched};
 ghost use Rattle.vbi_near.specs.Candidates.{HasNear, HasNearIf, row_of, given_samples, filled_samples, swing_in, has_swing};
 ghost use Rattle.vbi_near.specs.Candidates.{are_alike, are_alike_by, levelled_samples};
 
-use crate::levelled::{fill, is_swing, level, sum_samples, swing};
-use crate::lines::{Nears, nears_of};
+use crate::levelled::{Summed, fill, is_swing, level, sum_samples, swing};
+use crate::lines::Nears;
 use crate::near::WIDEST;
-use crate::pile::add_line;
+use crate::pile::Pile;
 use crate::row::{Pair, Row};
-use crate::stretched::stretched_distance;
 use vbi_words::{Levels, System, Word24};
 
 /// How far white is from black.
@@ -29,12 +28,11 @@ pub(crate) fn unit_of(levels: Levels) -> u32
 pub(crate) fn near_of_one(number: u32, levels: Levels, row: &Row) -> Nears
     ensures { HasNear row.now.system number levels (given_samples (row_in row.now) ∷ []) result }
 {
-    let mut all_darks = [0; WIDEST];
-    let mut all_lights = [0; WIDEST];
-    let darks = &mut all_darks[..row.system.width()];
-    let lights = &mut all_lights[..row.system.width()];
-    add_line(levels, row.bytes, row.erased, darks, lights);
-    nears_of(row.system, number, darks, lights)
+    let mut darks = [0; WIDEST];
+    let mut lights = [0; WIDEST];
+    let mut pile = Pile::new(row.system, levels, &mut darks, &mut lights);
+    pile.add(row.bytes, row.erased);
+    pile.nears(number)
 }
 
 /// The nearest ones of two lines that have one word.
@@ -42,25 +40,23 @@ pub(crate) fn near_of_two(number: u32, levels: Levels, pair: &Pair) -> Nears
     ensures { HasNear pair.now.system number levels (given_samples (first_in pair.now)
         ∷ given_samples (other_in pair.now) ∷ []) result }
 {
-    let mut all_darks = [0; WIDEST];
-    let mut all_lights = [0; WIDEST];
-    let darks = &mut all_darks[..pair.system.width()];
-    let lights = &mut all_lights[..pair.system.width()];
-    add_line(levels, pair.bytes, pair.erased, darks, lights);
-    add_line(levels, pair.other_bytes, pair.other_erased, darks, lights);
-    nears_of(pair.system, number, darks, lights)
+    let mut darks = [0; WIDEST];
+    let mut lights = [0; WIDEST];
+    let mut pile = Pile::new(pair.system, levels, &mut darks, &mut lights);
+    pile.add(pair.bytes, pair.erased);
+    pile.add(pair.other_bytes, pair.other_erased);
+    pile.nears(number)
 }
 
 /// How far a line is from the nearest row of this word on cells that are somewhat longer or shorter.
 pub(crate) fn stretched_of_one(levels: Levels, row: &Row, word: Word24) -> u32
     ensures { IsStretched row.now.system levels (given_samples (row_in row.now) ∷ []) word result }
 {
-    let mut all_darks = [0; WIDEST];
-    let mut all_lights = [0; WIDEST];
-    let darks = &mut all_darks[..row.system.width()];
-    let lights = &mut all_lights[..row.system.width()];
-    add_line(levels, row.bytes, row.erased, darks, lights);
-    stretched_distance(darks, lights, row.system, word)
+    let mut darks = [0; WIDEST];
+    let mut lights = [0; WIDEST];
+    let mut pile = Pile::new(row.system, levels, &mut darks, &mut lights);
+    pile.add(row.bytes, row.erased);
+    pile.stretched(word)
 }
 
 /// Levels a line, if it swings as one with a word does, and answers its swing.
@@ -83,9 +79,14 @@ pub(crate) fn level_row(
     fill(levels, row, erased, whole);
     let mut sums = [0; WIDEST + 1];
     sum_samples(system, whole, &mut sums);
-    let swing = swing(system, whole, &sums);
+    let line = Summed {
+        system,
+        row: whole,
+        sums: &sums,
+    };
+    let swing = swing(&line);
     if is_swing(unit_of(levels), swing) {
-        level(system, levels, whole, &sums, swing, out);
+        level(levels, &line, swing, out);
     }
     swing
 }
@@ -110,7 +111,8 @@ pub(crate) fn levelled_near_of_one(number: u32, levels: Levels, row: &Row) -> Op
     }
 }
 
-/// Whether two lines that swing so may be levelled together: neither swings more than twice as much as the other.
+/// Whether two lines that swing so may be levelled together: neither swings more than twice as much as the other. Levelled
+/// lines count the same, and noise of a line that swings less would be made as much as the signal of the other.
 pub(crate) fn are_alike(unit: u32, swing: u32, other: u32) -> bool
     ensures { result ≡ are_alike_by unit swing other }
 {

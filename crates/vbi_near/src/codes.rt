@@ -165,7 +165,7 @@ fn best_digits(prices: &Prices, words: Words) -> Bits
 }
 
 /// The nearest of a range's words that begin at one column.
-fn in_range(prices: &Prices, words: Words) -> Found
+fn nearest_in_range(prices: &Prices, words: Words) -> Found
     requires { IsRange words.0 words.1 }
     ensures lead { (cost : ℕ → ℕ → ℕ) → IsPricedBy cost prices.now
         → IsLead cost (at_start prices.now.start (range words.0 words.1)) result }
@@ -193,7 +193,7 @@ fn with_codes(prices: &Prices, codes: &[Words], found: Found) -> Found
 {
     let mut best = found;
     for words in codes {
-        best = nearer_lead(best, in_range(prices, *words));
+        best = nearer_lead(best, nearest_in_range(prices, *words));
     }
     best
 }

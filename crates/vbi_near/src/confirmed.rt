@@ -50,7 +50,8 @@ fn other_than(word: Word24, near: &Near) -> u32
     }
 }
 
-/// Whether a word on somewhat longer or shorter cells is ahead of any other word by eight columns.
+/// Whether a word on somewhat longer or shorter cells is ahead of any other word by eight columns, the margin of a word
+/// that is no code on one line (said.rt).
 fn is_stretched(unit: u32, stretched: u32, word: Word24, near: &Near) -> bool
     ensures { result ≡ is_stretched unit stretched word near.now }
 {

@@ -6,7 +6,7 @@ ghost use Rattle.vbi_near.specs.Pictures.{word_length, IsPlace};
 ghost use Rattle.vbi_near.specs.Rows.{shades_of};
 ghost use Rattle.vbi_near.specs.Halved.{half_of, row_cost, halved_cost};
 
-use crate::cell::column;
+use crate::half_cells::column;
 use crate::near::Near;
 use crate::sums::{Sums, between};
 use vbi_words::Word24;

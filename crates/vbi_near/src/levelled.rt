@@ -1,4 +1,18 @@
 //! Lines whose running mean is taken off, and whose swing is made that of white and black.
+//!
+//! Each cell of a word is black in one half and white in the other, so the mean of some whole cells is half way between
+//! black and white, wherever the level of the signal wanders and however weak it is. `fill` puts that middle into erased
+//! columns, `sum_samples` and `sum_windows` give each column the sum of a window about it, `swing` is twice how far the
+//! samples are from their means, in the mean of the columns, and `level` writes the line. candidates.rt calls them in
+//! this order, and `is_swing` tells between them whether the line swings as one with a word does.
+//!
+//! A window has six cells of two microseconds, 172 columns in NTSC and 213 in PAL: enough that a word's bits hardly show
+//! in its mean, and few enough that the mean follows hum and tilt. No window leaves the columns that a word and the
+//! black about it can have (`first`, `end`). A sum stands for a mean, and what is compared with it is multiplied by the
+//! columns of the window, so that nothing is rounded before the one division (`quotient`).
+//!
+//! specs/Levelled.antt has the same numbers, and levelled_laws.rt has worked lines. A change of what a line becomes
+//! changes what fields show, and so the tables of docs/measured.
 
 ghost use Rattle.std.specs.Prelude.{◌≡◌, ◌≢◌, ℕ, ◌+◌, ◌*◌, ◌/◌, ◌^◌, ◌≤◌, ◌<◌, min, length, slice_index, IsTrue};
 ghost use Rattle.std.specs.Prelude.{IsFalse};
@@ -13,6 +27,17 @@ use vbi_words::{Levels, System};
 
 /// How many sums the longest line has: one before each sample, and that of all.
 pub(crate) const SUMS: usize = 1136;
+
+/// A line by its bytes, and the sums of its samples: for each column the sum of those before it.
+#[derive(Clone, Copy)]
+pub(crate) struct Summed<'a> {
+    pub(crate) system: System,
+    pub(crate) row: &'a [u8],
+    pub(crate) sums: &'a [u32],
+    ghost whole: { length row.now ≡ line_bytes system },
+    ghost bytes: { (k : ℕ) → slice_index row.now k < 256 },
+    ghost summed: { AreSampleSums (samples_of row.now) sums.now },
+}
 
 /// The columns of the running mean.
 fn window(system: System) -> u32
@@ -119,13 +144,11 @@ pub(crate) fn sum_samples(system: System, row: &[u8], sums: &mut [u32])
 
 /// The sum of the window of a column.
 #[inline(always)]
-fn window_sum(system: System, row: &[u8], sums: &[u32], column: usize) -> u32
-    requires row { length row.now ≡ line_bytes system }
-    requires sums { AreSampleSums (samples_of row.now) sums.now }
-    ensures { result ≡ window_sum system (samples_of row.now) column }
+fn window_sum(line: &Summed, column: usize) -> u32
+    ensures { result ≡ window_sum line.now.system (samples_of line.now.row.now) column }
 {
-    let start = window_start(system, column);
-    sums[start + window(system) as usize] - sums[start]
+    let start = window_start(line.system, column);
+    line.sums[start + window(line.system) as usize] - line.sums[start]
 }
 
 /// A sample times the columns of a window.
@@ -141,19 +164,19 @@ fn own(system: System, row: &[u8], column: usize) -> u32
 /// Writes for each column the sum of its window.
 // First the windows begin where the first one does, then half a window before their columns, at last where the last one
 // does: a loop for each, of which a compiler makes vectors.
-fn sum_windows(system: System, row: &[u8], sums: &[u32], windows: &mut [u32])
-    requires row { length row.now ≡ line_bytes system }
-    requires sums { AreSampleSums (samples_of row.now) sums.now }
-    requires room { length windows.old ≡ width_of system }
-    ensures windows { AreWindows system (samples_of row.now) windows.new }
+fn sum_windows(line: &Summed, windows: &mut [u32])
+    requires room { length windows.old ≡ width_of line.now.system }
+    ensures windows { AreWindows line.now.system (samples_of line.now.row.now) windows.new }
     ensures long { length windows.new ≡ length windows.old }
 {
+    let system = line.system;
+    let sums = line.sums;
     let wide = window(system) as usize;
     let half = wide / 2;
     let from = first(system) + half;
     let to = end(system) - wide + half;
-    let before = window_sum(system, row, sums, 0);
-    let behind = window_sum(system, row, sums, to);
+    let before = window_sum(line, 0);
+    let after = window_sum(line, to);
     for column in 0..from {
         windows[column] = before;
     }
@@ -161,28 +184,28 @@ fn sum_windows(system: System, row: &[u8], sums: &[u32], windows: &mut [u32])
         windows[column] = sums[column - half + wide] - sums[column - half];
     }
     for column in to..system.width() {
-        windows[column] = behind;
+        windows[column] = after;
     }
 }
 
 /// How far a line's high samples are from its low ones.
-pub(crate) fn swing(system: System, row: &[u8], sums: &[u32]) -> u32
-    requires row { length row.now ≡ line_bytes system }
-    requires sums { AreSampleSums (samples_of row.now) sums.now }
-    ensures { result ≡ swing_of system (samples_of row.now) }
+pub(crate) fn swing(line: &Summed) -> u32
+    ensures { result ≡ swing_of line.now.system (samples_of line.now.row.now) }
 {
+    let system = line.system;
     let mut buffer = [0; WIDEST];
     let windows = &mut buffer[..system.width()];
-    sum_windows(system, row, sums, windows);
+    sum_windows(line, windows);
     let mut off = 0;
     for column in first(system)..end(system) {
-        off += u64::from(own(system, row, column).abs_diff(windows[column]));
+        off += u64::from(own(system, line.row, column).abs_diff(windows[column]));
     }
     let columns = (end(system) - first(system)) as u64;
     (2 * off / (u64::from(window(system)) * columns)) as u32
 }
 
-/// Whether a line of this swing is levelled.
+/// Whether a line of this swing is levelled: from 3 to 16 tenths of what white is from black. With less it is noise
+/// about a level, and with more no signal of black and white.
 pub(crate) fn is_swing(unit: u32, swing: u32) -> bool
     ensures { result ≡ is_swing unit swing }
 {
@@ -226,29 +249,21 @@ fn levelled_sample(levels: Levels, scale: u64, inverse: u64, own: u32, mean: u32
 }
 
 /// Writes the levelled line of this swing.
-pub(crate) fn level(
-    system: System,
-    levels: Levels,
-    row: &[u8],
-    sums: &[u32],
-    swing: u32,
-    out: &mut [u8],
-)
-    requires row { length row.now ≡ line_bytes system }
-    requires sums { AreSampleSums (samples_of row.now) sums.now }
-    requires swing { swing ≡ swing_of system (samples_of row.now) }
+pub(crate) fn level(levels: Levels, line: &Summed, swing: u32, out: &mut [u8])
+    requires swing { swing ≡ swing_of line.now.system (samples_of line.now.row.now) }
     requires some { 0 < swing }
-    requires out { length out.old ≡ line_bytes system }
-    ensures levelled { samples_of out.new ≡ levelled system levels (samples_of row.now) }
+    requires out { length out.old ≡ line_bytes line.now.system }
+    ensures levelled { samples_of out.new ≡ levelled line.now.system levels (samples_of line.now.row.now) }
     ensures long { length out.new ≡ length out.old }
 {
+    let system = line.system;
     let scale = u64::from(window(system)) * u64::from(swing);
     let inverse = WHOLE / scale;
     let mut buffer = [0; WIDEST];
     let windows = &mut buffer[..system.width()];
-    sum_windows(system, row, sums, windows);
+    sum_windows(line, windows);
     for column in 0..system.width() {
-        let own = own(system, row, column);
+        let own = own(system, line.row, column);
         let sample = levelled_sample(levels, scale, inverse, own, windows[column]);
         put(out, column, sample);
     }

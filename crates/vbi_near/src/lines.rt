@@ -1,54 +1,21 @@
-//! The nearest word of lines that lie one after the other.
+//! The nearest word of some lines, and the nearest code, by what the lines' columns cost.
 
-ghost use Rattle.std.specs.Prelude.{◌≡◌, ◌+◌, ◌*◌, ◌≤◌, ◌<◌, length, List};
-ghost use Rattle.vbi_words.specs.Geometry.{line_bytes, line_at, width_of};
+ghost use Rattle.std.specs.Prelude.{◌≡◌, length, List};
+ghost use Rattle.vbi_words.specs.Geometry.{width_of};
 ghost use Rattle.vbi_words.specs.Levels.{Slicing};
 ghost use Rattle.vbi_near.specs.Candidates.{HasNear};
-ghost use Rattle.vbi_near.specs.Distances.{Samples, lines_of, IsPile, AreFew, shades};
-ghost use Rattle.vbi_near.specs.Nearest.{IsNearest, IsFirst};
+ghost use Rattle.vbi_near.specs.Distances.{Samples, IsPile, AreFew, shades};
+ghost use Rattle.vbi_near.specs.Nearest.{IsNearestCode, IsFirstCode};
 ghost use Rattle.vbi_near.specs.Longer.{IsLonger};
 ghost use Rattle.vbi_near.specs.Shorter.{IsShorter};
 
 use crate::bits::MOST_STARTS;
 use crate::found::{nearest_word, start_count};
 use crate::halved::halved_distance;
-use crate::near::{Near, WIDEST, near_word, nearest};
+use crate::near::{Near, near_word};
 use crate::near_code::near_code;
-use crate::pile::add_line;
 use crate::sums::{ROOM, Sums};
-use vbi_words::{Levels, System};
-
-/// The bytes of a line, counted from 0.
-pub(crate) fn line_of(system: System, lines: &[u8], line: usize) -> &[u8]
-    requires { line_bytes system * line + line_bytes system ≤ length lines.now }
-    ensures line { result.now ≡ line_at system lines.now 0 line }
-    ensures long { length result.now ≡ line_bytes system }
-{
-    let size = system.line_bytes();
-    &lines[size * line..size * line + size]
-}
-
-/// The word that is nearest to so many lines of samples, each of two bytes, the low one first.
-pub fn nearest_of_lines(system: System, levels: Levels, lines: &[u8], count: usize) -> Near
-    requires few { count ≤ 28 }
-    requires whole { length lines.now ≡ count * line_bytes system }
-    ensures nearest { IsNearest system levels (lines_of system lines.now count) result }
-    ensures first { IsFirst system levels (lines_of system lines.now count) result }
-    ensures longer { IsLonger system levels (lines_of system lines.now count) result }
-    ensures shorter { IsShorter system levels (lines_of system lines.now count) result }
-    ensures start { result.start < 285 }
-{
-    let none_erased = [false; WIDEST];
-    let erased = &none_erased[..system.width()];
-    let mut all_darks = [0; WIDEST];
-    let mut all_lights = [0; WIDEST];
-    let darks = &mut all_darks[..system.width()];
-    let lights = &mut all_lights[..system.width()];
-    for line in 0..count {
-        add_line(levels, line_of(system, lines, line), erased, darks, lights);
-    }
-    nearest(system, darks, lights)
-}
+use vbi_words::System;
 
 /// The word that is nearest to some lines, the code that is nearest, and how far they are from none.
 #[derive(Clone, Copy)]
@@ -90,4 +57,23 @@ pub fn nears_of(system: System, number: u32, darks: &[u32], lights: &[u32]) -> N
         word_halved: halved_distance(&sums, &word),
         code_halved: halved_distance(&sums, &code),
     }
+}
+
+/// Of the codes that may stand on a line of this number the one that is nearest to some lines, or none, by how far
+/// their samples are from black in each column, and from white. Of those that are as near, the same one comes first as
+/// of all words.
+pub fn nearest_of_codes(system: System, line: u32, darks: &[u32], lights: &[u32]) -> Near
+    requires dark { length darks.now ≡ width_of system }
+    requires light { length lights.now ≡ width_of system }
+    requires few { AreFew 28 darks.now × AreFew 28 lights.now }
+    ensures nearest { (slicing : Slicing) (lines : List Samples)
+        → IsPile system slicing lines (shades darks.now lights.now) → IsNearestCode system line slicing lines result }
+    ensures first { (slicing : Slicing) (lines : List Samples)
+        → IsPile system slicing lines (shades darks.now lights.now) → IsFirstCode system line slicing lines result }
+    ensures longer { (slicing : Slicing) (lines : List Samples)
+        → IsPile system slicing lines (shades darks.now lights.now) → IsLonger system slicing lines result }
+    ensures shorter { (slicing : Slicing) (lines : List Samples)
+        → IsPile system slicing lines (shades darks.now lights.now) → IsShorter system slicing lines result }
+{
+    nears_of(system, line, darks, lights).code
 }

@@ -1,14 +1,21 @@
 //! What the columns of lines that have one word cost: how far their samples are from black, and from white, each at
 //! most as far as white is from black.
 
-ghost use Rattle.std.specs.Prelude.{◌≡◌, ℕ, ◌+◌, ◌*◌, ◌≤◌, ◌<◌, ◌∷◌, ◌++◌, [], length, List};
+ghost use Rattle.std.specs.Prelude.{◌≡◌, ℕ, ◌+◌, ◌*◌, ◌≤◌, ◌<◌, ◌∷◌, ◌++◌, [], length, take, List};
 ghost use Rattle.vbi_words.specs.declared.system.System.{System};
-ghost use Rattle.vbi_words.specs.Geometry.{width_of};
-ghost use Rattle.vbi_words.specs.Levels.{samples_of};
+ghost use Rattle.vbi_words.specs.Geometry.{line_bytes, width_of};
+ghost use Rattle.vbi_words.specs.Levels.{Slicing, samples_of};
 ghost use Rattle.vbi_line.specs.Line.{sample_at};
-ghost use Rattle.vbi_near.specs.Distances.{Samples, known_but, IsPile, AreFew, shades};
+ghost use Rattle.vbi_near.specs.Distances.{Samples, lines_of, known_but, IsPile, AreFew, shades};
+ghost use Rattle.vbi_near.specs.Nearest.{IsNearest, IsFirst};
+ghost use Rattle.vbi_near.specs.Longer.{IsLonger};
+ghost use Rattle.vbi_near.specs.Shorter.{IsShorter};
 
-use vbi_words::Levels;
+use crate::lines::{Nears, nears_of};
+use crate::near::{Near, WIDEST, nearest};
+use crate::row::line_of;
+use crate::stretched::stretched_distance;
+use vbi_words::{Levels, System, Word24};
 
 /// A line's sample in a column.
 fn sample(line: &[u8], column: usize) -> u16
@@ -48,4 +55,108 @@ pub fn add_line(levels: Levels, line: &[u8], erased: &[bool], darks: &mut [u32],
         darks[column] += u32::from(sample.abs_diff(levels.black()).min(most));
         lights[column] += u32::from(sample.abs_diff(levels.white()).min(most));
     }
+}
+
+/// What each column of some lines costs, in sum over the lines: `darks` if it is black, `lights` if it is white.
+#[derive(Drop)]
+pub(crate) struct Pile<'a> {
+    system: System,
+    levels: Levels,
+    /// How many lines there are.
+    count: usize,
+    darks: &'a mut [u32],
+    lights: &'a mut [u32],
+    ghost most: { count ≤ 28 },
+    ghost dark_whole: { length darks.now ≡ width_of system },
+    ghost light_whole: { length lights.now ≡ width_of system },
+    ghost dark: { AreFew count darks.now },
+    ghost light: { AreFew count lights.now },
+}
+
+impl<'a> Pile<'a> {
+    ghost use Rattle.std.specs.Prelude.{replicate};
+    ghost use Rattle.vbi_near.specs.Candidates.{HasNear};
+    ghost use Rattle.vbi_near.specs.Stretched.{IsStretched};
+    ghost use Rattle.vbi_near.specs.Rows.{IsNearWord};
+    ghost use Rattle.vbi_near.specs.Pile.{IsPileOf};
+
+    /// That of no lines, with room for the costs of the longest ones.
+    pub(crate) fn new(
+        system: System,
+        levels: Levels,
+        darks: &'a mut [u32; WIDEST],
+        lights: &'a mut [u32; WIDEST],
+    ) -> Self
+        requires { (darks.old ≡ replicate 1135 0) × (lights.old ≡ replicate 1135 0) }
+        ensures empty { IsPileOf system levels [] result }
+        ensures none { result.count ≡ 0 }
+    {
+        Pile {
+            system,
+            levels,
+            count: 0,
+            darks: &mut darks[..system.width()],
+            lights: &mut lights[..system.width()],
+        }
+    }
+
+    /// Adds a line, by its bytes and which of its columns are erased.
+    pub(crate) fn add(&mut self, line: &[u8], erased: &[bool])
+        requires few { self.old.count < 28 }
+        requires line { length line.now ≡ line_bytes self.old.system }
+        requires erased { length erased.now ≡ width_of self.old.system }
+        ensures count { self.new.count ≡ self.old.count + 1 }
+        ensures system { self.new.system ≡ self.old.system }
+        ensures line { (system : System) (slicing : Slicing) (lines : List Samples) → IsPileOf system slicing lines self.old
+            → IsPileOf system slicing (lines ++ known_but erased.now (samples_of line.now) ∷ []) self.new }
+    {
+        add_line(self.levels, line, erased, self.darks, self.lights);
+        self.count += 1;
+    }
+
+    /// The nearest word of the lines, and the nearest of the codes that may stand on a line of this number.
+    pub(crate) fn nears(&self, number: u32) -> Nears
+        ensures { (system : System) (slicing : Slicing) (lines : List Samples) → IsPileOf system slicing lines self.now
+            → HasNear system number slicing lines result }
+    {
+        nears_of(self.system, number, self.darks, self.lights)
+    }
+
+    /// How far the lines are from the nearest row of this word on cells that are somewhat longer or shorter.
+    pub(crate) fn stretched(&self, word: Word24) -> u32
+        ensures { (system : System) (slicing : Slicing) (lines : List Samples) → IsPileOf system slicing lines self.now
+            → IsStretched system slicing lines word result }
+    {
+        stretched_distance(self.darks, self.lights, self.system, word)
+    }
+
+    /// The word that is nearest to the lines.
+    fn nearest(&self) -> Near
+        ensures nearest { (system : System) (slicing : Slicing) (lines : List Samples)
+            → IsPileOf system slicing lines self.now → IsNearWord system slicing lines result }
+        ensures start { result.start < 285 }
+    {
+        nearest(self.system, self.darks, self.lights)
+    }
+}
+
+/// The word that is nearest to so many lines of samples, each of two bytes, the low one first.
+pub fn nearest_of_lines(system: System, levels: Levels, lines: &[u8], count: usize) -> Near
+    requires few { count ≤ 28 }
+    requires whole { length lines.now ≡ count * line_bytes system }
+    ensures nearest { IsNearest system levels (lines_of system lines.now count) result }
+    ensures first { IsFirst system levels (lines_of system lines.now count) result }
+    ensures longer { IsLonger system levels (lines_of system lines.now count) result }
+    ensures shorter { IsShorter system levels (lines_of system lines.now count) result }
+    ensures start { result.start < 285 }
+{
+    let none_erased = [false; WIDEST];
+    let erased = &none_erased[..system.width()];
+    let mut darks = [0; WIDEST];
+    let mut lights = [0; WIDEST];
+    let mut pile = Pile::new(system, levels, &mut darks, &mut lights);
+    for line in 0..count {
+        pile.add(line_of(system, lines, line), erased);
+    }
+    pile.nearest()
 }

@@ -1,22 +1,26 @@
 //! The word that lines say together which all have one word, or none.
 
-ghost use Rattle.std.specs.Prelude.{◌≡◌, ◌+◌, ◌*◌, ◌≤◌, ◌-◌, length, map, take, drop};
+ghost use Rattle.std.specs.Prelude.{◌≡◌, ◌*◌, ◌≤◌, ◌-◌, length, map};
 ghost use Rattle.std.specs.List.{list_all};
 ghost use Rattle.vbi_words.specs.Geometry.{line_bytes, width_of};
 ghost use Rattle.vbi_near.specs.Candidates.{HasNear, HasNearIf, are_alike_by, given_samples, levelled_samples};
+ghost use Rattle.vbi_near.specs.Lines.{rows_of};
 ghost use Rattle.vbi_near.specs.Piled.{pile_margins, swing_alike, are_all_alike, IsSaidTogether, rows_in};
 
 use crate::candidates::{are_alike, level_row, unit_of};
-use crate::lines::{Nears, line_of, nears_of};
+use crate::lines::Nears;
 use crate::near::WIDEST;
-use crate::pile::add_line;
+use crate::pile::Pile;
+use crate::row::Rows;
 use crate::said::{Margins, first_said, said_if};
 use vbi_words::{Levels, System, Word24};
 
 /// So many lines at most: the sums of more could pass 32 bits.
 const MOST_LINES: usize = 28;
 
-/// By how many columns the nearest word has to be ahead, by whether the erased columns are known.
+/// By how many columns the nearest word has to be ahead, by whether the erased columns are known. If they are, no dropout
+/// is left in what is summed up, and a code needs the 6 columns that it needs on one line. Else a dropout at one place
+/// of all lines may turn a code into another one, so it needs as many as any other word, 10.
 fn pile_margins(known: bool) -> Margins
     ensures { result ≡ pile_margins known }
 {
@@ -44,71 +48,40 @@ fn swing_alike(unit: u32, swings: &[u32]) -> bool
         .all(|swing| is_like_each(unit, *swing, swings))
 }
 
-/// The erased columns of a line, counted from 0.
-fn erased_in(system: System, erased: &[bool], line: usize) -> &[bool]
-    requires { width_of system * line + width_of system ≤ length erased.now }
-    ensures columns { result.now ≡ take (width_of system) (drop (width_of system * line) erased.now) }
-    ensures long { length result.now ≡ width_of system }
+/// The nearest ones of lines that have one word.
+fn near_of_all(number: u32, levels: Levels, rows: &Rows) -> Nears
+    requires { rows.now.count ≤ 28 }
+    ensures { HasNear rows.now.system number levels (map given_samples (rows_of rows.now)) result }
 {
-    let width = system.width();
-    &erased[width * line..width * line + width]
-}
-
-/// The nearest ones of so many lines that have one word.
-fn near_of_all(
-    system: System,
-    number: u32,
-    levels: Levels,
-    lines: &[u8],
-    erased: &[bool],
-    count: usize,
-) -> Nears
-    requires few { count ≤ 28 }
-    requires lines { length lines.now ≡ count * line_bytes system }
-    requires erased { length erased.now ≡ count * width_of system }
-    ensures { HasNear system number levels (map given_samples (rows_in system lines.now erased.now count)) result }
-{
-    let mut all_darks = [0; WIDEST];
-    let mut all_lights = [0; WIDEST];
-    let darks = &mut all_darks[..system.width()];
-    let lights = &mut all_lights[..system.width()];
-    for line in 0..count {
-        let row = line_of(system, lines, line);
-        add_line(levels, row, erased_in(system, erased, line), darks, lights);
+    let mut darks = [0; WIDEST];
+    let mut lights = [0; WIDEST];
+    let mut pile = Pile::new(rows.system, levels, &mut darks, &mut lights);
+    for line in 0..rows.count {
+        let row = rows.row(line);
+        pile.add(row.bytes, row.erased);
     }
-    nears_of(system, number, darks, lights)
+    pile.nears(number)
 }
 
-/// The nearest ones of so many lines levelled, if these may be levelled together.
-fn levelled_near_of_all(
-    system: System,
-    number: u32,
-    levels: Levels,
-    lines: &[u8],
-    erased: &[bool],
-    count: usize,
-) -> Option<Nears>
-    requires few { count ≤ 28 }
-    requires lines { length lines.now ≡ count * line_bytes system }
-    requires erased { length erased.now ≡ count * width_of system }
-    ensures { HasNearIf system number levels (are_all_alike system levels (rows_in system lines.now erased.now count))
-        (map (levelled_samples system levels) (rows_in system lines.now erased.now count)) result }
+/// The nearest ones of lines levelled, if these may be levelled together.
+fn levelled_near_of_all(number: u32, levels: Levels, rows: &Rows) -> Option<Nears>
+    requires { rows.now.count ≤ 28 }
+    ensures { HasNearIf rows.now.system number levels (are_all_alike rows.now.system levels (rows_of rows.now))
+        (map (levelled_samples rows.now.system levels) (rows_of rows.now)) result }
 {
     let mut swings = [0; MOST_LINES];
     let mut buffer = [0; 2 * WIDEST];
-    let levelled = &mut buffer[..system.line_bytes()];
-    let mut all_darks = [0; WIDEST];
-    let mut all_lights = [0; WIDEST];
-    let darks = &mut all_darks[..system.width()];
-    let lights = &mut all_lights[..system.width()];
-    for line in 0..count {
-        let row = line_of(system, lines, line);
-        let row_erased = erased_in(system, erased, line);
-        swings[line] = level_row(system, levels, row, row_erased, levelled);
-        add_line(levels, levelled, row_erased, darks, lights);
+    let levelled = &mut buffer[..rows.system.line_bytes()];
+    let mut darks = [0; WIDEST];
+    let mut lights = [0; WIDEST];
+    let mut pile = Pile::new(rows.system, levels, &mut darks, &mut lights);
+    for line in 0..rows.count {
+        let row = rows.row(line);
+        swings[line] = level_row(rows.system, levels, row.bytes, row.erased, levelled);
+        pile.add(levelled, row.erased);
     }
-    if swing_alike(unit_of(levels), &swings[..count]) {
-        Some(nears_of(system, number, darks, lights))
+    if swing_alike(unit_of(levels), &swings[..rows.count]) {
+        Some(pile.nears(number))
     } else {
         None
     }
@@ -132,8 +105,14 @@ pub fn recover_pile(
 {
     let unit = unit_of(levels);
     let margins = pile_margins(known);
-    let levelled = levelled_near_of_all(system, number, levels, lines, erased, count);
-    let given = near_of_all(system, number, levels, lines, erased, count);
+    let rows = Rows {
+        system,
+        bytes: lines,
+        erased,
+        count,
+    };
+    let levelled = levelled_near_of_all(number, levels, &rows);
+    let given = near_of_all(number, levels, &rows);
     let first = said_if(unit, &margins, count as u32, levelled);
     let second = said_if(unit, &margins, count as u32, Some(given));
     first_said(first, second)

@@ -32,8 +32,8 @@ use crate::candidates::{
     levelled_near_of_one, levelled_near_of_two, near_of_one, near_of_two, unit_of,
 };
 use crate::confirmed::{is_confirmed, said_alone};
-use crate::lines::{Nears, line_of};
-use crate::row::{Pair, Row};
+use crate::lines::Nears;
+use crate::row::{Pair, Row, Rows};
 use crate::said::{first_said, said_by_pair};
 use vbi_line::{read_bytes_twice, read_packed, slice_bytes};
 use vbi_words::{Levels, Outcome, Reading, System, Word24};
@@ -195,17 +195,6 @@ fn said_by_both(
     (first_said(said.0, given.0), first_said(said.1, given.1))
 }
 
-/// The erased columns of a line of three, counted from 0.
-fn erased_of(system: System, erased: &[bool], line: usize) -> &[bool]
-    requires whole { length erased.now ≡ 3 * width_of system }
-    requires line { line < 3 }
-    ensures columns { result.now ≡ take (width_of system) (drop (width_of system * line) erased.now) }
-    ensures long { length result.now ≡ width_of system }
-{
-    let width = system.width();
-    &erased[width * line..width * line + width]
-}
-
 /// Whether both of two lines are open.
 fn are_both_open(outcome: Outcome, other: Outcome) -> bool
     ensures { result ≡ is_open outcome && is_open other }
@@ -213,47 +202,33 @@ fn are_both_open(outcome: Outcome, other: Outcome) -> bool
     is_open(outcome) && is_open(other)
 }
 
-/// What lines 17 and 18 show, by the bytes of all three rows.
-fn shown_pair(
-    system: System,
-    levels: Levels,
-    rows: &[u8],
-    erased: &[bool],
-) -> (Recovered, Recovered)
-    requires rows { length rows.now ≡ 3 * line_bytes system }
-    requires erased { length erased.now ≡ 3 * width_of system }
+/// What lines 17 and 18 show.
+fn shown_pair(levels: Levels, pair: &Pair) -> (Recovered, Recovered)
     ensures { (second third : Seen) (both : Candidates)
-        → IsSeen system 17 levels (row_at system rows.now erased.now 1) second
-        → IsSeen system 18 levels (row_at system rows.now erased.now 2) third
+        → IsSeen pair.now.system 17 levels (first_in pair.now) second
+        → IsSeen pair.now.system 18 levels (other_in pair.now) third
         → (IsTrue (are_open (levels.white - levels.black) second third)
-        → AreOfBoth system 17 levels (row_at system rows.now erased.now 1) (row_at system rows.now erased.now 2) both)
+        → AreOfBoth pair.now.system 17 levels (first_in pair.now) (other_in pair.now) both)
         → let stands = stands_of (levels.white - levels.black) second third both in
         (result.0 ≡ shown_in stands (levels.white - levels.black) second both)
         × (result.1 ≡ shown_in stands (levels.white - levels.black) third both) }
 {
     let second = Row {
-        system,
-        bytes: line_of(system, rows, 1),
-        erased: erased_of(system, erased, 1),
+        system: pair.system,
+        bytes: pair.bytes,
+        erased: pair.erased,
     };
     let third = Row {
-        system,
-        bytes: line_of(system, rows, 2),
-        erased: erased_of(system, erased, 2),
+        system: pair.system,
+        bytes: pair.other_bytes,
+        erased: pair.other_erased,
     };
     let near = line_in(17, levels, &second);
     let other = line_in(18, levels, &third);
     let own_near = own(17, levels, &second, &near);
     let own_other = own(18, levels, &third, &other);
     if are_both_open(own_near.outcome, own_other.outcome) {
-        let pair = Pair {
-            system,
-            bytes: second.bytes,
-            erased: second.erased,
-            other_bytes: third.bytes,
-            other_erased: third.erased,
-        };
-        let said = said_by_both(levels, &pair, &near.levelled, &other.levelled);
+        let said = said_by_both(levels, pair, &near.levelled, &other.levelled);
         return (
             recovered_as(own_near, said.0),
             recovered_as(own_other, said.1),
@@ -266,21 +241,14 @@ fn shown_pair(
 }
 
 /// What line 16 shows.
-fn shown_first(system: System, levels: Levels, rows: &[u8], erased: &[bool]) -> Recovered
-    requires rows { length rows.now ≡ 3 * line_bytes system }
-    requires erased { length erased.now ≡ 3 * width_of system }
+fn shown_first(levels: Levels, row: &Row) -> Recovered
     ensures { (seen : Seen) (both : Candidates)
-        → IsSeen system 16 levels (row_at system rows.now erased.now 0) seen
+        → IsSeen row.now.system 16 levels (row_in row.now) seen
         → result ≡ shown_in alone (levels.white - levels.black) seen both }
 {
-    let row = Row {
-        system,
-        bytes: line_of(system, rows, 0),
-        erased: erased_of(system, erased, 0),
-    };
-    let line = line_in(16, levels, &row);
-    let own = own(16, levels, &row, &line);
-    shown_alone(16, levels, &row, &line, own)
+    let line = line_in(16, levels, row);
+    let own = own(16, levels, row, &line);
+    shown_alone(16, levels, row, &line, own)
 }
 
 /// What lines 16, 17 and 18 of a field show, by the bytes of their rows, which lie one after the other, as do the
@@ -295,7 +263,22 @@ pub fn recover_rows(system: System, levels: Levels, rows: &[u8], erased: &[bool]
         → IsKept (row_reading system levels rows.now 0) first × IsKept (row_reading system levels rows.now 1) second
         × IsKept (row_reading system levels rows.now 2) third }
 {
-    let first = shown_first(system, levels, rows, erased);
-    let others = shown_pair(system, levels, rows, erased);
+    let rows = Rows {
+        system,
+        bytes: rows,
+        erased,
+        count: 3,
+    };
+    let second = rows.row(1);
+    let third = rows.row(2);
+    let pair = Pair {
+        system,
+        bytes: second.bytes,
+        erased: second.erased,
+        other_bytes: third.bytes,
+        other_erased: third.erased,
+    };
+    let first = shown_first(levels, &rows.row(0));
+    let others = shown_pair(levels, &pair);
     [first, others.0, others.1]
 }

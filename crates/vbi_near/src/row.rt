@@ -1,7 +1,7 @@
 //! Lines whose words are sought.
 
-ghost use Rattle.std.specs.Prelude.{◌≡◌, length};
-ghost use Rattle.vbi_words.specs.Geometry.{line_bytes, width_of};
+ghost use Rattle.std.specs.Prelude.{◌≡◌, ◌+◌, ◌*◌, ◌≤◌, ◌<◌, length, take, drop};
+ghost use Rattle.vbi_words.specs.Geometry.{line_bytes, line_at, width_of};
 
 use vbi_words::System;
 
@@ -27,4 +27,53 @@ pub(crate) struct Pair<'a> {
     ghost columns: { length erased.now ≡ width_of system },
     ghost other_whole: { length other_bytes.now ≡ line_bytes system },
     ghost other_columns: { length other_erased.now ≡ width_of system },
+}
+
+/// Lines of one system that lie one after the other, as do the marks of their erased columns.
+#[derive(Clone, Copy)]
+pub(crate) struct Rows<'a> {
+    pub(crate) system: System,
+    pub(crate) bytes: &'a [u8],
+    pub(crate) erased: &'a [bool],
+    /// How many lines there are.
+    pub(crate) count: usize,
+    ghost whole: { length bytes.now ≡ count * line_bytes system },
+    ghost columns: { length erased.now ≡ count * width_of system },
+}
+
+impl<'a> Rows<'a> {
+    ghost use Rattle.vbi_near.specs.Lines.{row_in, row_at};
+
+    /// A line, counted from 0.
+    pub(crate) fn row(&self, line: usize) -> Row<'a>
+        requires { line < self.now.count }
+        ensures system { result.system ≡ self.now.system }
+        ensures row { row_in result ≡ row_at self.now line }
+    {
+        Row {
+            system: self.system,
+            bytes: line_of(self.system, self.bytes, line),
+            erased: erased_of(self.system, self.erased, line),
+        }
+    }
+}
+
+/// The bytes of a line, counted from 0.
+pub(crate) fn line_of(system: System, lines: &[u8], line: usize) -> &[u8]
+    requires { line_bytes system * line + line_bytes system ≤ length lines.now }
+    ensures line { result.now ≡ line_at system lines.now 0 line }
+    ensures long { length result.now ≡ line_bytes system }
+{
+    let size = system.line_bytes();
+    &lines[size * line..size * line + size]
+}
+
+/// The erased columns of a line, counted from 0.
+fn erased_of(system: System, erased: &[bool], line: usize) -> &[bool]
+    requires { width_of system * line + width_of system ≤ length erased.now }
+    ensures columns { result.now ≡ take (width_of system) (drop (width_of system * line) erased.now) }
+    ensures long { length result.now ≡ width_of system }
+{
+    let width = system.width();
+    &erased[width * line..width * line + width]
 }

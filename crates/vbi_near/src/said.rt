@@ -1,4 +1,17 @@
 //! What the nearest words of lines say: by how much they have to be ahead, and whether lines 17 and 18 agree.
+//!
+//! A nearest word is said if it is clear (`is_clear`): any other row is farther by some columns (`is_ahead`) and by a
+//! share of what the word's cells count (`is_ahead_by`), the signal neither goes on beyond the word (`goes_on`) nor has
+//! fewer cells (`is_cut`), and each half of the word counts (`is_whole`). A code that may stand on the line is asked
+//! first, and is compared with other codes alone (`said_of`). Lines 17 and 18 of most fields have one word: `do_agree`
+//! tells whether these two do, and `said_in` by which margins they speak then.
+//!
+//! A column counts what white is from black. A word with one bit turned is farther by the columns of a cell, which are
+//! 28 in NTSC and 35 in PAL, and each column of that cell that is turned over takes away two. So in NTSC a margin of 6
+//! columns bears 11 of them, one of 8 bears 10, one of 10 bears 9, and one of 12 bears 8.
+//!
+//! specs/Said.antt has the same numbers, and rule_laws.rt has words at their limits. CONTRIBUTING.md says what else
+//! changes with a margin.
 
 ghost use Rattle.std.specs.Prelude.{◌≡◌, ◌≤◌};
 ghost use Rattle.vbi_near.specs.Said.{is_ahead, is_ahead_by, goes_on, is_cut, is_whole, is_clear, is_close};
@@ -23,7 +36,8 @@ pub struct Margins {
     pub other_share: u8,
 }
 
-/// Those of one line. A code may be less ahead than another word: far fewer words can be mistaken for it.
+/// Those of one line. A code may be less ahead than another word, 6 columns and not 8: it is compared with codes alone,
+/// and far fewer of these can be mistaken for it.
 const LONE: Margins = Margins {
     code: 6,
     other: 8,
@@ -31,7 +45,8 @@ const LONE: Margins = Margins {
     other_share: 0,
 };
 
-/// Those of one of two lines that don't agree: one of them at least is badly worn, so its nearest word is worth less.
+/// Those of one of two lines that don't agree: one of them at least is badly worn, so its nearest word is worth less, and
+/// has to be ahead by four columns more than that of a line alone, 10 for 6 and 12 for 8.
 const APART: Margins = Margins {
     code: 10,
     other: 12,
@@ -39,8 +54,11 @@ const APART: Margins = Margins {
     other_share: 0,
 };
 
-/// Those of two lines together. Wear that they share, as noise that makes all cells count less, grows with both: so
-/// they have to be ahead by a share of what a cell counts, too.
+/// Those of two lines together. With 6 columns in place of 8 a noisy time code on both is taken for a code five times as
+/// often. Wear that they share, as noise that makes all cells count less, grows with both: so they have to be ahead by a
+/// share of what a cell counts, too. A cell counts about a twelfth of how much nearer the word is than none, so 4 and 3
+/// of 144 parts are a third and a quarter of a cell. Columns alone, enough for a dropout at one place of both lines,
+/// would lose three times as many right words.
 const BOTH: Margins = Margins {
     code: 8,
     other: 9,
@@ -76,7 +94,8 @@ fn is_ahead_by(share: u8, blank: u32, near: &Near) -> bool
     144 * distance + share * u64::from(blank) <= 144 * rival + share * distance
 }
 
-/// Whether the signal of so many lines goes on beyond the word.
+/// Whether the signal of so many lines goes on beyond the word: by more than 4 columns a line, since noise alone makes
+/// one more cell somewhat nearer.
 fn goes_on(unit: u32, lines: u32, near: &Near) -> bool
     requires { lines ≤ 28 }
     ensures { result ≡ goes_on unit lines near.now }
@@ -84,7 +103,7 @@ fn goes_on(unit: u32, lines: u32, near: &Near) -> bool
     u64::from(near.longer) + 4 * u64::from(lines) * u64::from(unit) < u64::from(near.distance)
 }
 
-/// Whether the signal of so many lines has fewer cells than the word.
+/// Whether the signal of so many lines has fewer cells than the word, by the same 4 columns a line.
 fn is_cut(unit: u32, lines: u32, near: &Near) -> bool
     requires { lines ≤ 28 }
     ensures { result ≡ is_cut unit lines near.now }
@@ -92,7 +111,8 @@ fn is_cut(unit: u32, lines: u32, near: &Near) -> bool
     u64::from(near.shorter) + 4 * u64::from(lines) * u64::from(unit) < u64::from(near.distance)
 }
 
-/// Whether each half of the word counts in lines that are so far from none, and from the nearer row of half of it.
+/// Whether each half of the word counts in lines that are so far from none, and from the nearer row of half of it: a
+/// half counts half of the whole if nothing is lost, and a quarter is enough.
 fn is_whole(blank: u32, halved: u32, near: &Near) -> bool
     ensures { result ≡ is_whole blank halved near.now }
 {
@@ -100,25 +120,25 @@ fn is_whole(blank: u32, halved: u32, near: &Near) -> bool
     4 * distance + u64::from(blank) <= 4 * u64::from(halved) + distance
 }
 
-/// Whether the signal of so many lines begins and ends with the word and has both halves of it, and any other is
-/// farther by so many columns and by such a share.
-fn is_clear(
-    unit: u32,
-    columns: u32,
-    share: u8,
-    lines: u32,
+/// A nearest word or code, and how far the lines are from none, and from the nearer row of half of it.
+#[derive(Clone, Copy)]
+struct Nearest<'a> {
+    near: &'a Near,
     blank: u32,
     halved: u32,
-    near: &Near,
-) -> bool
+}
+
+/// Whether the signal of so many lines begins and ends with the word and has both halves of it, and any other is
+/// farther by so many columns and by such a share.
+fn is_clear(unit: u32, columns: u32, share: u8, lines: u32, word: &Nearest) -> bool
     requires { lines ≤ 28 }
-    ensures { result ≡ is_clear unit columns share lines blank halved near.now }
+    ensures { result ≡ is_clear unit columns share lines word.now.blank word.now.halved word.now.near.now }
 {
-    is_ahead(unit, columns, near)
-        && is_ahead_by(share, blank, near)
-        && !goes_on(unit, lines, near)
-        && !is_cut(unit, lines, near)
-        && is_whole(blank, halved, near)
+    is_ahead(unit, columns, word.near)
+        && is_ahead_by(share, word.blank, word.near)
+        && !goes_on(unit, lines, word.near)
+        && !is_cut(unit, lines, word.near)
+        && is_whole(word.blank, word.halved, word.near)
 }
 
 /// Whether no word is nearer than the nearest code by more than ten columns.
@@ -133,28 +153,22 @@ fn said_of(unit: u32, margins: &Margins, lines: u32, near: &Nears) -> Option<Wor
     requires { lines ≤ 28 }
     ensures { result ≡ said_of unit margins.now lines near.now }
 {
+    let code = Nearest {
+        near: &near.code,
+        blank: near.blank,
+        halved: near.code_halved,
+    };
+    let word = Nearest {
+        near: &near.word,
+        blank: near.blank,
+        halved: near.word_halved,
+    };
     if near.code.word.is_some()
         && is_close(unit, near)
-        && is_clear(
-            unit,
-            margins.code,
-            margins.code_share,
-            lines,
-            near.blank,
-            near.code_halved,
-            &near.code,
-        )
+        && is_clear(unit, margins.code, margins.code_share, lines, &code)
     {
         near.code.word
-    } else if is_clear(
-        unit,
-        margins.other,
-        margins.other_share,
-        lines,
-        near.blank,
-        near.word_halved,
-        &near.word,
-    ) {
+    } else if is_clear(unit, margins.other, margins.other_share, lines, &word) {
         near.word.word
     } else {
         None
@@ -215,7 +229,7 @@ fn is_same(word: Option<Word24>, other: Option<Word24>) -> bool
 }
 
 /// Whether two lines have one word, by that of each and that of both: it is the same, or the common one is little
-/// farther.
+/// farther. 30 columns are somewhat more than a cell of NTSC, and less than one of PAL.
 fn is_one(unit: u32, second: &Near, third: &Near, both: &Near) -> bool
     ensures { result ≡ is_one unit second.now third.now both.now }
 {
@@ -224,7 +238,7 @@ fn is_one(unit: u32, second: &Near, third: &Near, both: &Near) -> bool
 }
 
 /// Whether the common word is nearer to two lines than the word of the one to that, and none to the other, which is
-/// this far.
+/// this far: a line of noise agrees with any word beside it. 10 or 30 columns do as well as 20.
 fn is_borne(unit: u32, near: &Near, blank: u32, both: &Near) -> bool
     ensures { result ≡ is_borne unit near.now blank both.now }
 {

@@ -61,32 +61,26 @@ one_believed pace fields i m n a b = go (eqb_tells m n)
     go (inl (t, e)) = e
     go (inr (f, apart)) = absurd (omega (arith, a.ahead n b.shown (λ e. apart (sym e)), b.ahead m a.shown apart))
 
--- where one of the two sightings' numbers is found to be ahead, it is what is believed
-pub first_judged : (pace : Pace) (fields : List Sightings) (i x : ℕ) (field : Sightings) (found : Option ℕ)
-    → slice_get fields i ≡ Some field → found ≡ Some x
-    → ((n : ℕ) → (found ≡ Some n) ↔ IsBelieved pace fields i field.line_17 field.line_18 n)
-    → (n : ℕ) → (Some x ≡ Some n) ↔ Believed pace fields i n
-first_judged pace fields i x field found is some tells n =
-    let has : Believed pace fields i x
-    = ahead_believed pace fields i x field is (inl ((tells x).0 some)) in (
-      λ e. ahead_believed pace fields i n field is (inl ((tells n).0 (some ∙ e))),
-      λ b. ap Some (one_believed pace fields i x n has b),
-    )
+-- ---- of a field's two lines, if each is judged beside the other
 
--- where the first is not
-pub second_judged : (pace : Pace) (fields : List Sightings) (i : ℕ) (field : Sightings) (found other : Option ℕ)
-    → slice_get fields i ≡ Some field → found ≡ None
-    → ((n : ℕ) → (found ≡ Some n) ↔ IsBelieved pace fields i field.line_17 field.line_18 n)
-    → ((n : ℕ) → (other ≡ Some n) ↔ IsBelieved pace fields i field.line_18 field.line_17 n)
-    → (n : ℕ) → (other ≡ Some n) ↔ Believed pace fields i n
-second_judged pace fields i field found other is none first second n =
-    let clash : found ≡ Some n → other ≡ Some n = λ e. absurd (none_some found n none e) in (
-      λ e. ahead_believed pace fields i n field is (inr ((second n).0 e)),
-      λ b. elim (believed_ahead pace fields i n field is b) [
-        | inl a ↦ clash ((first n).1 a)
-        | inr a ↦ (second n).1 a
-      ],
-    )
+-- where that of line 17 is found to be believed, it is the field's
+pub first_judged : (First IsField : ℕ → Type 0) (x : ℕ) (found : Option ℕ) → ((n : ℕ) → First n → IsField n)
+    → ((m n : ℕ) → IsField m → IsField n → m ≡ n) → found ≡ Some x → ((n : ℕ) → (found ≡ Some n) ↔ First n)
+    → (n : ℕ) → (Some x ≡ Some n) ↔ IsField n
+first_judged First IsField x found so one some tells n =
+    (λ e. so n ((tells n).0 (some ∙ e)), λ b. ap Some (one x n (so x ((tells x).0 some)) b))
+
+-- where it is not, that of line 18 is, if it is believed
+pub second_judged : (First Second IsField : ℕ → Type 0) (found other : Option ℕ) → ((n : ℕ) → Second n → IsField n)
+    → ((n : ℕ) → IsField n → First n ⊎ Second n) → found ≡ None → ((n : ℕ) → (found ≡ Some n) ↔ First n)
+    → ((n : ℕ) → (other ≡ Some n) ↔ Second n) → (n : ℕ) → (other ≡ Some n) ↔ IsField n
+second_judged First Second IsField found other so back none tells tell_other n = (
+  λ e. so n ((tell_other n).0 e),
+  λ b. elim (back n b) [
+    | inl h ↦ absurd (none_some found n none ((tells n).1 h))
+    | inr h ↦ (tell_other n).1 h
+  ],
+)
   where
     none_some : (o : Option ℕ) (m : ℕ) → o ≡ None → o ≡ Some m → ⊥
     none_some o m a b = cc

@@ -10,7 +10,7 @@ use Rattle.vbi_side.specs.declared.pace.Pace.{Pace}
 use Rattle.vbi_side.specs.Paces.{Count, nearly}
 use Rattle.vbi_side.specs.Beliefs.{Believed}
 use Rattle.vbi_side.specs.Due.{slack_of, Leaves, IsLeft, ShowsInstead, ShowsTwice, Due}
-use Rattle.vbi_side.specs.Nearest.{IsBefore, IsBehind, NoneBefore, NoneBehind, AllNearly}
+use Rattle.vbi_side.specs.Nearest.{IsBefore, IsAfter, NoneBefore, NoneAfter, AllNearly}
 use Rattle.vbi_side.specs.Numbers.{believed, IsMarked}
 use Rattle.vbi_side.proofs.DueLemmas.{slack_most, slack_grows, nearly_more, whole_on, nearly_on, nearly_back}
 
@@ -30,7 +30,7 @@ left_along P Q pace i n same (j, m, k, l, leaves) = (
   record {
     before = leaves.before;
     near = leaves.near;
-    behind = leaves.behind;
+    after = leaves.after;
     far = leaves.far;
     first = (same j m).0 leaves.first;
     last = (same k l).0 leaves.last;
@@ -54,10 +54,10 @@ pub no_before : (numbers : List Number) (pace : Pace) (i n : ℕ) → NoneBefore
 no_before numbers pace i n none (j, m, k, l, leaves) =
     none j m leaves.near leaves.before (whole_on pace j m i n leaves.before leaves.on) leaves.first
 
-pub no_behind : (numbers : List Number) (pace : Pace) (i n : ℕ) → NoneBehind (IsMarked numbers) pace i
+pub no_after : (numbers : List Number) (pace : Pace) (i n : ℕ) → NoneAfter (IsMarked numbers) pace i
     → IsLeft (IsMarked numbers) pace i n → ⊥
-no_behind numbers pace i n none (j, m, k, l, leaves) =
-    none k l leaves.behind leaves.far (whole_on pace i n k l leaves.behind leaves.back) leaves.last
+no_after numbers pace i n none (j, m, k, l, leaves) =
+    none k l leaves.after leaves.far (whole_on pace i n k l leaves.after leaves.back) leaves.last
 
 -- the nearest field before leads on to what is left
 nearest_on : (numbers : List Number) (pace : Pace) (i j m k l b x n : ℕ)
@@ -72,7 +72,7 @@ nearest_on numbers pace i j m k l b x n leaves is = go (leb_tells j b) (leb_tell
     go (inl (t, le)) (inr (f, less)) = (
       le,
       nearly_on pace (slack_of j k) i n b x (slack_most j k) is.before is.whole
-          (leaves.between b x less (omega (arith, is.before, leaves.behind)) is.has),
+          (leaves.between b x less (omega (arith, is.before, leaves.after)) is.has),
     )
     go (inl (t, le)) (inl (s, ge)) =
         let here : j ≡ b = omega (arith, le, ge) in
@@ -81,18 +81,18 @@ nearest_on numbers pace i j m k l b x n leaves is = go (leb_tells j b) (leb_tell
 
 -- and so does the nearest later one
 nearest_back : (numbers : List Number) (pace : Pace) (i j m k l c y n : ℕ)
-    → Leaves (IsMarked numbers) pace j m k l i n → IsBehind (IsMarked numbers) pace i c y
+    → Leaves (IsMarked numbers) pace j m k l i n → IsAfter (IsMarked numbers) pace i c y
     → (c ≤ k) × Count pace i n c y
 nearest_back numbers pace i j m k l c y n leaves is = go (leb_tells c k) (leb_tells k c)
   where
     go : ((nat_le c k ≡ true) × (c ≤ k)) ⊎ ((nat_le c k ≡ false) × (k < c))
         → ((nat_le k c ≡ true) × (k ≤ c)) ⊎ ((nat_le k c ≡ false) × (c < k)) → (c ≤ k) × Count pace i n c y
     go (inr (f, less)) rest =
-        absurd (is.nearest k l leaves.behind less (whole_on pace i n k l leaves.behind leaves.back) leaves.last)
+        absurd (is.nearest k l leaves.after less (whole_on pace i n k l leaves.after leaves.back) leaves.last)
     go (inl (t, le)) (inr (f, less)) = (
       le,
-      nearly_back pace (slack_of j k) i n c y (slack_most j k) is.behind is.whole
-          (leaves.between c y (omega (arith, is.behind, leaves.before)) less is.has),
+      nearly_back pace (slack_of j k) i n c y (slack_most j k) is.after is.whole
+          (leaves.between c y (omega (arith, is.after, leaves.before)) less is.has),
     )
     go (inl (t, le)) (inl (s, ge)) =
         let here : k ≡ c = omega (arith, le, ge) in
@@ -101,29 +101,29 @@ nearest_back numbers pace i j m k l c y n leaves is = go (leb_tells c k) (leb_te
 
 -- what is left is what the nearest ones count to
 pub left_counts : (numbers : List Number) (pace : Pace) (i b x c y n : ℕ)
-    → IsBefore (IsMarked numbers) pace i b x → IsBehind (IsMarked numbers) pace i c y
+    → IsBefore (IsMarked numbers) pace i b x → IsAfter (IsMarked numbers) pace i c y
     → IsLeft (IsMarked numbers) pace i n → Count pace b x i n × Count pace i n c y
-left_counts numbers pace i b x c y n before behind (j, m, k, l, leaves) = (
+left_counts numbers pace i b x c y n before after (j, m, k, l, leaves) = (
   (nearest_on numbers pace i j m k l b x n leaves before).1,
-  (nearest_back numbers pace i j m k l c y n leaves behind).1,
+  (nearest_back numbers pace i j m k l c y n leaves after).1,
 )
 
 -- and from it nothing between these is off
 pub left_nearly : (numbers : List Number) (pace : Pace) (i b x c y n : ℕ)
-    → IsBefore (IsMarked numbers) pace i b x → IsBehind (IsMarked numbers) pace i c y
+    → IsBefore (IsMarked numbers) pace i b x → IsAfter (IsMarked numbers) pace i c y
     → IsLeft (IsMarked numbers) pace i n → AllNearly (IsMarked numbers) pace (slack_of b c) b c i n
-left_nearly numbers pace i b x c y n before behind (j, m, k, l, leaves) h z more less has =
+left_nearly numbers pace i b x c y n before after (j, m, k, l, leaves) h z more less has =
     let first = (nearest_on numbers pace i j m k l b x n leaves before).0 in
-    let last = (nearest_back numbers pace i j m k l c y n leaves behind).0 in
+    let last = (nearest_back numbers pace i j m k l c y n leaves after).0 in
     nearly_more pace (slack_of j k) (slack_of b c) i n h z (slack_grows j k b c first last)
     (leaves.between h z (omega (arith, first, more)) (omega (arith, last, less)) has)
 
 -- what the nearest ones count to is left, if from it nothing between them is off
 pub nearest_leave : (numbers : List Number) (pace : Pace) (i b x c y n : ℕ)
-    → IsBefore (IsMarked numbers) pace i b x → IsBehind (IsMarked numbers) pace i c y
+    → IsBefore (IsMarked numbers) pace i b x → IsAfter (IsMarked numbers) pace i c y
     → Count pace b x i n → Count pace i n c y → AllNearly (IsMarked numbers) pace (slack_of b c) b c i n
     → IsLeft (IsMarked numbers) pace i n
-nearest_leave numbers pace i b x c y n before behind on back between = (
+nearest_leave numbers pace i b x c y n before after on back between = (
   b,
   x,
   c,
@@ -131,10 +131,10 @@ nearest_leave numbers pace i b x c y n before behind on back between = (
   record {
     before = before.before;
     near = before.near;
-    behind = behind.behind;
-    far = behind.near;
+    after = after.after;
+    far = after.near;
     first = before.has;
-    last = behind.has;
+    last = after.has;
     on = on;
     back = back;
     between = between;

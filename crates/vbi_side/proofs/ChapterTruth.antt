@@ -1,45 +1,19 @@
 -- What a believed chapter says of the disc.
-use Rattle.std.proofs.Common.{◌≡◌, ◌≢◌, ℕ, ◌+◌, ◌*◌, ◌-◌, ◌<◌, ◌≤◌, Bool, true, false, List}
-use Rattle.std.proofs.Common.{refl, arith, ap, sym, subst, inl, inr}
-use Rattle.std.specs.Prelude.{Option, Some, None, slice_get, ◌⊎◌, nat_le, nat_lt, not, ◌&&◌, ◌==◌}
+use Rattle.std.proofs.Common.{◌≡◌, ◌≢◌, ℕ, ◌+◌, ◌*◌, ◌<◌, ◌≤◌, true, false, List}
+use Rattle.std.proofs.Common.{arith, sym, subst, inl, inr}
+use Rattle.std.specs.Prelude.{Option, Some, slice_get, ◌⊎◌, nat_le, nat_lt, not, ◌&&◌, ◌==◌}
 use Rattle.std.proofs.Math.Dec.{eqb}
 use Rattle.std.proofs.lemmas.Bool.{leb-true, ltb-true, eqb-true, le-leb, lt-ltb, or_left, or_right, or_cases}
 use Rattle.std.proofs.lemmas.Bool.{and_parts, and_from, cases_lt}
 use Rattle.std.proofs.lemmas.Bool.Decides.{eqb_tells}
 use Rattle.vbi_side.specs.declared.sighting.Sightings.{Sightings}
 use Rattle.vbi_side.specs.Sightings.{Shows}
-use Rattle.vbi_side.specs.Beliefs.{reach, enough, window_weight}
+use Rattle.vbi_side.specs.Beliefs.{reach, enough}
 use Rattle.vbi_side.specs.Truth.{IsNear, is_recorded, wrong_weight}
 use Rattle.vbi_side.specs.Chapters.{says, opposes, said_weight, opposed_weight, BelievedChapter, NeverFalls}
 use Rattle.vbi_side.specs.Chapters.{HasNear, IsWithin, IsSoundChapter}
-use Rattle.vbi_side.proofs.Weights.{weight_below-narrower, weight_below-agree, weight_below-split}
-use Rattle.vbi_side.proofs.Weights.{spread, weight_at-passes}
-
-clash : {b : Bool} → b ≡ false → b ≡ true → ⊥
-clash e f = cc
-
--- ---- what is right, and what is wrong
-
-recorded_is : (o : Option ℕ) (n : ℕ) → is_recorded o n ≡ true → o ≡ Some n
-recorded_is None n e = absurd (clash refl e)
-recorded_is (Some m) n e = ap Some (sym (eqb-true n m e))
-
-wrong_or_right : (recorded : ℕ → Option ℕ) (j m : ℕ)
-    → (not (is_recorded (recorded j) m) ≡ true) ⊎ (is_recorded (recorded j) m ≡ true)
-wrong_or_right recorded j m = go (is_recorded (recorded j) m)
-  where
-    go : (b : Bool) → (not b ≡ true) ⊎ (b ≡ true)
-    go true = inr refl
-    go false = inl refl
-
--- where codes that pass the test weigh something, one near the field passes it
-some_passes : (test : ℕ → ℕ → Bool) (fields : List Sightings) (i : ℕ) → 0 < window_weight test fields i
-    → (j m : ℕ) × IsNear i j × Shows (slice_get fields j) m × (test j m ≡ true)
-some_passes test fields i more = elim (spread test fields i (2 * reach + 1) (2 * reach + 1)) [
-  | inl (most, none) ↦ absurd (omega (arith, none (omega arith), more))
-  | inr (k, less, apart, weighs) ↦ let p = weight_at-passes test fields i k weighs in
-      (i + k - reach, p.1.0, (omega (arith, p.0), omega (arith, less)), p.1.1, p.1.2)
-]
+use Rattle.vbi_side.proofs.Weights.{weight_below-narrower, weight_below-agree}
+use Rattle.vbi_side.proofs.Recorded.{wrong_if, right_somewhere}
 
 -- ---- the law
 
@@ -47,24 +21,12 @@ some_passes test fields i more = elim (spread test fields i (2 * reach + 1) (2 *
 pub near : (recorded : ℕ → Option ℕ) (fields : List Sightings) (i n : ℕ) → BelievedChapter fields i n
     → wrong_weight recorded fields i < enough → HasNear recorded i n
 near recorded fields i n b few =
-    let p = some_passes right fields i (omega (arith, b.said, few, split)) in
-    let q = and_parts (p.1 == n) (is_recorded (recorded p.0) p.1) p.4 in
-    (p.0, p.2, subst (λ k. recorded p.0 ≡ Some k) (eqb-true p.1 n q.0) (recorded_is (recorded p.0) p.1 q.1))
-  where
-    right : ℕ → ℕ → Bool
-    right = λ j m. (m == n) && is_recorded (recorded j) m
-
-    split : said_weight fields i n ≤ wrong_weight recorded fields i + window_weight right fields i
-    split =
-        weight_below-split (says i n) (λ j m. not (is_recorded (recorded j) m)) right fields i (2 * reach + 1)
-        (omega arith) (λ j m near e. elim (wrong_or_right recorded j m) [
-          | inl is ↦ inl is
-          | inr is ↦ inr (and_from (m == n) (is_recorded (recorded j) m) e is)
-        ])
+    let p = right_somewhere recorded (says i n) fields i (omega (arith, b.said, few)) in
+    (p.0, p.2, subst (λ k. recorded p.0 ≡ Some k) (eqb-true p.1 n p.5) p.3)
 
 -- a lower chapter is opposed by what stands before it, a higher one by what stands after it
 pub within : (fields : List Sightings) (i n m : ℕ) → BelievedChapter fields i n → IsWithin fields i m → n ≡ m
-within fields i n m b (before, behind) = go (eqb_tells n m) (cases_lt n m)
+within fields i n m b (before, after) = go (eqb_tells n m) (cases_lt n m)
   where
     lower : (j k : ℕ) → n < m → (nat_lt j i && (k == m)) ≡ true → opposes i n j k ≡ true
     lower j k less e =
@@ -94,7 +56,7 @@ within fields i n m b (before, behind) = go (eqb_tells n m) (cases_lt n m)
     go (inr (f, apart)) (inr more) =
         absurd (omega (
           arith,
-          behind,
+          after,
           b.unopposed,
           weight_below-narrower (λ j k. nat_lt i j && (k == m)) (opposes i n) fields i (2 * reach + 1) (omega arith)
               (λ j k near. higher j k (omega (arith, more, apart))),
@@ -130,13 +92,11 @@ own_opposed recorded fields i m rises has =
         omega (arith, ltb-true k m p.1, rises i j m k here near (leb-true i j p.0) has is)
 
     wrong : (j k : ℕ) → IsNear i j → opposes i m j k ≡ true → not (is_recorded (recorded j) k) ≡ true
-    wrong j k near e = elim (wrong_or_right recorded j k) [
-      | inl is ↦ is
-      | inr is ↦ absurd (elim (or_cases (nat_le j i && nat_lt m k) (nat_le i j && nat_lt k m) e) [
-        | inl h ↦ later j k near (recorded_is (recorded j) k is) h
-        | inr h ↦ earlier j k near (recorded_is (recorded j) k is) h
-      ])
-    ]
+    wrong j k near e = wrong_if recorded j k (λ is.
+        elim (or_cases (nat_le j i && nat_lt m k) (nat_le i j && nat_lt k m) e) [
+          | inl h ↦ later j k near is h
+          | inr h ↦ earlier j k near is h
+        ])
 
 pub complete : (recorded : ℕ → Option ℕ) (fields : List Sightings) (i m : ℕ) → NeverFalls recorded i
     → recorded i ≡ Some m → wrong_weight recorded fields i < enough → Shows (slice_get fields i) m

@@ -49,7 +49,8 @@ more_kept phase p less = omega (arith, less)
 pub drop_counts : DiscCountsBy DropFrame Video (numbered drop_number)
 drop_counts = counts_by DropFrame drop_number drop_kept
 
-pub thousand_counts : (phase : ℕ) → phase < 1000 → DiscCountsBy (OneIn 1000 phase) Video (numbered (thousand_number phase))
+pub thousand_counts : (phase : ℕ) → phase < 1000
+    → DiscCountsBy (OneIn 1000 phase) Video (numbered (thousand_number phase))
 thousand_counts phase less = counts_by (OneIn 1000 phase) (thousand_number phase) (λ p. thousand_kept phase p less)
 
 pub more_counts : (phase : ℕ) → phase < 1001 → DiscCountsBy (OneIn 1001 phase) Video (numbered (more_number phase))
@@ -57,4 +58,5 @@ more_counts phase less = counts_by (OneIn 1001 phase) (more_number phase) (λ p.
 
 -- 0:00:59.29 and 0:01:00.02 are two fields apart
 pub drop_skips : DiscRuns Video (numbered drop_number) → ⊥
-drop_skips runs = let h = video_fits 3598 1799 3600 1802 (runs 3598 3600 1799 1802 refl refl) in absurd (omega (arith, h))
+drop_skips runs = let h = video_fits 3598 1799 3600 1802 (runs 3598 3600 1799 1802 refl refl) in absurd
+    (omega (arith, h))

@@ -1,4 +1,5 @@
 -- What a clock leaves out, and where the other numbers stand.
+use Rattle.vbi_side.proofs.Truth.{near_same}
 use Rattle.std.proofs.Common.{◌≡◌, ℕ, zero, suc, ◌+◌, ◌*◌, ◌-◌, ◌/◌, ◌<◌, ◌≤◌, true, refl, arith, ap, sym, ◌∙◌, subst}
 use Rattle.std.proofs.Common.{inl, inr, false, Bool, ◌≢◌}
 use Rattle.std.specs.Prelude.{Option, None, ◌⊎◌, ◌%◌, ◌==◌, ◌&&◌, nat_le, if◌then◌else◌}
@@ -15,7 +16,8 @@ use Rattle.vbi_side.specs.declared.pace.Pace.TheVariants.{Video, Film}
 use Rattle.vbi_side.specs.Paces.{fits}
 use Rattle.vbi_side.specs.Truth.{IsNear}
 use Rattle.vbi_side.specs.Side.{DiscRuns, DiscCounts}
-use Rattle.vbi_side.specs.Clocks.{passed, left_out, leaves_out, kept, clock_fits, out_between, IsProper, IsClear, out_near}
+use Rattle.vbi_side.specs.Clocks.{passed, left_out, leaves_out, kept, clock_fits, out_between, IsProper, IsClear}
+use Rattle.vbi_side.specs.Clocks.{out_near}
 use Rattle.vbi_side.specs.Clocks.{DiscCountsBy, DiscNearlyBy}
 use Rattle.vbi_side.proofs.Truth.{video_fits, film_fits}
 
@@ -74,20 +76,20 @@ kept_is (OneIn period phase) n = omega (arith, out_most (OneIn period phase) n)
 -- ---- where no number is left out
 
 clear_same : (clock : Clock) (m n : ℕ) → IsClear clock m → n ≤ m + 12 → m ≤ n + 12 → left_out clock n ≡ left_out clock m
-clear_same clock m n clear before behind = omega (
+clear_same clock m n clear before after = omega (
   arith,
   clear,
   out_up clock (m - 12) m (omega arith),
   out_up clock m (m + 12) (omega arith),
-  out_up clock (m - 12) n (omega (arith, behind)),
+  out_up clock (m - 12) n (omega (arith, after)),
   out_up clock n (m + 12) before,
 )
 
 -- the places are as far apart as the numbers
 pub clear_apart : (clock : Clock) (m n : ℕ) → IsClear clock m → n ≤ m + 12 → m ≤ n + 12
     → kept clock n + m ≡ kept clock m + n
-clear_apart clock m n clear before behind =
-    omega (arith, clear_same clock m n clear before behind, kept_is clock m, kept_is clock n)
+clear_apart clock m n clear before after =
+    omega (arith, clear_same clock m n clear before after, kept_is clock m, kept_is clock n)
 
 -- so what fits there fits by the clock
 pub clear_video : (clock : Clock) (i m j n : ℕ) → IsClear clock m → IsNear i j → fits Video i m j n ≡ true
@@ -108,13 +110,17 @@ clear_film clock i m j n clear near fit =
 
 -- wherever: the places are as far apart as the numbers, but for those that are left out near
 near_apart : (clock : Clock) (m n : ℕ) → n ≤ m + 12 → m ≤ n + 12
-    → (kept clock n + m ≤ kept clock m + n + out_near clock m) × (kept clock m + n ≤ kept clock n + m + out_near clock m)
-near_apart clock m n before behind =
+    → (kept clock n + m ≤ kept clock m + n + out_near clock m)
+    × (kept clock m + n ≤ kept clock n + m + out_near clock m)
+near_apart clock m n before after =
     let a = out_up clock (m - 12) m (omega arith) in
     let b = out_up clock m (m + 12) (omega arith) in
-    let c = out_up clock (m - 12) n (omega (arith, behind)) in
-    let d = out_up clock n (m + 12) before in
-    (omega (arith, a, b, c, d, kept_is clock m, kept_is clock n), omega (arith, a, b, c, d, kept_is clock m, kept_is clock n))
+    let c = out_up clock (m - 12) n (omega (arith, after)) in
+    let d = out_up clock n (m + 12) before in (
+      omega (arith, a, b, c, d, kept_is clock m, kept_is clock n),
+      omega
+          (arith, a, b, c, d, kept_is clock m, kept_is clock n),
+    )
 
 pub near_video : (clock : Clock) (i m j n : ℕ) → IsNear i j → fits Video i m j n ≡ true
     → (j + 2 * kept clock m ≤ i + 2 * kept clock n + 2 * out_near clock m)
@@ -169,8 +175,10 @@ drop_next : (n : ℕ) → left_out DropFrame (n + 1) ≡ left_out DropFrame n + 
 unfolding left_out
 drop_next n = go (leb_tells (suc (n % 1800)) 2) (leb_tells 1800 (n % 18000))
   where
-    go : ((nat_le (suc (n % 1800)) 2 ≡ true) × (suc (n % 1800) ≤ 2)) ⊎ ((nat_le (suc (n % 1800)) 2 ≡ false) × (2 < suc (n % 1800)))
-        → ((nat_le 1800 (n % 18000) ≡ true) × (1800 ≤ n % 18000)) ⊎ ((nat_le 1800 (n % 18000) ≡ false) × (n % 18000 < 1800))
+    go : ((nat_le (suc (n % 1800)) 2 ≡ true) × (suc (n % 1800) ≤ 2))
+        ⊎ ((nat_le (suc (n % 1800)) 2 ≡ false) × (2 < suc (n % 1800)))
+        → ((nat_le 1800 (n % 18000) ≡ true) × (1800 ≤ n % 18000))
+        ⊎ ((nat_le 1800 (n % 18000) ≡ false) × (n % 18000 < 1800))
         → left_out DropFrame (n + 1) ≡ left_out DropFrame n
         + (if nat_le (suc (n % 1800)) 2 && nat_le 1800 (n % 18000) then 1 else 0)
     go (inl (t, le)) (inl (u, more)) = rw (t, u) (omega (arith, le, more))
@@ -202,15 +210,20 @@ even_next k phase n proper = go (eqb_tells (n % suc k) phase) (leb_tells (n % su
         → passed (suc k) phase (n + 1) ≡ passed (suc k) phase n + (if eqb r phase then 1 else 0)
     go (inl (t, e)) _ = rw t (
         let one = quotient k q (n + (suc k - 1 - phase)) (omega (arith, is, below, e)) (omega (arith, is, below, e)) in
-        let two = quotient k (q + 1) (n + 1 + (suc k - 1 - phase)) (omega (arith, is, below, e)) (omega (arith, is, below, e)) in
+        let two = quotient k (q + 1) (n + 1 + (suc k - 1 - phase)) (omega (arith, is, below, e))
+        (omega (arith, is, below, e)) in
         omega (arith, one, two))
     go (inr (f, other)) (inl (t, le)) = rw f (
-        let one = quotient k q (n + (suc k - 1 - phase)) (omega (arith, is, proper, le)) (omega (arith, is, proper, le, other)) in
-        let two = quotient k q (n + 1 + (suc k - 1 - phase)) (omega (arith, is, proper, le)) (omega (arith, is, proper, le, other)) in
+        let one = quotient k q (n + (suc k - 1 - phase)) (omega (arith, is, proper, le))
+        (omega (arith, is, proper, le, other)) in
+        let two = quotient k q (n + 1 + (suc k - 1 - phase)) (omega (arith, is, proper, le))
+        (omega (arith, is, proper, le, other)) in
         omega (arith, one, two))
     go (inr (f, other)) (inr (t, lt)) = rw f (
-        let one = quotient k (q + 1) (n + (suc k - 1 - phase)) (omega (arith, is, below, lt)) (omega (arith, is, below, lt)) in
-        let two = quotient k (q + 1) (n + 1 + (suc k - 1 - phase)) (omega (arith, is, below, lt)) (omega (arith, is, below, lt)) in
+        let one = quotient k (q + 1) (n + (suc k - 1 - phase)) (omega (arith, is, below, lt))
+        (omega (arith, is, below, lt)) in
+        let two = quotient k (q + 1) (n + 1 + (suc k - 1 - phase)) (omega (arith, is, below, lt))
+        (omega (arith, is, below, lt)) in
         omega (arith, one, two))
 
 pub out_next : (clock : Clock) (n : ℕ) → IsProper clock
@@ -276,15 +289,6 @@ few_lost clock gap less = go (eqb_tells gap.kind lost) (eqb_tells gap.kind open_
     go (inl (t, e)) _ = rw t (omega (arith, few))
     go (inr (f, other)) (inl (t, e)) = rw (f, t) (omega (arith, few))
     go (inr (f, other)) (inr (g, more)) = rw (f, g) (omega (arith, few))
-
-near_same : (x y : ℕ) → x ≡ y → (nat_le x (y + 0) && nat_le y (x + 0)) ≡ true
-near_same x y e = elim (leb_tells x (y + 0)) [
-  | inl (t, le) ↦ elim (leb_tells y (x + 0)) [
-    | inl (u, more) ↦ rw (t, u) refl
-    | inr (u, lt) ↦ absurd (omega (arith, e, lt))
-  ]
-  | inr (t, lt) ↦ absurd (omega (arith, e, lt))
-]
 
 pub no_gap : (numbering : Numbering) (ended : Bool) (shown i m k n : ℕ)
     → clock_fits numbering.clock i m k n ≡ true → gap_of Video 0 numbering ended shown i m k n ≡ None

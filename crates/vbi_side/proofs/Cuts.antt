@@ -16,8 +16,9 @@ use Rattle.vbi_side.specs.Numbers.{AreAnswers}
 use Rattle.vbi_side.specs.Side.{DiscRuns, Rises, captured, IsOneRun}
 use Rattle.vbi_side.specs.Gaps.{gap_as, kind_of, ended_between, shown_between, IsGap}
 use Rattle.vbi_side.proofs.Truth.{video_fits, on_the_disc}
-use Rattle.vbi_side.proofs.SideAnswers.{marked_is, anchor}
-use Rattle.vbi_side.proofs.GapLaws.{near_same, none_found}
+use Rattle.vbi_side.proofs.Anchors.{marked_is, anchor}
+use Rattle.vbi_side.proofs.GapLaws.{none_found}
+use Rattle.vbi_side.proofs.Truth.{near_same}
 
 -- in one run the disc's fields are as far apart as those of the capture
 as_far : (place : ℕ → ℕ) (i j k : ℕ) → IsOneRun place i j → i + k ≤ j → place (i + k) ≡ place i + k
@@ -77,7 +78,8 @@ gap_not_run disc place fields numbering seen answers ends gap none runs are is f
     let one = video_fits gap.after gap.from p.0 p.1 p.5 in
     let other = video_fits gap.before gap.to q.0 q.1 q.5 in
     none_found (nearly_by numbering.clock Video 0 gap.after gap.from gap.before gap.to)
-    (gap_as numbering.clock Video 0 (kind_of Video numbering (ended_between ends gap.after gap.before) gap.after gap.from gap.before
+    (gap_as numbering.clock Video 0
+    (kind_of Video numbering (ended_between ends gap.after gap.before) gap.after gap.from gap.before
     gap.to)
     (shown_between seen gap.after gap.from gap.before gap.to) gap.after gap.from gap.before gap.to) gap
     (near_same (gap.before + 2 * kept numbering.clock gap.from) (gap.after + 2 * kept numbering.clock gap.to)

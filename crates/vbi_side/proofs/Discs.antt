@@ -1,9 +1,9 @@
 -- Discs that run on.
-use Rattle.std.proofs.Common.{◌≡◌, ◌≢◌, ℕ, ◌+◌, ◌*◌, ◌/◌, ◌%◌, ◌≤◌, Bool, true}
-use Rattle.std.proofs.Common.{false, refl, arith, ap, sym, ◌∙◌, inl, inr}
-use Rattle.std.specs.Prelude.{Option, Some, None, ◌⊎◌, ◌==◌, ◌&&◌, nat_le, unwrap_or}
+use Rattle.std.proofs.Common.{◌≡◌, ◌≢◌, ℕ, ◌+◌, ◌*◌, ◌/◌, ◌%◌, ◌≤◌, true}
+use Rattle.std.proofs.Common.{eq-eqb, false, refl, arith, ap, sym, ◌∙◌, inl, inr}
+use Rattle.std.specs.Prelude.{Option, Some, None, ◌⊎◌, ◌==◌, nat_le, unwrap_or}
 use Rattle.std.proofs.Math.Dec.{eqb}
-use Rattle.std.proofs.lemmas.Bool.{eqb-true, le-leb}
+use Rattle.std.proofs.lemmas.Bool.{eqb-true, le-leb, and_from}
 use Rattle.std.proofs.lemmas.Bool.Decides.{eqb_tells}
 use Rattle.vbi_side.specs.declared.pace.Pace.TheVariants.{Video, Film}
 use Rattle.vbi_side.specs.Paces.{fits}
@@ -44,33 +44,21 @@ film_is j m e = go (eqb_tells (j % 5) 0) (eqb_tells (j % 5) 2)
     go (inr (f, apart)) (inr (g, others)) =
         let is : film_disc j ≡ None = rw f (rw g refl) in absurd (none_is (film_disc j) m is e)
 
-and_so : (a b : Bool) → a ≡ true → b ≡ true → (a && b) ≡ true
-and_so true true e f = refl
-and_so true false e f = f
-and_so false b e f = e
-
-same_true : (m n : ℕ) → m ≡ n → (m == n) ≡ true
-same_true m n e = go (eqb_tells m n)
-  where
-    go : ((eqb m n ≡ true) × (m ≡ n)) ⊎ ((eqb m n ≡ false) × (m ≢ n)) → (m == n) ≡ true
-    go (inl (t, is)) = t
-    go (inr (f, apart)) = absurd (apart e)
-
 pub video_runs : (i : ℕ) → RunsOn Video video_disc i
 video_runs i j k m n near others step here there =
-    same_true (k + 2 * m) (j + 2 * n) (omega (arith, video_is j m here, video_is k n there))
+    eq-eqb (k + 2 * m) (j + 2 * n) (omega (arith, video_is j m here, video_is k n there))
 
 pub film_runs : (i : ℕ) → RunsOn Film film_disc i
 film_runs i j k m n near others step here there =
     let p = film_is j m here in
     let q = film_is k n there in
-    and_so (nat_le (2 * k + 5 * m) (2 * j + 5 * n + 2)) (nat_le (2 * j + 5 * n) (2 * k + 5 * m + 2))
+    and_from (nat_le (2 * k + 5 * m) (2 * j + 5 * n + 2)) (nat_le (2 * j + 5 * n) (2 * k + 5 * m + 2))
     (le-leb (2 * k + 5 * m) (2 * j + 5 * n + 2) (omega (arith, p.0, p.1, q.0, q.1)))
     (le-leb (2 * j + 5 * n) (2 * k + 5 * m + 2) (omega (arith, p.0, p.1, q.0, q.1)))
 
 pub video_has : (i n : ℕ) → i ≡ 2 * n → video_disc i ≡ Some n
 video_has i n e =
-    let t : (i % 2 == 0) ≡ true = same_true (i % 2) 0 (omega (arith, e)) in
+    let t : (i % 2 == 0) ≡ true = eq-eqb (i % 2) 0 (omega (arith, e)) in
     let is : video_disc i ≡ Some (i / 2) = rw t refl in
     let half : i / 2 ≡ n = omega (arith, e) in
     is ∙ ap Some half
@@ -82,7 +70,7 @@ video_regular i j m k l n less more near far here there on back =
 -- the fields of film that have numbers
 film_at : (i n : ℕ) → ((i % 5 ≡ 0) × (2 * i ≡ 5 * n)) ⊎ ((i % 5 ≡ 2) × (2 * i + 1 ≡ 5 * n)) → film_disc i ≡ Some n
 film_at i n (inl (zero, e)) =
-    let t : (i % 5 == 0) ≡ true = same_true (i % 5) 0 zero in
+    let t : (i % 5 == 0) ≡ true = eq-eqb (i % 5) 0 zero in
     let is : film_disc i ≡ Some (2 * (i / 5)) = rw t refl in
     let part : 2 * (i / 5) ≡ n = omega (arith, zero, e) in
     is ∙ ap Some part
@@ -91,7 +79,7 @@ film_at i n (inr (two, e)) = go (eqb_tells (i % 5) 0)
     go : ((eqb (i % 5) 0 ≡ true) × (i % 5 ≡ 0)) ⊎ ((eqb (i % 5) 0 ≡ false) × (i % 5 ≢ 0)) → film_disc i ≡ Some n
     go (inl (t, zero)) = absurd (omega (arith, zero, two))
     go (inr (f, apart)) =
-        let t : (i % 5 == 2) ≡ true = same_true (i % 5) 2 two in
+        let t : (i % 5 == 2) ≡ true = eq-eqb (i % 5) 2 two in
         let is : film_disc i ≡ Some (2 * (i / 5) + 1) = rw f (rw t refl) in
         let part : 2 * (i / 5) + 1 ≡ n = omega (arith, two, e) in
         is ∙ ap Some part
@@ -146,3 +134,5 @@ film_turns i m j k l n near others first second here one two e f =
     go (inl (zero, a)) (inr (two, b)) = absurd (omega (arith, zero, two))
     go (inr (two, a)) (inl (zero, b)) = absurd (omega (arith, zero, two))
     go (inr (two, a)) (inr (both, b)) = omega (arith, a, b)
+
+pub ruleset regular_discs = (video_runs, video_regular, film_runs, film_regular, film_turns)

@@ -1,11 +1,12 @@
 -- Where the numbers of a stretch count to each other, and where they don't.
+use Rattle.std.proofs.lemmas.Bool.{le-leb}
 use Rattle.std.proofs.Common.{◌≡◌, ℕ, suc, ◌+◌, ◌*◌, ◌<◌, ◌≤◌, true, false, List, sym, subst, arith}
 use Rattle.std.proofs.Common.{◌∙◌, inl, inr}
 use Rattle.std.specs.Prelude.{Option, Some, None, nat_le, ◌⊎◌}
 use Rattle.std.proofs.lemmas.Bool.{leb-true}
 use Rattle.std.proofs.lemmas.Bool.Decides.{leb_tells, eqb_tells}
 use Rattle.vbi_side.specs.declared.number.Number.{Number}
-use Rattle.vbi_side.specs.declared.gap.Place.{Place}
+use Rattle.vbi_side.specs.declared.place.Place.{Place}
 use Rattle.vbi_side.specs.declared.drift.Stretch.{Stretch}
 use Rattle.vbi_side.specs.declared.pace.Pace.{Pace}
 use Rattle.vbi_side.specs.declared.pace.Pace.TheVariants.{Video, Film}
@@ -15,66 +16,51 @@ use Rattle.vbi_side.specs.Clocks.{kept, nearly_by}
 use Rattle.vbi_side.specs.Numbers.{IsMarked}
 use Rattle.vbi_side.specs.Gaps.{AreNeighbours, IsLast}
 use Rattle.vbi_side.specs.Drifts.{leads, leads_by, IsStretch, IsDrift, IsApart, IsSpread}
-use Rattle.vbi_side.proofs.Truth.{both, and_so}
-use Rattle.vbi_side.proofs.Telling.{last_kept, last_new, neighbours_of}
+use Rattle.std.proofs.lemmas.Bool.{and_parts, and_from}
+use Rattle.vbi_side.proofs.Telling.{last_new, neighbours_of}
 use Rattle.vbi_side.proofs.GapLaws.{same_before, same_number}
 
 -- ---- what stands earlier
 
-le_so : (a b : ℕ) → a ≤ b → nat_le a b ≡ true
-le_so a b le = elim (leb_tells a b) [
-  | inl (t, more) ↦ t
-  | inr (f, lt) ↦ absurd (omega (arith, le, lt))
-]
-
 pub leads_self : (pace : Pace) (i m : ℕ) → leads pace i m i m ≡ true
-leads_self Video i m = le_so (i + 2 * m) (i + 2 * m) (omega arith)
-leads_self Film i m = le_so (2 * i + 5 * m) (2 * i + 5 * m) (omega arith)
+leads_self Video i m = le-leb (i + 2 * m) (i + 2 * m) (omega arith)
+leads_self Film i m = le-leb (2 * i + 5 * m) (2 * i + 5 * m) (omega arith)
 
 pub leads_on : (pace : Pace) (i m j n k o : ℕ) → leads pace i m j n ≡ true → leads pace j n k o ≡ true
     → leads pace i m k o ≡ true
 leads_on Video i m j n k o one other =
-    le_so (i + 2 * o) (k + 2 * m) (omega (
+    le-leb (i + 2 * o) (k + 2 * m) (omega (
       arith,
       leb-true (i + 2 * n) (j + 2 * m) one,
       leb-true (j + 2 * o)
           (k + 2 * n) other,
     ))
-leads_on Film i m j n k o one other = le_so (2 * i + 5 * o) (2 * k + 5 * m) (omega (
+leads_on Film i m j n k o one other = le-leb (2 * i + 5 * o) (2 * k + 5 * m) (omega (
   arith,
   leb-true (2 * i + 5 * n) (2 * j + 5 * m) one,
   leb-true (2 * j + 5 * o) (2 * k + 5 * n) other,
 ))
 
-pub leads_back : (pace : Pace) (i m j n : ℕ) → leads pace i m j n ≡ false → leads pace j n i m ≡ true
-leads_back Video i m j n e = elim (leb_tells (i + 2 * n) (j + 2 * m)) [
-  | inl (t, le) ↦ absurd (let h : true ≡ false = sym t ∙ e in cc)
-  | inr (f, lt) ↦ le_so (j + 2 * m) (i + 2 * n) (omega (arith, lt))
-]
-leads_back Film i m j n e = elim (leb_tells (2 * i + 5 * n) (2 * j + 5 * m)) [
-  | inl (t, le) ↦ absurd (let h : true ≡ false = sym t ∙ e in cc)
-  | inr (f, lt) ↦ le_so (2 * j + 5 * m) (2 * i + 5 * n) (omega (arith, lt))
-]
-
 -- what stands between two that a number nearly fits, it nearly fits too
 squeezed : (pace : Pace) (slack l o i m h q k n : ℕ) → leads pace l o i m ≡ true → leads pace i m h q ≡ true
     → nearly pace slack l o k n ≡ true → nearly pace slack h q k n ≡ true → nearly pace slack i m k n ≡ true
 squeezed Video slack l o i m h q k n low high one other =
-    let a = both (nat_le (k + 2 * o) (l + 2 * n + slack)) (nat_le (l + 2 * n) (k + 2 * o + slack)) one in
-    let b = both (nat_le (k + 2 * q) (h + 2 * n + slack)) (nat_le (h + 2 * n) (k + 2 * q + slack)) other in
+    let a = and_parts (nat_le (k + 2 * o) (l + 2 * n + slack)) (nat_le (l + 2 * n) (k + 2 * o + slack)) one in
+    let b = and_parts (nat_le (k + 2 * q) (h + 2 * n + slack)) (nat_le (h + 2 * n) (k + 2 * q + slack)) other in
     let first = leb-true (l + 2 * m) (i + 2 * o) low in
     let last = leb-true (i + 2 * q) (h + 2 * m) high in
-    and_so (nat_le (k + 2 * m) (i + 2 * n + slack)) (nat_le (i + 2 * n) (k + 2 * m + slack))
-    (le_so (k + 2 * m) (i + 2 * n + slack) (omega (arith, leb-true (k + 2 * o) (l + 2 * n + slack) a.0, first)))
-    (le_so (i + 2 * n) (k + 2 * m + slack) (omega (arith, leb-true (h + 2 * n) (k + 2 * q + slack) b.1, last)))
+    and_from (nat_le (k + 2 * m) (i + 2 * n + slack)) (nat_le (i + 2 * n) (k + 2 * m + slack))
+    (le-leb (k + 2 * m) (i + 2 * n + slack) (omega (arith, leb-true (k + 2 * o) (l + 2 * n + slack) a.0, first)))
+    (le-leb (i + 2 * n) (k + 2 * m + slack) (omega (arith, leb-true (h + 2 * n) (k + 2 * q + slack) b.1, last)))
 squeezed Film slack l o i m h q k n low high one other =
-    let a = both (nat_le (2 * k + 5 * o) (2 * l + 5 * n + 2)) (nat_le (2 * l + 5 * n) (2 * k + 5 * o + 2)) one in
-    let b = both (nat_le (2 * k + 5 * q) (2 * h + 5 * n + 2)) (nat_le (2 * h + 5 * n) (2 * k + 5 * q + 2)) other in
+    let a = and_parts (nat_le (2 * k + 5 * o) (2 * l + 5 * n + 2)) (nat_le (2 * l + 5 * n) (2 * k + 5 * o + 2)) one in
+    let b = and_parts (nat_le (2 * k + 5 * q) (2 * h + 5 * n + 2)) (nat_le (2 * h + 5 * n) (2 * k + 5 * q + 2)) other in
     let first = leb-true (2 * l + 5 * m) (2 * i + 5 * o) low in
     let last = leb-true (2 * i + 5 * q) (2 * h + 5 * m) high in
-    and_so (nat_le (2 * k + 5 * m) (2 * i + 5 * n + 2)) (nat_le (2 * i + 5 * n) (2 * k + 5 * m + 2))
-    (le_so (2 * k + 5 * m) (2 * i + 5 * n + 2) (omega (arith, leb-true (2 * k + 5 * o) (2 * l + 5 * n + 2) a.0, first)))
-    (le_so (2 * i + 5 * n) (2 * k + 5 * m + 2) (omega (arith, leb-true (2 * h + 5 * n) (2 * k + 5 * q + 2) b.1, last)))
+    and_from (nat_le (2 * k + 5 * m) (2 * i + 5 * n + 2)) (nat_le (2 * i + 5 * n) (2 * k + 5 * m + 2))
+    (le-leb (2 * k + 5 * m) (2 * i + 5 * n + 2)
+    (omega (arith, leb-true (2 * k + 5 * o) (2 * l + 5 * n + 2) a.0, first)))
+    (le-leb (2 * i + 5 * n) (2 * k + 5 * m + 2) (omega (arith, leb-true (2 * h + 5 * n) (2 * k + 5 * q + 2) b.1, last)))
 
 -- ---- the last number
 
@@ -103,86 +89,32 @@ ends_here clock pace slack answers k n last a m o is at pair near =
 -- ---- the stretch, field by field
 
 -- a stretch with a number more goes on
-runs_on : (clock : Clock) (pace : Pace) (slack : ℕ) (answers : List Number) (k n i : ℕ) (last : Place) → IsLast answers k (Some last)
+runs_on : (clock : Clock) (pace : Pace) (slack : ℕ) (answers : List Number) (k n i : ℕ) (last : Place)
+    → IsLast answers k (Some last)
     → IsMarked answers k n → nearly_by clock pace slack last.field last.number k n ≡ true
     → IsStretch clock pace slack answers i last.field → IsStretch clock pace slack answers i k
 runs_on clock pace slack answers k n i last is at near runs a m b o from to pair = elim (eqb_tells b k) [
   | inl (t, same) ↦ subst (λ x. nearly_by clock pace slack a m x o ≡ true) (sym same)
-      (ends_here clock pace slack answers k n last a m o is at (subst (λ x. AreNeighbours answers a m x o) same pair) near)
+      (ends_here clock pace slack answers k n last a m o is at
+      (subst (λ x. AreNeighbours answers a m x o) same pair) near)
   | inr (f, other) ↦ runs a m b o from
       (last_before answers k last b o is pair.there (omega (arith, to, other))) pair
 ]
 
 -- part of a stretch is one
-runs_in : (clock : Clock) (pace : Pace) (slack : ℕ) (answers : List Number) (h i j : ℕ) → h ≤ i → IsStretch clock pace slack answers h j
+runs_in : (clock : Clock) (pace : Pace) (slack : ℕ) (answers : List Number) (h i j : ℕ) → h ≤ i
+    → IsStretch clock pace slack answers h j
     → IsStretch clock pace slack answers i j
 runs_in clock pace slack answers h i j le runs a m b n from to pair = runs a m b n (omega (arith, le, from)) to pair
 
-pub spread_begun : (clock : Clock) (pace : Pace) (slack : ℕ) (answers : List Number) (before : Option Place) (first : Place)
-    → IsLast answers first.field before → IsMarked answers first.field first.number → IsApart clock pace slack before first
-    → IsSpread clock pace slack answers (first.field + 1)
-    (record { before = before; first = first; last = first; low = first; high = first })
-spread_begun clock pace slack answers before first is at apart = record {
-  before = is;
-  first = at;
-  apart = apart;
-  last = let next : suc first.field ≡ first.field + 1 = omega arith in
-      subst (λ k. IsLast answers k (Some first)) next (last_new answers first.field first.number at);
-  from = omega arith;
-  low = at;
-  low_inside = omega arith;
-  low_before = omega arith;
-  high = at;
-  high_inside = omega arith;
-  high_before = omega arith;
-  runs = λ a m b n from to pair. let order : a < b = pair.order in absurd (omega (arith, from, to, order));
-  least = λ i m from less marked. only i m from less marked (λ j o. leads_by clock pace first.field first.number j o ≡ true)
-      (leads_self pace first.field (kept clock first.number));
-  most = λ i m from less marked. only i m from less marked (λ j o. leads_by clock pace j o first.field first.number ≡ true)
-      (leads_self pace first.field (kept clock first.number));
-}
-  where
-    only : (i m : ℕ) → first.field ≤ i → i < first.field + 1 → IsMarked answers i m → (P : ℕ → ℕ → Type 0)
-        → P first.field first.number → P i m
-    only i m from less marked P p =
-        let same : first.field ≡ i = omega (arith, from, less) in
-        let number = same_number answers i first.number m
-        (subst (λ x. IsMarked answers x first.number) same at) marked in
-        subst (λ x. P i x) number (subst (λ x. P x first.number) same p)
-
-pub spread_kept : (clock : Clock) (pace : Pace) (slack : ℕ) (answers : List Number) (k : ℕ) (stretch : Stretch)
-    → ((n : ℕ) → IsMarked answers k n → ⊥) → IsSpread clock pace slack answers k stretch
-    → IsSpread clock pace slack answers (k + 1) stretch
-spread_kept clock pace slack answers k stretch none is = record {
-  before = is.before;
-  first = is.first;
-  apart = is.apart;
-  last = let next : suc k ≡ k + 1 = omega arith in
-      subst (λ x. IsLast answers x (Some stretch.last)) next (last_kept answers k (Some stretch.last) none is.last);
-  from = is.from;
-  low = is.low;
-  low_inside = is.low_inside;
-  low_before = is.low_before;
-  high = is.high;
-  high_inside = is.high_inside;
-  high_before = is.high_before;
-  runs = is.runs;
-  least = λ i m from less marked. is.least i m from (fewer i m less marked) marked;
-  most = λ i m from less marked. is.most i m from (fewer i m less marked) marked;
-}
-  where
-    fewer : (i m : ℕ) → i < k + 1 → IsMarked answers i m → i < k
-    fewer i m less marked = elim (eqb_tells i k) [
-      | inl (t, same) ↦ absurd (none m (subst (λ x. IsMarked answers x m) same marked))
-      | inr (f, other) ↦ omega (arith, less, other)
-    ]
-
-pub spread_more : (clock : Clock) (pace : Pace) (slack : ℕ) (answers : List Number) (stretch : Stretch) (there low high : Place)
+pub spread_more : (clock : Clock) (pace : Pace) (slack : ℕ) (answers : List Number) (stretch : Stretch)
+    (there low high : Place)
     → IsSpread clock pace slack answers there.field stretch → IsMarked answers there.field there.number
     → nearly_by clock pace slack stretch.last.field stretch.last.number there.field there.number ≡ true
     → ((low ≡ stretch.low) × (leads_by clock pace stretch.low.field stretch.low.number there.field there.number ≡ true))
     ⊎ ((low ≡ there) × (leads_by clock pace there.field there.number stretch.low.field stretch.low.number ≡ true))
-    → ((high ≡ stretch.high) × (leads_by clock pace there.field there.number stretch.high.field stretch.high.number ≡ true))
+    → ((high ≡ stretch.high)
+    × (leads_by clock pace there.field there.number stretch.high.field stretch.high.number ≡ true))
     ⊎ ((high ≡ there) × (leads_by clock pace stretch.high.field stretch.high.number there.field there.number ≡ true))
     → IsSpread clock pace slack answers (there.field + 1)
     (record { before = stretch.before; first = stretch.first; last = there; low = low; high = high })
@@ -191,7 +123,7 @@ spread_more clock pace slack answers stretch there low high is at near lower hig
   first = is.first;
   apart = is.apart;
   last = let next : suc there.field ≡ there.field + 1 = omega arith in
-      subst (λ k. IsLast answers k (Some there)) next (last_new answers there.field there.number at);
+      subst (λ k. IsLast answers k (Some there)) next (last_new answers there at);
   from = inside;
   low = low_is.0;
   low_inside = low_is.1;
@@ -199,7 +131,8 @@ spread_more clock pace slack answers stretch there low high is at near lower hig
   high = high_is.0;
   high_inside = high_is.1;
   high_before = high_is.2;
-  runs = runs_on clock pace slack answers there.field there.number stretch.first.field stretch.last is.last at near is.runs;
+  runs = runs_on clock pace slack answers there.field there.number stretch.first.field stretch.last is.last at near
+      is.runs;
   least = λ i m from less marked. elim (eqb_tells i there.field) [
     | inl (t, same) ↦ here i m same marked (λ j o. leads_by clock pace low.field low.number j o ≡ true) low_is.3
     | inr (f, other) ↦ leads_on pace low.field (kept clock low.number) stretch.low.field
@@ -271,9 +204,11 @@ spread_more clock pace slack answers stretch there low high is at near lower hig
 
 -- ---- a number that doesn't count to one of its stretch
 
-pub drift_found : (clock : Clock) (pace : Pace) (slack : ℕ) (answers : List Number) (k n : ℕ) (stretch : Stretch) (one : Place)
+pub drift_found : (clock : Clock) (pace : Pace) (slack : ℕ) (answers : List Number) (k n : ℕ) (stretch : Stretch)
+    (one : Place)
     → IsSpread clock pace slack answers k stretch → IsMarked answers k n
-    → nearly_by clock pace slack stretch.last.field stretch.last.number k n ≡ true → IsMarked answers one.field one.number
+    → nearly_by clock pace slack stretch.last.field stretch.last.number k n ≡ true
+    → IsMarked answers one.field one.number
     → stretch.first.field ≤ one.field → one.field ≤ stretch.last.field
     → nearly_by clock pace slack one.field one.number k n ≡ false → IsDrift clock pace slack answers k
 drift_found clock pace slack answers k n stretch one is at near marked from to apart =
@@ -294,7 +229,8 @@ drift_found clock pace slack answers k n stretch one is at near marked from to a
 pub no_drift_on : (clock : Clock) (pace : Pace) (slack : ℕ) (answers : List Number) (k n : ℕ) (stretch : Stretch)
     → IsSpread clock pace slack answers k stretch → IsMarked answers k n
     → nearly_by clock pace slack stretch.low.field stretch.low.number k n ≡ true
-    → nearly_by clock pace slack stretch.high.field stretch.high.number k n ≡ true → IsDrift clock pace slack answers k → ⊥
+    → nearly_by clock pace slack stretch.high.field stretch.high.number k n ≡ true
+    → IsDrift clock pace slack answers k → ⊥
 no_drift_on clock pace slack answers k n stretch is at low high drift = go (leb_tells stretch.first.field drift.i)
   where
     earlier : (before : Option Place) → IsLast answers stretch.first.field before
@@ -312,7 +248,8 @@ no_drift_on clock pace slack answers k n stretch is at low high drift = go (leb_
         ⊎ ((nat_le stretch.first.field drift.i ≡ false) × (drift.i < stretch.first.field)) → ⊥
     go (inl (t, le)) =
         let near = squeezed pace slack stretch.low.field (kept clock stretch.low.number) drift.i
-        (kept clock drift.m) stretch.high.field (kept clock stretch.high.number) k (kept clock n) (is.least drift.i drift.m le drift.order drift.here)
+        (kept clock drift.m) stretch.high.field (kept clock stretch.high.number) k (kept clock n)
+        (is.least drift.i drift.m le drift.order drift.here)
         (is.most drift.i drift.m le drift.order drift.here) low high in
         let number = same_number answers k drift.n n drift.there at in
         let apart = subst (λ x. nearly_by clock pace slack drift.i drift.m k x ≡ false) number drift.apart in
@@ -321,7 +258,8 @@ no_drift_on clock pace slack answers k n stretch is at low high drift = go (leb_
 
 -- nor does one drift that doesn't go on from the last
 pub no_drift_apart : (clock : Clock) (pace : Pace) (slack : ℕ) (answers : List Number) (k n : ℕ) (last : Place)
-    → IsLast answers k (Some last) → IsMarked answers k n → nearly_by clock pace slack last.field last.number k n ≡ false
+    → IsLast answers k (Some last) → IsMarked answers k n
+    → nearly_by clock pace slack last.field last.number k n ≡ false
     → IsDrift clock pace slack answers k → ⊥
 no_drift_apart clock pace slack answers k n last is at apart drift =
     let near = drift.stretch last.field last.number k n

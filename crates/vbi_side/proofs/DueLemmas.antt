@@ -1,10 +1,11 @@
 -- What is due, once, and rightly.
+use Rattle.std.proofs.lemmas.Bool.{eqb-true}
+use Rattle.std.proofs.Common.{eq-eqb}
 use Rattle.std.proofs.Common.{◌≡◌, ◌≢◌, ℕ, ◌+◌, ◌*◌, ◌-◌, ◌%◌, ◌<◌, ◌≤◌, true, false, List, arith, sym, ◌∙◌, subst}
 use Rattle.std.proofs.Common.{inl, inr}
-use Rattle.std.specs.Prelude.{Option, Some, slice_get, ◌⊎◌, ◌↔◌, nat_le, ◌==◌}
+use Rattle.std.specs.Prelude.{Option, Some, slice_get, ◌⊎◌, ◌↔◌, nat_le}
 use Rattle.std.proofs.lemmas.Bool.{leb-true, le-leb}
-use Rattle.std.proofs.lemmas.Bool.Decides.{eqb_tells, leb_tells}
-use Rattle.std.proofs.Math.Dec.{eqb}
+use Rattle.std.proofs.lemmas.Bool.Decides.{leb_tells}
 use Rattle.vbi_side.specs.declared.sighting.Sightings.{Sightings}
 use Rattle.vbi_side.specs.declared.pace.Pace.{Pace}
 use Rattle.vbi_side.specs.declared.pace.Pace.TheVariants.{Video, Film}
@@ -14,7 +15,8 @@ use Rattle.vbi_side.specs.Due.{slack_of, Leaves, IsLeft, Due}
 use Rattle.vbi_side.specs.Nearest.{are_whole}
 use Rattle.vbi_side.specs.Truth.{IsNear, IsRegular}
 use Rattle.vbi_side.proofs.Ahead.{one_believed}
-use Rattle.vbi_side.proofs.Truth.{both, and_so, film_fits, only_near}
+use Rattle.std.proofs.lemmas.Bool.{and_parts, and_from}
+use Rattle.vbi_side.proofs.Truth.{film_fits, only_near}
 
 -- ---- how far a number may be off
 
@@ -40,53 +42,39 @@ slack_grows j k b c first last = go (leb_tells k (j + 8))
 pub video_nearly : (slack i m j n : ℕ) → nearly Video slack i m j n ≡ true
     → (j + 2 * m ≤ i + 2 * n + slack) × (i + 2 * n ≤ j + 2 * m + slack)
 video_nearly slack i m j n e =
-    let p = both (nat_le (j + 2 * m) (i + 2 * n + slack)) (nat_le (i + 2 * n) (j + 2 * m + slack)) e in
+    let p = and_parts (nat_le (j + 2 * m) (i + 2 * n + slack)) (nat_le (i + 2 * n) (j + 2 * m + slack)) e in
     (leb-true (j + 2 * m) (i + 2 * n + slack) p.0, leb-true (i + 2 * n) (j + 2 * m + slack) p.1)
 
 pub nearly_more : (pace : Pace) (slack more i m j n : ℕ) → slack ≤ more → nearly pace slack i m j n ≡ true
     → nearly pace more i m j n ≡ true
 nearly_more Video slack more i m j n less e =
     let p = video_nearly slack i m j n e in
-    and_so (nat_le (j + 2 * m) (i + 2 * n + more)) (nat_le (i + 2 * n) (j + 2 * m + more))
+    and_from (nat_le (j + 2 * m) (i + 2 * n + more)) (nat_le (i + 2 * n) (j + 2 * m + more))
     (le-leb (j + 2 * m) (i + 2 * n + more) (omega (arith, less, p.0)))
     (le-leb (i + 2 * n) (j + 2 * m + more) (omega (arith, less, p.1)))
 nearly_more Film slack more i m j n less e = e
 
 -- ---- whole pictures
 
-pub equal_true : (m n : ℕ) → m ≡ n → (m == n) ≡ true
-equal_true m n e = go (eqb_tells m n)
-  where
-    go : ((eqb m n ≡ true) × (m ≡ n)) ⊎ ((eqb m n ≡ false) × (m ≢ n)) → (m == n) ≡ true
-    go (inl (t, is)) = t
-    go (inr (f, apart)) = absurd (apart e)
-
-is_true : (m n : ℕ) → (m == n) ≡ true → m ≡ n
-is_true m n e = go (eqb_tells m n)
-  where
-    go : ((eqb m n ≡ true) × (m ≡ n)) ⊎ ((eqb m n ≡ false) × (m ≢ n)) → m ≡ n
-    go (inl (t, is)) = is
-    go (inr (f, apart)) = absurd (let clash : false ≡ true → ⊥ = λ h. cc in clash (subst (λ b. b ≡ true) f e))
-
 -- numbers that lie whole pictures apart are of fields that do
 pub whole_on : (pace : Pace) (j m i n : ℕ) → j < i → Count pace j m i n → are_whole pace (i - j) ≡ true
-whole_on Video j m i n less e = equal_true ((i - j) % 2) 0 (omega (arith, less, e))
-whole_on Film j m i n less e = equal_true ((i - j) % 5) 0 (omega (arith, less, e))
+whole_on Video j m i n less e = eq-eqb ((i - j) % 2) 0 (omega (arith, less, e))
+whole_on Film j m i n less e = eq-eqb ((i - j) % 5) 0 (omega (arith, less, e))
 
 -- numbers of such fields that nearly fit lie whole pictures apart
 pub nearly_on : (pace : Pace) (slack i n j m : ℕ) → slack ≤ 1 → j < i → are_whole pace (i - j) ≡ true
     → nearly pace slack i n j m ≡ true → Count pace j m i n
 nearly_on Video slack i n j m few less whole e =
-    let p = video_nearly slack i n j m e in omega (arith, few, less, is_true ((i - j) % 2) 0 whole, p.0, p.1)
+    let p = video_nearly slack i n j m e in omega (arith, few, less, eqb-true ((i - j) % 2) 0 whole, p.0, p.1)
 nearly_on Film slack i n j m few less whole e =
-    let p = film_fits i n j m e in omega (arith, less, is_true ((i - j) % 5) 0 whole, p.0, p.1)
+    let p = film_fits i n j m e in omega (arith, less, eqb-true ((i - j) % 5) 0 whole, p.0, p.1)
 
 pub nearly_back : (pace : Pace) (slack i n k l : ℕ) → slack ≤ 1 → i < k → are_whole pace (k - i) ≡ true
     → nearly pace slack i n k l ≡ true → Count pace i n k l
 nearly_back Video slack i n k l few less whole e =
-    let p = video_nearly slack i n k l e in omega (arith, few, less, is_true ((k - i) % 2) 0 whole, p.0, p.1)
+    let p = video_nearly slack i n k l e in omega (arith, few, less, eqb-true ((k - i) % 2) 0 whole, p.0, p.1)
 nearly_back Film slack i n k l few less whole e =
-    let p = film_fits i n k l e in omega (arith, less, is_true ((k - i) % 5) 0 whole, p.0, p.1)
+    let p = film_fits i n k l e in omega (arith, less, eqb-true ((k - i) % 5) 0 whole, p.0, p.1)
 
 -- a number counts to one number in another field
 pub one_count : (pace : Pace) (j m i a b : ℕ) → Count pace j m i a → Count pace j m i b → a ≡ b
@@ -140,11 +128,11 @@ one_left HasNumber pace j m k l g x h y i a b unique one other = go (leb_tells j
     go (inr (f, less)) rest =
         one_count pace j m i a b one.on (nearly_on pace (slack_of g h) i b j m (slack_most g h) one.before
         (whole_on pace j m i a one.before one.on)
-        (other.between j m less (omega (arith, one.before, other.behind)) one.first))
+        (other.between j m less (omega (arith, one.before, other.after)) one.first))
     go (inl (t, le)) (inr (f, less)) =
         one_count pace g x i a b (nearly_on pace (slack_of j k) i a g x (slack_most j k) other.before
         (whole_on pace g x i b other.before other.on)
-        (one.between g x less (omega (arith, other.before, one.behind)) other.first)) other.on
+        (one.between g x less (omega (arith, other.before, one.after)) other.first)) other.on
     go (inl (t, le)) (inl (s, ge)) =
         let here : g ≡ j = omega (arith, le, ge) in
         let same : x ≡ m = unique j x m (subst (λ f. HasNumber f x) here other.first) one.first in
@@ -165,8 +153,8 @@ pub due_sound : (pace : Pace) (recorded : ℕ → Option ℕ) (fields : List Sig
 due_sound pace recorded fields i n regular right due =
     let (j, m, k, l, leaves) = due.left in
     let near : IsNear i j = (leaves.near, omega (arith, leaves.before)) in
-    let far : IsNear i k = (omega (arith, leaves.behind), leaves.far) in
-    regular j m k l n leaves.before leaves.behind near far (right j m near leaves.first)
+    let far : IsNear i k = (omega (arith, leaves.after), leaves.far) in
+    regular j m k l n leaves.before leaves.after near far (right j m near leaves.first)
     (right k l far leaves.last) leaves.on leaves.back
 
 -- ---- the same capture around a field
@@ -207,10 +195,10 @@ due_near pace fields others i n agree due = go due.left
         record {
           before = leaves.before;
           near = leaves.near;
-          behind = leaves.behind;
+          after = leaves.after;
           far = leaves.far;
           first = on j m (leaves.near, omega (arith, leaves.before)) leaves.first;
-          last = on k l (omega (arith, leaves.behind), leaves.far) leaves.last;
+          last = on k l (omega (arith, leaves.after), leaves.far) leaves.last;
           on = leaves.on;
           back = leaves.back;
           between = λ h x more less b. leaves.between h x more less

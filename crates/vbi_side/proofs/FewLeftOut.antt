@@ -47,3 +47,5 @@ pub even_near : (phase n : ℕ) → (phase < 1000 → out_near (OneIn 1000 phase
     × (phase < 1001 → out_near (OneIn 1001 phase) n ≤ 1)
 unfolding left_out
 even_near phase n = (λ less. omega (arith, less), λ less. omega (arith, less))
+
+pub ruleset few_numbers = (drop_few, thousand_few, more_few, drop_near)

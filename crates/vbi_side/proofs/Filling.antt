@@ -43,7 +43,7 @@ doubtful_state field = go (nat_le 1 field.line_17.weight) (nat_le 1 field.line_1
     go false true = (omega arith, λ e. absurd (omega (arith, e)))
     go false false = (omega arith, λ e. absurd (omega (arith, e)))
 
-unlike : (field : Sightings) (n : ℕ) → doubtful_of field ≡ believed n → ⊥
+pub unlike : (field : Sightings) (n : ℕ) → doubtful_of field ≡ believed n → ⊥
 unlike field n e = (doubtful_state field).1 (state_of (doubtful_of field) (believed n) e)
 
 not_due : (field : Sightings) (n : ℕ) → doubtful_of field ≡ due n → ⊥

@@ -1,6 +1,7 @@
 -- What the gaps of a capture say of it.
+use Rattle.vbi_side.proofs.Truth.{near_same}
 use Rattle.std.proofs.Common.{◌-◌, ◌≡◌, ◌≢◌, ℕ, zero, suc, ◌+◌, ◌*◌, ◌<◌, ◌≤◌, Bool, true, false, List, [], ◌∷◌, ◌++◌}
-use Rattle.std.proofs.Common.{refl, arith, ap, sym, ◌∙◌, subst, inl, inr, length}
+use Rattle.std.proofs.Common.{arith, ap, sym, ◌∙◌, subst, inl, inr, length}
 use Rattle.std.specs.Prelude.{Option, Some, None, ◌⊎◌, nat_le, nat_lt, sum_by, if◌then◌else◌, ◌&&◌}
 use Rattle.std.proofs.lemmas.Bool.Decides.{leb_tells, eqb_tells}
 use Rattle.std.proofs.lemmas.List.{length_push}
@@ -20,7 +21,8 @@ use Rattle.vbi_side.specs.Gaps.{lost, held, back, still, joined, open_gap, has_s
 use Rattle.vbi_side.specs.Gaps.{kind_of}
 use Rattle.vbi_side.specs.Gaps.{fields_of, ended_between, shown_between, AreNeighbours, IsFree, IsGap, AreGaps}
 use Rattle.vbi_side.specs.Gaps.{fields_if, CountTo, HasRightEnds, LostAtLeast}
-use Rattle.vbi_side.proofs.Truth.{both, video_fits, film_fits}
+use Rattle.std.proofs.lemmas.Bool.{and_parts}
+use Rattle.vbi_side.proofs.Truth.{video_fits, film_fits}
 use Rattle.vbi_side.proofs.Sides.{apart}
 use Rattle.vbi_side.proofs.Telling.{gap_is, some_is}
 
@@ -83,7 +85,8 @@ pub gap_exact : (disc : ℕ → Option ℕ) (place : ℕ → ℕ) (numbering : N
     → HasRightEnds (captured disc place) gap → AreLost place gap.after gap.before gap.fields
 gap_exact disc place numbering seen answers ends gap runs is kind (first, last) =
     let p = lost_lacks Video 0 numbering seen answers ends gap is kind in
-    let on = video_fits (place gap.after) (kept numbering.clock gap.from) (place gap.before) (kept numbering.clock gap.to)
+    let on = video_fits (place gap.after) (kept numbering.clock gap.from) (place gap.before)
+    (kept numbering.clock gap.to)
     (runs (place gap.after) (place gap.before) gap.from gap.to first last) in
     let order : gap.after < gap.before = is.neighbours.order in
     omega (arith, p.0, p.1, on, order)
@@ -91,17 +94,20 @@ gap_exact disc place numbering seen answers ends gap runs is kind (first, last) 
 -- at either pace so many at least
 pub gap_least : (pace : Pace) (slack : ℕ) (disc : ℕ → Option ℕ) (place : ℕ → ℕ) (numbering : Numbering)
     (seen : List Sightings) (answers : List Number) (ends : List ℕ)
-    (gap : Gap) → DiscCountsBy numbering.clock pace disc → IsGap pace slack numbering seen answers ends gap → gap.kind ≡ lost
+    (gap : Gap) → DiscCountsBy numbering.clock pace disc → IsGap pace slack numbering seen answers ends gap
+    → gap.kind ≡ lost
     → HasRightEnds (captured disc place) gap → LostAtLeast place gap.after gap.before gap.fields
 gap_least Video slack disc place numbering seen answers ends gap runs is kind (first, last) =
     let p = lost_lacks Video slack numbering seen answers ends gap is kind in
-    let on = video_fits (place gap.after) (kept numbering.clock gap.from) (place gap.before) (kept numbering.clock gap.to)
+    let on = video_fits (place gap.after) (kept numbering.clock gap.from) (place gap.before)
+    (kept numbering.clock gap.to)
     (runs (place gap.after) (place gap.before) gap.from gap.to first last) in
     let order : gap.after < gap.before = is.neighbours.order in
     omega (arith, p.0, p.1, on, order)
 gap_least Film slack disc place numbering seen answers ends gap runs is kind (first, last) =
     let p = lost_lacks Film slack numbering seen answers ends gap is kind in
-    let on = film_fits (place gap.after) (kept numbering.clock gap.from) (place gap.before) (kept numbering.clock gap.to)
+    let on = film_fits (place gap.after) (kept numbering.clock gap.from) (place gap.before)
+    (kept numbering.clock gap.to)
     (runs (place gap.after) (place gap.before) gap.from gap.to first last) in
     let order : gap.after < gap.before = is.neighbours.order in
     omega (arith, p.0, p.1, on.0, on.1, order)
@@ -139,7 +145,7 @@ no_push xs y e = absurd (omega (arith, ap (λ (zs : List Gap). length zs) e, len
 
 pub on_video : (i m k n : ℕ) → nearly Video 0 i m k n ≡ true → k + 2 * m ≡ i + 2 * n
 on_video i m k n is =
-    let p = both (nat_le (k + 2 * m) (i + 2 * n + 0)) (nat_le (i + 2 * n) (k + 2 * m + 0)) is in
+    let p = and_parts (nat_le (k + 2 * m) (i + 2 * n + 0)) (nat_le (i + 2 * n) (k + 2 * m + 0)) is in
     let a = leb_tells (k + 2 * m) (i + 2 * n + 0) in
     let b = leb_tells (i + 2 * n) (k + 2 * m + 0) in
     elim a [
@@ -161,7 +167,8 @@ all_count numbering seen answers ends (suc k) unread all i m j n here there orde
   where
     go : ((other : ℕ) → AreGaps Video 0 numbering seen answers ends k [] other → (a b c d : ℕ) → IsMarked answers a b
         → IsMarked answers c d
-        → a ≤ c → c < k → CountTo numbering.clock a b c d) → AreGaps Video 0 numbering seen answers ends (suc k) [] unread
+        → a ≤ c → c < k → CountTo numbering.clock a b c d)
+        → AreGaps Video 0 numbering seen answers ends (suc k) [] unread
         → ((eqb j k ≡ true) × (j ≡ k)) ⊎ ((eqb j k ≡ false) × (j ≢ k))
         → ((eqb i k ≡ true) × (i ≡ k)) ⊎ ((eqb i k ≡ false) × (i ≢ k)) → CountTo numbering.clock i m j n
     go ih (inl (free, fewer)) (inr (f, differ)) _ =
@@ -188,7 +195,8 @@ all_count numbering seen answers ends (suc k) unread all i m j n here there orde
     go ih (inl (inr never, fewer)) (inl (t, same)) (inr (u, differ)) =
         absurd (never i m (omega (arith, order, same, differ)) here)
     go ih (inr (inl (h, l, o, other, on, fewer, e))) (inl (t, same)) (inr (u, differ)) =
-        let number = ap (kept numbering.clock) (same_number answers k n o (subst (λ x. IsMarked answers x n) same there) on.neighbours.there) in
+        let number = ap (kept numbering.clock)
+        (same_number answers k n o (subst (λ x. IsMarked answers x n) same there) on.neighbours.there) in
         elim (leb_tells i h) [
           | inl (v, le) ↦ omega (
             arith,
@@ -244,8 +252,8 @@ module _ (pace : Pace) (slack : ℕ) (disc : ℕ → Option ℕ) (place : ℕ �
       → (i m : ℕ) → IsMarked answers i m → i < k → ((j l : ℕ) → i < j → j < k → IsMarked answers j l → ⊥)
       → (first ≤ i) × LostAtLeast place first i (sum_by (fields_if lost) gaps)
   unfolding AreGaps
-  lost_below zero gaps unread all i m here inside behind = absurd (omega (arith, inside))
-  lost_below (suc k) gaps unread (inl (free, all)) i m here inside behind =
+  lost_below zero gaps unread all i m here inside after = absurd (omega (arith, inside))
+  lost_below (suc k) gaps unread (inl (free, all)) i m here inside after =
       go (lost_below k gaps unread all i m here) free (eqb_tells i k) (leb_tells first i)
     where
       go : (i < k → ((j l : ℕ) → i < j → j < k → IsMarked answers j l → ⊥)
@@ -254,25 +262,25 @@ module _ (pace : Pace) (slack : ℕ) (disc : ℕ → Option ℕ) (place : ℕ �
           → ((nat_le first i ≡ true) × (first ≤ i)) ⊎ ((nat_le first i ≡ false) × (i < first))
           → (first ≤ i) × LostAtLeast place first i (sum_by (fields_if lost) gaps)
       go ih f (inr (u, differ)) _ = ih (omega (arith, inside, differ))
-          (λ j l lt less. behind j l lt (omega (arith, less)))
+          (λ j l lt less. after j l lt (omega (arith, less)))
       go ih f (inl (t, same)) (inr (v, lt)) = absurd (before_first i m lt here)
       go ih (inl never) (inl (t, same)) (inl (v, le)) = absurd (never m (subst (λ x. IsMarked answers x m) same here))
       go ih (inr never) (inl (t, same)) (inl (v, le)) =
           let none = none_gaps pace slack numbering seen answers ends k gaps unread all never in
           (le, omega (arith, ap (λ (xs : List Gap). sum_by (fields_if lost) xs) none, apart place first i rises le))
-  lost_below (suc k) gaps unread (inr (inl (h, l, o, fewer, on, all, e))) i m here inside behind =
+  lost_below (suc k) gaps unread (inr (inl (h, l, o, fewer, on, all, e))) i m here inside after =
       go (lost_below k gaps fewer all h l on.neighbours.here on.neighbours.order on.neighbours.between) (eqb_tells i k)
     where
       go : ((first ≤ h) × LostAtLeast place first h (sum_by (fields_if lost) gaps))
           → ((eqb i k ≡ true) × (i ≡ k)) ⊎ ((eqb i k ≡ false) × (i ≢ k))
           → (first ≤ i) × LostAtLeast place first i (sum_by (fields_if lost) gaps)
       go p (inr (u, differ)) =
-          absurd (behind k o (omega (arith, inside, differ)) (omega arith) on.neighbours.there)
+          absurd (after k o (omega (arith, inside, differ)) (omega arith) on.neighbours.there)
       go p (inl (t, same)) =
           let order : h < k = on.neighbours.order in
           let up = apart place h k rises (omega (arith, order)) in
           (omega (arith, p.0, order, same), omega (arith, p.0, p.1, up, order, same, ap place same))
-  lost_below (suc k) gaps unread (inr (inr (one, others, is, last, all, e))) i m here inside behind =
+  lost_below (suc k) gaps unread (inr (inr (one, others, is, last, all, e))) i m here inside after =
       go (lost_below k others unread all one.after one.from is.neighbours.here (within one k is last)
       (λ j l lt less. is.neighbours.between j l lt (omega (arith, less, last)))) (eqb_tells i k)
     where
@@ -280,7 +288,7 @@ module _ (pace : Pace) (slack : ℕ) (disc : ℕ → Option ℕ) (place : ℕ �
           → ((eqb i k ≡ true) × (i ≡ k)) ⊎ ((eqb i k ≡ false) × (i ≢ k))
           → (first ≤ i) × LostAtLeast place first i (sum_by (fields_if lost) gaps)
       go p (inr (u, differ)) =
-          absurd (behind one.before one.to (omega (arith, inside, differ, last))
+          absurd (after one.before one.to (omega (arith, inside, differ, last))
           (omega (arith, last)) is.neighbours.there)
       go p (inl (t, same)) =
           let order : one.after < one.before = is.neighbours.order in
@@ -291,30 +299,24 @@ module _ (pace : Pace) (slack : ℕ) (disc : ℕ → Option ℕ) (place : ℕ �
 
 -- ---- a gap is a cut
 
-pub near_same : (x y : ℕ) → x ≡ y → (nat_le x (y + 0) && nat_le y (x + 0)) ≡ true
-near_same x y e = elim (leb_tells x (y + 0)) [
-  | inl (t, le) ↦ elim (leb_tells y (x + 0)) [
-    | inl (u, more) ↦ rw (t, u) refl
-    | inr (u, lt) ↦ absurd (omega (arith, e, lt))
-  ]
-  | inr (t, lt) ↦ absurd (omega (arith, e, lt))
-]
-
 -- with right numbers at both ends, of a disc that counts on, the capture isn't one run of the disc there
 pub gap_is_cut : (disc : ℕ → Option ℕ) (place : ℕ → ℕ) (numbering : Numbering) (seen : List Sightings)
     (answers : List Number)
     (ends : List ℕ) (gap : Gap)
-    → DiscCountsBy numbering.clock Video disc → IsGap Video 0 numbering seen answers ends gap → HasRightEnds (captured disc place) gap
+    → DiscCountsBy numbering.clock Video disc → IsGap Video 0 numbering seen answers ends gap
+    → HasRightEnds (captured disc place) gap
     → place gap.before ≢ place gap.after + (gap.before - gap.after)
 gap_is_cut disc place numbering seen answers ends gap runs is (first, last) same =
-    let on = video_fits (place gap.after) (kept numbering.clock gap.from) (place gap.before) (kept numbering.clock gap.to)
+    let on = video_fits (place gap.after) (kept numbering.clock gap.from) (place gap.before)
+    (kept numbering.clock gap.to)
     (runs (place gap.after) (place gap.before) gap.from gap.to first last) in
     let order : gap.after < gap.before = is.neighbours.order in
     let from = kept numbering.clock gap.from in
     let to = kept numbering.clock gap.to in
     let counts : gap.before + 2 * from ≡ gap.after + 2 * to = omega (arith, on, order, same) in
     none_found (nearly_by numbering.clock Video 0 gap.after gap.from gap.before gap.to)
-    (gap_as numbering.clock Video 0 (kind_of Video numbering (ended_between ends gap.after gap.before) gap.after gap.from gap.before
+    (gap_as numbering.clock Video 0
+    (kind_of Video numbering (ended_between ends gap.after gap.before) gap.after gap.from gap.before
     gap.to)
     (shown_between seen gap.after gap.from gap.before gap.to) gap.after gap.from gap.before gap.to) gap
     (near_same (gap.before + 2 * from) (gap.after + 2 * to) counts) is.found

@@ -1,4 +1,5 @@
 -- A field is answered the same from a part of its capture.
+use Rattle.std.proofs.Common.{eq-eqb}
 use Rattle.std.proofs.Common.{◌≡◌, ℕ, zero, suc, ◌+◌, ◌*◌, ◌-◌, ◌%◌, ◌<◌, ◌≤◌, Bool, true, false, List}
 use Rattle.std.proofs.Common.{refl, arith, ap, sym, ◌∙◌, subst, inl, inr}
 use Rattle.std.specs.Prelude.{Option, Some, None, slice_get, if◌then◌else◌, ◌⊎◌, ◌↔◌, nat_le, ◌==◌}
@@ -17,8 +18,9 @@ use Rattle.vbi_side.specs.Due.{slack_of, Leaves, IsLeft, Due}
 use Rattle.vbi_side.specs.Numbers.{due, IsAnswer}
 use Rattle.vbi_side.specs.Parts.{IsPart}
 use Rattle.vbi_side.specs.Truth.{IsNear}
-use Rattle.vbi_side.proofs.DueLemmas.{equal_true, video_nearly}
-use Rattle.vbi_side.proofs.Truth.{and_so, video_fits, film_fits, stays_is}
+use Rattle.vbi_side.proofs.DueLemmas.{video_nearly}
+use Rattle.std.proofs.lemmas.Bool.{and_from}
+use Rattle.vbi_side.proofs.Truth.{video_fits, film_fits, stays_is}
 
 -- ---- what fits, so many fields later
 
@@ -30,17 +32,17 @@ same_truth false false on back = refl
 fits_later : (pace : Pace) (first i m j n : ℕ) → fits pace i m j n ≡ fits pace (first + i) m (first + j) n
 fits_later Video first i m j n =
     same_truth (fits Video i m j n) (fits Video (first + i) m (first + j) n)
-    (λ e. equal_true (first + j + 2 * m) (first + i + 2 * n) (omega (arith, video_fits i m j n e)))
-    (λ e. equal_true (j + 2 * m) (i + 2 * n) (omega (arith, video_fits (first + i) m (first + j) n e)))
+    (λ e. eq-eqb (first + j + 2 * m) (first + i + 2 * n) (omega (arith, video_fits i m j n e)))
+    (λ e. eq-eqb (j + 2 * m) (i + 2 * n) (omega (arith, video_fits (first + i) m (first + j) n e)))
 fits_later Film first i m j n =
     same_truth (fits Film i m j n) (fits Film (first + i) m (first + j) n)
     (λ e. let p = film_fits i m j n e in
-    and_so (nat_le (2 * (first + j) + 5 * m) (2 * (first + i) + 5 * n + 2))
+    and_from (nat_le (2 * (first + j) + 5 * m) (2 * (first + i) + 5 * n + 2))
     (nat_le (2 * (first + i) + 5 * n) (2 * (first + j) + 5 * m + 2))
     (le-leb (2 * (first + j) + 5 * m) (2 * (first + i) + 5 * n + 2) (omega (arith, p.0)))
     (le-leb (2 * (first + i) + 5 * n) (2 * (first + j) + 5 * m + 2) (omega (arith, p.1))))
     (λ e. let p = film_fits (first + i) m (first + j) n e in
-    and_so (nat_le (2 * j + 5 * m) (2 * i + 5 * n + 2)) (nat_le (2 * i + 5 * n) (2 * j + 5 * m + 2))
+    and_from (nat_le (2 * j + 5 * m) (2 * i + 5 * n + 2)) (nat_le (2 * i + 5 * n) (2 * j + 5 * m + 2))
     (le-leb (2 * j + 5 * m) (2 * i + 5 * n + 2) (omega (arith, p.0)))
     (le-leb (2 * i + 5 * n) (2 * j + 5 * m + 2) (omega (arith, p.1))))
 
@@ -48,11 +50,11 @@ stays_later : (first i m j n : ℕ) → stays i m j n ≡ stays (first + i) m (f
 stays_later first i m j n =
     same_truth (stays i m j n) (stays (first + i) m (first + j) n)
     (λ e. let p = stays_is i m j n e in
-    and_so (n == m) ((first + i + (first + j)) % 2 == 0) (equal_true n m p.0)
-    (equal_true ((first + i + (first + j)) % 2) 0 (omega (arith, p.1))))
+    and_from (n == m) ((first + i + (first + j)) % 2 == 0) (eq-eqb n m p.0)
+    (eq-eqb ((first + i + (first + j)) % 2) 0 (omega (arith, p.1))))
     (λ e. let p = stays_is (first + i) m (first + j) n e in
-    and_so (n == m) ((i + j) % 2 == 0) (equal_true n m p.0)
-    (equal_true ((i + j) % 2) 0 (omega (arith, p.1))))
+    and_from (n == m) ((i + j) % 2 == 0) (eq-eqb n m p.0)
+    (eq-eqb ((i + j) % 2) 0 (omega (arith, p.1))))
 
 -- ---- what is read around a field
 
@@ -172,12 +174,12 @@ nearly_later : (pace : Pace) (slack first i m j n : ℕ)
 nearly_later Video slack first i m j n =
     same_truth (nearly Video slack i m j n) (nearly Video slack (first + i) m (first + j) n)
     (λ e. let p = video_nearly slack i m j n e in
-    and_so (nat_le (first + j + 2 * m) (first + i + 2 * n + slack))
+    and_from (nat_le (first + j + 2 * m) (first + i + 2 * n + slack))
     (nat_le (first + i + 2 * n) (first + j + 2 * m + slack))
     (le-leb (first + j + 2 * m) (first + i + 2 * n + slack) (omega (arith, p.0)))
     (le-leb (first + i + 2 * n) (first + j + 2 * m + slack) (omega (arith, p.1))))
     (λ e. let p = video_nearly slack (first + i) m (first + j) n e in
-    and_so (nat_le (j + 2 * m) (i + 2 * n + slack)) (nat_le (i + 2 * n) (j + 2 * m + slack))
+    and_from (nat_le (j + 2 * m) (i + 2 * n + slack)) (nat_le (i + 2 * n) (j + 2 * m + slack))
     (le-leb (j + 2 * m) (i + 2 * n + slack) (omega (arith, p.0)))
     (le-leb (i + 2 * n) (j + 2 * m + slack) (omega (arith, p.1))))
 nearly_later Film slack first i m j n = fits_later Film first i m j n
@@ -215,10 +217,10 @@ left_later pace whole part first i n is (j, m, k, l, leaves) = (
   record {
     before = omega (arith, leaves.before);
     near = omega (arith, leaves.near);
-    behind = omega (arith, leaves.behind);
+    after = omega (arith, leaves.after);
     far = omega (arith, leaves.far);
     first = (believed_later pace part whole first j m (seen_near whole part first i j is before)).0 leaves.first;
-    last = (believed_later pace part whole first k l (seen_near whole part first i k is behind)).0 leaves.last;
+    last = (believed_later pace part whole first k l (seen_near whole part first i k is after)).0 leaves.last;
     on = (count_later pace first j m i n).0 leaves.on;
     back = (count_later pace first i n k l).0 leaves.back;
     between = between;
@@ -228,8 +230,8 @@ left_later pace whole part first i n is (j, m, k, l, leaves) = (
     before : IsNear i j
     before = (leaves.near, omega (arith, leaves.before))
 
-    behind : IsNear i k
-    behind = (omega (arith, leaves.behind), leaves.far)
+    after : IsNear i k
+    after = (omega (arith, leaves.after), leaves.far)
 
     between : (h x : ℕ) → first + j < h → h < first + k → Believed pace whole h x
         → nearly pace (slack_of (first + j) (first + k)) (first + i) n h x ≡ true
@@ -248,7 +250,7 @@ left_back : (pace : Pace) (whole part : List Sightings) (first i n : ℕ) → Is
     → IsLeft (Believed pace whole) pace (first + i) n → IsLeft (Believed pace part) pace i n
 left_back pace whole part first i n is (g, m, h, l, leaves) =
     let at : g ≡ first + (g - first) = omega (arith, within_part whole part first i g is leaves.near) in
-    let to : h ≡ first + (h - first) = omega (arith, leaves.behind) in
+    let to : h ≡ first + (h - first) = omega (arith, leaves.after) in
     go (g - first) (h - first)
     (subst (λ f. Leaves (Believed pace whole) pace (first + (g - first)) m f l (first + i) n) to
     (subst (λ f. Leaves (Believed pace whole) pace f m h l (first + i) n) at leaves))
@@ -263,10 +265,10 @@ left_back pace whole part first i n is (g, m, h, l, leaves) =
       record {
         before = omega (arith, leaves.before);
         near = omega (arith, leaves.near);
-        behind = omega (arith, leaves.behind);
+        after = omega (arith, leaves.after);
         far = omega (arith, leaves.far);
         first = (believed_later pace part whole first j m (seen_near whole part first i j is before)).1 leaves.first;
-        last = (believed_later pace part whole first k l (seen_near whole part first i k is behind)).1 leaves.last;
+        last = (believed_later pace part whole first k l (seen_near whole part first i k is after)).1 leaves.last;
         on = (count_later pace first j m i n).1 leaves.on;
         back = (count_later pace first i n k l).1 leaves.back;
         between = λ f x more less b. nearly_later pace (slack_of j k) first i n f x
@@ -280,8 +282,8 @@ left_back pace whole part first i n is (g, m, h, l, leaves) =
         before : IsNear i j
         before = (omega (arith, leaves.near), omega (arith, leaves.before))
 
-        behind : IsNear i k
-        behind = (omega (arith, leaves.behind), omega (arith, leaves.far))
+        after : IsNear i k
+        after = (omega (arith, leaves.after), omega (arith, leaves.far))
 
 due_later : (pace : Pace) (whole part : List Sightings) (first i n : ℕ) → IsPart Sightings whole part first i
     → Due pace part i n ↔ Due pace whole (first + i) n

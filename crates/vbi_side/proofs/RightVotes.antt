@@ -17,7 +17,8 @@ use Rattle.vbi_side.specs.Truth.{is_recorded}
 use Rattle.vbi_side.specs.Beliefs.{field_most}
 use Rattle.vbi_side.specs.Votes.{votes, votes_as, votes_cast, votes_for, IsElected, IsVotedSoundly, IsVotedRightly}
 use Rattle.vbi_side.specs.Votes.{RunsFromBy, RanAround, right_votes, wrong_votes}
-use Rattle.vbi_side.proofs.Truth.{video_fits, recorded_is, wrong_or_right}
+use Rattle.vbi_side.proofs.Recorded.{recorded_is, wrong_or_right}
+use Rattle.vbi_side.proofs.Truth.{video_fits}
 use Rattle.vbi_side.proofs.Voting.{first_narrower, first_split, first_apart, votes_near}
 
 -- no vote is for two numbers
@@ -216,8 +217,3 @@ right_elected recorded minute fields i part m voted =
       majority = omega (arith, voted.most, for, all_votes recorded minute fields i part);
       some = omega (arith, voted.some, for);
     }
-
--- what elects a number rightly elects no other
-pub rightly_soundly : (recorded : ℕ → Option ℕ) (minute : ℕ) (fields : List Sightings) (i part m : ℕ)
-    → IsVotedRightly recorded minute fields i part m → IsVotedSoundly recorded minute fields i part m
-rightly_soundly recorded minute fields i part m voted = record { runs = voted.runs; few = inl voted.most }

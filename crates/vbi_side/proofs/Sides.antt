@@ -1,17 +1,17 @@
 -- Which fields a capture lacks, by two believed numbers.
-use Rattle.std.proofs.Common.{◌≡◌, ℕ, zero, suc, ◌+◌, ◌*◌, ◌-◌, ◌<◌, ◌≤◌, Bool, true}
+use Rattle.std.proofs.Common.{◌≡◌, ℕ, zero, suc, ◌+◌, ◌*◌, ◌-◌, ◌<◌, ◌≤◌, true}
 use Rattle.std.proofs.Common.{false, List, arith, subst, inl, inr}
-use Rattle.std.specs.Prelude.{Option, Some, ◌⊎◌, nat_le, not, ◌&&◌}
+use Rattle.std.specs.Prelude.{Option, Some, ◌⊎◌, nat_le}
 use Rattle.std.proofs.lemmas.Bool.Decides.{leb_tells}
 use Rattle.vbi_side.specs.declared.sighting.Sightings.{Sightings}
 use Rattle.vbi_side.specs.declared.pace.Pace.{Pace}
 use Rattle.vbi_side.specs.declared.pace.Pace.TheVariants.{Video, Film}
 use Rattle.vbi_side.specs.Paces.{fits, stays}
 use Rattle.vbi_side.specs.Beliefs.{reach, field_most, window_weight}
-use Rattle.vbi_side.specs.Truth.{IsNear, AreEven, is_recorded, wrong_weight}
+use Rattle.vbi_side.specs.Truth.{IsNear, AreEven, wrong_weight}
 use Rattle.vbi_side.specs.Side.{DiscRuns, DiscCounts, Rises, captured, Lacks, NoneLost, AreLost, IsAnchor}
-use Rattle.vbi_side.proofs.Weights.{weight_below-split, once, spread, weight_at-passes}
-use Rattle.vbi_side.proofs.Truth.{both, and_so, video_fits, film_fits, stays_is, recorded_is, wrong_or_right}
+use Rattle.vbi_side.proofs.Recorded.{right_once, right_somewhere}
+use Rattle.vbi_side.proofs.Truth.{video_fits, film_fits, stays_is}
 
 -- ---- places
 
@@ -26,14 +26,6 @@ pub apart : (place : ℕ → ℕ) (i j : ℕ) → Rises place → i ≤ j → pl
 apart place i j rises le =
     let whole : i + (j - i) ≡ j = omega (arith, le) in
     subst (λ n. place i + (j - i) ≤ place n) whole (further place i (j - i) rises)
-
--- no two fields of the capture are one of the disc
-one_place : (place : ℕ → ℕ) (i j : ℕ) → Rises place → place i ≡ place j → i ≡ j
-one_place place i j rises same = go (leb_tells i j)
-  where
-    go : ((nat_le i j ≡ true) × (i ≤ j)) ⊎ ((nat_le i j ≡ false) × (j < i)) → i ≡ j
-    go (inl (t, le)) = omega (arith, le, same, apart place i j rises le)
-    go (inr (f, lt)) = omega (arith, lt, same, apart place j i rises (omega (arith, lt)))
 
 -- where the two ends are as far apart on the disc as in the capture, none is lost between
 pub none_lost : (place : ℕ → ℕ) (p q i j : ℕ) → Rises place → p ≤ i → j ≤ q → place q ≡ place p + (q - p)
@@ -96,66 +88,18 @@ alone_of disc place rises close j k n here there even = go (leb_tells j k)
 module _ (pace : Pace) (recorded : ℕ → Option ℕ) (fields : List Sightings) (alone : Alone recorded) where
   -- of the right ones one field's at most is of one still
   right_still : (i n : ℕ) → window_weight (stays i n) fields i ≤ wrong_weight recorded fields i + field_most
-  right_still i n =
-      omega (
-        arith,
-        weight_below-split (stays i n) wrong right fields i (2 * reach + 1) (omega arith) split,
-        once right fields i (2 * reach + 1) (omega arith) one,
-      )
-    where
-      wrong : ℕ → ℕ → Bool
-      wrong = λ j m. not (is_recorded (recorded j) m)
-
-      right : ℕ → ℕ → Bool
-      right = λ j m. stays i n j m && is_recorded (recorded j) m
-
-      split : (j m : ℕ) → IsNear i j → stays i n j m ≡ true → (wrong j m ≡ true) ⊎ (right j m ≡ true)
-      split j m near e = elim (wrong_or_right recorded j m) [
-        | inl is ↦ inl is
-        | inr is ↦ inr (and_so (stays i n j m) (is_recorded (recorded j) m) e is)
-      ]
-
-      one : (j k l m : ℕ) → IsNear i j → IsNear i k → right j l ≡ true → right k m ≡ true → j ≡ k
-      one j k l m near others e f =
-          let p = both (stays i n j l) (is_recorded (recorded j) l) e in
-          let q = both (stays i n k m) (is_recorded (recorded k) m) f in
-          let a = stays_is i n j l p.0 in
-          let b = stays_is i n k m q.0 in
-          alone j k n (subst (λ x. recorded j ≡ Some x) a.0 (recorded_is (recorded j) l p.1))
-          (subst (λ x. recorded k ≡ Some x) b.0 (recorded_is (recorded k) m q.1)) (omega (arith, a.1, b.1))
+  right_still i n = right_once recorded (stays i n) fields i (λ j k l m near others e f.
+      let a = stays_is i n j l e.0 in
+      let b = stays_is i n k m f.0 in
+      alone j k n (subst (λ x. recorded j ≡ Some x) a.0 e.1) (subst (λ x. recorded k ≡ Some x) b.0 f.1)
+      (omega (arith, a.1, b.1)))
 
   pub near_one : (i n : ℕ) → IsAnchor pace recorded fields i n
       → (j m : ℕ) × IsNear i j × (recorded j ≡ Some m) × (fits pace i n j m ≡ true)
-  near_one i n anchor = elim (spread right fields i (2 * reach + 1) (2 * reach + 1)) [
-    | inl (most, none) ↦ absurd (omega (
-      arith,
-      anchor.few,
-      anchor.believed.enough,
-      none (omega arith),
-      weight_below-split (fits pace i n) wrong right fields i (2 * reach + 1) (omega arith) split,
-      right_still i n,
-    ))
-    | inr (k, less, apart, weighs) ↦ let p = weight_at-passes right fields i k weighs in
-        let q = both (fits pace i n (i + k - reach) p.1.0) (is_recorded (recorded (i + k - reach)) p.1.0) p.1.2 in (
-          i + k - reach,
-          p.1.0,
-          (omega (arith, p.0), omega (arith, less)),
-          recorded_is (recorded (i + k - reach)) p.1.0 q.1,
-          q.0,
-        )
-  ]
-    where
-      wrong : ℕ → ℕ → Bool
-      wrong = λ j m. not (is_recorded (recorded j) m)
-
-      right : ℕ → ℕ → Bool
-      right = λ j m. fits pace i n j m && is_recorded (recorded j) m
-
-      split : (j m : ℕ) → IsNear i j → fits pace i n j m ≡ true → (wrong j m ≡ true) ⊎ (right j m ≡ true)
-      split j m near e = elim (wrong_or_right recorded j m) [
-        | inl is ↦ inl is
-        | inr is ↦ inr (and_so (fits pace i n j m) (is_recorded (recorded j) m) e is)
-      ]
+  near_one i n anchor =
+      let p = right_somewhere recorded (fits pace i n) fields i
+      (omega (arith, anchor.few, anchor.believed.enough, right_still i n)) in
+      (p.0, p.1, p.2, p.3, p.5)
 
 -- ---- the theorems
 

@@ -3,7 +3,7 @@ use Rattle.std.proofs.Common.{◌≡◌, ℕ, ◌+◌, ◌*◌, true, false, Lis
 use Rattle.std.proofs.Common.{eq-eqb, ap}
 use Rattle.std.specs.Prelude.{Option, Some, None, IfSome, slice_get}
 use Rattle.vbi_side.specs.declared.number.Number.{Number}
-use Rattle.vbi_side.specs.declared.gap.Place.{Place}
+use Rattle.vbi_side.specs.declared.place.Place.{Place}
 use Rattle.vbi_side.specs.declared.pace.Pace.TheVariants.{Video}
 use Rattle.vbi_side.specs.declared.sighting.Sightings.{Sightings}
 use Rattle.vbi_side.specs.declared.clock.Clock.{Clock}
@@ -13,11 +13,13 @@ use Rattle.vbi_side.specs.Gaps.{AreNeighbours, IsLast}
 use Rattle.vbi_side.specs.Swaps.{is_stray, IsSwap, AreStrays}
 use Rattle.vbi_side.proofs.Truth.{video_fits}
 use Rattle.vbi_side.proofs.Telling.{neighbours_of}
-use Rattle.vbi_side.proofs.GapLaws.{same_before, same_number, near_same, on_video}
+use Rattle.vbi_side.proofs.GapLaws.{same_before, same_number, on_video}
+use Rattle.vbi_side.proofs.Truth.{near_same}
 
 -- where a number and the one before it don't go on, no swap lies between
 pub none_between : (clock : Clock) (seen : List Sightings) (answers : List Number) (k n : ℕ) (place : Place)
-    → IsLast answers k (Some place) → IsMarked answers k n → nearly_by clock Video 0 place.field place.number k n ≡ false
+    → IsLast answers k (Some place) → IsMarked answers k n
+    → nearly_by clock Video 0 place.field place.number k n ≡ false
     → (f : ℕ) (swap : IsSwap clock seen answers f) → swap.j ≡ k → ⊥
 none_between clock seen answers k n place last at apart f swap same =
     let here = subst (λ j. AreNeighbours answers swap.i swap.m j swap.n) same swap.neighbours in
@@ -34,7 +36,8 @@ none_between clock seen answers k n place last at apart f swap same =
     cc
 
 -- where they go on, the field that stands off between them was swapped
-pub swap_found : (clock : Clock) (seen : List Sightings) (answers : List Number) (k n : ℕ) (place : Place) (stray : Option ℕ)
+pub swap_found : (clock : Clock) (seen : List Sightings) (answers : List Number) (k n : ℕ) (place : Place)
+    (stray : Option ℕ)
     → IsLast answers k (Some place) → IsMarked answers k n → nearly_by clock Video 0 place.field place.number k n ≡ true
     → AreStrays clock seen answers (Some place) k stray → IfSome stray (λ f. IsSwap clock seen answers f)
 swap_found clock seen answers k n place None last at near strays = tt
@@ -46,14 +49,16 @@ swap_found clock seen answers k n place (Some f) last at near strays = record {
   neighbours = neighbours_of answers k n place last at;
   on = eq-eqb (k + 2 * kept clock place.number) (place.field + 2 * kept clock n)
       (on_video place.field (kept clock place.number) k (kept clock n) near);
-  behind = strays.0;
+  after = strays.0;
   before = strays.1;
   stray = strays.2;
 }
 
 -- where none stands off, none was swapped
-pub none_found : (clock : Clock) (seen : List Sightings) (answers : List Number) (k n : ℕ) (place : Place) (stray : Option ℕ)
-    → IsLast answers k (Some place) → IsMarked answers k n → AreStrays clock seen answers (Some place) k stray → stray ≡ None
+pub none_found : (clock : Clock) (seen : List Sightings) (answers : List Number) (k n : ℕ) (place : Place)
+    (stray : Option ℕ)
+    → IsLast answers k (Some place) → IsMarked answers k n → AreStrays clock seen answers (Some place) k stray
+    → stray ≡ None
     → (f : ℕ) (swap : IsSwap clock seen answers f) → swap.j ≡ k → ⊥
 none_found clock seen answers k n place (Some g) last at strays e f swap same = absurd (let h = e in cc)
 none_found clock seen answers k n place None last at strays e f swap same =
@@ -62,6 +67,6 @@ none_found clock seen answers k n place None last at strays e f swap same =
     let first = same_before answers swap.i swap.m k swap.n place.field place.number n here there in
     let from = same_number answers place.field swap.m place.number
     (subst (λ i. IsMarked answers i swap.m) first here.here) there.here in
-    strays f (omega (arith, first, swap.behind)) (omega (arith, same, swap.before))
+    strays f (omega (arith, first, swap.after)) (omega (arith, same, swap.before))
     (subst (λ m. is_stray clock answers place.field m f (slice_get seen f) ≡ true) from
     (subst (λ i. is_stray clock answers i swap.m f (slice_get seen f) ≡ true) first swap.stray))

@@ -1,8 +1,8 @@
 -- How the gaps of a capture are told, field by field.
 use Rattle.std.proofs.Common.{◌≡◌, ◌≢◌, ℕ, zero, suc, ◌+◌, ◌<◌, ◌≤◌, Bool, true, false, List, [], ◌∷◌, ◌++◌}
 use Rattle.std.proofs.Common.{refl, arith, ap, sym, ◌∙◌, subst, inl, inr, get_or, length}
-use Rattle.std.specs.Prelude.{Option, Some, None, slice_get, slice_set, ◌⊎◌, nat_le, sum_by, if◌then◌else◌, unwrap_or}
-use Rattle.std.proofs.lemmas.Bool.Decides.{leb_tells, eqb_tells}
+use Rattle.std.specs.Prelude.{Some, None, slice_get, slice_set, ◌⊎◌, nat_le, sum_by, if◌then◌else◌, unwrap_or}
+use Rattle.std.proofs.lemmas.Bool.Decides.{leb_tells}
 use Rattle.std.proofs.lemmas.List.{length-set, length_push, get_or_append_left, get_or-set_other, get_or-set_same}
 use Rattle.std.proofs.lemmas.List.Sums.{sum_by_push}
 use Rattle.std.proofs.Math.Seq.{get_or-append_seam}
@@ -11,7 +11,7 @@ use Rattle.std.proofs.lemmas.Option.{get_or_from_slice_get}
 use Rattle.vbi_side.specs.declared.number.Number.{Number}
 use Rattle.vbi_side.specs.declared.gap.Gap.{Gap}
 use Rattle.vbi_side.specs.declared.gap.Tally.{Tally}
-use Rattle.vbi_side.specs.declared.gap.Place.{Place}
+use Rattle.vbi_side.specs.declared.place.Place.{Place}
 use Rattle.vbi_side.specs.declared.pace.Pace.{Pace}
 use Rattle.vbi_side.specs.declared.clock.Clock.{Clock}
 use Rattle.vbi_side.specs.Clocks.{nearly_by}
@@ -149,7 +149,8 @@ tally_gap clock gaps unread gap =
 
 pub tally_unread : (clock : Clock) (gaps : List Gap) (unread more : ℕ)
     → with_unread (tally_of clock gaps unread) more ≡ tally_of clock gaps (unread + more)
-tally_unread clock gaps unread more = ap (λ (n : ℕ). record (tally_of clock gaps unread) { unread = n }) (capped_more unread more)
+tally_unread clock gaps unread more = ap (λ (n : ℕ). record (tally_of clock gaps unread) { unread = n })
+    (capped_more unread more)
 
 -- ---- a gap
 
@@ -233,7 +234,8 @@ told_free pace slack numbering seen answers ends k tally old new free told = rec
 pub told_on : (pace : Pace) (slack : ℕ) (numbering : Numbering) (seen : List Sightings) (answers : List Number)
     (ends : List ℕ) (i m k n : ℕ) (tally : Tally)
     (old new : List Gap) → AreNeighbours answers i m k n
-    → nearly_by numbering.clock pace slack i m k n ≡ true → IsTold pace slack numbering seen answers ends k tally old new
+    → nearly_by numbering.clock pace slack i m k n ≡ true
+    → IsTold pace slack numbering seen answers ends k tally old new
     → IsTold pace slack numbering seen answers ends (suc k) (with_unread tally (skipped numbering.clock m n)) old new
 unfolding AreGaps
 told_on pace slack numbering seen answers ends i m k n tally old new neighbours near told = record {
@@ -284,24 +286,9 @@ told_gap pace slack numbering seen answers ends i m k n gap tally old new next n
 
 -- ---- the last number
 
-pub last_kept : (answers : List Number) (k : ℕ) (last : Option Place) → ((n : ℕ) → IsMarked answers k n → ⊥)
-    → IsLast answers k last → IsLast answers (suc k) last
-last_kept answers k None none is = λ j l less at. elim (eqb_tells j k) [
-  | inl (t, e) ↦ none l (subst (λ x. IsMarked answers x l) e at)
-  | inr (f, other) ↦ is j l (omega (arith, less, other)) at
-]
-last_kept answers k (Some place) none is = (
-  omega (arith, is.0),
-  is.1,
-  λ j l behind less at. elim (eqb_tells j k) [
-    | inl (t, e) ↦ none l (subst (λ x. IsMarked answers x l) e at)
-    | inr (f, other) ↦ is.2 j l behind (omega (arith, less, other)) at
-  ],
-)
-
-pub last_new : (answers : List Number) (k n : ℕ) → IsMarked answers k n
-    → IsLast answers (suc k) (Some (record { field = k; number = n }))
-last_new answers k n at = (omega arith, at, λ j l behind less. absurd (omega (arith, behind, less)))
+pub last_new : (answers : List Number) (place : Place) → IsMarked answers place.field place.number
+    → IsLast answers (suc place.field) (Some place)
+last_new answers place at = (omega arith, at, λ j l after less. absurd (omega (arith, after, less)))
 
 pub neighbours_of : (answers : List Number) (k n : ℕ) (place : Place) → IsLast answers k (Some place)
     → IsMarked answers k n

@@ -1,9 +1,9 @@
 -- What was misread and what is true around a field.
 use Rattle.std.proofs.Common.{◌≡◌, ◌≢◌, ℕ, ◌+◌, ◌*◌, ◌-◌, ◌%◌, ◌<◌, ◌≤◌, Bool, true}
-use Rattle.std.proofs.Common.{false, List, refl, arith, ap, sym, ◌∙◌, subst, inl, inr}
-use Rattle.std.specs.Prelude.{Option, Some, None, slice_get, ◌⊎◌, nat_le, not, ◌&&◌, ◌==◌}
+use Rattle.std.proofs.Common.{false, List, arith, sym, ◌∙◌, subst, inl, inr, eq-eqb}
+use Rattle.std.specs.Prelude.{Option, Some, slice_get, ◌⊎◌, nat_le, not, ◌&&◌, ◌==◌}
 use Rattle.std.proofs.Math.Dec.{eqb}
-use Rattle.std.proofs.lemmas.Bool.{leb-true, eqb-true}
+use Rattle.std.proofs.lemmas.Bool.{leb-true, le-leb, eqb-true, and_parts, and_from}
 use Rattle.std.proofs.lemmas.Bool.Decides.{eqb_tells, leb_tells}
 use Rattle.vbi_side.specs.declared.sighting.Sightings.{Sightings}
 use Rattle.vbi_side.specs.declared.pace.Pace.{Pace}
@@ -13,19 +13,9 @@ use Rattle.vbi_side.specs.Paces.{fits, stays}
 use Rattle.vbi_side.specs.Beliefs.{reach, enough, field_most, window_weight, support_of, Believed}
 use Rattle.vbi_side.specs.Truth.{IsNear, AreEven, InStep, RunsOn, StandsStill}
 use Rattle.vbi_side.specs.Truth.{IsSound, IsSoundStill, is_recorded, wrong_weight}
-use Rattle.vbi_side.proofs.Weights.{weight_below-narrower, weight_below-agree, weight_below-split, once}
+use Rattle.vbi_side.proofs.Weights.{weight_below-narrower, weight_below-agree}
+use Rattle.vbi_side.proofs.Recorded.{wrong_if, right_once, right_somewhere}
 use Rattle.vbi_side.proofs.Weights.{spread, weight_at-passes}
-
--- both of two tests
-pub both : (a b : Bool) → (a && b) ≡ true → (a ≡ true) × (b ≡ true)
-both true true e = (refl, refl)
-both true false e = absurd (let clash : false ≡ true → ⊥ = λ h. cc in clash e)
-both false b e = absurd (let clash : false ≡ true → ⊥ = λ h. cc in clash e)
-
-pub and_so : (a b : Bool) → a ≡ true → b ≡ true → (a && b) ≡ true
-and_so true true e f = refl
-and_so true false e f = f
-and_so false b e f = e
 
 -- ---- what fits, in numbers
 
@@ -35,13 +25,18 @@ video_fits i m j n e = eqb-true (j + 2 * m) (i + 2 * n) e
 pub film_fits : (i m j n : ℕ) → fits Film i m j n ≡ true
     → (2 * j + 5 * m ≤ 2 * i + 5 * n + 2) × (2 * i + 5 * n ≤ 2 * j + 5 * m + 2)
 film_fits i m j n e =
-    let p = both (nat_le (2 * j + 5 * m) (2 * i + 5 * n + 2)) (nat_le (2 * i + 5 * n) (2 * j + 5 * m + 2)) e in
+    let p = and_parts (nat_le (2 * j + 5 * m) (2 * i + 5 * n + 2)) (nat_le (2 * i + 5 * n) (2 * j + 5 * m + 2)) e in
     (leb-true (2 * j + 5 * m) (2 * i + 5 * n + 2) p.0, leb-true (2 * i + 5 * n) (2 * j + 5 * m + 2) p.1)
+
+pub near_same : (x y : ℕ) → x ≡ y → (nat_le x (y + 0) && nat_le y (x + 0)) ≡ true
+near_same x y e =
+    and_from (nat_le x (y + 0)) (nat_le y (x + 0)) (le-leb x (y + 0) (omega (arith, e)))
+    (le-leb y (x + 0) (omega (arith, e)))
 
 -- the fields of a still
 pub stays_is : (i m j n : ℕ) → stays i m j n ≡ true → (n ≡ m) × AreEven i j
 stays_is i m j n e =
-    let p = both (n == m) ((i + j) % 2 == 0) e in (eqb-true n m p.0, eqb-true ((i + j) % 2) 0 p.1)
+    let p = and_parts (n == m) ((i + j) % 2 == 0) e in (eqb-true n m p.0, eqb-true ((i + j) % 2) 0 p.1)
 
 -- one number in a field fits one in another: the fields are in step
 fits_in_step : (pace : Pace) (i m j n : ℕ) → fits pace i m j n ≡ true → InStep pace i j
@@ -65,69 +60,25 @@ one_field : (pace : Pace) (j k n : ℕ) → fits pace j n k n ≡ true → AreEv
 one_field Video j k n e even = omega (arith, video_fits j n k n e)
 one_field Film j k n e even = let p = film_fits j n k n e in omega (arith, p.0, p.1, even)
 
--- ---- a number is wrong, or that on the disc
-
-pub recorded_is : (o : Option ℕ) (n : ℕ) → is_recorded o n ≡ true → o ≡ Some n
-recorded_is None n e = absurd (let clash : false ≡ true → ⊥ = λ h. cc in clash e)
-recorded_is (Some m) n e = ap Some (sym (eqb-true n m e))
-
-pub wrong_or_right : (recorded : ℕ → Option ℕ) (j m : ℕ)
-    → (not (is_recorded (recorded j) m) ≡ true) ⊎ (is_recorded (recorded j) m ≡ true)
-wrong_or_right recorded j m = go (is_recorded (recorded j) m)
-  where
-    go : (b : Bool) → (not b ≡ true) ⊎ (b ≡ true)
-    go true = inr refl
-    go false = inl refl
-
 -- ---- where the disc ran on
 
 -- a sighting that fits a wrong number is wrong
 wrong_fits : (pace : Pace) (recorded : ℕ → Option ℕ) (i a n : ℕ) → RunsOn pace recorded i → recorded i ≡ Some a → n ≢ a
     → (j m : ℕ) → IsNear i j → fits pace i n j m ≡ true → not (is_recorded (recorded j) m) ≡ true
-wrong_fits pace recorded i a n runs has wrong j m near e = go (wrong_or_right recorded j m)
-  where
-    go : (not (is_recorded (recorded j) m) ≡ true) ⊎ (is_recorded (recorded j) m ≡ true)
-        → not (is_recorded (recorded j) m) ≡ true
-    go (inl is) = is
-    go (inr is) =
-        absurd (wrong (one_fits pace i n a j m e
-        (runs i j a m (omega arith, omega arith) near (fits_in_step pace i n j m e) has
-        (recorded_is (recorded j) m is))))
+wrong_fits pace recorded i a n runs has wrong j m near e = wrong_if recorded j m (λ is.
+    wrong (one_fits pace i n a j m e
+    (runs i j a m (omega arith, omega arith) near (fits_in_step pace i n j m e) has is)))
 
 -- of the right ones, one field's at most is of one still with a wrong number
 pub wrong_still : (pace : Pace) (recorded : ℕ → Option ℕ) (fields : List Sightings) (i n : ℕ) → RunsOn pace recorded i
     → window_weight (stays i n) fields i ≤ wrong_weight recorded fields i + field_most
-wrong_still pace recorded fields i n runs =
-    omega (
-      arith,
-      weight_below-split (stays i n) wrong right fields i (2 * reach + 1) (omega arith) split,
-      once right fields i (2 * reach + 1) (omega arith) alone,
-    )
-  where
-    wrong : ℕ → ℕ → Bool
-    wrong = λ j m. not (is_recorded (recorded j) m)
-
-    right : ℕ → ℕ → Bool
-    right = λ j m. stays i n j m && is_recorded (recorded j) m
-
-    split : (j m : ℕ) → IsNear i j → stays i n j m ≡ true → (wrong j m ≡ true) ⊎ (right j m ≡ true)
-    split j m near e = elim (wrong_or_right recorded j m) [
-      | inl is ↦ inl is
-      | inr is ↦ inr (and_so (stays i n j m) (is_recorded (recorded j) m) e is)
-    ]
-
-    alone : (j k l m : ℕ) → IsNear i j → IsNear i k → right j l ≡ true → right k m ≡ true → j ≡ k
-    alone j k l m near others e f =
-        let p = both (stays i n j l) (is_recorded (recorded j) l) e in
-        let q = both (stays i n k m) (is_recorded (recorded k) m) f in
-        let a = stays_is i n j l p.0 in
-        let b = stays_is i n k m q.0 in
-        let even : AreEven j k = omega (arith, a.1, b.1) in
-        let fit : fits pace j l k m ≡ true
-        = runs j k l m near others (even_in_step pace j k even) (recorded_is (recorded j) l p.1)
-        (recorded_is (recorded k) m q.1) in
-        one_field pace j k n (subst (λ x. fits pace j n k x ≡ true) b.0
-        (subst (λ x. fits pace j x k m ≡ true) a.0 fit)) even
+wrong_still pace recorded fields i n runs = right_once recorded (stays i n) fields i (λ j k l m near others e f.
+    let a = stays_is i n j l e.0 in
+    let b = stays_is i n k m f.0 in
+    let even : AreEven j k = omega (arith, a.1, b.1) in
+    let fit : fits pace j l k m ≡ true = runs j k l m near others (even_in_step pace j k even) e.1 f.1 in
+    one_field pace j k n (subst (λ x. fits pace j n k x ≡ true) b.0
+    (subst (λ x. fits pace j x k m ≡ true) a.0 fit)) even)
 
 -- so all that supports a wrong number is wrong
 wrong_support : (pace : Pace) (recorded : ℕ → Option ℕ) (fields : List Sightings) (i a n : ℕ)
@@ -166,45 +117,9 @@ complete pace recorded fields i m runs has shown much more = record {
 pub on_the_disc : (pace : Pace) (recorded : ℕ → Option ℕ) (fields : List Sightings) (i n : ℕ)
     → RunsOn pace recorded i → wrong_weight recorded fields i < enough → Believed pace fields i n
     → (j m : ℕ) × IsNear i j × (recorded j ≡ Some m) × Shows (slice_get fields j) m × (fits pace i n j m ≡ true)
-on_the_disc pace recorded fields i n runs few b = elim (spread right fields i (2 * reach + 1) (2 * reach + 1)) [
-  | inl (most, none) ↦ absurd (omega (
-    arith,
-    few,
-    b.enough,
-    none (omega arith),
-    weight_below-split (fits pace i n) wrong right fields i (2 * reach + 1) (omega arith) split,
-    wrong_still pace recorded fields i n runs,
-  ))
-  | inr (k, less, apart, weighs) ↦ let p = weight_at-passes right fields i k weighs in
-      let q = both (fits pace i n (i + k - reach) p.1.0) (is_recorded (recorded (i + k - reach)) p.1.0) p.1.2 in (
-        i + k - reach,
-        p.1.0,
-        (omega (arith, p.0), omega (arith, less)),
-        recorded_is (recorded (i + k - reach)) p.1.0 q.1,
-        p.1.1,
-        q.0,
-      )
-]
-  where
-    wrong : ℕ → ℕ → Bool
-    wrong = λ j m. not (is_recorded (recorded j) m)
-
-    right : ℕ → ℕ → Bool
-    right = λ j m. fits pace i n j m && is_recorded (recorded j) m
-
-    split : (j m : ℕ) → IsNear i j → fits pace i n j m ≡ true → (wrong j m ≡ true) ⊎ (right j m ≡ true)
-    split j m near e = elim (wrong_or_right recorded j m) [
-      | inl is ↦ inl is
-      | inr is ↦ inr (and_so (fits pace i n j m) (is_recorded (recorded j) m) e is)
-    ]
-
-is_video : (i m j n : ℕ) → j + 2 * m ≡ i + 2 * n → fits Video i m j n ≡ true
-is_video i m j n e = go (eqb_tells (j + 2 * m) (i + 2 * n))
-  where
-    go : ((eqb (j + 2 * m) (i + 2 * n) ≡ true) × (j + 2 * m ≡ i + 2 * n))
-        ⊎ ((eqb (j + 2 * m) (i + 2 * n) ≡ false) × (j + 2 * m ≢ i + 2 * n)) → fits Video i m j n ≡ true
-    go (inl (t, same)) = t
-    go (inr (f, apart)) = absurd (apart e)
+on_the_disc pace recorded fields i n runs few b =
+    right_somewhere recorded (fits pace i n) fields i
+    (omega (arith, few, b.enough, wrong_still pace recorded fields i n runs))
 
 -- of video it fits each of them
 pub on_the_video : (recorded : ℕ → Option ℕ) (fields : List Sightings) (i n : ℕ) → RunsOn Video recorded i
@@ -214,51 +129,23 @@ on_the_video recorded fields i n runs few b j m near even has =
     let p = on_the_disc Video recorded fields i n runs few b in
     let step : InStep Video p.0 j = omega (arith, fits_in_step Video i n p.0 p.1 p.5, even) in
     let fit : fits Video p.0 p.1 j m ≡ true = runs p.0 j p.1 m p.2 near step p.3 has in
-    is_video i n j m (omega (arith, video_fits i n p.0 p.1 p.5, video_fits p.0 p.1 j m fit))
+    eq-eqb (j + 2 * n) (i + 2 * m) (omega (arith, video_fits i n p.0 p.1 p.5, video_fits p.0 p.1 j m fit))
 
 -- ---- where it stood still
 
 -- a sighting of one still with a wrong number is wrong
 wrong_stays : (recorded : ℕ → Option ℕ) (i a n : ℕ) → StandsStill recorded i a → n ≢ a
     → (j m : ℕ) → IsNear i j → stays i n j m ≡ true → not (is_recorded (recorded j) m) ≡ true
-wrong_stays recorded i a n still wrong j m near e = go (wrong_or_right recorded j m)
-  where
-    go : (not (is_recorded (recorded j) m) ≡ true) ⊎ (is_recorded (recorded j) m ≡ true)
-        → not (is_recorded (recorded j) m) ≡ true
-    go (inl is) = is
-    go (inr is) =
-        let p = stays_is i n j m e in
-        absurd (wrong (sym p.0 ∙ still j m near p.1 (recorded_is (recorded j) m is)))
+wrong_stays recorded i a n still wrong j m near e = wrong_if recorded j m (λ is.
+    let p = stays_is i n j m e in wrong (sym p.0 ∙ still j m near p.1 is))
 
 -- of the right ones, one field's at most fits a wrong number at the pace of video
 wrong_running : (recorded : ℕ → Option ℕ) (fields : List Sightings) (i a n : ℕ) → StandsStill recorded i a
     → window_weight (fits Video i n) fields i ≤ wrong_weight recorded fields i + field_most
-wrong_running recorded fields i a n still =
-    omega (
-      arith,
-      weight_below-split (fits Video i n) wrong right fields i (2 * reach + 1) (omega arith) split,
-      once right fields i (2 * reach + 1) (omega arith) alone,
-    )
-  where
-    wrong : ℕ → ℕ → Bool
-    wrong = λ j m. not (is_recorded (recorded j) m)
-
-    right : ℕ → ℕ → Bool
-    right = λ j m. fits Video i n j m && is_recorded (recorded j) m
-
-    split : (j m : ℕ) → IsNear i j → fits Video i n j m ≡ true → (wrong j m ≡ true) ⊎ (right j m ≡ true)
-    split j m near e = elim (wrong_or_right recorded j m) [
-      | inl is ↦ inl is
-      | inr is ↦ inr (and_so (fits Video i n j m) (is_recorded (recorded j) m) e is)
-    ]
-
-    alone : (j k l m : ℕ) → IsNear i j → IsNear i k → right j l ≡ true → right k m ≡ true → j ≡ k
-    alone j k l m near others e f =
-        let p = both (fits Video i n j l) (is_recorded (recorded j) l) e in
-        let q = both (fits Video i n k m) (is_recorded (recorded k) m) f in
-        let here : l ≡ a = still j l near (fits_in_step Video i n j l p.0) (recorded_is (recorded j) l p.1) in
-        let there : m ≡ a = still k m others (fits_in_step Video i n k m q.0) (recorded_is (recorded k) m q.1) in
-        omega (arith, video_fits i n j l p.0, video_fits i n k m q.0, here, there)
+wrong_running recorded fields i a n still = right_once recorded (fits Video i n) fields i (λ j k l m near others e f.
+    let here : l ≡ a = still j l near (fits_in_step Video i n j l e.0) e.1 in
+    let there : m ≡ a = still k m others (fits_in_step Video i n k m f.0) f.1 in
+    omega (arith, video_fits i n j l e.0, video_fits i n k m f.0, here, there))
 
 pub sound_still : (recorded : ℕ → Option ℕ) (fields : List Sightings) (i m n : ℕ)
     → IsSoundStill recorded fields i m → Believed Video fields i n → n ≡ m

@@ -25,10 +25,6 @@ no_sightings = record {
   instead = 0;
 }
 
-pub first_zero : (test : ℕ → ℕ → Bool) (fields : List Sightings) → weight_of_first test fields 0 ≡ 0
-unfolding weight_of_first
-first_zero test fields = refl
-
 pub first_more : (test : ℕ → ℕ → Bool) (fields : List Sightings) (k : ℕ)
     → weight_of_first test fields (k + 1)
     ≡ weight_of_first test fields k + field_weight (test k) (slice_get fields k)
@@ -67,26 +63,26 @@ first_none test fields (suc k) fails =
     )
 
 -- and so do those after field k
-behind_by : (test : ℕ → ℕ → Bool) (fields : List Sightings) (k more : ℕ)
+after_by : (test : ℕ → ℕ → Bool) (fields : List Sightings) (k more : ℕ)
     → ((j n : ℕ) → k ≤ j → test j n ≡ true → ⊥)
     → weight_of_first test fields (k + more) ≡ weight_of_first test fields k
-behind_by test fields k zero fails =
+after_by test fields k zero fails =
     let same : k + zero ≡ k = omega arith in ap (weight_of_first test fields) same
-behind_by test fields k (suc more) fails =
+after_by test fields k (suc more) fails =
     let next : k + suc more ≡ k + more + 1 = omega (arith, add-one more) in
     ap (weight_of_first test fields) next ∙ omega (
       arith,
       first_more test fields (k + more),
-      behind_by test fields k more fails,
+      after_by test fields k more fails,
       field_none (test (k + more)) (slice_get fields (k + more)) (λ n. fails (k + more) n (omega arith)),
     )
 
-pub first_behind : (test : ℕ → ℕ → Bool) (fields : List Sightings) (k l : ℕ) → k ≤ l
+pub first_after : (test : ℕ → ℕ → Bool) (fields : List Sightings) (k l : ℕ) → k ≤ l
     → ((j n : ℕ) → k ≤ j → test j n ≡ true → ⊥)
     → weight_of_first test fields l ≡ weight_of_first test fields k
-first_behind test fields k l less fails =
+first_after test fields k l less fails =
     let whole : l ≡ k + (l - k) = omega (arith, less) in
-    ap (weight_of_first test fields) whole ∙ behind_by test fields k (l - k) fails
+    ap (weight_of_first test fields) whole ∙ after_by test fields k (l - k) fails
 
 -- ---- tests that pass more, and less
 
@@ -212,10 +208,10 @@ pub none_before : (test : ℕ → ℕ → Bool) (fields : List Sightings) (i : �
 none_before test fields i near =
     first_none test fields (i - vote_reach) (λ j n less e. omega (arith, less, (near j n e).0))
 
-pub none_behind : (test : ℕ → ℕ → Bool) (fields : List Sightings) (i end : ℕ)
+pub none_after : (test : ℕ → ℕ → Bool) (fields : List Sightings) (i end : ℕ)
     → ((j n : ℕ) → test j n ≡ true → IsVoter i j) → end ≡ min (length fields) (i + vote_reach + 1)
     → weight_of_first test fields (length fields) ≡ weight_of_first test fields end
-none_behind test fields i end near is = go (leb_tells (length fields) end)
+none_after test fields i end near is = go (leb_tells (length fields) end)
   where
     go : ((nat_le (length fields) end ≡ true) × (length fields ≤ end))
         ⊎ ((nat_le (length fields) end ≡ false) × (end < length fields))
@@ -223,7 +219,7 @@ none_behind test fields i end near is = go (leb_tells (length fields) end)
     go (inl (t, le)) =
         let same : length fields ≡ end = omega (arith, is, le) in ap (weight_of_first test fields) same
     go (inr (f, lt)) =
-        first_behind test fields end (length fields) (omega (arith, lt))
+        first_after test fields end (length fields) (omega (arith, lt))
         (λ j n less e. omega (arith, is, lt, less, (near j n e).1))
 
 -- a field that is there
@@ -311,4 +307,4 @@ pub none_later : (test : ℕ → ℕ → Bool) (fields : List Sightings) (i end 
     → ((j n : ℕ) → test j n ≡ true → IsVoter i j) → end ≡ min (length fields) (i + vote_reach + 1) → k ≡ end
     → weight_of_first test fields k ≡ weight_of_first test fields (length fields)
 none_later test fields i end k near is at =
-    ap (weight_of_first test fields) at ∙ sym (none_behind test fields i end near is)
+    ap (weight_of_first test fields) at ∙ sym (none_after test fields i end near is)

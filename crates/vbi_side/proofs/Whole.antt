@@ -3,7 +3,7 @@ use Rattle.std.proofs.Common.{◌≡◌, ◌≢◌, ℕ, zero, suc, ◌+◌, ◌
 use Rattle.std.proofs.Common.{refl, arith, ap, sym, ◌∙◌, subst, inl, inr}
 use Rattle.std.specs.Prelude.{Option, Some, None, slice_get, ◌⊎◌, nat_lt, not, ◌&&◌, ◌==◌}
 use Rattle.std.proofs.Math.Dec.{eqb}
-use Rattle.std.proofs.lemmas.Bool.{eqb-true, ltb-true, lt-ltb}
+use Rattle.std.proofs.lemmas.Bool.{eqb-true, ltb-true, lt-ltb, and_parts, and_from}
 use Rattle.std.proofs.lemmas.Bool.Decides.{eqb_tells}
 use Rattle.std.proofs.lemmas.Option.{slice_get_within}
 use Rattle.vbi_words.specs.declared.system.System.{System}
@@ -19,7 +19,8 @@ use Rattle.vbi_side.specs.Beliefs.{reach, field_most, window_weight, weight_at, 
 use Rattle.vbi_side.specs.Found.{IsCount, pace_by, IsFound}
 use Rattle.vbi_side.specs.Truth.{IsNear, is_recorded, wrong_weight}
 use Rattle.vbi_side.specs.Whole.{IsWhole, TakesTurns}
-use Rattle.vbi_side.proofs.Truth.{both, and_so, recorded_is, wrong_or_right, complete, wrong_still}
+use Rattle.vbi_side.proofs.Recorded.{right_of, right_is, wrong_and_right}
+use Rattle.vbi_side.proofs.Truth.{complete, wrong_still}
 use Rattle.vbi_side.proofs.Weights.{weight_below-split, once, spread, weight_at-passes}
 
 -- ---- counts
@@ -116,36 +117,27 @@ turns_weight : (recorded : ℕ → Option ℕ) (fields : List Sightings) (i m : 
 turns_weight recorded fields i m turns has =
     omega (
       arith,
-      weight_below-split (fits Video i m) wrong right fields i (2 * reach + 1) (omega arith) split,
+      wrong_and_right recorded (fits Video i m) fields i,
       weight_below-split right here other fields i (2 * reach + 1) (omega arith) apart,
       once here fields i (2 * reach + 1) (omega arith) one,
       once other fields i (2 * reach + 1) (omega arith) alone,
     )
   where
-    wrong : ℕ → ℕ → Bool
-    wrong = λ j n. not (is_recorded (recorded j) n)
-
     right : ℕ → ℕ → Bool
-    right = λ j n. fits Video i m j n && is_recorded (recorded j) n
+    right = right_of recorded (fits Video i m)
 
     here : ℕ → ℕ → Bool
     here = λ j n. j == i
 
     other : ℕ → ℕ → Bool
-    other = λ j n. not (j == i) && (fits Video i m j n && is_recorded (recorded j) n)
-
-    split : (j n : ℕ) → IsNear i j → fits Video i m j n ≡ true → (wrong j n ≡ true) ⊎ (right j n ≡ true)
-    split j n near e = elim (wrong_or_right recorded j n) [
-      | inl is ↦ inl is
-      | inr is ↦ inr (and_so (fits Video i m j n) (is_recorded (recorded j) n) e is)
-    ]
+    other = λ j n. not (j == i) && right j n
 
     apart : (j n : ℕ) → IsNear i j → right j n ≡ true → (here j n ≡ true) ⊎ (other j n ≡ true)
     apart j n near e = go (eqb_tells j i)
       where
         go : ((eqb j i ≡ true) × (j ≡ i)) ⊎ ((eqb j i ≡ false) × (j ≢ i)) → (here j n ≡ true) ⊎ (other j n ≡ true)
         go (inl (t, is)) = inl t
-        go (inr (f, isnt)) = inr (and_so (not (j == i)) (right j n) (ap not f) e)
+        go (inr (f, isnt)) = inr (and_from (not (j == i)) (right j n) (ap not f) e)
 
     one : (j k l n : ℕ) → IsNear i j → IsNear i k → here j l ≡ true → here k n ≡ true → j ≡ k
     one j k l n near others e f = eqb-true j i e ∙ sym (eqb-true k i f)
@@ -155,12 +147,11 @@ turns_weight recorded fields i m turns has =
 
     alone : (j k l n : ℕ) → IsNear i j → IsNear i k → other j l ≡ true → other k n ≡ true → j ≡ k
     alone j k l n near others e f =
-        let p = both (not (j == i)) (right j l) e in
-        let q = both (not (k == i)) (right k n) f in
-        let a = both (fits Video i m j l) (is_recorded (recorded j) l) p.1 in
-        let b = both (fits Video i m k n) (is_recorded (recorded k) n) q.1 in
-        turns i m j k l n near others (isnt j p.0) (isnt k q.0) has (recorded_is (recorded j) l a.1)
-        (recorded_is (recorded k) n b.1) a.0 b.0
+        let p = and_parts (not (j == i)) (right j l) e in
+        let q = and_parts (not (k == i)) (right k n) f in
+        let a = right_is recorded (fits Video i m) j l p.1 in
+        let b = right_is recorded (fits Video i m) k n q.1 in
+        turns i m j k l n near others (isnt j p.0) (isnt k q.0) has a.1 b.1 a.0 b.0
 
 -- so none is believed at it
 none_believed : (recorded : ℕ → Option ℕ) (fields : List Sightings) (i n : ℕ) → IsWhole Film recorded fields

@@ -27,10 +27,11 @@ use Rattle.vbi_side.specs.Verdicts.{yes, no, cannot_tell, verdict_of, reason, se
 use Rattle.vbi_side.specs.Verdicts.{IsUntold}
 use Rattle.vbi_side.specs.Verdicts.{IsFinding}
 use Rattle.vbi_side.specs.Verdicts.{is_end_unseen, is_begin_unseen, are_doubtful}
-use Rattle.vbi_side.proofs.Truth.{both, video_fits, film_fits}
+use Rattle.std.proofs.lemmas.Bool.{and_parts}
+use Rattle.vbi_side.proofs.Truth.{video_fits, film_fits}
 use Rattle.vbi_side.proofs.Filling.{answer_believed}
 use Rattle.vbi_side.proofs.Sides.{apart, near_one, alone_of, none_lost}
-use Rattle.vbi_side.proofs.SideAnswers.{anchor}
+use Rattle.vbi_side.proofs.Anchors.{anchor}
 use Rattle.vbi_side.proofs.GapLaws.{lost_below}
 
 -- ---- the verdict
@@ -85,7 +86,8 @@ yes_near pace slack numbering may_end seen answers ends finding old new is verdi
     none = yes_none finding.reasons (sym is.verdict ∙ verdict)
 
     go : IsUntold answers finding ⊎ ((m n : ℕ) × AreEnds answers finding.first m finding.last n
-        × (finding.reasons ≡ reasons_of numbering.clock pace slack may_end answers ends finding.tally is.swapped is.drifts
+        × (finding.reasons ≡ reasons_of numbering.clock pace slack may_end answers ends finding.tally is.swapped
+        is.drifts
         finding.first m finding.last n))
         → (m n : ℕ) × AreEnds answers finding.first m finding.last n
         × (nearly_by numbering.clock pace slack (finding.first + finding.tally.stood) m finding.last n ≡ true)
@@ -116,7 +118,7 @@ yes_near pace slack numbering may_end seen answers ends finding old new is verdi
 within : (slack i m j n : ℕ) → nearly Video slack i m j n ≡ true
     → (j + 2 * m ≤ i + 2 * n + slack) × (i + 2 * n ≤ j + 2 * m + slack)
 within slack i m j n e =
-    let p = both (nat_le (j + 2 * m) (i + 2 * n + slack)) (nat_le (i + 2 * n) (j + 2 * m + slack)) e in
+    let p = and_parts (nat_le (j + 2 * m) (i + 2 * n + slack)) (nat_le (i + 2 * n) (j + 2 * m + slack)) e in
     elim (leb_tells (j + 2 * m) (i + 2 * n + slack)) [
       | inl (t, le) ↦ elim (leb_tells (i + 2 * n) (j + 2 * m + slack)) [
         | inl (u, more) ↦ (le, more)
@@ -352,7 +354,8 @@ whole_lost pace slack disc place answers numbering may_end seen ends finding old
     sum = ap (λ (t : Tally). t.lost) is.told.comes_to
 
     go : IsUntold answers finding ⊎ ((m n : ℕ) × AreEnds answers finding.first m finding.last n
-        × (finding.reasons ≡ reasons_of numbering.clock pace slack may_end answers ends finding.tally is.swapped is.drifts
+        × (finding.reasons ≡ reasons_of numbering.clock pace slack may_end answers ends finding.tally is.swapped
+        is.drifts
         finding.first m finding.last n))
         → LostAtLeast place finding.first finding.last finding.tally.lost
     go (inl (never, e, first, last)) = absurd (some never)
@@ -360,7 +363,7 @@ whole_lost pace slack disc place answers numbering may_end seen ends finding old
         let p = lost_below pace slack disc place numbering seen answers ends runs rises right finding.first
         are.none_before
         (length answers) is.told.gaps is.told.unread is.told.all finding.last n are.ends
-        (slice_get_within answers finding.last (believed n) are.ends) (λ j l lt less. are.none_behind j l lt) in
+        (slice_get_within answers finding.last (believed n) are.ends) (λ j l lt less. are.none_after j l lt) in
         omega (arith, p.1, sum)
 
 -- ---- nothing is known
@@ -372,7 +375,8 @@ pub none_known : (pace : Pace) (slack : ℕ) (numbering : Numbering) (may_end : 
 none_known pace slack numbering may_end seen answers ends finding old new is never = go is.reasons
   where
     go : IsUntold answers finding ⊎ ((m n : ℕ) × AreEnds answers finding.first m finding.last n
-        × (finding.reasons ≡ reasons_of numbering.clock pace slack may_end answers ends finding.tally is.swapped is.drifts
+        × (finding.reasons ≡ reasons_of numbering.clock pace slack may_end answers ends finding.tally is.swapped
+        is.drifts
         finding.first m finding.last n))
         → finding.verdict ≡ cannot_tell
     go (inl (always, e, first, last)) = is.verdict ∙ ap verdict_of e

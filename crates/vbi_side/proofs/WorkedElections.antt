@@ -68,3 +68,5 @@ pub three_none : (m : ℕ) → IsElected (minute_of Ntsc) three_to_one 4 700 m �
 three_none m =
     few_for_each (minute_of Ntsc) three_to_one 4 700 4300 m (omega (arith, three_for))
     (omega (arith, three_cast, three_for))
+
+pub ruleset elections = (two, none, light, alone_elected, light_alone_none, three_none)

@@ -20,10 +20,11 @@ use Rattle.vbi_side.specs.Swaps.{IsSwap, is_stray}
 use Rattle.vbi_side.specs.Drifts.{IsDrift}
 use Rattle.vbi_side.specs.Worked.{field_of, blank}
 use Rattle.vbi_side.specs.WorkedSides.{pictures_from, answers_from, worked_side, worked_answers}
-use Rattle.vbi_side.proofs.Truth.{both, complete}
+use Rattle.std.proofs.lemmas.Bool.{and_parts}
+use Rattle.vbi_side.proofs.Truth.{complete}
 use Rattle.vbi_side.proofs.Discs.{video_runs, video_has}
 use Rattle.vbi_side.proofs.Whole.{none_misread}
-use Rattle.vbi_side.proofs.GapLaws.{near_same}
+use Rattle.vbi_side.proofs.Truth.{near_same}
 use Rattle.vbi_side.proofs.Telling.{some_is}
 
 -- ---- what the fields show
@@ -127,7 +128,7 @@ below : (test : ℕ → Bool) (n t : ℕ) → all_below test n ≡ true → t < 
 unfolding all_below
 below test zero t all less = absurd (omega (arith, less))
 below test (suc n) t all less =
-    let p = both (test n) (all_below test n) all in
+    let p = and_parts (test n) (all_below test n) all in
     elim (eqb_tells t n) [
       | inl (u, same) ↦ subst (λ k. test k ≡ true) (sym same) p.0
       | inr (f, other) ↦ below test n t p.1 (omega (arith, less, other))
@@ -207,7 +208,7 @@ no_swap clock k swap =
     let here = marked_is swap.i swap.m swap.neighbours.here in
     let there = marked_is swap.j swap.n swap.neighbours.there in
     let two = apart_by_two swap.i swap.m swap.j swap.n swap.neighbours in
-    let place : k ≡ 2 * swap.m + 1 = omega (arith, here.0, two, swap.behind, swap.before) in
+    let place : k ≡ 2 * swap.m + 1 = omega (arith, here.0, two, swap.after, swap.before) in
     let dark = blank_at 25 0 swap.m here.1 in
     let at : slice_get worked_side k ≡ Some blank = subst (λ j. slice_get worked_side j ≡ Some blank)
     (sym place) dark in
@@ -215,7 +216,8 @@ no_swap clock k swap =
     cc
 
 -- in a field with no number none ends, and each other number goes on
-pub no_gaps : (numbering : Numbering) → ((n : ℕ) → n < 25 → kept numbering.clock n ≡ n) → (ends : List ℕ) (k : ℕ) → k ≤ 50
+pub no_gaps : (numbering : Numbering) → ((n : ℕ) → n < 25 → kept numbering.clock n ≡ n) → (ends : List ℕ) (k : ℕ)
+    → k ≤ 50
     → AreGaps Video 0 numbering worked_side worked_answers ends k [] 0
 unfolding AreGaps
 no_gaps numbering same ends zero le = (refl, refl)

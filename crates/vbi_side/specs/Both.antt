@@ -4,27 +4,27 @@
 use Rattle.std.specs.Prelude.{ℕ, zero, suc, ◌+◌, ◌*◌, ◌%◌, ◌==◌, nat_lt, nat_le, not, ◌&&◌, Bool, false}
 use Rattle.std.specs.Prelude.{if◌then◌else◌, List, length, slice_get, Option, Some, None}
 use Rattle.vbi_side.specs.declared.number.Number.{Number}
-use Rattle.vbi_side.specs.declared.gap.Place.{Place}
+use Rattle.vbi_side.specs.declared.both.Last.{Last}
 
 -- field k with this answer's number, if that is believed, else another place
-abbrev pub place_or : Option Place → ℕ → Option Number → Option Place
+abbrev pub place_or : Option Last → ℕ → Option Number → Option Last
 place_or other k None = other
 place_or other k (Some answer) =
     if answer.state == 1 then Some (record { field = k; number = answer.number }) else other
 
 -- the last believed number before field k
-unfoldable pub last_known : List Number → ℕ → Option Place
+unfoldable pub last_known : List Number → ℕ → Option Last
 last_known answers zero = None
 last_known answers (suc k) = place_or (last_known answers k) k (slice_get answers k)
 
 -- the answer's number is believed, and another than that of this place
-abbrev pub is_turn : Option Place → Option Number → Bool
+abbrev pub is_turn : Option Last → Option Number → Bool
 is_turn None answer = false
 is_turn (Some place) None = false
 is_turn (Some place) (Some answer) = (answer.state == 1) && not (answer.number == place.number)
 
 -- field k stands an odd count of fields after this place
-abbrev pub is_odd : Option Place → ℕ → Bool
+abbrev pub is_odd : Option Last → ℕ → Bool
 is_odd None k = false
 is_odd (Some place) k = ((place.field + k) % 2) == 1
 

@@ -96,12 +96,12 @@ NeverFalls recorded i = (j k m n : ℕ) → IsNear i j → IsNear i k → j ≤ 
 abbrev pub weight_before : List Sightings → ℕ → ℕ → ℕ
 weight_before fields i m = window_weight (λ j k. nat_lt j i && (k == m)) fields i
 
-abbrev pub weight_behind : List Sightings → ℕ → ℕ → ℕ
-weight_behind fields i m = window_weight (λ j k. nat_lt i j && (k == m)) fields i
+abbrev pub weight_after : List Sightings → ℕ → ℕ → ℕ
+weight_after fields i m = window_weight (λ j k. nat_lt i j && (k == m)) fields i
 
 -- enough codes say chapter m both before field i and after it
 abbrev pub IsWithin : List Sightings → ℕ → ℕ → Type 0
-IsWithin fields i m = (enough ≤ weight_before fields i m) × (enough ≤ weight_behind fields i m)
+IsWithin fields i m = (enough ≤ weight_before fields i m) × (enough ≤ weight_after fields i m)
 
 -- what holds of a believed chapter n of field i: it is on the disc near there, if the misread codes weigh less than
 -- enough; and if enough codes before the field and after it say one chapter, it is that one

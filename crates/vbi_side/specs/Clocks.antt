@@ -61,8 +61,8 @@ is_plain _ = false
 
 -- ---- discs
 
--- the disc counts by the clock from its beginning to its end, at this pace: any two of its fields that have numbers have
--- such as fit by the clock
+-- the disc counts by the clock from its beginning to its end, at this pace: any two of its fields that have numbers
+-- have such as fit by the clock
 abbrev pub DiscCountsBy : Clock → Pace → (ℕ → Option ℕ) → Type 0
 DiscCountsBy clock pace disc = (d e m n : ℕ) → disc d ≡ Some m → disc e ≡ Some n
     → fits pace d (kept clock m) e (kept clock n) ≡ true

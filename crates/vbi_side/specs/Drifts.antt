@@ -2,7 +2,7 @@
 -- of numbers on both fields of a picture.
 use Rattle.std.specs.Prelude.{◌≡◌, ℕ, ◌+◌, ◌*◌, ◌<◌, ◌≤◌, nat_le, Bool, true, false, List, Option, Some, None}
 use Rattle.vbi_side.specs.declared.number.Number.{Number}
-use Rattle.vbi_side.specs.declared.gap.Place.{Place}
+use Rattle.vbi_side.specs.declared.place.Place.{Place}
 use Rattle.vbi_side.specs.declared.drift.Stretch.{Stretch}
 use Rattle.vbi_side.specs.declared.pace.Pace.{Pace}
 use Rattle.vbi_side.specs.declared.pace.Pace.TheVariants.{Video, Film}
@@ -46,10 +46,12 @@ leads_by clock pace i m j n = leads pace i (kept clock m) j (kept clock n)
 -- the number before a stretch doesn't go on to it
 abbrev pub IsApart : Clock → Pace → ℕ → Option Place → Place → Type 0
 IsApart clock pace slack None first = Unit {0}
-IsApart clock pace slack (Some before) first = nearly_by clock pace slack before.field before.number first.field first.number ≡ false
+IsApart clock pace slack
+    (Some before) first = nearly_by clock pace slack before.field before.number first.field first.number ≡ false
 
 -- the stretch that goes on to field k: its first and its last number, and those that stand earliest and latest
-pub record IsSpread (clock : Clock) (pace : Pace) (slack : ℕ) (answers : List Number) (k : ℕ) (stretch : Stretch) : Type 0 where
+pub record IsSpread (clock : Clock) (pace : Pace) (slack : ℕ) (answers : List Number) (k : ℕ)
+    (stretch : Stretch) : Type 0 where
   pub before : IsLast answers stretch.first.field stretch.before
   pub first : IsMarked answers stretch.first.field stretch.first.number
   pub apart : IsApart clock pace slack stretch.before stretch.first

@@ -15,7 +15,7 @@ slack_of j k = if nat_le k (j + 8) then 1 else 0
 pub record Leaves (HasNumber : ℕ → ℕ → Type 0) (pace : Pace) (j m k l i n : ℕ) : Type 0 where
   pub before : j < i
   pub near : i ≤ j + reach
-  pub behind : i < k
+  pub after : i < k
   pub far : k ≤ i + reach
   pub first : HasNumber j m
   pub last : HasNumber k l

@@ -12,7 +12,7 @@ use Rattle.vbi_side.specs.declared.gap.Numbering.{Numbering}
 use Rattle.vbi_side.specs.declared.number.Number.{Number}
 use Rattle.vbi_side.specs.declared.gap.Gap.{Gap}
 use Rattle.vbi_side.specs.declared.gap.Tally.{Tally}
-use Rattle.vbi_side.specs.declared.gap.Place.{Place}
+use Rattle.vbi_side.specs.declared.place.Place.{Place}
 use Rattle.vbi_side.specs.declared.pace.Pace.{Pace}
 use Rattle.vbi_side.specs.declared.pace.Pace.TheVariants.{Video, Film}
 use Rattle.vbi_side.specs.Paces.{stays}
@@ -77,8 +77,8 @@ lacking_by clock pace i m k n = lacking pace i (kept clock m) k (kept clock n)
 abbrev pub off_by_clock : Clock → Pace → ℕ → ℕ → ℕ → ℕ → ℕ
 off_by_clock clock pace i m k n = off_by pace i (kept clock m) k (kept clock n)
 
--- the disc itself may skip between them: a clock that isn't known leaves out one number or two; where film is cut over a number that
--- wasn't read, the next one stands a field off
+-- the disc itself may skip between them: a clock that isn't known leaves out one number or two; where film is cut over
+-- a number that wasn't read, the next one stands a field off
 abbrev pub is_open : Pace → Numbering → ℕ → ℕ → ℕ → ℕ → Bool
 is_open Video numbering i m k n =
     has_clock numbering

@@ -19,8 +19,8 @@ pub record IsBefore (HasNumber : ℕ → ℕ → Type 0) (pace : Pace) (i j m : 
   pub nearest : (k n : ℕ) → j < k → k < i → are_whole pace (i - k) ≡ true → HasNumber k n → ⊥
 
 -- field j, with number m, is the nearest field after field i, within reach and whole pictures away, that has a number
-pub record IsBehind (HasNumber : ℕ → ℕ → Type 0) (pace : Pace) (i j m : ℕ) : Type 0 where
-  pub behind : i < j
+pub record IsAfter (HasNumber : ℕ → ℕ → Type 0) (pace : Pace) (i j m : ℕ) : Type 0 where
+  pub after : i < j
   pub near : j ≤ i + reach
   pub whole : are_whole pace (j - i) ≡ true
   pub has : HasNumber j m
@@ -32,8 +32,8 @@ NoneBefore HasNumber pace i =
     (k n : ℕ) → i ≤ k + reach → k < i → are_whole pace (i - k) ≡ true → HasNumber k n → ⊥
 
 -- no field after field i, within reach and whole pictures away, has a number
-abbrev pub NoneBehind : (ℕ → ℕ → Type 0) → Pace → ℕ → Type 0
-NoneBehind HasNumber pace i =
+abbrev pub NoneAfter : (ℕ → ℕ → Type 0) → Pace → ℕ → Type 0
+NoneAfter HasNumber pace i =
     (k n : ℕ) → i < k → k ≤ i + reach → are_whole pace (k - i) ≡ true → HasNumber k n → ⊥
 
 -- no number between fields j and k is off from number n in field i

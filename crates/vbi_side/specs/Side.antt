@@ -2,7 +2,6 @@
 -- lacks.
 use Rattle.std.specs.Prelude.{◌≡◌, ℕ, suc, ◌+◌, ◌*◌, ◌-◌, ◌<◌, ◌≤◌, true, List, Option, Some}
 use Rattle.vbi_side.specs.declared.number.Number.{Number}
-use Rattle.vbi_side.specs.declared.extent.Extent.{Extent}
 use Rattle.vbi_side.specs.declared.sighting.Sightings.{Sightings}
 use Rattle.vbi_side.specs.declared.pace.Pace.{Pace}
 use Rattle.vbi_side.specs.Paces.{fits}
@@ -49,34 +48,15 @@ pub record IsAnchor (pace : Pace) (recorded : ℕ → Option ℕ) (fields : List
 
 -- ---- what a capture has
 
--- picture n is captured: a field of the capture is the disc's field that has its number
-abbrev pub IsCaptured : (ℕ → Option ℕ) → (ℕ → ℕ) → ℕ → Type 0
-IsCaptured disc place n = (i : ℕ) × (captured disc place i ≡ Some n)
-
 -- picture n is lost: the disc has its number, and the capture lacks each field that has it
 abbrev pub IsLost : (ℕ → Option ℕ) → (ℕ → ℕ) → ℕ → Type 0
 IsLost disc place n = ((d : ℕ) × (disc d ≡ Some n)) × ((d : ℕ) → disc d ≡ Some n → Lacks place d)
 
--- ---- the answer
+-- ---- its ends
 
 -- numbers m and n are believed of the first and the last field of which one is
 pub record AreEnds (answers : List Number) (first m last n : ℕ) : Type 0 where
   pub begins : IsMarked answers first m
   pub ends : IsMarked answers last n
   pub none_before : (i k : ℕ) → i < first → IsMarked answers i k → ⊥
-  pub none_behind : (i k : ℕ) → last < i → IsMarked answers i k → ⊥
-
--- what is said of a side: the first and the last field with a believed number, and how many more fields these count to
--- than lie between them
-abbrev pub IsExtent : List Number → Extent → Type 0
-IsExtent answers extent = (m n : ℕ) × AreEnds answers extent.first m extent.last n
-    × (extent.last + 2 * m + extent.lost ≡ extent.first + 2 * n)
-
--- no number is believed, or the last one is less than the first one counts to: fields were captured twice
-abbrev pub HasNoExtent : List Number → Type 0
-HasNoExtent answers = (first m last n : ℕ) → AreEnds answers first m last n → first + 2 * n < last + 2 * m
-
--- around both ends what was misread weighs less than enough
-abbrev pub AreFew : (ℕ → Option ℕ) → List Sightings → Extent → Type 0
-AreFew recorded fields extent =
-    (wrong_weight recorded fields extent.first < enough) × (wrong_weight recorded fields extent.last < enough)
+  pub none_after : (i k : ℕ) → last < i → IsMarked answers i k → ⊥

@@ -3,7 +3,7 @@
 use Rattle.std.specs.Prelude.{◌≡◌, ℕ, ◌+◌, ◌-◌, ◌*◌, ◌<◌, ◌==◌, nat_lt, not, ◌&&◌, ◌||◌, Bool, true, false, List}
 use Rattle.std.specs.Prelude.{Option, Some, None, slice_get}
 use Rattle.vbi_side.specs.declared.number.Number.{Number}
-use Rattle.vbi_side.specs.declared.gap.Place.{Place}
+use Rattle.vbi_side.specs.declared.place.Place.{Place}
 use Rattle.vbi_side.specs.declared.pace.Pace.{Pace}
 use Rattle.vbi_side.specs.declared.pace.Pace.TheVariants.{Video}
 use Rattle.vbi_side.specs.declared.sighting.Sightings.{Sightings}
@@ -28,7 +28,8 @@ is_beside answers k p = is_believed_as (slice_get answers (k - 1)) p || is_belie
 -- what a line shows stands off so by the clock, and isn't the number of a field beside it
 abbrev pub shows_off : Clock → List Number → ℕ → ℕ → ℕ → Sighting → Bool
 shows_off clock answers i m k sighting =
-    nat_lt 0 sighting.weight && stands_off i (kept clock m) k (kept clock sighting.number) && not (is_beside answers k sighting.number)
+    nat_lt 0 sighting.weight && stands_off i (kept clock m) k (kept clock sighting.number) && not
+    (is_beside answers k sighting.number)
 
 -- one of a field's lines does
 abbrev pub is_stray : Clock → List Number → ℕ → ℕ → ℕ → Option Sightings → Bool
@@ -36,8 +37,8 @@ is_stray clock answers i m k None = false
 is_stray clock answers i m k (Some field) =
     shows_off clock answers i m k field.line_17 || shows_off clock answers i m k field.line_18
 
--- field k was swapped with one beside it: between two neighbours that go on as video does, by the clock, it shows a number that stands
--- a field off
+-- field k was swapped with one beside it: between two neighbours that go on as video does, by the clock, it shows a
+-- number that stands a field off
 pub record IsSwap (clock : Clock) (seen : List Sightings) (answers : List Number) (k : ℕ) : Type 0 where
   pub i : ℕ
   pub m : ℕ
@@ -45,7 +46,7 @@ pub record IsSwap (clock : Clock) (seen : List Sightings) (answers : List Number
   pub n : ℕ
   pub neighbours : AreNeighbours answers i m j n
   pub on : clock_fits clock i m j n ≡ true
-  pub behind : i < k
+  pub after : i < k
   pub before : k < j
   pub stray : is_stray clock answers i m k (slice_get seen k) ≡ true
 
@@ -62,6 +63,7 @@ abbrev pub AreStrays : Clock → List Sightings → List Number → Option Place
 AreStrays clock seen answers None field None = Unit {0}
 AreStrays clock seen answers None field (Some k) = ⊥
 AreStrays clock seen answers (Some place) field None =
-    (k : ℕ) → place.field < k → k < field → is_stray clock answers place.field place.number k (slice_get seen k) ≡ true → ⊥
+    (k : ℕ) → place.field < k → k < field
+    → is_stray clock answers place.field place.number k (slice_get seen k) ≡ true → ⊥
 AreStrays clock seen answers (Some place) field (Some k) =
     (place.field < k) × (k < field) × (is_stray clock answers place.field place.number k (slice_get seen k) ≡ true)

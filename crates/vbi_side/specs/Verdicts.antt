@@ -61,12 +61,12 @@ abbrev pub is_begin_unseen : List ℕ → ℕ → ℕ → Bool
 is_begin_unseen ends first m = nat_lt 1 m && nat_lt 100 (since_end ends first)
 
 -- a field after field k is of lead-out
-abbrev pub is_ended_behind : List ℕ → ℕ → Bool
-is_ended_behind ends k = nat_lt 0 (count_by (λ e. e == lead_out) (drop (k + 1) ends))
+abbrev pub lead_out_follows : List ℕ → ℕ → Bool
+lead_out_follows ends k = nat_lt 0 (count_by (λ e. e == lead_out) (drop (k + 1) ends))
 
 -- no lead-out is seen after the last number, and the caller doesn't say that the capture may end before the disc
 abbrev pub is_end_unseen : Bool → List ℕ → ℕ → Bool
-is_end_unseen may_end ends last = not may_end && not (is_ended_behind ends last)
+is_end_unseen may_end ends last = not may_end && not (lead_out_follows ends last)
 
 -- so many answers are of this state
 abbrev pub count_of : ℕ → List Number → ℕ

@@ -39,5 +39,5 @@ abbrev pub alone_before : ℕ → List Sightings
 alone_before distance = field_of 4300 2 0 0 ∷ replicate distance blank
 
 -- a time that is so many fields after field 0
-abbrev pub alone_behind : ℕ → List Sightings
-alone_behind distance = replicate distance blank ++ field_of 4300 2 0 0 ∷ []
+abbrev pub alone_after : ℕ → List Sightings
+alone_after distance = replicate distance blank ++ field_of 4300 2 0 0 ∷ []

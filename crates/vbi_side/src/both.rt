@@ -3,17 +3,23 @@
 ghost use Rattle.std.specs.Prelude.{◌≡◌, suc, ◌+◌, ◌<◌, ◌≤◌, ◌^◌, ◌&&◌, if◌then◌else◌, length, Some, IfSome};
 ghost use Rattle.vbi_side.specs.Both.{place_or, last_known, is_turn, is_odd, turns, odd_turns, is_on_both};
 
-use crate::gap::Place;
 use crate::number::Number;
 
-/// The field with its number, if that is believed, else another place.
-fn place_or(other: Option<Place>, field: usize, answer: Number) -> Option<Place>
+/// The last field with a believed number.
+#[derive(Clone, Copy)]
+pub(crate) struct Last {
+    field: usize,
+    number: u32,
+}
+
+/// The field with its number, if that is believed, else another one.
+fn place_or(other: Option<Last>, field: usize, answer: Number) -> Option<Last>
     requires { IfSome other (λ place. place.field < field) }
     ensures value { result ≡ place_or other field (Some answer) }
     ensures earlier { IfSome result (λ place. place.field < field + 1) }
 {
     if answer.is_believed() {
-        Some(Place {
+        Some(Last {
             field,
             number: answer.number,
         })
@@ -23,7 +29,7 @@ fn place_or(other: Option<Place>, field: usize, answer: Number) -> Option<Place>
 }
 
 /// Whether the number is believed, and another than the one before.
-fn is_turn(last: Option<Place>, answer: Number) -> bool
+fn is_turn(last: Option<Last>, answer: Number) -> bool
     ensures { result ≡ is_turn last (Some answer) }
 {
     match last {
@@ -33,7 +39,7 @@ fn is_turn(last: Option<Place>, answer: Number) -> bool
 }
 
 /// Whether the field stands an odd count of fields after the last one with a number, if there is one.
-fn is_odd(last: Option<Place>, field: usize) -> bool
+fn is_odd(last: Option<Last>, field: usize) -> bool
     requires far { field < 2 ^ 60 }
     requires before { IfSome last (λ place. place.field < field) }
     ensures { result ≡ is_odd last field }
@@ -45,7 +51,7 @@ fn is_odd(last: Option<Place>, field: usize) -> bool
 }
 
 /// Whether the number is believed, and another than the one before, an odd count of fields after it.
-fn is_odd_turn(last: Option<Place>, field: usize, answer: Number) -> bool
+fn is_odd_turn(last: Option<Last>, field: usize, answer: Number) -> bool
     requires far { field < 2 ^ 60 }
     requires before { IfSome last (λ place. place.field < field) }
     ensures { result ≡ is_turn last (Some answer) && is_odd last field }
@@ -66,7 +72,7 @@ fn counted(count: usize, holds: bool) -> usize
 #[derive(Clone, Copy)]
 struct Steps {
     /// The last one that is believed.
-    last: Option<Place>,
+    last: Option<Last>,
     /// How many are others than the one before them.
     all: usize,
     /// How many of these stand an odd count of fields after it.
@@ -114,7 +120,8 @@ fn turns(numbers: &[Number]) -> Steps
 }
 
 /// Whether numbers stand on both fields of a picture: a quarter or more of those that follow another one stand an odd
-/// count of fields after it.
+/// count of fields after it. If all fields are read, half of them do, and of a worn disc fewer; without numbers on both
+/// fields it takes a lost field for each.
 pub fn is_on_both(numbers: &[Number]) -> bool
     ensures { result ≡ is_on_both numbers.now }
 {

@@ -52,6 +52,7 @@ pub fn chapters_only_near()
 {}
 
 /// What words say: chapters from 0 to 79, which weigh half in passes 2 and 3; no other code is one.
+#[tactic(auto, unfolding(vbi_words::specs::Codes::code_of))]
 pub fn worked_codes()
     ensures chapters { map chapter_of (
         line_of 0x800DDD 1 ∷ line_of 0x807DDD 1 ∷ line_of 0x819DDD 1 ∷ line_of 0x879DDD 1 ∷ line_of 0x887DDD 1 ∷ [])
@@ -67,7 +68,7 @@ pub fn worked_codes()
 /// field the one that more codes say.
 pub fn worked_chapters()
     ensures enough { BelievedChapter said_by_10 0 7 × IsDoubted said_by_9 0 }
-    ensures behind { BelievedChapter said_to_24 0 7 × IsDoubted said_to_25 0 }
+    ensures after { BelievedChapter said_to_24 0 7 × IsDoubted said_to_25 0 }
     ensures before { BelievedChapter said_from_24 24 7 × IsDoubted said_from_25 25 }
     ensures opposed { BelievedChapter opposed_by_9 4 7 × BelievedChapter opposed_before_by_9 5 3 }
     ensures falls { IsDoubted falling 4 × IsDoubted falling 5 }

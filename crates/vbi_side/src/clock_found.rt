@@ -1,5 +1,14 @@
 //! Which clock a disc's numbers keep to, as the believed ones tell: the one that explains most of the places at which
 //! they don't go on.
+//!
+//! Three clocks are tried: drop-frame, and one number left out in 1,000 or in 1,001, which is what 29.97 pictures a
+//! second lose to 30. Of the latter two the phase isn't known, so one pass finds the phase in the lead (`Leader`, the
+//! vote of Boyer and Moore), and a second one counts what its clock explains and what it speaks against (`Pairs`).
+//!
+//! It takes three explained places, since one or two may be losses that fall where the clock would leave a number out,
+//! and at least twice as many as are opposed. Of a disc without a clock, and if clocks explain as much, it is the one
+//! that the rule has. vbi_c judges sides without a clock; what it costs to change a bound is in
+//! `specs/ClocksFound.antt`, the laws of `clock_laws`, include/ldvbi.h and rule 9 of docs/SIDES.md.
 
 ghost use Rattle.std.specs.Prelude.{◌≡◌, ◌+◌, ◌*◌, ◌<◌, ◌≤◌, ◌^◌, ◌↔◌, ◌⊎◌, true, length};
 ghost use Rattle.vbi_side.specs.declared.clock.Clock.TheVariants.{DropFrame, OneIn};
@@ -10,9 +19,10 @@ ghost use Rattle.vbi_side.specs.ClocksFound.{ExplainsMost};
 ghost use Rattle.vbi_side.specs.Gaps.{IsLast, has_clock};
 
 use crate::clock::Clock;
-use crate::gap::{Place, Rule, goes_on, goes_on_by};
-use crate::gaps::last_at;
+use crate::gap::{Neighbours, Rule, goes_on, goes_on_by};
+use crate::gaps::{Reached, last_at, neighbours_at};
 use crate::number::Number;
+use crate::place::Place;
 
 /// How many neighbouring numbers a clock explains, and against how many it speaks.
 #[derive(Clone, Copy)]
@@ -38,62 +48,41 @@ impl Pairs {
 }
 
 /// The pairs with one more.
-fn with_pair(rule: Rule, clock: Clock, here: Place, there: Place, pairs: Pairs) -> Pairs
-    requires slack { rule.slack ≤ 1 }
-    requires here { here.field < 2 ^ 60 }
-    requires there { there.field < 2 ^ 60 }
+fn with_pair(rule: Rule, clock: Clock, pair: Neighbours, pairs: Pairs) -> Pairs
     requires explained { pairs.explained < 2 ^ 60 }
     requires opposed { pairs.opposed < 2 ^ 60 }
-    ensures value { result ≡ with_pair clock rule.pace rule.slack here.field here.number there.field there.number pairs }
+    ensures value { result ≡ with_pair clock rule.pace rule.slack pair.here.field pair.here.number pair.there.field
+        pair.there.number pairs }
     ensures explained { result.explained ≤ pairs.explained + 1 }
     ensures opposed { result.opposed ≤ pairs.opposed + 1 }
 {
-    let on = goes_on(rule.pace, rule.slack, here, there);
-    let by = goes_on_by(clock, rule.pace, rule.slack, here, there);
+    let on = goes_on(rule.pace, rule.slack, pair.here, pair.there);
+    let by = goes_on_by(clock, rule.pace, rule.slack, pair.here, pair.there);
     Pairs {
         explained: pairs.explained + if by && !on { 1 } else { 0 },
         opposed: pairs.opposed + if on && !by { 1 } else { 0 },
     }
 }
 
-/// The pairs with the one that ends in a field, if one does.
-fn with_field(
-    numbers: &[Number],
-    rule: Rule,
-    clock: Clock,
-    field: usize,
-    last: Option<Place>,
-    pairs: Pairs,
-) -> Pairs
-    requires slack { rule.slack ≤ 1 }
-    requires inside { field < length numbers.now }
-    requires last { IsLast numbers.now field last }
-    requires explained { pairs.explained ≤ field }
-    requires opposed { pairs.opposed ≤ field }
-    ensures value { ArePairs clock rule.pace rule.slack numbers.now field pairs
-        → ArePairs clock rule.pace rule.slack numbers.now (field + 1) result }
-    ensures explained { result.explained ≤ field + 1 }
-    ensures opposed { result.opposed ≤ field + 1 }
+/// The pairs with the one that ends in the next field, if one does.
+fn with_field(numbers: &[Number], rule: Rule, clock: Clock, at: Reached, pairs: Pairs) -> Pairs
+    requires inside { at.field < length numbers.now }
+    requires last { IsLast numbers.now at.field at.last }
+    requires explained { pairs.explained ≤ at.field }
+    requires opposed { pairs.opposed ≤ at.field }
+    ensures value { ArePairs clock rule.pace rule.slack numbers.now at.field pairs
+        → ArePairs clock rule.pace rule.slack numbers.now (at.field + 1) result }
+    ensures explained { result.explained ≤ at.field + 1 }
+    ensures opposed { result.opposed ≤ at.field + 1 }
 {
-    let answer = numbers[field];
-    if !answer.is_believed() {
+    let Some(pair) = neighbours_at(numbers, at) else {
         return pairs;
-    }
-    match last {
-        None => pairs,
-        Some(here) => {
-            let there = Place {
-                field,
-                number: answer.number,
-            };
-            with_pair(rule, clock, here, there, pairs)
-        }
-    }
+    };
+    with_pair(rule, clock, pair, pairs)
 }
 
 /// What a clock says of all neighbouring numbers.
 fn pairs_by(numbers: &[Number], rule: Rule, clock: Clock) -> Pairs
-    requires slack { rule.slack ≤ 1 }
     ensures value { ArePairs clock rule.pace rule.slack numbers.now (length numbers.now) result }
     ensures range { result.opposed < 2 ^ 60 }
 {
@@ -103,7 +92,7 @@ fn pairs_by(numbers: &[Number], rule: Rule, clock: Clock) -> Pairs
     };
     let mut last: Option<Place> = None;
     for field in 0..numbers.len() {
-        pairs = with_field(numbers, rule, clock, field, last, pairs);
+        pairs = with_field(numbers, rule, clock, Reached { field, last }, pairs);
         last = last_at(numbers, field, last);
     }
     pairs
@@ -139,53 +128,36 @@ impl Leader {
     }
 }
 
-/// The leader with the vote of a field, if its number is the next but one, and just one is left out before it.
-fn with_vote_of(
-    numbers: &[Number],
-    rule: Rule,
-    period: u32,
-    field: usize,
-    last: Option<Place>,
-    leader: Leader,
-) -> Leader
-    requires slack { rule.slack ≤ 1 }
+/// The leader with the vote of the next field, if its number is the next but one, and just one is left out before it.
+fn with_vote_of(numbers: &[Number], rule: Rule, period: u32, at: Reached, leader: Leader) -> Leader
     requires period { 0 < period }
-    requires inside { field < length numbers.now }
-    requires last { IsLast numbers.now field last }
+    requires inside { at.field < length numbers.now }
+    requires last { IsLast numbers.now at.field at.last }
     requires phase { leader.phase < period }
-    requires votes { leader.votes ≤ field }
+    requires votes { leader.votes ≤ at.field }
     ensures phase { result.phase < period }
-    ensures votes { result.votes ≤ field + 1 }
+    ensures votes { result.votes ≤ at.field + 1 }
 {
-    let answer = numbers[field];
-    if !answer.is_believed() {
-        return leader;
-    }
-    let Some(here) = last else {
+    let Some(pair) = neighbours_at(numbers, at) else {
         return leader;
     };
-    let there = Place {
-        field,
-        number: answer.number,
-    };
-    if u64::from(here.number) + 2 != u64::from(there.number)
-        || goes_on(rule.pace, rule.slack, here, there)
+    if u64::from(pair.here.number) + 2 != u64::from(pair.there.number)
+        || goes_on(rule.pace, rule.slack, pair.here, pair.there)
     {
         return leader;
     }
-    leader.with_vote((there.number - 1) % period)
+    leader.with_vote((pair.there.number - 1) % period)
 }
 
 /// The phase of more than half of the places at which just one number is left out, if one has so many.
 fn leading(numbers: &[Number], rule: Rule, period: u32) -> u32
-    requires slack { rule.slack ≤ 1 }
     requires period { 0 < period }
     ensures { result < period }
 {
     let mut leader = Leader { phase: 0, votes: 0 };
     let mut last: Option<Place> = None;
     for field in 0..numbers.len() {
-        leader = with_vote_of(numbers, rule, period, field, last, leader);
+        leader = with_vote_of(numbers, rule, period, Reached { field, last }, leader);
         last = last_at(numbers, field, last);
     }
     leader.phase
@@ -200,7 +172,6 @@ struct Even {
 
 /// That of the phase that leads.
 fn even_by(numbers: &[Number], rule: Rule, period: u32) -> Even
-    requires slack { rule.slack ≤ 1 }
     requires period { 0 < period }
     ensures proper { result.phase < period }
     ensures value { ArePairs (OneIn period result.phase) rule.pace rule.slack numbers.now (length numbers.now)
@@ -212,13 +183,12 @@ fn even_by(numbers: &[Number], rule: Rule, period: u32) -> Even
     Even { phase, pairs }
 }
 
-/// The clock that explains most of the places at which the numbers of an NTSC CLV disc don't go on, of those that explain
-/// at least three, and at least twice as many as they speak against. If drop-frame explains as much as one number in
-/// 1,000 or 1,001 it is drop-frame; if these two explain as much it is neither. One in 1,000 or 1,001 is found only if
-/// more than half of the places at which just one number is missing have its phase. Else, and of another disc, it is
-/// the clock of the rule.
+/// The clock that explains most of the places at which the numbers of an NTSC CLV disc don't go on, of those that
+/// explain at least three, and at least twice as many as they speak against. If drop-frame explains as much as one
+/// number in 1,000 or 1,001 it is drop-frame; if these two explain as much it is neither. One in 1,000 or 1,001 is
+/// found only if more than half of the places at which just one number is missing have its phase. Else, and of another
+/// disc, it is the clock of the rule.
 pub fn find_clock(numbers: &[Number], rule: Rule) -> Clock
-    requires { rule.slack ≤ 1 }
     ensures told { (result ≡ rule.numbering.clock)
         ⊎ (IsProper result × IsClockTold result rule.pace rule.slack numbers.now) }
     ensures drop { has_clock rule.numbering ≡ true → ExplainsMost DropFrame rule.pace rule.slack numbers.now

@@ -1,7 +1,8 @@
-//! Laws of the clock: what it leaves out, and that this is never called lost. A function here does nothing: its contract
-//! is a law.
+//! Laws of the clock: what it leaves out, and that this is never called lost. A function here does nothing: its
+//! contract is a law.
 
-ghost use Rattle.std.specs.Prelude.{◌≡◌, ℕ, ◌+◌, ◌-◌, ◌<◌, ◌≤◌, Bool, List, [], ◌∷◌, Option, Some, None, map, true, false};
+ghost use Rattle.std.specs.Prelude.{◌≡◌, ℕ, ◌+◌, ◌-◌, ◌<◌, ◌≤◌, Bool, List, [], ◌∷◌, Option, Some, None, map, true};
+ghost use Rattle.std.specs.Prelude.{false};
 ghost use Rattle.std.specs.Prelude.{if◌then◌else◌};
 ghost use Rattle.vbi_side.specs.declared.clock.Clock.{Clock};
 ghost use Rattle.vbi_side.specs.declared.clock.Clock.TheVariants.{Plain, DropFrame, OneIn};
@@ -9,7 +10,8 @@ ghost use Rattle.vbi_side.specs.declared.gap.Gap.{Gap};
 ghost use Rattle.vbi_side.specs.declared.gap.Numbering.{Numbering};
 ghost use Rattle.vbi_side.specs.declared.pace.Pace.{Pace};
 ghost use Rattle.vbi_side.specs.declared.pace.Pace.TheVariants.{Video};
-ghost use Rattle.vbi_side.specs.Clocks.{left_out, leaves_out, kept, place, clock_fits, IsProper, IsClear, out_between, out_near};
+ghost use Rattle.vbi_side.specs.Clocks.{left_out, leaves_out, kept, place, clock_fits, IsProper, IsClear, out_between};
+ghost use Rattle.vbi_side.specs.Clocks.{out_near};
 ghost use Rattle.vbi_side.specs.Clocks.{DiscCountsBy, IsClearAt, numbered, drop_number, thousand_number, more_number};
 ghost use Rattle.vbi_side.specs.Gaps.{lost, open_gap, gap_of, gap_made, lost_of, undecided_of, skipped};
 ghost use Rattle.vbi_side.specs.Side.{DiscRuns, captured};
@@ -48,6 +50,7 @@ pub fn left_out_is_not_lost()
 
 /// Within 240 fields these clocks leave out four numbers at most: what `RunsFromBy` asks for beside the places. Of 24
 /// numbers they leave out two at most, by drop-frame, or one.
+#[tactic(auto, using(crate::proofs::FewLeftOut::few_numbers))]
 pub fn few_left_out()
     ensures drop { (i m j n : ℕ) → IsVoter i j → clock_fits DropFrame i m j n ≡ true
         → left_out DropFrame n ≤ left_out DropFrame m + 4 }
@@ -70,8 +73,8 @@ pub fn clocked_discs_are()
     ensures not_on { DiscRuns Video (numbered drop_number) → ⊥ }
 {}
 
-/// The premises of `whole_yes` by a clock hold together, beside those in `worked_premises`: of the same capture, as one of
-/// a disc that leaves out one number in 1,000.
+/// The premises of `whole_yes` by a clock hold together, beside those in `worked_premises`: of the same capture, as one
+/// of a disc that leaves out one number in 1,000.
 #[tactic(auto, unfolding(crate::specs::Clocks::kept, crate::specs::Clocks::left_out))]
 pub fn worked_premises_by_clock()
     ensures runs { DiscCountsBy (OneIn 1000 500) Video (numbered (thousand_number 500)) }

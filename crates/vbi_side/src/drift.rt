@@ -12,9 +12,10 @@ ghost use Rattle.vbi_side.specs.Gaps.{IsLast};
 ghost use Rattle.vbi_side.specs.Drifts.{leads, leads_by, IsApart, IsSpread, IsSpreadBefore, IsDrift, IsDriftTold};
 
 use crate::clock::Clock;
-use crate::gap::{Place, Rule, by_clock, goes_on_by};
+use crate::gap::{Rule, goes_on_by};
 use crate::number::Number;
 use crate::pace::Pace;
+use crate::place::{Place, by_clock};
 
 /// A stretch of numbers that go on.
 #[derive(Clone, Copy)]
@@ -33,8 +34,6 @@ pub(crate) struct Stretch {
 
 /// Whether a number stands no later, for its number, than another one.
 fn leads(pace: Pace, here: Place, there: Place) -> bool
-    requires here { here.field < 2 ^ 60 }
-    requires there { there.field < 2 ^ 60 }
     ensures { result ≡ leads pace here.field here.number there.field there.number }
 {
     let (field, number) = (here.field as u64, u64::from(here.number));
@@ -47,8 +46,6 @@ fn leads(pace: Pace, here: Place, there: Place) -> bool
 
 /// The same by the clock.
 fn leads_by(clock: Clock, pace: Pace, here: Place, there: Place) -> bool
-    requires here { here.field < 2 ^ 60 }
-    requires there { there.field < 2 ^ 60 }
     ensures { result ≡ leads_by clock pace here.field here.number there.field there.number }
 {
     leads(pace, by_clock(clock, here), by_clock(clock, there))
@@ -56,8 +53,6 @@ fn leads_by(clock: Clock, pace: Pace, here: Place, there: Place) -> bool
 
 /// The one of two that stands earlier.
 fn earlier(clock: Clock, pace: Pace, here: Place, there: Place) -> Place
-    requires here { here.field < 2 ^ 60 }
-    requires there { there.field < 2 ^ 60 }
     ensures { ((result ≡ here) × (leads_by clock pace here.field here.number there.field there.number ≡ true))
         ⊎ ((result ≡ there) × (leads_by clock pace there.field there.number here.field here.number ≡ true)) }
 {
@@ -70,8 +65,6 @@ fn earlier(clock: Clock, pace: Pace, here: Place, there: Place) -> Place
 
 /// The one of two that stands later.
 fn later(clock: Clock, pace: Pace, here: Place, there: Place) -> Place
-    requires here { here.field < 2 ^ 60 }
-    requires there { there.field < 2 ^ 60 }
     ensures { ((result ≡ here) × (leads_by clock pace there.field there.number here.field here.number ≡ true))
         ⊎ ((result ≡ there) × (leads_by clock pace here.field here.number there.field there.number ≡ true)) }
 {
@@ -89,8 +82,6 @@ fn begun(numbers: &[Number], rule: Rule, before: Option<Place>, first: Place) ->
     requires apart { IsApart rule.numbering.clock rule.pace rule.slack before first }
     ensures { IsSpread rule.numbering.clock rule.pace rule.slack numbers.now (first.field + 1) result }
 {
-    let _numbers = numbers;
-    let _rule = rule;
     Stretch {
         before,
         first,
@@ -102,13 +93,12 @@ fn begun(numbers: &[Number], rule: Rule, before: Option<Place>, first: Place) ->
 
 /// The stretch with one number more, which goes on.
 fn extended(numbers: &[Number], rule: Rule, stretch: Stretch, there: Place) -> Stretch
-    requires far { there.field < 2 ^ 60 }
     requires spread { IsSpread rule.numbering.clock rule.pace rule.slack numbers.now there.field stretch }
     requires there { IsMarked numbers.now there.field there.number }
-    requires on { nearly_by rule.numbering.clock rule.pace rule.slack stretch.last.field stretch.last.number there.field there.number ≡ true }
+    requires on { nearly_by rule.numbering.clock rule.pace rule.slack stretch.last.field stretch.last.number there.field
+        there.number ≡ true }
     ensures { IsSpread rule.numbering.clock rule.pace rule.slack numbers.now (there.field + 1) result }
 {
-    let _numbers = numbers;
     let low = earlier(rule.numbering.clock, rule.pace, stretch.low, there);
     let high = later(rule.numbering.clock, rule.pace, stretch.high, there);
     Stretch {
@@ -127,7 +117,6 @@ fn with_field(
     field: usize,
     stretch: Option<Stretch>,
 ) -> Option<Stretch>
-    requires slack { rule.slack ≤ 1 }
     requires inside { field < length numbers.now }
     requires spread { IsSpreadBefore rule.numbering.clock rule.pace rule.slack numbers.now field stretch }
     ensures { IsSpreadBefore rule.numbering.clock rule.pace rule.slack numbers.now (field + 1) result }
@@ -152,7 +141,6 @@ fn with_field(
 
 /// Whether the number of a field doesn't count to one before it in its stretch.
 fn drifts_at(numbers: &[Number], rule: Rule, field: usize, stretch: Option<Stretch>) -> bool
-    requires slack { rule.slack ≤ 1 }
     requires inside { field < length numbers.now }
     requires spread { IsSpreadBefore rule.numbering.clock rule.pace rule.slack numbers.now field stretch }
     ensures drifts { result ≡ true → IsDrift rule.numbering.clock rule.pace rule.slack numbers.now field }
@@ -180,7 +168,6 @@ fn drifts_at(numbers: &[Number], rule: Rule, field: usize, stretch: Option<Stret
 
 /// Whether the numbers of some stretch don't count to each other.
 pub(crate) fn has_drift(numbers: &[Number], rule: Rule) -> bool
-    requires { rule.slack ≤ 1 }
     ensures { IsDriftTold rule.numbering.clock rule.pace rule.slack numbers.now result }
 {
     let mut stretch: Option<Stretch> = None;

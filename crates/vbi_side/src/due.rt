@@ -9,17 +9,19 @@
 ghost use Rattle.std.specs.Prelude.{◌≡◌, ◌↔◌, ℕ, ◌<◌, ◌≤◌, ◌+◌, ◌*◌, ◌-◌, true, length, Some, None, IfSome};
 ghost use Rattle.vbi_side.specs.Beliefs.{reach, Believed};
 ghost use Rattle.vbi_side.specs.Due.{slack_of, IsLeft, Due};
-ghost use Rattle.vbi_side.specs.Nearest.{are_whole, IsBefore, IsBehind, NoneBefore, NoneBehind, AllNearly};
+ghost use Rattle.vbi_side.specs.Nearest.{are_whole, IsBefore, IsAfter, NoneBefore, NoneAfter, AllNearly};
 ghost use Rattle.vbi_side.specs.Numbers.{IsMarked};
-ghost use Rattle.vbi_side.specs.Paces.{Count, nearly};
+ghost use Rattle.vbi_side.specs.Paces.{Count};
 
 use crate::belief::REACH;
-use crate::gap::Place;
+use crate::gap::goes_on;
 use crate::number::Number;
 use crate::pace::Pace;
+use crate::place::Place;
 use crate::sighting::Sightings;
 
-/// The fields to which two numbers may be apart that allow one between them to be off by a field.
+/// The fields to which two numbers may be apart that allow one between them to be off by a field: four pictures, over
+/// which a disc with numbers on both fields of a picture, or a misread one beside them, can't be told from a loss.
 const CLOSE: usize = 8;
 
 /// Whether so many fields last whole pictures.
@@ -54,11 +56,11 @@ fn before(numbers: &[Number], pace: Pace, field: usize) -> Option<Place>
 }
 
 /// The nearest field after this one, within reach and whole pictures away, of which a number is believed.
-fn behind(numbers: &[Number], pace: Pace, field: usize) -> Option<Place>
+fn after(numbers: &[Number], pace: Pace, field: usize) -> Option<Place>
     requires { field < length numbers.now }
     ensures some { IfSome result (λ place. (place.field < length numbers.now)
-        × IsBehind (IsMarked numbers.now) pace field place.field place.number) }
-    ensures none { result ≡ None → NoneBehind (IsMarked numbers.now) pace field }
+        × IsAfter (IsMarked numbers.now) pace field place.field place.number) }
+    ensures none { result ≡ None → NoneAfter (IsMarked numbers.now) pace field }
 {
     for distance in 1..REACH + 1 {
         let place = field + distance;
@@ -90,18 +92,18 @@ fn pictures(pace: Pace, fields: usize) -> u64
 }
 
 /// The number to which both of two others count in a field between them.
-fn counted(pace: Pace, before: Place, behind: Place, field: usize) -> Option<u32>
+fn counted(pace: Pace, before: Place, after: Place, field: usize) -> Option<u32>
     requires first { before.field < field }
-    requires last { field < behind.field }
+    requires last { field < after.field }
     requires near { field ≤ before.field + reach }
-    requires far { behind.field ≤ field + reach }
+    requires far { after.field ≤ field + reach }
     requires whole { are_whole pace (field - before.field) ≡ true }
-    requires wholes { are_whole pace (behind.field - field) ≡ true }
+    requires wholes { are_whole pace (after.field - field) ≡ true }
     ensures { (n : ℕ) → (result ≡ Some n)
-        ↔ (Count pace before.field before.number field n × Count pace field n behind.field behind.number) }
+        ↔ (Count pace before.field before.number field n × Count pace field n after.field after.number) }
 {
     let number = u64::from(before.number) + pictures(pace, field - before.field);
-    if number + pictures(pace, behind.field - field) == u64::from(behind.number) {
+    if number + pictures(pace, after.field - field) == u64::from(after.number) {
         Some(number as u32)
     } else {
         None
@@ -109,49 +111,30 @@ fn counted(pace: Pace, before: Place, behind: Place, field: usize) -> Option<u32
 }
 
 /// By how many fields a number between two fields may be off.
-fn slack_of(before: usize, behind: usize) -> u64
-    requires { before ≤ behind }
-    ensures value { result ≡ slack_of before behind }
+fn slack_of(before: usize, after: usize) -> u64
+    requires { before ≤ after }
+    ensures value { result ≡ slack_of before after }
     ensures range { result ≤ 1 }
 {
-    if behind - before <= CLOSE { 1 } else { 0 }
-}
-
-/// Whether two numbers nearly fit, of fields that are so far behind one: of video to within `slack` fields.
-fn nearly(pace: Pace, slack: u64, here: u64, number: u32, there: u64, other: u32) -> bool
-    requires slack { slack ≤ 1 }
-    requires here { here ≤ 2 * reach }
-    requires there { there ≤ 2 * reach }
-    ensures { (first i k : ℕ) → i ≡ first + here → k ≡ first + there → result ≡ nearly pace slack i number k other }
-{
-    let (number, other) = (u64::from(number), u64::from(other));
-    match pace {
-        Pace::Video => {
-            there + 2 * number <= here + 2 * other + slack
-                && here + 2 * other <= there + 2 * number + slack
-        }
-        Pace::Film => {
-            2 * there + 5 * number <= 2 * here + 5 * other + 2
-                && 2 * here + 5 * other <= 2 * there + 5 * number + 2
-        }
-    }
+    if after - before <= CLOSE { 1 } else { 0 }
 }
 
 /// Whether no believed number between two places is off from that of one between them.
-fn all_nearly(numbers: &[Number], pace: Pace, before: Place, behind: Place, here: Place) -> bool
+fn all_nearly(numbers: &[Number], pace: Pace, before: Place, after: Place, here: Place) -> bool
     requires first { before.field < here.field }
-    requires last { here.field < behind.field }
-    requires near { behind.field ≤ before.field + 2 * reach }
-    requires within { behind.field < length numbers.now }
-    ensures { (result ≡ true) ↔ AllNearly (IsMarked numbers.now) pace (slack_of before.field behind.field)
-        before.field behind.field here.field here.number }
+    requires last { here.field < after.field }
+    requires within { after.field < length numbers.now }
+    ensures { (result ≡ true) ↔ AllNearly (IsMarked numbers.now) pace (slack_of before.field after.field)
+        before.field after.field here.field here.number }
 {
-    let slack = slack_of(before.field, behind.field);
-    let middle = (here.field - before.field) as u64;
-    for field in before.field + 1..behind.field {
+    let slack = slack_of(before.field, after.field);
+    for field in before.field + 1..after.field {
         let other = numbers[field];
-        let there = (field - before.field) as u64;
-        if other.is_believed() && !nearly(pace, slack, middle, here.number, there, other.number) {
+        let there = Place {
+            field,
+            number: other.number,
+        };
+        if other.is_believed() && !goes_on(pace, slack, here, there) {
             return false;
         }
     }
@@ -164,9 +147,9 @@ fn left_around(numbers: &[Number], pace: Pace, field: usize) -> Option<u32>
     ensures { (n : ℕ) → (result ≡ Some n) ↔ IsLeft (IsMarked numbers.now) pace field n }
 {
     let before = before(numbers, pace, field)?;
-    let behind = behind(numbers, pace, field)?;
-    let number = counted(pace, before, behind, field)?;
-    if all_nearly(numbers, pace, before, behind, Place { field, number }) {
+    let after = after(numbers, pace, field)?;
+    let number = counted(pace, before, after, field)?;
+    if all_nearly(numbers, pace, before, after, Place { field, number }) {
         Some(number)
     } else {
         None

@@ -1,4 +1,17 @@
 //! What lies between two neighbouring numbers of a capture: nothing, if they go on, else a gap.
+//!
+//! `Gap` and `Tally` are what include/ldvbi.h hands out, with the numbers of its kinds. `Rule` says how a disc counts,
+//! `between` judges two `Neighbours` by it, and the methods of `Gap` count which numbers are lost in one.
+//!
+//! Numbers go on if they are as far apart as their fields: two to a picture of video, five to two pictures of film. On
+//! a disc with a number on both fields of a picture they may be one field off, the `slack`. Film is asked to within a
+//! field always, since its pictures of two and three fields needn't begin where their numbers say. Places are compared
+//! by sums and products, with nothing to divide or to round, and by the numbers that the disc's clock leaves
+//! (clock.rt).
+//!
+//! gaps.rt walks over a capture and asks this file of each pair, drift.rt, swaps.rt and clock_found.rt ask whether
+//! numbers go on. A change of a kind or a bound changes `specs/Gaps.antt`, `gap_laws`, include/ldvbi.h and
+//! docs/SIDES.md.
 
 ghost use Rattle.std.specs.Prelude.{◌≡◌, ◌+◌, ◌*◌, ◌<◌, ◌≤◌, ◌^◌};
 ghost use Rattle.vbi_side.specs.Paces.{nearly, stays};
@@ -9,6 +22,7 @@ ghost use Rattle.vbi_side.specs.Clocks.{kept, is_plain, nearly_by};
 use crate::clock::Clock;
 use crate::lines::Counted;
 use crate::pace::Pace;
+use crate::place::{Place, by_clock};
 use std::mem::size_of;
 use vbi_words::System;
 
@@ -122,31 +136,20 @@ pub struct Rule {
     pub slack: u64,
     /// What its numbers are.
     pub numbering: Numbering,
+    pub ghost at_most_one: { slack ≤ 1 },
 }
 
-/// A field with the number that is believed of it.
+/// Two neighbouring numbers: none is believed of a field between them.
 #[derive(Clone, Copy)]
-pub(crate) struct Place {
-    pub(crate) field: usize,
-    pub(crate) number: u32,
-}
-
-/// Where a number stands among those that the disc has.
-pub(crate) fn by_clock(clock: Clock, here: Place) -> Place
-    ensures field { result.field ≡ here.field }
-    ensures number { result.number ≡ kept clock here.number }
-{
-    Place {
-        field: here.field,
-        number: clock.kept(here.number),
-    }
+pub(crate) struct Neighbours {
+    pub(crate) here: Place,
+    pub(crate) there: Place,
+    ghost order: { here.field < there.field },
 }
 
 /// Whether two numbers go on, to within so many fields.
 pub(crate) fn goes_on(pace: Pace, slack: u64, here: Place, there: Place) -> bool
     requires slack { slack ≤ 1 }
-    requires here { here.field < 2 ^ 60 }
-    requires there { there.field < 2 ^ 60 }
     ensures { result ≡ nearly pace slack here.field here.number there.field there.number }
 {
     let (field, number) = (here.field as u64, u64::from(here.number));
@@ -166,8 +169,6 @@ pub(crate) fn goes_on(pace: Pace, slack: u64, here: Place, there: Place) -> bool
 /// Whether two numbers go on by the clock.
 pub(crate) fn goes_on_by(clock: Clock, pace: Pace, slack: u64, here: Place, there: Place) -> bool
     requires slack { slack ≤ 1 }
-    requires here { here.field < 2 ^ 60 }
-    requires there { there.field < 2 ^ 60 }
     ensures { result ≡ nearly_by clock pace slack here.field here.number there.field there.number }
 {
     goes_on(pace, slack, by_clock(clock, here), by_clock(clock, there))
@@ -175,8 +176,6 @@ pub(crate) fn goes_on_by(clock: Clock, pace: Pace, slack: u64, here: Place, ther
 
 /// Whether two fields are of one still.
 fn is_still(here: Place, there: Place) -> bool
-    requires here { here.field < 2 ^ 60 }
-    requires there { there.field < 2 ^ 60 }
     ensures { result ≡ stays here.field here.number there.field there.number }
 {
     there.number == here.number && (here.field + there.field) % 2 == 0
@@ -184,8 +183,6 @@ fn is_still(here: Place, there: Place) -> bool
 
 /// How many fields at least are too few between two numbers.
 fn lacking(pace: Pace, here: Place, there: Place) -> u64
-    requires here { here.field < 2 ^ 60 }
-    requires there { there.field < 2 ^ 60 }
     ensures { result ≡ lacking pace here.field here.number there.field there.number }
 {
     let (field, number) = (here.field as u64, u64::from(here.number));
@@ -203,8 +200,6 @@ fn lacking(pace: Pace, here: Place, there: Place) -> u64
 
 /// By how many fields too few or too many the two are apart, at least.
 fn off_by(pace: Pace, here: Place, there: Place) -> u64
-    requires here { here.field < 2 ^ 60 }
-    requires there { there.field < 2 ^ 60 }
     ensures { result ≡ off_by pace here.field here.number there.field there.number }
 {
     lacking(pace, here, there) + lacking(pace, there, here)
@@ -212,8 +207,6 @@ fn off_by(pace: Pace, here: Place, there: Place) -> u64
 
 /// Whether the disc itself may skip between two numbers.
 fn is_open(pace: Pace, numbering: Numbering, here: Place, there: Place) -> bool
-    requires here { here.field < 2 ^ 60 }
-    requires there { there.field < 2 ^ 60 }
     ensures { result ≡ is_open pace numbering here.field here.number there.field there.number }
 {
     match pace {
@@ -223,6 +216,7 @@ fn is_open(pace: Pace, numbering: Numbering, here: Place, there: Place) -> bool
                 by_clock(numbering.clock, here),
                 by_clock(numbering.clock, there),
             );
+            // The clock leaves out one number in 1,000, or two at the start of a minute, of two fields each.
             numbering.has_clock() && (few == 2 || few == 4)
         }
         Pace::Film => {
@@ -231,6 +225,7 @@ fn is_open(pace: Pace, numbering: Numbering, here: Place, there: Place) -> bool
                 by_clock(numbering.clock, here),
                 by_clock(numbering.clock, there),
             );
+            // Where film is cut the turns of two and three fields begin anew, which moves a number by one field.
             u64::from(here.number) + 1 < u64::from(there.number) && off == 1
         }
     }
@@ -238,8 +233,6 @@ fn is_open(pace: Pace, numbering: Numbering, here: Place, there: Place) -> bool
 
 /// What lies between two numbers that don't go on.
 fn kind(pace: Pace, numbering: Numbering, ended: bool, here: Place, there: Place) -> u32
-    requires here { here.field < 2 ^ 60 }
-    requires there { there.field < 2 ^ 60 }
     ensures { result ≡ kind_of pace numbering ended here.field here.number there.field there.number }
 {
     if ended {
@@ -264,8 +257,6 @@ fn kind(pace: Pace, numbering: Numbering, ended: bool, here: Place, there: Place
 
 /// By how many fields they don't.
 fn fields(pace: Pace, slack: u64, kind: u32, here: Place, there: Place) -> u64
-    requires here { here.field < 2 ^ 60 }
-    requires there { there.field < 2 ^ 60 }
     requires order { here.field ≤ there.field }
     ensures { result ≡ fields_of pace slack kind here.field here.number there.field there.number }
 {
@@ -283,29 +274,25 @@ fn fields(pace: Pace, slack: u64, kind: u32, here: Place, there: Place) -> u64
 }
 
 /// The gap between two numbers, or none if they go on. `shown` are the fields between that show a number between.
-pub(crate) fn between(rule: Rule, ended: bool, shown: u64, here: Place, there: Place) -> Option<Gap>
-    requires slack { rule.slack ≤ 1 }
-    requires here { here.field < 2 ^ 60 }
-    requires there { there.field < 2 ^ 60 }
-    requires order { here.field ≤ there.field }
-    ensures { result ≡ gap_of rule.pace rule.slack rule.numbering ended shown here.field here.number there.field
-        there.number }
+pub(crate) fn between(rule: Rule, ended: bool, shown: u64, pair: Neighbours) -> Option<Gap>
+    ensures { result ≡ gap_of rule.pace rule.slack rule.numbering ended shown pair.here.field pair.here.number
+        pair.there.field pair.there.number }
 {
     let (first, last) = (
-        by_clock(rule.numbering.clock, here),
-        by_clock(rule.numbering.clock, there),
+        by_clock(rule.numbering.clock, pair.here),
+        by_clock(rule.numbering.clock, pair.there),
     );
     if goes_on(rule.pace, rule.slack, first, last) {
         return None;
     }
-    let kind = kind(rule.pace, rule.numbering, ended, here, there);
+    let kind = kind(rule.pace, rule.numbering, ended, pair.here, pair.there);
     Some(Gap {
-        after: here.field,
-        before: there.field,
+        after: pair.here.field,
+        before: pair.there.field,
         fields: fields(rule.pace, rule.slack, kind, first, last),
         shown,
-        from: here.number,
-        to: there.number,
+        from: pair.here.number,
+        to: pair.there.number,
         kind,
     })
 }

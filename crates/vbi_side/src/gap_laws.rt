@@ -1,4 +1,14 @@
 //! Laws of the gaps and of the verdict. A function here does nothing: its contract is a law.
+//!
+//! First the gaps: all are told, in order, and what one says is so on the disc (`all_told` to `cut_found`). Then the
+//! verdict: what `yes` means of video, of numbers on both fields and of film (`whole_yes`, `nearly_whole`), and that
+//! lost fields are lost (`lost_sound`). They speak of a disc that counts by a clock, with the case of none beside it.
+//! Where the clock leaves numbers out within 12 of an end, as many pictures as the 24 fields of the reach last, they
+//! say less: a believed number may fit others there that are one off.
+//!
+//! The functions `worked_..` are rows written down by hand at the edges of each rule, and captures that meet the
+//! premises. A change in `specs/Gaps.antt`, `Verdicts.antt`, `Swaps.antt` or `Drifts.antt` changes rows here, and
+//! docs/PROMISES.md.
 
 ghost use Rattle.std.specs.Prelude.{◌≡◌, ◌≢◌, ℕ, ◌+◌, ◌*◌, ◌-◌, ◌<◌, ◌≤◌, Bool, List, [], ◌∷◌, ◌++◌, Option, Some};
 ghost use Rattle.std.specs.Prelude.{None, slice_get, map, true, false};
@@ -21,11 +31,8 @@ ghost use Rattle.vbi_side.specs.Gaps.{ended_between};
 ghost use Rattle.vbi_side.specs.Gaps.{shown_between, lost_of, undecided_of, stills_of, last_still};
 ghost use Rattle.vbi_side.specs.Swaps.{stands_off, is_stray};
 ghost use Rattle.vbi_side.specs.Both.{is_on_both};
-ghost use Rattle.vbi_side.specs.Ends.{end_by, out_weight, in_weight};
-ghost use Rattle.std.specs.Prelude.{replicate};
-ghost use Rattle.vbi_side.specs.Gaps.{tally_of};
-ghost use Rattle.vbi_side.specs.Worked.{shown_in};
-ghost use Rattle.vbi_side.specs.Verdicts.{is_end_unseen, is_begin_unseen, seen_reasons, reasons_of, are_doubtful};
+ghost use Rattle.vbi_side.specs.Ends.{end_by};
+ghost use Rattle.vbi_side.specs.Verdicts.{is_end_unseen};
 ghost use Rattle.vbi_side.specs.Drifts.{leads, IsDriftTold};
 ghost use Rattle.vbi_side.specs.Worked.{field_of};
 ghost use Rattle.vbi_side.specs.WorkedSides.{cav, cav_pal, clv, clv_pal, two_stills, two_pictures, two_answers};
@@ -57,8 +64,9 @@ pub fn all_count()
         → CountTo numbering.clock i m j n }
 {}
 
-/// In a gap whose numbers are right so many fields are lost as it says, if the disc counts on by the clock: of video just so many,
-/// at either pace so many at least. And a gap of video of any kind is one: its fields aren't one run of the disc.
+/// In a gap whose numbers are right as many fields are lost as it says, if the disc counts on by the clock: of video
+/// just as many, at either pace as many at least. And a gap of video of any kind is one: its fields aren't one run of
+/// the disc.
 pub fn gap_is_so()
     ensures exact { (disc : ℕ → Option ℕ) (place : ℕ → ℕ) (numbering : Numbering) (seen : List Sightings)
         (answers : List Number) (ends : List ℕ) (gap : Gap)
@@ -122,8 +130,8 @@ pub fn whole_yes()
 {}
 
 /// The same of a disc with a number on both fields of its pictures, and of film: between two fields of which one is
-/// within 24 fields of each end at most two fields are lost, of film at most four. By a clock, wherever the ends are, at
-/// most twice as many as numbers are left out near them.
+/// within 24 fields of each end at most two fields are lost, of film at most four. By a clock, wherever the ends are,
+/// at most twice as many as numbers are left out near them.
 pub fn nearly_whole()
     ensures both { (slack : ℕ) (disc : ℕ → Option ℕ) (place : ℕ → ℕ) (fields : List Sightings) (answers : List Number)
         (numbering : Numbering) (may_end : Bool) (seen : List Sightings) (ends : List ℕ) (finding : Finding)
@@ -199,7 +207,7 @@ pub fn none_known()
 {}
 
 /// Gaps, worked by hand: of video between picture 5 in field 10 and others, of times, and of film.
-#[tactic(auto, unfolding(crate::specs::Clocks::kept))]
+#[tactic(auto, unfolding(crate::specs::Clocks::kept, crate::specs::Gaps::since_end, crate::specs::Gaps::stills_of, crate::specs::Gaps::last_still))]
 pub fn worked_gaps()
     ensures goes_on { map (λ n. gap_of Video 0 cav false 0 10 5 (2 * n) n) (6 ∷ 7 ∷ 1000 ∷ []) ≡ None ∷ None ∷ None ∷
         [] }
@@ -237,10 +245,11 @@ pub fn worked_gaps()
     ensures since { map (since_end (1 ∷ 0 ∷ 2 ∷ 3 ∷ 0 ∷ [])) (0 ∷ 1 ∷ 2 ∷ 3 ∷ 4 ∷ 5 ∷ []) ≡ 0 ∷ 0 ∷ 1 ∷ 2 ∷ 0 ∷ 1 ∷ [] }
     ensures ended { map (ended_between (1 ∷ 0 ∷ 2 ∷ 3 ∷ 0 ∷ []) 0)
         (1 ∷ 2 ∷ 3 ∷ 4 ∷ []) ≡ false ∷ false ∷ false ∷ true ∷ [] }
+    ensures still_at_an_end { gap_of Video 0 cav true 0 10 5 14 5 ≡ Some (gap_made 10 5 14 5 joined 0 0) }
 {}
 
 /// Swapped fields, numbers on both fields, and verdicts, worked by hand.
-#[tactic(auto, unfolding(crate::specs::Clocks::kept))]
+#[tactic(auto, unfolding(crate::specs::Clocks::kept, crate::specs::Both::last_known, crate::specs::Both::turns, crate::specs::Both::odd_turns))]
 pub fn worked_verdicts()
     ensures off { map (λ k. stands_off 10 5 k 6) (10 ∷ 11 ∷ 12 ∷ 13 ∷ 14 ∷ []) ≡ false ∷ true ∷ false ∷ true ∷ false ∷
         [] }
@@ -299,29 +308,4 @@ pub fn worked_premises()
     ensures few { wrong_weight (captured video_disc (λ i. i)) worked_side 0 < enough }
     ensures low { wrong_weight (captured video_disc (λ i. i)) worked_side 48 < enough }
     ensures far { (found_whole 0 48).first + 2 * reach ≤ (found_whole 0 48).last }
-{}
-
-/// The reasons of a verdict by their numbers, and the edges of those that no gap gives, worked by hand.
-pub fn worked_reasons()
-    ensures seen { map (λ kind. seen_reasons Video [] (tally_of Plain (gap_made 10 5 12 8 kind 4 0 ∷ []) 0) 0 1)
-        (lost ∷ held ∷ back ∷ joined ∷ still ∷ []) ≡ 1 ∷ 2 ∷ 4 ∷ 8 ∷ 0 ∷ [] }
-    ensures late { seen_reasons Video (0 ∷ []) (tally_of Plain [] 0) 1 3 ≡ 16 }
-    ensures fields { (tally_of Plain (gap_made 10 5 12 8 lost 4 0 ∷ []) 0).lost ≡ 4 }
-    ensures held_fields { (tally_of Plain (gap_made 10 5 15 6 held 3 0 ∷ []) 0).held ≡ 3 }
-    ensures swapped { reasons_of Plain Video 0 true (believed 1 ∷ []) [] (tally_of Plain [] 0) true false 0 1 0 1 ≡ 32 }
-    ensures drifts { reasons_of Plain Video 0 true (believed 1 ∷ []) [] (tally_of Plain [] 0) false true 0 1 0 1 ≡ 64 }
-    ensures off { reasons_of Plain Video 0 true (believed 1 ∷ []) [] (tally_of Plain [] 0) false false 0 1 2 1 ≡ 64 }
-    ensures stood { reasons_of Plain Video 0 true (believed 1 ∷ []) [] (tally_of Plain (gap_made 0 1 2 1 still 2 0 ∷ []) 0)
-        false false 0 1 2 1 ≡ 0 }
-    ensures left_open { reasons_of Plain Video 0 true (believed 1 ∷ []) [] (tally_of Plain (gap_made 0 1 2 1 open_gap 2 0 ∷ []) 0)
-        false false 0 1 2 1 ≡ 2048 }
-    ensures end { reasons_of Plain Video 0 false (believed 1 ∷ []) [] (tally_of Plain [] 0) false false 0 1 0 1 ≡ 256 }
-    ensures begin { map (λ n. is_begin_unseen (replicate n 0) n 2) (100 ∷ 101 ∷ []) ≡ false ∷ true ∷ [] }
-    ensures begin_bit { reasons_of Plain Video 0 true (believed 2 ∷ []) (replicate 101 0) (tally_of Plain [] 0) false false
-        101 2 101 2 ≡ 512 }
-    ensures doubtful { map are_doubtful ((replicate 9 (believed 1) ++ doubtful 1 ∷ [])
-        ∷ (replicate 10 (believed 1) ++ doubtful 1 ∷ []) ∷ []) ≡ true ∷ false ∷ [] }
-    ensures outs { map (λ pass. out_weight (shown_in pass 0x80EEEE)) (1 ∷ 2 ∷ 3 ∷ []) ≡ 2 ∷ 1 ∷ 1 ∷ [] }
-    ensures ins { map (λ pass. in_weight (shown_in pass 0x88FFFF)) (1 ∷ 2 ∷ 3 ∷ []) ≡ 2 ∷ 1 ∷ 1 ∷ [] }
-    ensures still_at_an_end { gap_of Video 0 cav true 0 10 5 14 5 ≡ Some (gap_made 10 5 14 5 joined 0 0) }
 {}

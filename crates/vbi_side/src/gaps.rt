@@ -1,23 +1,36 @@
-//! Where the numbers of a capture and its fields don't go on together: one pass over the answers, which holds the last
-//! believed number and what the gaps so far come to, and writes them into the caller's room as far as it goes.
+//! Where the numbers of a capture and its fields don't go on together.
+//!
+//! `find_gaps` is one pass over the answers. It holds the last believed number, how many fields stand since the last
+//! end of a side, and what the gaps so far come to (`Walk`), and writes the gaps into the caller's room as far as it
+//! goes; the tally counts those too for which there is no room. `neighbours_at` says of each field which pair ends
+//! there, if one does, and gap.rt what lies between the two.
+//!
+//! Sums saturate, so that no side is too long for them. Stills that follow each other at one field are one, however
+//! many numbers of it were read: each begins where the one before ended.
+//!
+//! clock_found.rt makes its pass with `neighbours_at` and `last_at`, and verdict.rt counts with `since_at`. What this
+//! file tells is `IsTold` of `specs/Gaps.antt`; a change of what counts as an end changes ends.rt and include/ldvbi.h
+//! too.
 
 ghost use Rattle.std.specs.Prelude.{◌≡◌, ◌≢◌, ℕ, suc, ◌+◌, ◌*◌, ◌<◌, ◌≤◌, ◌^◌, length, slice_set, List, [], Bool};
-ghost use Rattle.std.specs.Prelude.{Option, Some, None, true};
+ghost use Rattle.std.specs.Prelude.{Option, Some, None, IfSome, true};
 ghost use Rattle.vbi_side.specs.declared.gap.Gap.{Gap};
 ghost use Rattle.vbi_side.specs.declared.clock.Clock.{Clock};
 ghost use Rattle.vbi_side.specs.declared.number.Number.{Number};
 ghost use Rattle.vbi_side.specs.declared.sighting.Sightings.{Sightings};
 ghost use Rattle.vbi_side.specs.Numbers.{IsMarked};
 ghost use Rattle.vbi_side.specs.Gaps.{gap_of, skipped, tally_of, with_gap, with_unread, ended_between, shown_between};
-ghost use Rattle.vbi_side.specs.Gaps.{shows_between, AreNeighbours, IsTold, IsLast, is_end, since_end, still_end_of};
+ghost use Rattle.vbi_side.specs.Gaps.{shows_between, AreNeighbours, IsFree, IsTold, IsLast, is_end, since_end};
+ghost use Rattle.vbi_side.specs.Gaps.{still_end_of};
 ghost use Rattle.vbi_side.specs.Gaps.{begins_still};
 
 use crate::clock::Clock;
 use crate::ends::{LEAD_IN, LEAD_OUT};
 use crate::gap::{
-    BACK, Gap, HELD, JOINED, LOST, OPEN, Place, Rule, STILL, Tally, between, skipped,
+    BACK, Gap, HELD, JOINED, LOST, Neighbours, OPEN, Rule, STILL, Tally, between, skipped,
 };
 use crate::number::Number;
+use crate::place::Place;
 use crate::sighting::Sightings;
 
 impl Tally {
@@ -110,95 +123,102 @@ fn write(out: &mut [Gap], place: usize, gap: Gap)
 }
 
 /// How many fields between the two show a number between theirs, on both lines in pass 1.
-fn shown_between(seen: &[Sightings], here: Place, there: Place) -> u64
-    requires order { here.field < there.field }
-    requires inside { there.field ≤ length seen.now }
-    ensures { result ≡ shown_between seen.now here.field here.number there.field there.number }
+fn shown_between(seen: &[Sightings], pair: Neighbours) -> u64
+    requires { pair.there.field ≤ length seen.now }
+    ensures { result ≡ shown_between seen.now pair.here.field pair.here.number pair.there.field pair.there.number }
 {
-    let between = &seen[here.field + 1..there.field];
+    let between = &seen[pair.here.field + 1..pair.there.field];
     between
         .iter()
-        .filter(|field| field.shows_between(here.number, there.number))
+        .filter(|field| field.shows_between(pair.here.number, pair.there.number))
         .count() as u64
 }
 
-/// Tells what lies between two neighbours.
-fn tell(
-    seen: &[Sightings],
-    rule: Rule,
-    ended: bool,
-    here: Place,
-    there: Place,
-    tally: Tally,
-    out: &mut [Gap],
-) -> Tally
-    requires slack { rule.slack ≤ 1 }
-    requires order { here.field < there.field }
-    requires inside { there.field ≤ length seen.now }
-    requires far { there.field < 2 ^ 60 }
-    requires few { tally.gaps < 2 ^ 60 }
-    ensures { (answers : List Number) (ends : List ℕ) (old : List Gap)
-        → AreNeighbours answers here.field here.number there.field there.number
-        → ended ≡ ended_between ends here.field there.field
-        → IsTold rule.pace rule.slack rule.numbering seen.now answers ends there.field tally old out.old
-        → IsTold rule.pace rule.slack rule.numbering seen.now answers ends (there.field + 1) result old out.new }
-{
-    let shown = shown_between(seen, here, there);
-    match between(rule, ended, shown, here, there) {
-        None => tally.with_unread(skipped(rule.numbering.clock, here.number, there.number)),
-        Some(gap) => {
-            write(out, tally.gaps, gap);
-            tally.with_gap(rule.numbering.clock, gap)
-        }
-    }
-}
-
-/// Where the walk over the fields has come to.
+/// How far a pass over the answers has come.
 #[derive(Clone, Copy)]
-struct Walk {
+pub(crate) struct Reached {
     /// The next field.
-    field: usize,
+    pub(crate) field: usize,
     /// The last field before it with a believed number.
-    last: Option<Place>,
-    /// How many fields stand between it and the last end of a side.
-    since: usize,
+    pub(crate) last: Option<Place>,
 }
 
-/// Tells what lies between the number of a field, if one is believed, and the one before it, if there is one.
-fn visit(
-    seen: &[Sightings],
-    numbers: &[Number],
-    rule: Rule,
-    walk: Walk,
-    tally: Tally,
-    out: &mut [Gap],
-) -> Tally
-    requires slack { rule.slack ≤ 1 }
-    requires same { length seen.now ≡ length numbers.now }
-    requires inside { walk.field < length numbers.now }
-    requires since { walk.since ≤ walk.field }
-    requires few { tally.gaps ≤ walk.field }
-    requires last { IsLast numbers.now walk.field walk.last }
-    ensures { (ends : List ℕ) (old : List Gap) → walk.since ≡ since_end ends walk.field
-        → IsTold rule.pace rule.slack rule.numbering seen.now numbers.now ends walk.field tally old out.old
-        → IsTold rule.pace rule.slack rule.numbering seen.now numbers.now ends (walk.field + 1) result old out.new }
+/// The number of the next field, if one is believed, with the one before it, if there is one.
+pub(crate) fn neighbours_at(numbers: &[Number], at: Reached) -> Option<Neighbours>
+    requires inside { at.field < length numbers.now }
+    requires last { IsLast numbers.now at.field at.last }
+    ensures some { IfSome result (λ pair. (pair.there.field ≡ at.field)
+        × AreNeighbours numbers.now pair.here.field pair.here.number pair.there.field pair.there.number) }
+    ensures none { result ≡ None → IsFree numbers.now at.field }
 {
-    let field = walk.field;
+    let field = at.field;
     let answer = numbers[field];
     if !answer.is_believed() {
-        return tally;
+        return None;
     }
-    match walk.last {
-        None => tally,
+    match at.last {
+        None => None,
         Some(here) => {
             let there = Place {
                 field,
                 number: answer.number,
             };
-            let ended = here.field + walk.since + 1 < field;
-            tell(seen, rule, ended, here, there, tally, out)
+            Some(Neighbours { here, there })
         }
     }
+}
+
+/// What a walk over the fields knows before the next one.
+#[derive(Clone, Copy)]
+struct Walk {
+    /// Which that is, and the last number before it.
+    at: Reached,
+    /// How many fields stand between it and the last end of a side.
+    since: usize,
+    /// What the gaps before it come to.
+    tally: Tally,
+}
+
+/// Tells what lies between two neighbours.
+fn tell(seen: &[Sightings], rule: Rule, walk: Walk, pair: Neighbours, out: &mut [Gap]) -> Tally
+    requires inside { pair.there.field ≤ length seen.now }
+    requires since { walk.since ≤ pair.there.field }
+    requires few { walk.tally.gaps < 2 ^ 60 }
+    ensures { (answers : List Number) (ends : List ℕ) (old : List Gap)
+        → AreNeighbours answers pair.here.field pair.here.number pair.there.field pair.there.number
+        → walk.since ≡ since_end ends pair.there.field
+        → IsTold rule.pace rule.slack rule.numbering seen.now answers ends pair.there.field walk.tally old out.old
+        → IsTold rule.pace rule.slack rule.numbering seen.now answers ends (pair.there.field + 1) result old out.new }
+{
+    let ended = pair.here.field + walk.since + 1 < pair.there.field;
+    let shown = shown_between(seen, pair);
+    match between(rule, ended, shown, pair) {
+        None => {
+            let more = skipped(rule.numbering.clock, pair.here.number, pair.there.number);
+            walk.tally.with_unread(more)
+        }
+        Some(gap) => {
+            write(out, walk.tally.gaps, gap);
+            walk.tally.with_gap(rule.numbering.clock, gap)
+        }
+    }
+}
+
+/// Tells what lies between the number of a field, if one is believed, and the one before it, if there is one.
+fn visit(seen: &[Sightings], numbers: &[Number], rule: Rule, walk: Walk, out: &mut [Gap]) -> Tally
+    requires same { length seen.now ≡ length numbers.now }
+    requires inside { walk.at.field < length numbers.now }
+    requires since { walk.since ≤ walk.at.field }
+    requires few { walk.tally.gaps ≤ walk.at.field }
+    requires last { IsLast numbers.now walk.at.field walk.at.last }
+    ensures { (ends : List ℕ) (old : List Gap) → walk.since ≡ since_end ends walk.at.field
+        → IsTold rule.pace rule.slack rule.numbering seen.now numbers.now ends walk.at.field walk.tally old out.old
+        → IsTold rule.pace rule.slack rule.numbering seen.now numbers.now ends (walk.at.field + 1) result old out.new }
+{
+    let Some(pair) = neighbours_at(numbers, walk.at) else {
+        return walk.tally;
+    };
+    tell(seen, rule, walk, pair, out)
 }
 
 /// The last believed number before the next field.
@@ -248,7 +268,6 @@ pub fn find_gaps(
 ) -> Tally
     requires seen { length seen.now ≡ length numbers.now }
     requires ends { length ends.now ≡ length numbers.now }
-    requires slack { rule.slack ≤ 1 }
     ensures { IsTold rule.pace rule.slack rule.numbering seen.now numbers.now ends.now (length numbers.now) result
         out.old out.new }
 {
@@ -256,8 +275,9 @@ pub fn find_gaps(
     let mut last: Option<Place> = None;
     let mut since = 0;
     for field in 0..numbers.len() {
-        let walk = Walk { field, last, since };
-        tally = visit(seen, numbers, rule, walk, tally, out);
+        let at = Reached { field, last };
+        let walk = Walk { at, since, tally };
+        tally = visit(seen, numbers, rule, walk, out);
         last = last_at(numbers, field, last);
         since = since_at(ends, field, since);
     }

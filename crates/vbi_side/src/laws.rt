@@ -1,5 +1,14 @@
 //! Laws of the definitions in `specs/`. A function here does nothing: its contract is a law, which holds of every
 //! capture.
+//!
+//! First what is right: if less than enough was misread around a field, a believed number is the disc's (`sound`,
+//! `sound_still`, `due_sound`), and what the disc has is believed if enough supports it (`complete`). Then what there
+//! is only one of, what an answer depends on, and the same said of words. The functions `worked_..` are rows written
+//! down by hand: each number of a rule is pinned at its edge, so that code and definition can't be wrong alike.
+//!
+//! The laws of chapters, stops, clocks, votes, gaps and sides stand in files of their own. docs/PROMISES.md says what
+//! they promise in plain words: a law that changes changes its row there. The `.._alike` edits of `must-fail` turn a
+//! definition with its code, and are refused here.
 
 ghost use Rattle.std.specs.Prelude.{◌≡◌, ◌≢◌, ◌↔◌, ◌⊎◌, ℕ, ◌+◌, ◌<◌, ◌≤◌, true, false, List, [], ◌∷◌, map};
 ghost use Rattle.std.specs.Prelude.{Option, Some, None, slice_get};
@@ -77,6 +86,7 @@ pub fn complete()
 {}
 
 /// There are discs that run on and are regular, at either pace, with a number in the first field of each picture.
+#[tactic(auto, using(crate::proofs::Discs::regular_discs))]
 pub fn discs_run()
     ensures video { (i : ℕ) → RunsOn Video video_disc i }
     ensures video_regular { (i : ℕ) → IsRegular Video video_disc i }
@@ -206,6 +216,7 @@ pub fn misread_words()
 {}
 
 /// The numbers that fields show by the words of their lines 16, 17 and 18, written down by hand; 0 stands for no word.
+#[tactic(auto, unfolding(vbi_words::specs::Codes::code_of))]
 pub fn worked_numbers()
     ensures cav { told_by Ntsc Pictures 0 0xF12345 0xF12345 ∷ told_by Pal Pictures 0 0xF00001 0
         ∷ told_by Pal Pictures 0x8AE712 0 0xFF9999 ∷ told_by Ntsc Pictures 0xF12345 0x82CFFF 0
@@ -316,6 +327,7 @@ pub fn worked_slack()
 
 /// What supports a number: others within 24 fields, on either side, and not further; of a still all but the weight of
 /// one field.
+#[tactic(auto, unfolding(crate::specs::Beliefs::weight_below))]
 pub fn worked_support()
     ensures reach { (support_of Film (apart_by 24) 0 0 ≡ 4) × (support_of Film (apart_by 24) 24 10 ≡ 4)
         × (support_of Film (apart_by 25) 0 0 ≡ 2) × (support_of Film (apart_by 25) 25 10 ≡ 2) }

@@ -3,7 +3,6 @@
 
 ghost use Rattle.std.specs.Prelude.{◌≡◌, ℕ, ◌+◌, ◌*◌, ◌-◌, ◌≤◌, true, List, Option, Some, ◌/◌, nat_le, if◌then◌else◌};
 ghost use Rattle.vbi_side.specs.declared.number.Number.{Number};
-ghost use Rattle.vbi_side.specs.declared.extent.Extent.{Extent};
 ghost use Rattle.vbi_side.specs.Numbers.{AreAnswers};
 ghost use Rattle.vbi_side.specs.declared.sighting.Sightings.{Sightings};
 ghost use Rattle.vbi_side.specs.declared.pace.Pace.TheVariants.{Video, Film};
@@ -11,10 +10,10 @@ ghost use Rattle.vbi_side.specs.Beliefs.{reach};
 ghost use Rattle.vbi_side.specs.Paces.{fits};
 ghost use Rattle.vbi_side.specs.Truth.{IsNear, video_disc};
 ghost use Rattle.vbi_side.specs.Side.{DiscRuns, DiscCounts, Rises, captured, Lacks, NoneLost, AreLost};
-ghost use Rattle.vbi_side.specs.Side.{IsAnchor, IsLost, IsExtent, AreFew};
+ghost use Rattle.vbi_side.specs.Side.{IsAnchor, IsLost};
 
 /// If two believed numbers at least 48 fields apart count to each other, no field of the disc is lost between them,
-/// but maybe within 24 fields of either: the capture lacks none.
+/// but maybe within 24 fields of either: the capture lacks none, nor a picture that the disc has there.
 pub fn none_lost()
     ensures in_order { (disc : ℕ → Option ℕ) (place : ℕ → ℕ) (fields : List Sightings) (i m j n : ℕ)
         → DiscRuns Video disc → Rises place → IsAnchor Video (captured disc place) fields i m
@@ -22,6 +21,8 @@ pub fn none_lost()
         → NoneLost place (i + reach) (j - reach) }
     ensures lacks { (place : ℕ → ℕ) (i j d : ℕ) → NoneLost place i j → i ≤ j → place i ≤ d → d ≤ place j
         → Lacks place d → ⊥ }
+    ensures pictures { (disc : ℕ → Option ℕ) (place : ℕ → ℕ) (i j d n : ℕ) → NoneLost place i j → i ≤ j → place i ≤ d
+        → d ≤ place j → disc d ≡ Some n → IsLost disc place n → ⊥ }
 {}
 
 /// If they count to so many fields more than lie between them, so many of the disc's fields are lost between two
@@ -48,25 +49,6 @@ pub fn few_lost_of_film()
         → DiscRuns Film disc → Rises place → IsAnchor Film (captured disc place) fields i m
         → IsAnchor Film (captured disc place) fields j n → i + 2 * reach ≤ j → fits Film i m j n ≡ true
         → (p q lost : ℕ) × IsNear i p × IsNear j q × AreLost place p q lost × (lost ≤ 4) }
-{}
-
-/// What is said of a side is true of it. If its first and its last believed number are at least 48 fields apart,
-/// they count to each other, and less than enough was misread around either, the capture has each field of the disc
-/// between them, but maybe for those within 24 fields of either; and each picture that the disc has there. If they
-/// count to more fields, so many are lost.
-pub fn side_is_so()
-    ensures whole { (disc : ℕ → Option ℕ) (place : ℕ → ℕ) (fields : List Sightings) (answers : List Number)
-        (extent : Extent) → DiscRuns Video disc → Rises place → AreAnswers Video fields answers
-        → IsExtent answers extent → AreFew (captured disc place) fields extent
-        → extent.first + 2 * reach ≤ extent.last → extent.lost ≡ 0
-        → NoneLost place (extent.first + reach) (extent.last - reach) }
-    ensures lost { (disc : ℕ → Option ℕ) (place : ℕ → ℕ) (fields : List Sightings) (answers : List Number)
-        (extent : Extent) → DiscRuns Video disc → Rises place → AreAnswers Video fields answers
-        → IsExtent answers extent → AreFew (captured disc place) fields extent
-        → extent.first + 2 * reach ≤ extent.last
-        → (p q : ℕ) × IsNear extent.first p × IsNear extent.last q × AreLost place p q extent.lost }
-    ensures pictures { (disc : ℕ → Option ℕ) (place : ℕ → ℕ) (i j d n : ℕ) → NoneLost place i j → i ≤ j → place i ≤ d
-        → d ≤ place j → disc d ≡ Some n → IsLost disc place n → ⊥ }
 {}
 
 /// There are discs that count so, with a number in the first field of each picture or in both, and captures that lack a

@@ -11,15 +11,14 @@ ghost use Rattle.vbi_side.specs.Gaps.{IsLast};
 ghost use Rattle.vbi_side.specs.Swaps.{stands_off, is_believed_as, is_beside, shows_off, is_stray, IsSwap, AreStrays};
 
 use crate::clock::Clock;
-use crate::gap::{Place, by_clock, goes_on_by};
+use crate::gap::goes_on_by;
 use crate::number::Number;
 use crate::pace::Pace;
+use crate::place::{Place, by_clock};
 use crate::sighting::{Sighting, Sightings};
 
 /// Whether a number stands one field before or after the place that another one leaves for it.
 fn stands_off(here: Place, there: Place) -> bool
-    requires here { here.field < 2 ^ 60 }
-    requires there { there.field < 2 ^ 60 }
     ensures { result ≡ stands_off here.field here.number there.field there.number }
 {
     let (field, number) = (here.field as u64, u64::from(here.number));
@@ -54,7 +53,6 @@ fn shows_off(
     field: usize,
     sighting: &Sighting,
 ) -> bool
-    requires here { here.field < 2 ^ 60 }
     requires field { field < 2 ^ 60 }
     ensures { result ≡ shows_off clock numbers.now here.field here.number field sighting.now }
 {
@@ -70,7 +68,6 @@ fn shows_off(
 /// Whether one of a field's lines does.
 fn is_stray(seen: &[Sightings], numbers: &[Number], clock: Clock, here: Place, field: usize) -> bool
     requires inside { field < length seen.now }
-    requires here { here.field < 2 ^ 60 }
     ensures { result ≡ is_stray clock numbers.now here.field here.number field (slice_get seen.now field) }
 {
     let shown = &seen[field];

@@ -1,21 +1,30 @@
 //! Whether a capture of a side is whole.
+//!
+//! `judge_whole` asks three passes over the answers: the gaps (gaps.rt), the swapped fields (swaps.rt) and the numbers
+//! that drift (drift.rt). What they find is `Found`, with the first and the last number; each thing that speaks against
+//! the capture is a reason, and reasons are bits, so that their sum says which hold. Bits below 64 are seen on the
+//! capture itself: with one of these the verdict is `NO`. The others leave it open, so with these alone it is
+//! `CANNOT_TELL`. A capture without a number has the reason `NO_NUMBERS` alone.
+//!
+//! A reason more, or another bound, changes `specs/Verdicts.antt`, the worked reasons of `gap_laws`, include/ldvbi.h,
+//! the Python package (`REASONS` and its schema) and docs/SIDES.md.
 
 ghost use Rattle.std.specs.Prelude.{◌≡◌, ℕ, List, ◌+◌, ◌*◌, ◌<◌, ◌≤◌, ◌^◌, length, Bool};
 ghost use Rattle.vbi_side.specs.Paces.{nearly};
 ghost use Rattle.vbi_side.specs.Clocks.{kept};
 ghost use Rattle.vbi_side.specs.Gaps.{since_end, ended_between};
 ghost use Rattle.vbi_side.specs.Verdicts.{verdict_of, reason, too_few, seen_reasons, is_off, is_begin_unseen};
-ghost use Rattle.vbi_side.specs.Verdicts.{is_ended_behind, is_end_unseen, count_of, are_doubtful, reasons_of};
+ghost use Rattle.vbi_side.specs.Verdicts.{lead_out_follows, is_end_unseen, count_of, are_doubtful, reasons_of};
 ghost use Rattle.vbi_side.specs.Verdicts.{IsFinding};
 ghost use Rattle.vbi_side.specs.Swaps.{IsSwapTold};
 
 use crate::drift::has_drift;
 use crate::ends::LEAD_OUT;
-use crate::extent::{first_believed, last_believed};
-use crate::gap::{Gap, Place, Rule, Tally, by_clock};
+use crate::gap::{Gap, Rule, Tally};
 use crate::gaps::{find_gaps, since_at};
 use crate::number::{BELIEVED, DOUBTFUL, Number};
 use crate::pace::Pace;
+use crate::place::{Place, by_clock, first_believed, last_believed};
 use crate::sighting::Sightings;
 use crate::swaps::first_swap;
 use std::mem::size_of;
@@ -110,12 +119,12 @@ fn since_end(ends: &[u32], field: usize) -> usize
 }
 
 /// Whether a field after this one is of lead-out.
-fn is_ended_behind(ends: &[u32], field: usize) -> bool
+fn lead_out_follows(ends: &[u32], field: usize) -> bool
     requires { field < length ends.now }
-    ensures { result ≡ is_ended_behind ends.now field }
+    ensures { result ≡ lead_out_follows ends.now field }
 {
-    let behind = &ends[field + 1..];
-    behind.iter().filter(|end| **end == LEAD_OUT).count() > 0
+    let after = &ends[field + 1..];
+    after.iter().filter(|end| **end == LEAD_OUT).count() > 0
 }
 
 /// Whether so many fields are fewer than the numbers before this one take.
@@ -133,7 +142,6 @@ fn too_few(pace: Pace, fields: usize, number: u32) -> bool
 
 /// Whether no gap is open, and the first and the last number don't count to each other, less the stills.
 fn is_off(rule: Rule, tally: &Tally, first: Place, last: Place) -> bool
-    requires slack { rule.slack ≤ 1 }
     ensures { result ≡ is_off rule.pace rule.slack tally.now first.field first.number last.field last.number }
 {
     let field = first.field as u128 + u128::from(tally.stood);
@@ -161,7 +169,8 @@ pub(crate) fn count_of(numbers: &[Number], state: u32) -> usize
     numbers.iter().filter(|n| n.state == state).count()
 }
 
-/// Whether a tenth or more of the numbers that were read is in doubt.
+/// Whether a tenth or more of the numbers that were read is in doubt. Then so much was misread that what lies between
+/// believed numbers says little of the rest.
 fn are_doubtful(numbers: &[Number]) -> bool
     ensures { result ≡ are_doubtful numbers.now }
 {
@@ -184,43 +193,50 @@ fn seen_reasons(pace: Pace, since: usize, tally: &Tally, number: u32) -> u32
         + reason(BEGINS_LATE, too_few(pace, since, number))
 }
 
-/// All reasons against a capture with these first and last numbers.
-fn reasons(
-    numbers: &[Number],
-    ends: &[u32],
-    rule: Rule,
-    may_end: bool,
-    tally: &Tally,
-    is_swapped: bool,
-    drifts: bool,
-    first: Place,
-    last: Place,
-) -> u32
-    requires same { length ends.now ≡ length numbers.now }
-    requires slack { rule.slack ≤ 1 }
-    requires first { first.field < length numbers.now }
-    requires last { last.field < length numbers.now }
-    ensures { result ≡ reasons_of rule.numbering.clock rule.pace rule.slack may_end numbers.now ends.now tally.now is_swapped drifts
-        first.field first.number last.field last.number }
-{
-    let before = since_end(ends, first.field);
-    let is_ended = is_ended_behind(ends, last.field);
-    let begin = by_clock(rule.numbering.clock, first);
-    let end = by_clock(rule.numbering.clock, last);
-    seen_reasons(rule.pace, before, tally, begin.number)
-        + reason(IS_SWAPPED, is_swapped)
-        + reason(IS_OFF, drifts || is_off(rule, tally, begin, end))
-        + reason(END_UNSEEN, !may_end && !is_ended)
-        + reason(BEGIN_UNSEEN, first.number > 1 && before > 100)
-        + reason(MANY_DOUBTFUL, are_doubtful(numbers))
-        + reason(IS_OPEN, tally.open_gaps > 0)
-}
-
 /// A field that was swapped, or 0, and whether there is one.
 #[derive(Clone, Copy)]
 struct Swap {
     field: usize,
     is_seen: bool,
+}
+
+/// What was found of a capture of which some number is believed.
+#[derive(Clone, Copy)]
+struct Found {
+    /// What its gaps come to.
+    tally: Tally,
+    /// A field that was swapped.
+    swap: Swap,
+    /// Whether the numbers of some stretch don't count to each other.
+    drifts: bool,
+    /// Its first number.
+    first: Place,
+    /// Its last number.
+    last: Place,
+}
+
+/// All reasons against a capture.
+fn reasons(numbers: &[Number], ends: &[u32], rule: Rule, may_end: bool, found: &Found) -> u32
+    requires same { length ends.now ≡ length numbers.now }
+    requires first { found.now.first.field < length numbers.now }
+    requires last { found.now.last.field < length numbers.now }
+    ensures { result ≡ reasons_of rule.numbering.clock rule.pace rule.slack may_end numbers.now ends.now found.now.tally
+        found.now.swap.is_seen found.now.drifts found.now.first.field found.now.first.number found.now.last.field
+        found.now.last.number }
+{
+    let tally = &found.tally;
+    let before = since_end(ends, found.first.field);
+    let is_ended = lead_out_follows(ends, found.last.field);
+    let begin = by_clock(rule.numbering.clock, found.first);
+    let end = by_clock(rule.numbering.clock, found.last);
+    seen_reasons(rule.pace, before, tally, begin.number)
+        + reason(IS_SWAPPED, found.swap.is_seen)
+        + reason(IS_OFF, found.drifts || is_off(rule, tally, begin, end))
+        + reason(END_UNSEEN, !may_end && !is_ended)
+        // Two seconds without a number before one that isn't the first: more than a worn beginning has.
+        + reason(BEGIN_UNSEEN, found.first.number > 1 && before > 100)
+        + reason(MANY_DOUBTFUL, are_doubtful(numbers))
+        + reason(IS_OPEN, tally.open_gaps > 0)
 }
 
 /// The first field that was swapped, of a disc on which that can be seen: one of video with a number on one field of
@@ -263,7 +279,6 @@ pub fn judge_whole(
 ) -> Finding
     requires seen { length seen.now ≡ length numbers.now }
     requires ends { length ends.now ≡ length numbers.now }
-    requires slack { rule.slack ≤ 1 }
     ensures { IsFinding rule.pace rule.slack rule.numbering may_end seen.now numbers.now ends.now result
         out.old out.new }
 {
@@ -281,17 +296,14 @@ pub fn judge_whole(
         };
     };
     let last = last_believed(numbers).unwrap_or(first);
-    let reasons = reasons(
-        numbers,
-        ends,
-        rule,
-        may_end,
-        &tally,
-        swap.is_seen,
+    let found = Found {
+        tally,
+        swap,
         drifts,
         first,
         last,
-    );
+    };
+    let reasons = reasons(numbers, ends, rule, may_end, &found);
     Finding {
         tally,
         first: first.field,

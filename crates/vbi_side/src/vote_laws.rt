@@ -15,7 +15,7 @@ ghost use Rattle.vbi_side.specs.Votes.{minute_of, part_of, votes_cast, votes_for
 ghost use Rattle.vbi_side.specs.Votes.{IsCompletedBy, IsCompleted, IsVotedSoundly, IsVotedRightly};
 ghost use Rattle.vbi_side.specs.Worked.{shown_in};
 ghost use Rattle.vbi_side.specs.WorkedVotes.{two_to_one, two_to_two, light_to_heavy, alone, light_alone, three_to_one};
-ghost use Rattle.vbi_side.specs.WorkedVotes.{alone_before, alone_behind};
+ghost use Rattle.vbi_side.specs.WorkedVotes.{alone_before, alone_after};
 
 /// If the disc ran on within 240 fields of one, or counted by a clock and the part is right, no other number is elected
 /// than the one that it counts there, if of
@@ -95,13 +95,14 @@ pub fn worked_votes()
     ensures pal { votes_cast (minute_of Pal) two_to_one 4 700 ≡ 0 }
     ensures before { (votes_cast (minute_of Ntsc) (alone_before 240) 240 820 ≡ 2)
         × (votes_cast (minute_of Ntsc) (alone_before 242) 242 821 ≡ 0) }
-    ensures behind { (votes_cast (minute_of Ntsc) (alone_behind 240) 0 580 ≡ 2)
-        × (votes_cast (minute_of Ntsc) (alone_behind 242) 0 579 ≡ 0) }
+    ensures after { (votes_cast (minute_of Ntsc) (alone_after 240) 0 580 ≡ 2)
+        × (votes_cast (minute_of Ntsc) (alone_after 242) 0 579 ≡ 0) }
 {}
 
 /// Whom these votes elect: two right minutes are more than half against one wrong, two against two aren't, nor are four
 /// in pass 2 against two in pass 1. Two lines of one field are enough by themselves, but not if one of them is of
 /// pass 2, and a weight of 3 isn't enough against 1 either.
+#[tactic(auto, using(crate::proofs::WorkedElections::elections))]
 pub fn worked_elections()
     ensures two { IsElected (minute_of Ntsc) two_to_one 4 700 4300 }
     ensures none { (m : ℕ) → IsElected (minute_of Ntsc) two_to_two 4 700 m → ⊥ }

@@ -22,7 +22,8 @@ use crate::lines::rate;
 use crate::sighting::{Sighting, Sightings};
 use vbi_words::System;
 
-/// The fields on either side of one whose times vote.
+/// The fields on either side of one whose times vote: four seconds, so that some line 17 or 18 of a worn disc is read
+/// among them, and few enough that a clock leaves out four numbers there at most.
 pub const VOTE_REACH: usize = 240;
 
 /// In which field a number is elected, with which part of a minute.
@@ -31,6 +32,15 @@ struct Election {
     system: System,
     field: usize,
     part: u32,
+    ghost far: { field < 2 ^ 60 },
+}
+
+/// A field whose times vote in an election.
+#[derive(Clone, Copy)]
+struct Voter {
+    election: Election,
+    field: usize,
+    ghost near: { IsVoter election.field field },
 }
 
 /// What was counted of an election's votes.
@@ -54,13 +64,11 @@ pub(crate) fn minute(system: System) -> u64
 }
 
 /// The key of a number of another field: a number of this one fits it whose double is less by the reach.
-fn key_of(election: Election, other: usize, number: u32) -> u64
-    requires far { election.field < 2 ^ 60 }
-    requires near { IsVoter election.field other }
-    ensures value { result ≡ key_of election.field other number }
+fn key_of(voter: Voter, number: u32) -> u64
+    ensures value { result ≡ key_of voter.election.field voter.field number }
 {
     let number = u64::from(number);
-    2 * number + (election.field + VOTE_REACH - other) as u64
+    2 * number + (voter.election.field + VOTE_REACH - voter.field) as u64
 }
 
 /// Whether this key goes on with the part of some minute.
@@ -106,14 +114,12 @@ fn with_vote(tally: Tally, key: u64, weight: u32) -> Tally
 }
 
 /// The weight of a sighting, if it votes.
-fn vote_of(election: Election, other: usize, sighting: &Sighting) -> u32
-    requires far { election.field < 2 ^ 60 }
-    requires near { IsVoter election.field other }
+fn vote_of(voter: Voter, sighting: &Sighting) -> u32
     ensures value { result ≡ sighting_weight
-        (votes (minute_of election.system) election.field election.part other) sighting.now }
+        (votes (minute_of voter.election.system) voter.election.field voter.election.part voter.field) sighting.now }
     ensures range { result ≤ 2 }
 {
-    if sighting.is_seen() && goes_on(election, key_of(election, other, sighting.number)) {
+    if sighting.is_seen() && goes_on(voter.election, key_of(voter, sighting.number)) {
         sighting.counts()
     } else {
         0
@@ -121,37 +127,35 @@ fn vote_of(election: Election, other: usize, sighting: &Sighting) -> u32
 }
 
 /// The tally with a sighting of another field.
-fn with_sighting(election: Election, other: usize, tally: Tally, sighting: &Sighting) -> Tally
-    requires far { election.field < 2 ^ 60 }
-    requires near { IsVoter election.field other }
+fn with_sighting(voter: Voter, tally: Tally, sighting: &Sighting) -> Tally
     requires few { tally.all < 2 ^ 62 }
     requires within { tally.ahead ≤ tally.all }
     ensures all { result.all ≡ tally.all + sighting_weight
-        (votes (minute_of election.system) election.field election.part other) sighting.now }
+        (votes (minute_of voter.election.system) voter.election.field voter.election.part voter.field) sighting.now }
     ensures within { result.ahead ≤ result.all }
     ensures few { result.all ≤ tally.all + 2 }
     ensures leads { (of : ℕ → ℕ) → Leads of tally → Leads (λ k. of k + sighting_weight
-        (votes_by (minute_of election.system) election.field election.part k other) sighting.now) result }
+        (votes_by (minute_of voter.election.system) voter.election.field voter.election.part k voter.field)
+        sighting.now) result }
 {
-    let key = key_of(election, other, sighting.number);
-    with_vote(tally, key, vote_of(election, other, sighting))
+    let key = key_of(voter, sighting.number);
+    with_vote(tally, key, vote_of(voter, sighting))
 }
 
 /// The tally with both sightings of another field.
-fn with_field(election: Election, other: usize, tally: Tally, seen: &Sightings) -> Tally
-    requires far { election.field < 2 ^ 60 }
-    requires near { IsVoter election.field other }
+fn with_field(voter: Voter, tally: Tally, seen: &Sightings) -> Tally
     requires few { tally.all < 2 ^ 61 }
     requires within { tally.ahead ≤ tally.all }
     ensures all { result.all ≡ tally.all + field_weight
-        (votes (minute_of election.system) election.field election.part other) (Some seen.now) }
+        (votes (minute_of voter.election.system) voter.election.field voter.election.part voter.field) (Some seen.now) }
     ensures within { result.ahead ≤ result.all }
     ensures few { result.all ≤ tally.all + 4 }
     ensures leads { (of : ℕ → ℕ) → Leads of tally → Leads (λ k. of k + field_weight
-        (votes_by (minute_of election.system) election.field election.part k other) (Some seen.now)) result }
+        (votes_by (minute_of voter.election.system) voter.election.field voter.election.part k voter.field)
+        (Some seen.now)) result }
 {
-    let first = with_sighting(election, other, tally, &seen.line_17);
-    with_sighting(election, other, first, &seen.line_18)
+    let first = with_sighting(voter, tally, &seen.line_17);
+    with_sighting(voter, first, &seen.line_18)
 }
 
 /// The first field within reach.
@@ -177,21 +181,24 @@ fn counted(fields: &[Sightings], election: Election) -> Tally
     };
     let end = fields.len().min(election.field + VOTE_REACH + 1);
     for other in first_voter(election.field)..end {
-        tally = with_field(election, other, tally, &fields[other]);
+        let voter = Voter {
+            election,
+            field: other,
+        };
+        tally = with_field(voter, tally, &fields[other]);
     }
     tally
 }
 
 /// The weight of a sighting, if it votes for this key.
-fn vote_by(election: Election, key: u64, other: usize, sighting: &Sighting) -> u32
-    requires far { election.field < 2 ^ 60 }
-    requires near { IsVoter election.field other }
+fn vote_by(voter: Voter, key: u64, sighting: &Sighting) -> u32
     ensures value { result ≡ sighting_weight
-        (votes_by (minute_of election.system) election.field election.part key other) sighting.now }
+        (votes_by (minute_of voter.election.system) voter.election.field voter.election.part key voter.field)
+        sighting.now }
     ensures range { result ≤ 2 }
 {
-    if key_of(election, other, sighting.number) == key {
-        vote_of(election, other, sighting)
+    if key_of(voter, sighting.number) == key {
+        vote_of(voter, sighting)
     } else {
         0
     }
@@ -207,9 +214,13 @@ fn votes_by(fields: &[Sightings], election: Election, key: u64) -> u64
     let mut weight = 0;
     let end = fields.len().min(election.field + VOTE_REACH + 1);
     for other in first_voter(election.field)..end {
+        let voter = Voter {
+            election,
+            field: other,
+        };
         let seen = &fields[other];
-        weight += u64::from(vote_by(election, key, other, &seen.line_17));
-        weight += u64::from(vote_by(election, key, other, &seen.line_18));
+        weight += u64::from(vote_by(voter, key, &seen.line_17));
+        weight += u64::from(vote_by(voter, key, &seen.line_18));
     }
     weight
 }

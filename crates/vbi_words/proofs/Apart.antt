@@ -76,8 +76,7 @@ later v least k2 k l x1 y1 r run low same few = go (cases_order k l)
     total = differences (replicate (k2 + k) v ++ x1) (replicate k2 v ++ y1)
 
     peeled : total ≡ differences (replicate k v ++ x1) y1
-    peeled = ap (λ (t : List Bool). differences t (replicate k2 v ++ y1)) (sym (run_joined k2 k v x1))
-        ∙ both_same k2 v (replicate k v ++ x1) y1
+    peeled = grind (arith, run_joined, both_same)
 
     within : k ≤ l → Stepped (not v) x1 y1 (k2 + k) k2 total
     within le =
@@ -136,23 +135,7 @@ step v least k1 k2 x1 y1 (l1, r1, low1, run1) (l2, r2, low2, run2) same few = go
 
     turned : Stepped (not v) y1 x1 k2 k1 (differences (replicate k2 v ++ y1) (replicate k1 v ++ x1))
         → Stepped (not v) x1 y1 k1 k2 (differences (replicate k1 v ++ x1) (replicate k2 v ++ y1))
-    turned r = record {
-      s = r.t;
-      t = r.s;
-      x = r.y;
-      y = r.x;
-      first = r.second;
-      second = r.first;
-      same = sym r.same;
-      less = omega (
-        arith,
-        r.less,
-        differences_sym r.x r.y,
-        differences_sym (replicate k2 v ++ y1) (replicate k1 v ++ x1),
-      );
-      near = omega (arith, r.near');
-      near' = omega (arith, r.near);
-    }
+    turned r = grind (arith, differences_sym)
 
     up : k1 ≤ k2 → Stepped (not v) x1 y1 k1 k2 (differences (replicate k1 v ++ x1) (replicate k2 v ++ y1))
     up le =
@@ -337,14 +320,7 @@ module _ {sizes : Sizes} (ok : AreApart sizes) (d : ℕ) (gap : d + sizes.greate
           (half_run (not v) todo (not v ∷ e.x1) p) (cell_run c (not v) others e.y1 q) in
           absurd (omega (arith, r.close, gap, low1, high2))
       go ih (inr (todo, is, low1, high1, p)) (inr (todo', is', low2, high2, q)) =
-          let p' : Half sizes (not v) bits (not v ∷ e.x1)
-          = subst (λ (t : List Bool). Half sizes (not v) t (not v ∷ e.x1)) (sym (Runs.same_tail is)) p in
-          let q' : Half sizes (not v) others (not v ∷ e.y1)
-          = subst (λ (t : List Bool). Half sizes (not v) t (not v ∷ e.y1)) (sym (Runs.same_tail is')) q in
-          let r = turned (Half sizes (not v) bits) (Half sizes (not v) others) p' q'
-          (half_run (not v) bits (not v ∷ e.x1) p') (half_run (not v) others (not v ∷ e.y1) q') in
-          ap (λ (t : List Bool). b ∷ t) (ih (not v) r.near)
-          ∙ ap (λ (h : Bool). h ∷ others) (same_head is ∙ sym (same_head is'))
+          grind (arith, e, turned, half_run, same_head)
 
   -- words whose first bit is 1
   pub agree_whole : (bits others x y : List Bool) → length bits ≡ length others → Draws sizes (true ∷ bits) x

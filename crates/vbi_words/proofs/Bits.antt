@@ -1,6 +1,6 @@
 -- The bits of a number as a list, and its half cells.
 use Rattle.std.proofs.Common.{get_or, ◌≡◌, ℕ, suc, zero, ◌≤◌, ◌<◌, ◌+◌, ◌-◌, ◌*◌, ◌/◌, ◌%◌, ◌^◌, Bool, true, false, eqb}
-use Rattle.std.proofs.Common.{List, [], ◌∷◌, ◌++◌, ◌⊎◌, inl, inr, refl, ap, sym, ◌∙◌, subst, arith, append_assoc}
+use Rattle.std.proofs.Common.{List, [], ◌∷◌, ◌++◌, ◌⊎◌, refl, ap, sym, ◌∙◌, subst, arith, append_assoc}
 use Rattle.std.proofs.Common.{zero-add, add-one, length, add-zero}
 use Rattle.std.proofs.lemmas.Nat.{pow-add}
 use Rattle.std.proofs.lemmas.Nat.Bits.{bit_at-suc, bit_at_above, same_from_bits_below}
@@ -67,30 +67,30 @@ lowest-push n a b = rw add-one (go n)
 -- ---- the number of a list of bits
 
 -- the number of these bits after those of a
-value_behind : ℕ → List Bool → ℕ
-value_behind a [] = a
-value_behind a (b ∷ bits) = value_behind (2 * a + bit_of b) bits
+value_after : ℕ → List Bool → ℕ
+value_after a [] = a
+value_after a (b ∷ bits) = value_after (2 * a + bit_of b) bits
 
-lowest-value_behind : (n a : ℕ) (bits : List Bool)
-    → lowest_bits (n + length bits) (value_behind a bits) ≡ lowest_bits n a ++ bits
-unfolding value_behind
-lowest-value_behind n a [] = rw (add-zero, append-nil) refl
-lowest-value_behind n a (b ∷ bits) =
+lowest-value_after : (n a : ℕ) (bits : List Bool)
+    → lowest_bits (n + length bits) (value_after a bits) ≡ lowest_bits n a ++ bits
+unfolding value_after
+lowest-value_after n a [] = rw (add-zero, append-nil) refl
+lowest-value_after n a (b ∷ bits) =
     let e : n + suc (length bits) ≡ (n + 1) + length bits = omega arith in
-    ap (λ (k : ℕ). lowest_bits k (value_behind (2 * a + bit_of b) bits)) e
-    ∙ lowest-value_behind (n + 1) (2 * a + bit_of b) bits
+    ap (λ (k : ℕ). lowest_bits k (value_after (2 * a + bit_of b) bits)) e
+    ∙ lowest-value_after (n + 1) (2 * a + bit_of b) bits
     ∙ ap (λ (t : List Bool). t ++ bits) (lowest-push n a b) ∙ append_assoc (lowest_bits n a) (b ∷ []) bits
 
 bit_below : (b : Bool) → bit_of b < 2
 bit_below true = omega arith
 bit_below false = omega arith
 
-value-below : (n a : ℕ) (bits : List Bool) → a < 2 ^ n → value_behind a bits < 2 ^ (n + length bits)
-unfolding value_behind
+value-below : (n a : ℕ) (bits : List Bool) → a < 2 ^ n → value_after a bits < 2 ^ (n + length bits)
+unfolding value_after
 value-below n a [] l = rw add-zero l
 value-below n a (b ∷ bits) l =
     let e : (n + 1) + length bits ≡ n + suc (length bits) = omega arith in
-    subst (λ (k : ℕ). value_behind (2 * a + bit_of b) bits < 2 ^ k) e
+    subst (λ (k : ℕ). value_after (2 * a + bit_of b) bits < 2 ^ k) e
     (value-below (n + 1) (2 * a + bit_of b) bits (omega (arith, l, bit_below b, pow-add 2 n 1)))
 
 -- each list of bits is that of a number
@@ -98,9 +98,9 @@ pub number_of : (bits : List Bool) → (w : ℕ) × (w < 2 ^ length bits) × (lo
 unfolding lowest_bits
 number_of bits =
     let e : 0 + length bits ≡ length bits = zero-add (length bits) in (
-      value_behind 0 bits,
-      subst (λ (k : ℕ). value_behind 0 bits < 2 ^ k) e (value-below 0 0 bits (omega arith)),
-      ap (λ (k : ℕ). lowest_bits k (value_behind 0 bits)) (sym e) ∙ lowest-value_behind 0 0 bits,
+      value_after 0 bits,
+      subst (λ (k : ℕ). value_after 0 bits < 2 ^ k) e (value-below 0 0 bits (omega arith)),
+      ap (λ (k : ℕ). lowest_bits k (value_after 0 bits)) (sym e) ∙ lowest-value_after 0 0 bits,
     )
 
 -- ---- the top bit
@@ -112,13 +112,7 @@ top_bit_set n w low high = grind arith
 
 pub top_bit_then : (n w : ℕ) (rest : List Bool) → lowest_bits (suc n) w ≡ true ∷ rest → 2 ^ n ≤ w
 unfolding lowest_bits
-top_bit_then n w rest e = go (cases_lt w (2 ^ n))
-  where
-    go : (w < 2 ^ n) ⊎ (2 ^ n ≤ w) → 2 ^ n ≤ w
-    go (inl small) =
-        let one : bit_at w n ≡ 1 = eqb-true (bit_at w n) 1 (same_head e) in
-        absurd (omega (arith, one, bit_at_above w n n small (omega arith)))
-    go (inr large) = large
+top_bit_then n w rest e = grind (arith, cases_lt, eqb-true, same_head, bit_at_above)
 
 -- ---- the half cells of a number
 
@@ -178,6 +172,4 @@ module _ (w value i : ℕ) (within : i < 48) (same : value ≡ w) where
       ap not bit_is ∙ sym (half_first bits (i / 2) inside) ∙ ap (half bits) e
 
   pub half_odd : (i % 2 ≡ 0 → ⊥) → read ≡ half bits i
-  half_odd odd =
-      let e : 2 * (i / 2) + 1 ≡ i = omega arith in
-      bit_is ∙ sym (half_second bits (i / 2) inside) ∙ ap (half bits) e
+  half_odd odd = grind (arith, bit_is, half_second, inside)

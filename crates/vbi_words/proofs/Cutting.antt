@@ -40,21 +40,8 @@ module _ (sizes : Sizes) where
       → ((rest : List Bool) → SpellsCells bits rest → Cells sizes bits (rest ++ replicate after false))
       → Spells least greatest (a ∷ b ∷ flat_map cell_of bits) levels
       → Run sizes a (Half sizes b bits) (levels ++ replicate after false)
-  halves_spelled a b bits levels after ih (n, r, low, high, e, (m, q, low', high', e', s)) = record {
-    count = n;
-    rest = r ++ replicate after false;
-    at_least = low;
-    at_most = high;
-    whole = rw (e, append_assoc);
-    then = record {
-      count = m;
-      rest = q ++ replicate after false;
-      at_least = low';
-      at_most = high';
-      whole = rw (e', append_assoc);
-      then = ih q s;
-    };
-  }
+  halves_spelled a b bits levels after ih (n, r, low, high, e, (m, q, low', high', e', s)) =
+      grind (arith, append_assoc)
 
   pub cells_from_spelled : (bits levels : List Bool) (after : ℕ) → SpellsCells bits levels
       → Cells sizes bits (levels ++ replicate after false)
@@ -210,8 +197,7 @@ module _ {sizes : Sizes} (ok : AreApart sizes) where
 
   pub single_half : (v : Bool) (bits s : List Bool) (n : ℕ) → least ≤ n → n ≤ greatest → Cells sizes bits s
       → Half sizes v bits (replicate n v ++ s)
-  single_half v bits s n low high p =
-      record { count = n; rest = s; at_least = low; at_most = high; whole = refl; then = p }
+  single_half v bits s n low high p = grind arith
 
   pub first_half : (v : Bool) (todo s : List Bool) (n : ℕ) → least ≤ n → n ≤ greatest → Half sizes (not v) todo s
       → Cells sizes (not v ∷ todo) (replicate n v ++ s)

@@ -35,9 +35,7 @@ pub length-drawn_line_of : (system : System) (slicing : Slicing) (word : Option 
     → length (drawn_line_of system slicing word) ≡ line_bytes system
 unfolding drawn_line_of drawn_row_of
 length-drawn_line_of system slicing word =
-    length-sample_bytes (drawn_row_of system slicing word)
-    ∙ ap (λ (n : ℕ). 2 * n) (length-map-range_with_len (drawn_sample_of system slicing word) 0 (width_of system))
-    ∙ sym (line_bytes-twice system)
+    grind (arith, length-sample_bytes, length-map-range_with_len, line_bytes-twice)
 
 pub samples_of-drawn_line_of : (system : System) (slicing : Slicing) (word : Option ℕ)
     → samples_of (drawn_line_of system slicing word) ≡ drawn_row_of system slicing word
@@ -77,8 +75,7 @@ pub all_columns : (system : System) (slicing : Slicing) (word : Option ℕ) (lin
     → take (2 * width_of system) line ≡ first_columns system slicing word (width_of system)
     → line ≡ drawn_line_of system slicing word
 unfolding drawn_line_of drawn_row_of
-all_columns system slicing word line long all =
-    sym (take_all (2 * width_of system) line (omega (arith, line_bytes-twice system))) ∙ all
+all_columns system slicing word line long all = grind (arith, take_all, line_bytes-twice)
 
 -- ---- readings
 

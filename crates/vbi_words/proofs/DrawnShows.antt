@@ -115,31 +115,23 @@ module _ (system : System) (slicing : Slicing) (word : ℕ) (order : slicing.bla
   level_is c l = get_or-map (is_high_of slicing) samples c 0 false (omega (arith, row.whole))
 
   high_there : (c : ℕ) → c < width_of system → IsDrawnHigh system word c → get_or levels c false ≡ true
-  high_there c l d = level_is c l ∙ ap (is_high_of slicing) ((row.each c l).0 d)
-      ∙ lt-ltb (slicing.black + slicing.white) (2 * slicing.white) (omega arith)
+  high_there c l d = grind (arith, level_is, lt-ltb)
 
   low_there : (c : ℕ) → c < width_of system → (IsDrawnHigh system word c → ⊥) → get_or levels c false ≡ false
-  low_there c l d = level_is c l ∙ ap (is_high_of slicing) ((row.each c l).1 d)
-      ∙ le-ltb (slicing.black + slicing.white) (2 * slicing.black) (omega arith)
+  low_there c l d = grind (arith, level_is, le-ltb)
 
   -- a column lies in one half cell alone
   one_half : (i j c : ℕ) → edge i ≤ c → c < edge (i + 1) → edge j ≤ c → c < edge (j + 1) → i ≡ j
   one_half i j c low high low' high' = grind arith
 
   in_half : (j c : ℕ) → j < 48 → edge j ≤ c → c < edge (j + 1) → (h : Bool) → half j ≡ h → get_or levels c false ≡ h
-  in_half j c l low high true e =
-      high_there c (omega (arith, ends_inside system (j + 1) (omega arith))) (j, l, low, high, e)
-  in_half j c l low high false e =
-      low_there c (omega (arith, ends_inside system (j + 1) (omega arith)))
-      (λ (i, m, below, above, t). let same : i ≡ j = one_half i j c below above low high in
-      let bad : true ≡ false = sym t ∙ ap half same ∙ e in cc)
+  in_half j c l low high true e = grind (arith, high_there, ends_inside)
+  in_half j c l low high false e = grind (arith, low_there, ends_inside, one_half)
 
   -- no half cell is before the first boundary, or after the last
   outside : (c : ℕ) → c < width_of system → (c < edge 0) ⊎ (edge 48 ≤ c) → get_or levels c false ≡ false
-  outside c l (inl before) =
-      low_there c l (λ (j, m, below, above, t). omega (arith, ordered system 0 j (omega arith)))
-  outside c l (inr behind) =
-      low_there c l (λ (j, m, below, above, t). omega (arith, ordered system (j + 1) 48 (omega arith)))
+  outside c l (inl before) = grind (arith, low_there, ordered)
+  outside c l (inr behind) = grind (arith, low_there, ordered)
 
   -- the lows before the word
   front : levels ≡ replicate (edge 0) false ++ drop (edge 0) levels
@@ -169,10 +161,7 @@ module _ (system : System) (slicing : Slicing) (word : ℕ) (order : slicing.bla
   many_halves = omega (arith, length-halves (lowest_bits 24 word), length-lowest_bits 24 word)
 
   has_halves : HasHalves system levels left same_length back (halves_of word) 0
-  has_halves i l k low high =
-      let e : 0 + i ≡ i = omega arith in
-      in_half i k (omega (arith, l, many_halves)) (subst (λ (m : ℕ). edge m ≤ k) e low)
-      (subst (λ (m : ℕ). k < edge (m + 1)) e high) (half i) refl
+  has_halves i l k low high = grind (arith, in_half, many_halves)
 
   some_left : (system : System) → 5 ≤ width_of system - boundary system 48
   some_left Ntsc = omega arith
@@ -213,9 +202,7 @@ module _ (system : System) (slicing : Slicing) (order : slicing.black < slicing.
 
 pub row_amply : (system : System) (slicing : Slicing) (word : ℕ) → slicing.black < slicing.white → IsWord word
     → ShowsAmply system (levels_of slicing (drawn_row_of system slicing (Some word))) word
-row_amply system slicing word order is_word =
-    drawn_amply system slicing word order (drawn_row_of system slicing (Some word))
-    (is_drawn_row system slicing (Some word)) is_word
+row_amply system slicing word order is_word = grind (arith, drawn_amply, is_drawn_row)
 
 pub row_shows : (system : System) (slicing : Slicing) (word : ℕ) → slicing.black < slicing.white → IsWord word
     → Shows system (levels_of slicing (drawn_row_of system slicing (Some word))) word

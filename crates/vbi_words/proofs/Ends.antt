@@ -1,4 +1,5 @@
 -- Each state but `dead` can still become a word, and what a state shows where nothing more comes.
+use Rattle.std.proofs.Common.{rules}
 use Rattle.std.proofs.Common.{◌≡◌, ℕ, ◌≤◌, ◌<◌, ◌+◌, ◌-◌, Bool, true, false, leb, eqb, ◌&&◌, List, [], ◌∷◌, ◌++◌}
 use Rattle.std.proofs.Common.{◌↔◌, Some, None, inl, inr, refl, ap, sym, ◌∙◌, subst, arith, add_comm, length-append}
 use Rattle.std.proofs.Math.ListN.{replicate, length, length-replicate}
@@ -206,10 +207,7 @@ module _ {sizes : Sizes} (ok : AreApart sizes) where
         (subst (λ (t : List Bool). Draws sizes t (replicate n false)) begun (alone false n (Draws sizes bits) p))),
     λ e. cc,
   )
-  ended (first v n done) bits fit whole = (
-    λ (todo, split, p). absurd (unfinished done bits v n whole fit.2 todo split (alone v n (Cells sizes todo) p)),
-    λ e. cc,
-  )
+  ended (first v n done) bits fit whole = search (rules, unfinished, alone)
   ended (second v n done) bits fit whole = ended_second v n done bits fit whole
   ended (tail done) bits fit whole = (λ (e, lows). ap Some (sym e), λ e. (cc, (0, refl)))
   ended dead bits fit whole = (λ h. absurd h, λ e. cc)

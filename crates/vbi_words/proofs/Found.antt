@@ -1,12 +1,11 @@
 -- Each list of levels has one outcome.
-use Rattle.std.proofs.Common.{◌≡◌, ℕ, suc, zero, ◌≤◌, ◌<◌, ◌+◌, Bool, true, false, eqb, leb, ◌&&◌, List, ◌⊎◌}
+use Rattle.std.proofs.Common.{◌≡◌, ℕ, suc, zero, ◌≤◌, ◌+◌, Bool, true, false, eqb, leb, List, ◌⊎◌}
 use Rattle.std.proofs.Common.{Option, Some, None, inl, inr, refl, ap, sym, ◌∙◌, subst, arith, add-one, length, take}
 use Rattle.std.proofs.lemmas.List.{take_all}
 use Rattle.std.proofs.lemmas.Bool.{cond_both, cases_order, eqb-true, and_parts}
 use Rattle.vbi_words.specs.declared.system.System.{System}
 use Rattle.vbi_words.specs.declared.outcome.Outcome.{Outcome}
 use Rattle.vbi_words.specs.declared.outcome.Outcome.TheVariants.{Word, Blank, Unfinished, Change, Hold}
-use Rattle.vbi_words.specs.Geometry.{half_min}
 use Rattle.vbi_words.specs.Shows.{Viable}
 use Rattle.vbi_words.specs.Levels.{level_at}
 use Rattle.vbi_words.specs.Outcomes.{FirstHopeless, Holds, IsOutcome}
@@ -26,12 +25,7 @@ not_hopeless system levels c v h = h.hopeless (Shown.viable_take system levels (
 
 same_column : (system : System) (levels : List Bool) (c d : ℕ) → FirstHopeless system levels c
     → FirstHopeless system levels d → c ≡ d
-same_column system levels c d h k = go (cases_order c d)
-  where
-    go : (c ≡ d) ⊎ ((c < d) ⊎ (d < c)) → c ≡ d
-    go (inl e) = e
-    go (inr (inl l)) = absurd (h.hopeless (k.before c l))
-    go (inr (inr l)) = absurd (k.hopeless (h.before d l))
+same_column system levels c d h k = grind (arith, cases_order)
 
 -- one column isn't a change and a hold
 not_both : (system : System) (levels : List Bool) (c d : ℕ) → IsOutcome system levels (Change c)
@@ -73,15 +67,7 @@ ended_bits : (system : System) (state : State) (bits : List Bool) → IsFit syst
     → ending_of system state ≡ Some bits → WordBits bits
 ended_bits system (lead n) bits fit e = cc
 ended_bits system (first v n done) bits fit e = cc
-ended_bits system (second v n done) bits fit e =
-    cond_both (full && leb (half_min system) n) (Some done) None (λ o. o ≡ Some bits → WordBits bits)
-    (λ t f. let same : done ≡ bits = cc in
-    let all : length done ≡ 24 = eqb-true (length done) 24 (and_parts full (leb (half_min system) n) t).0 in
-    subst WordBits same (all, fit.3))
-    (λ t f. cc) e
-  where
-    full : Bool
-    full = eqb (length done) 24
+ended_bits system (second v n done) bits fit e = grind (arith, cond_both, leb, eqb-true, and_parts, eqb)
 ended_bits system (tail done) bits fit e = let same : done ≡ bits = cc in subst WordBits same fit
 ended_bits system dead bits fit e = cc
 

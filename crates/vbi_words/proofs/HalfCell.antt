@@ -16,8 +16,7 @@ module _ (d l : List Bool) (blurred : IsBlurred d l) where
 
   -- a column whose neighbours are drawn at its level
   pub away : (h : Bool) (b c e : ℕ) → b ≡ c - 1 → e ≡ c + 1 → at_d b ≡ h → at_d c ≡ h → at_d e ≡ h → at_l c ≡ h
-  away h b c e eb ee hb hc he =
-      blurred.others c (ap at_d (sym eb) ∙ hb ∙ sym hc) (ap at_d (sym ee) ∙ he ∙ sym hc) ∙ hc
+  away h b c e eb ee hb hc he = grind arith
 
   -- a half cell drawn from p on begins at e, at most a column from there
   pub record Begins (p e : ℕ) (h : Bool) : Type 0 where
@@ -111,11 +110,7 @@ module _ (d l : List Bool) (blurred : IsBlurred d l) where
       where
         go : (h' ≡ h) ⊎ (h' ≡ not h) → (at_l last ≡ h) ⊎ (at_l last ≡ not h)
             → (at_l (p + n) ≡ h) ⊎ (at_l (p + n) ≡ not h) → Ends p (p + n) h h'
-        go (inl same) x y =
-            ends_at (away h (last - 1) last (p + n) (omega arith) (omega arith)
-            (run (last - 1) (omega arith) (omega arith)) (run last (omega arith) (omega arith)) (here ∙ same))
-            (away h' last (p + n) (p + n + 1) (omega arith) refl
-            (run last (omega arith) (omega arith) ∙ sym same) here behind)
+        go (inl same) x y = grind (arith, ends_at, away)
         go (inr other) (inl e) (inl f) = ends_late e f
         go (inr other) (inl e) (inr f) = ends_at e (f ∙ sym other)
         go (inr other) (inr e) (inl f) = record {

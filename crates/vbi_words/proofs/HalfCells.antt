@@ -30,32 +30,20 @@ first [] = false
 first (h ∷ halves) = h
 
 pub in_run : (n : ℕ) (h : Bool) (t : List Bool) (k : ℕ) → k < n → get_or (replicate n h ++ t) k false ≡ h
-in_run n h t k l =
-    get_or_append_left (replicate n h) t false k (omega (arith, length-replicate n h, l))
-    ∙ get_or-replicate n k h false l
+in_run n h t k l = grind (arith, get_or_append_left, length-replicate, get_or-replicate)
 
 pub past_run : (n : ℕ) (h : Bool) (t : List Bool) (k : ℕ) → get_or (replicate n h ++ t) (n + k) false ≡ get_or t k false
-past_run n h t k =
-    ap (λ (i : ℕ). get_or (replicate n h ++ t) (i + k) false) (sym (length-replicate n h))
-    ∙ get_or-append-add (replicate n h) t k false
+past_run n h t k = grind (arith, length-replicate, get_or-append-add)
 
 pub all_low : (n k : ℕ) → get_or (replicate n false) k false ≡ false
-all_low n k = go (cases_order k n)
-  where
-    go : (k ≡ n) ⊎ ((k < n) ⊎ (n < k)) → get_or (replicate n false) k false ≡ false
-    go (inl e) = get_or_past (replicate n false) k false (omega (arith, length-replicate n false))
-    go (inr (inl l)) = get_or-replicate n k false false l
-    go (inr (inr l)) = get_or_past (replicate n false) k false (omega (arith, length-replicate n false))
+all_low n k = grind (arith, cases_order, get_or_past, length-replicate, get_or-replicate)
 
 -- halves of two columns or more begin with two columns of their first level
 pub first_two : (lo hi : ℕ) → 2 ≤ lo → (halves drawn : List Bool) (after : ℕ) → Spells lo hi halves drawn → (k : ℕ)
     → k < 2 → get_or (drawn ++ replicate after false) k false ≡ first halves
-first_two lo hi two [] drawn after e k l =
-    ap (λ (t : List Bool). get_or (t ++ replicate after false) k false) e ∙ all_low after k
+first_two lo hi two [] drawn after e k l = grind (arith, all_low)
 first_two lo hi two (h ∷ halves) drawn after (n, rest, low, high, e, spelled) k l =
-    ap (λ (t : List Bool). get_or (t ++ replicate after false) k false) e
-    ∙ ap (λ (t : List Bool). get_or t k false) (append_assoc (replicate n h) rest (replicate after false))
-    ∙ in_run n h (rest ++ replicate after false) k (omega arith)
+    grind (arith, append_assoc, in_run)
 
 module _ (d l : List Bool) (blurred : IsBlurred d l) where
   abbrev at_d : ℕ → Bool
@@ -285,9 +273,7 @@ module _ (d l : List Bool) (blurred : IsBlurred d l) where
             add-assoc = omega arith
 
         low_d : (c : ℕ) → (c < before) ⊎ (before ≤ c) → c < before + 2 → at_d c ≡ false
-        low_d c (inl less) near =
-            ap (λ (t : List Bool). get_or t c false) whole
-            ∙ in_run before false (drawn ++ replicate after false) c less
+        low_d c (inl less) near = grind (arith, in_run)
         low_d c (inr past) near =
             let place : before + (c - before) ≡ c = omega arith in
             ap (λ (t : List Bool). get_or t c false) whole
@@ -302,8 +288,7 @@ module _ (d l : List Bool) (blurred : IsBlurred d l) where
             side h = grind arith
 
         low : (c : ℕ) → c ≤ before → at_l c ≡ false
-        low c to = HalfCell.away d l blurred false (c - 1) c (c + 1) refl refl (near_d (c - 1) (omega arith))
-            (near_d c (omega arith)) (near_d (c + 1) (omega arith))
+        low c to = grind (arith, near_d)
 
         front : l ≡ replicate before false ++ drop before l
         front =

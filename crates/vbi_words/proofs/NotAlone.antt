@@ -1,13 +1,11 @@
 -- No column of a list that shows a word stands alone.
+use Rattle.std.proofs.Common.{rules}
 use Rattle.std.proofs.Common.{◌≡◌, ℕ, suc, zero, ◌≤◌, ◌<◌, ◌+◌, ◌-◌, Bool, false, List, [], ◌∷◌, ◌++◌, ◌⊎◌, inl, inr}
 use Rattle.std.proofs.Common.{get_or, subst, sym, ap, ◌∙◌, arith, append_assoc}
 use Rattle.std.proofs.Math.ListN.{replicate}
 use Rattle.std.proofs.lemmas.Bool.{cases_order}
 use Rattle.std.proofs.lemmas.List.{replicate-append-replicate}
 use Rattle.vbi_words.specs.declared.system.System.{System}
-use Rattle.vbi_words.specs.declared.system.System.TheVariants.{Ntsc, Pal}
-use Rattle.vbi_words.specs.Geometry.{half_min, half_max}
-use Rattle.vbi_words.specs.Words.{halves_of}
 use Rattle.vbi_words.specs.Shows.{Shows, Spells}
 use Rattle.vbi_words.specs.Jitter.{NoneAlone}
 use Rattle.vbi_words.proofs.HalfCells.{first, in_run, past_run, all_low, first_two}
@@ -49,9 +47,7 @@ run_beside n h s two begun rest c = go (cases_order (c + 1) n)
 -- half cells of two columns or more, and lows after them
 halves_beside : (lo hi : ℕ) → 2 ≤ lo → (halves drawn : List Bool) (after : ℕ) → Spells lo hi halves drawn → (c : ℕ)
     → Beside (drawn ++ replicate after false) c
-halves_beside lo hi two [] drawn after e c =
-    subst (λ (t : List Bool). Beside (t ++ replicate after false) c) (sym e)
-    (inl (all_low after c ∙ sym (all_low after (c - 1))))
+halves_beside lo hi two [] drawn after e c = grind (arith, all_low)
 halves_beside lo hi two (h ∷ halves) drawn after (n, rest, low, high, e, spelled) c =
     let behind : List Bool = rest ++ replicate after false in
     let begun : get_or behind 0 false ≡ get_or behind 1 false
@@ -65,10 +61,7 @@ halves_beside lo hi two (h ∷ halves) drawn after (n, rest, low, high, e, spell
 -- lows before them
 lows_beside : (lo hi : ℕ) → 2 ≤ lo → (halves drawn : List Bool) (before after : ℕ) → first halves ≡ false
     → Spells lo hi halves drawn → (c : ℕ) → Beside (replicate before false ++ (drawn ++ replicate after false)) c
-lows_beside lo hi two [] drawn before after low e c =
-    subst (λ (t : List Bool). Beside (replicate before false ++ (t ++ replicate after false)) c) (sym e)
-    (subst (λ (t : List Bool). Beside t c) (sym (replicate-append-replicate before after false))
-    (inl (all_low (before + after) c ∙ sym (all_low (before + after) (c - 1)))))
+lows_beside lo hi two [] drawn before after low e c = grind (arith, replicate-append-replicate, all_low)
 lows_beside lo hi two (h ∷ halves) drawn before after low (n, rest, least, most, e, spelled) c =
     let behind : List Bool = rest ++ replicate after false in
     let begun : get_or behind 0 false ≡ get_or behind 1 false
@@ -84,11 +77,4 @@ lows_beside lo hi two (h ∷ halves) drawn before after low (n, rest, least, mos
     (λ k. halves_beside lo hi two halves rest after spelled k) c)
 
 pub shown_not_alone : (system : System) (levels : List Bool) (word : ℕ) → Shows system levels word → NoneAlone levels
-shown_not_alone system levels word s c =
-    subst (λ (t : List Bool). Beside t c) (sym s.whole)
-    (lows_beside (half_min system) (half_max system) (two system) (halves_of word) s.drawn s.before s.after
-    (begins_low word s.is_word) s.spelled c)
-  where
-    two : (system : System) → 2 ≤ half_min system
-    two Ntsc = omega arith
-    two Pal = omega arith
+shown_not_alone system levels word s c = search (rules, lows_beside, begins_low)

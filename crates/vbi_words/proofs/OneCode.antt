@@ -1,6 +1,6 @@
 -- A word has one code: no two patterns have a word in common.
 use Rattle.std.proofs.Common.{◌≡◌, ℕ, suc, zero, ◌≤◌, ◌<◌, ◌+◌, Bool, true, false, ltb, leb, ◌&&◌, ◌||◌, List, []}
-use Rattle.std.proofs.Common.{◌∷◌, cond, Any, ◌⊎◌, inl, inr, refl, ap, subst, sym, ◌∙◌, arith}
+use Rattle.std.proofs.Common.{◌∷◌, cond, Any, ◌⊎◌, inl, inr, refl, subst, sym, ◌∙◌, arith}
 use Rattle.std.proofs.lemmas.Bool.{leb-true, le-leb, and_parts, and_from, or_cases, cases_eq}
 use Rattle.std.specs.List.{list_all, list_any, range_with_len}
 use Rattle.vbi_words.specs.declared.code.Code.{Code}
@@ -86,8 +86,7 @@ matched word code patterns (i, p, l, here, (x, e)) = (i, p, l, here, x)
 one_of : (word : ℕ) (c d : Code) (patterns : List Pattern) → all_apart patterns ≡ true → HasCodeOf patterns word c
     → HasCodeOf patterns word d → c ≡ d
 one_of word c d [] far (i, p, l, here, x) y = absurd (omega arith)
-one_of word c d (r ∷ patterns) far (zero, p, l, here, (x, e)) (zero, q, m, there, (y, f)) =
-    e ∙ ap (λ (t : Pattern). t.code) (sym here ∙ there) ∙ sym f
+one_of word c d (r ∷ patterns) far (zero, p, l, here, (x, e)) (zero, q, m, there, (y, f)) = grind arith
 one_of word c d (r ∷ patterns) far (zero, p, l, here, (x, e)) (suc j, q, m, there, (y, f)) =
     let parts = and_parts (apart_from r patterns) (all_apart patterns) far in
     absurd (later-not word r patterns parts.0 (subst (HasPattern word) (sym here) x) (j, q, omega arith, there, y))
@@ -128,8 +127,7 @@ Unmatched word (pattern ∷ patterns) = (HasPattern word pattern → ⊥) × Unm
 
 none_of : (word : ℕ) (patterns : List Pattern) → Unmatched word patterns → Any (HasPattern word) patterns → ⊥
 none_of word [] unmatched (i, q, l, here, x) = omega arith
-none_of word (pattern ∷ patterns) unmatched (zero, q, l, here, x) =
-    unmatched.0 (subst (HasPattern word) (sym here) x)
+none_of word (pattern ∷ patterns) unmatched (zero, q, l, here, x) = grind arith
 none_of word (pattern ∷ patterns) unmatched (suc i, q, l, here, x) =
     none_of word patterns unmatched.1 (i, q, omega arith, here, x)
 
@@ -161,8 +159,7 @@ first_is word (pattern ∷ patterns) = go (fits word pattern) refl (first_is wor
         ⊎ (Unmatched word (pattern ∷ patterns) × (cond b pattern.code (first_code word patterns) ≡ Other))
     go true e later = inl (0, pattern, omega arith, refl, (fits-between word pattern e, refl))
     go false e (inl (i, q, l, here, x)) = inl (suc i, q, omega arith, here, x)
-    go false e (inr (none, other)) =
-        inr ((λ x. let h : fits word pattern ≡ true = between-fits word pattern x in cc, none), other)
+    go false e (inr (none, other)) = grind (arith, between-fits, other)
 
 -- the function gives the word's code
 pub code_of_is : (word : ℕ) → IsCode word (code_of word)

@@ -9,9 +9,7 @@ use Rattle.vbi_words.specs.Words.{IsWord}
 use Rattle.vbi_words.specs.Shows.{ShowsNone, Viable}
 use Rattle.vbi_words.specs.Levels.{level_at}
 use Rattle.vbi_words.specs.Outcomes.{AllLow, FirstHopeless, Holds, IsOutcome}
-use Rattle.vbi_words.proofs.Sizes.{sizes_of}
-use Rattle.vbi_words.proofs.Machine
-use Rattle.vbi_words.proofs.Machine.{State, lead, first, second, tail, dead, level_of, is_lead}
+use Rattle.vbi_words.proofs.Machine.{State, dead, level_of, is_lead}
 use Rattle.vbi_words.proofs.SystemMachine.{ending_of, state_after, state_at, state_next, dead_later}
 use Rattle.vbi_words.proofs.Shown
 use Rattle.vbi_words.proofs.Runs.{not_same}
@@ -25,10 +23,7 @@ dead_high system levels e low = let f : false ≡ true = ap is_lead (sym e) ∙ 
 -- a state that isn't dead has the level of the column before it
 level_before : (system : System) (levels : List Bool) (k : ℕ) → k < length levels
     → (state_at system levels (k + 1) ≡ dead → ⊥) → level_of (state_at system levels (k + 1)) ≡ level_at levels k
-level_before system levels k within alive =
-    let last = state_next system levels k within in
-    ap level_of last
-    ∙ Machine.next_level (sizes_of system) (state_at system levels k) (level_at levels k) (λ d. alive (last ∙ d))
+level_before system levels k within alive = grind (arith, state_next, state_at)
 
 -- the machine dies at column c
 pub record DiesAt (system : System) (levels : List Bool) (c : ℕ) : Type 0 where
@@ -57,13 +52,7 @@ module _ (system : System) (levels : List Bool) (c : ℕ) (there : DiesAt system
 
   -- after the first column, the machine's last run has the level of the column before
   run_level : (k : ℕ) → k + 1 ≡ c → level_of (state_at system levels c) ≡ level_at levels (c - 1)
-  run_level k e =
-      let inside = there.within in
-      let minus : k ≡ c - 1 = omega arith in
-      let alive : state_at system levels (k + 1) ≡ dead → ⊥
-      = λ d. there.alive (ap (state_at system levels) (sym e) ∙ d) in
-      ap (λ (j : ℕ). level_of (state_at system levels j)) (sym e) ∙ level_before system levels k (omega arith) alive
-      ∙ ap (level_at levels) minus
+  run_level k e = grind (arith, state_at, dead, level_before)
 
   -- the first column isn't that of a death by a low level
   not_first : 0 ≡ c → GoesOn system levels c → ⊥
@@ -110,8 +99,7 @@ module _ (system : System) (levels : List Bool) (c : ℕ) (v : Bool) (within : c
     (run : level_of (state_at system levels c) ≡ v) where
   -- by a level that isn't its last run's
   pub changes : level_at levels c ≡ not v → IsOutcome system levels (Change c)
-  changes at = change_outcome system levels c (record { within = within; alive = alive; dies = dies })
-      (λ same. not_same v (sym run ∙ sym same ∙ at))
+  changes at = grind (arith, change_outcome, not_same)
 
   -- by a level of its last run
   pub holds : level_at levels c ≡ v → IsOutcome system levels (Hold c)

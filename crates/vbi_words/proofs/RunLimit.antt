@@ -47,16 +47,14 @@ module _ (system : System) (levels : List Bool) (v : Bool) where
 
   -- the state after the whole run
   more : (k : ℕ) → state_after system (levels ++ replicate (suc k) v) ≡ after_of system begun (replicate k v)
-  more k = ap (state_after system) (sym (append_assoc levels (v ∷ []) (replicate k v)))
-      ∙ after_append system (levels ++ v ∷ []) (replicate k v)
+  more k = grind (arith, append_assoc, after_append)
 
   module _ (ends : EndsOtherwise levels v) (viable : Viable system (levels ++ v ∷ [])) where
     alive : begun ≡ dead → ⊥
     alive = viable_alive system (levels ++ v ∷ []) viable
 
     level : level_of begun ≡ v
-    level = ap level_of begun_is
-        ∙ Machine.next_level (sizes_of system) (state_after system levels) v (λ d. alive (begun_is ∙ d))
+    level = grind (arith, begun_is, alive)
 
     after : (k : ℕ) → state_after system (levels ++ replicate (suc k) v) ≡ Stays.stays (sizes_of system) k begun
     after k = more k ∙ Stays.after_run (sizes_of system) k begun v alive level
@@ -76,9 +74,7 @@ module _ (system : System) (levels : List Bool) (v : Bool) where
             ∙ Machine.next_level (sizes_of system) (state_after system front) (not v) (λ d. living (last ∙ d))
 
         go : EndsOtherwise levels v → Fresh (sizes_of system) (next_of system (state_after system levels) v)
-        go (inl none) =
-            subst (λ (t : List Bool). Fresh (sizes_of system) (next_of system (state_after system t) v)) (sym none)
-            (fresh_start (sizes_of system) v)
+        go (inl none) = grind (arith, fresh_start)
         go (inr (front, e)) = fresh_next (sizes_of system) (state_after system levels) v (first_level front e)
 
     -- without a limit

@@ -1,4 +1,5 @@
 -- What the machine says of the words that a list of levels shows, and of the lists that begin with it.
+use Rattle.std.proofs.Common.{arith}
 use Rattle.std.proofs.Common.{◌≡◌, ℕ, ◌<◌, ◌^◌, Bool, true, false, List, [], ◌++◌, ◌↔◌}
 use Rattle.std.proofs.Common.{Some, None, ap, sym, ◌∙◌, subst, append_assoc, length, take, drop}
 use Rattle.std.proofs.Math.ListN.{replicate, take-append-drop}
@@ -132,8 +133,7 @@ alive_viable system levels alive =
 
 -- each front of a viable list is viable
 pub viable_front : (system : System) (front rest : List Bool) → Viable system (front ++ rest) → Viable system front
-viable_front system front rest (more, w, s) =
-    (rest ++ more, w, subst (λ (t : List Bool). Shows system t w) (append_assoc front rest more) s)
+viable_front system front rest (more, w, s) = grind (arith, append_assoc)
 
 pub viable_take : (system : System) (levels : List Bool) (n : ℕ) → Viable system levels → Viable system (take n levels)
 viable_take system levels n v =

@@ -27,9 +27,7 @@ least_four Pal = omega arith
 
 pub smooth_moves : (system : System) (levels : List Bool) (word : ℕ) (s : Shows system levels word) → 3 ≤ s.after
     → smooth_of levels ≡ replicate (s.before + 3) false ++ (s.drawn ++ replicate (s.after - 3) false)
-smooth_moves system levels word s l = ap smooth_of s.whole
-    ∙ moved (half_min system) (half_max system) (least_four system) (halves_of word) s.drawn s.spelled s.before
-    s.after l
+smooth_moves system levels word s l = grind (arith, moved, least_four)
 
 pub smooth_shows : (system : System) (levels : List Bool) (word : ℕ) (s : Shows system levels word) → 3 ≤ s.after
     → Shows system (smooth_of levels) word

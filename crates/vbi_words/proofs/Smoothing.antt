@@ -43,10 +43,7 @@ from_column s n =
 from_next : (s : List Bool) (n : ℕ) (rest : List Bool)
     → from_column s n (level_at s n ∷ rest) ≡ latest s (suc n - 3) ∷ from_column s (suc n) rest
 unfolding window
-from_next s n rest =
-    let behind : Bool → List Bool = λ o. window o (level_at (padded s) (suc n)) (level_at (padded s) (suc (suc n)))
-    (level_at s n) rest in
-    ap (λ (o : Bool). o ∷ behind o) (sym (latest_next s n))
+from_next s n rest = grind (arith, latest_next)
 
 -- the window's levels from column n on
 abbrev Windowed : List Bool → ℕ → List Bool → ℕ → Type 0
@@ -136,11 +133,7 @@ only_at : (s : List Bool) (c : ℕ) (v w : Bool) → SmoothAt s c v → SmoothAt
 only_at s c v w h k = grind arith
 
 pub is_smooth : (s : List Bool) → IsSmooth s (smooth_of s)
-is_smooth s = (
-  length-smooth_of s,
-  λ c l. at_from_before s c (level_at (smooth_of s) c)
-      (subst (LatestBefore s (c - 2)) (sym (smooth_level s c l)) (latest_is s (c - 2))),
-)
+is_smooth s = grind (arith, length-smooth_of, at_from_before, smooth_level, latest_is)
 
 pub only_smooth : (s t : List Bool) → IsSmooth s t → t ≡ smooth_of s
 only_smooth s t (same, each) = ext_get_or false t (smooth_of s) (same ∙ sym (length-smooth_of s))

@@ -19,8 +19,8 @@ ones_ending n m =
     flat_map (λ (cell : Bool). low n ++ high n) (replicate 23 true) ++ (low n ++ (high m ++ low 14))
 
 -- a one and 23 zeros, each half cell of n columns but the second and the third, which are one high run of m
-abbrev pub zeros_behind : ℕ → ℕ → List Bool
-zeros_behind n m =
+abbrev pub zeros_after : ℕ → ℕ → List Bool
+zeros_after n m =
     low n ++ (high m ++ (low n ++ (flat_map (λ (cell : Bool). high n ++ low n) (replicate 22 true) ++ low 14)))
 
 -- a row with changes of level at columns 2 and 5, which may be blurred in columns 1, 2, 4 and 5

@@ -1,5 +1,13 @@
 //! Laws of the definitions in `specs/`. A function here does nothing: its contract is a law, which holds of every
 //! system, every list of levels, every word and every black and white.
+//!
+//! First come the laws of one line: it shows at most one word (`one_word`), how long its runs may get (`run_limit`),
+//! what is drawn for a word and read from that (`one_drawn_row`, `drawn_shows`), what early, late and blurred changes
+//! of level and glitches leave of it (`jitter_shown`, `blur_read`, `glitches_read`), how far apart two words are
+//! (`words_apart`), and what smoothing keeps (`one_smooth`, `smooth_keeps`, `glitch_gone`). Then come those of codes
+//! and formats. The rows of `worked_..` pin numbers, tables and orders: no proof sees a definition that is wrong, so
+//! they were written down by hand from IEC 60857 and IEC 60856, and never from what the code answers. A number of
+//! specs/Geometry.antt, Codes.antt or Formats.antt changes only with its rows here and in the crates of tests.
 
 ghost use Rattle.std.specs.Prelude.{◌≡◌, ℕ, suc, ◌≤◌, ◌<◌, ◌+◌, ◌-◌, List, Bool, true, false};
 ghost use Rattle.std.specs.Prelude.{[], ◌∷◌, ◌++◌, replicate, length, map, Option, Some, None};
@@ -24,7 +32,7 @@ ghost use Rattle.vbi_words.specs.declared.format.Format.{Format};
 ghost use Rattle.vbi_words.specs.declared.format.Format.TheVariants.{Cav, Clv, Both, Neither};
 ghost use Rattle.vbi_words.specs.Codes.{IsCode, may_stand, code_of};
 ghost use Rattle.vbi_words.specs.Formats.{IsFormat, format_of_lines};
-ghost use Rattle.vbi_words.specs.WorkedLines.{low, high, ones_ending, zeros_behind, little_row, changing, of_three};
+ghost use Rattle.vbi_words.specs.WorkedLines.{low, high, ones_ending, zeros_after, little_row, changing, of_three};
 
 /// A list of levels shows at most one word.
 pub fn one_word()
@@ -174,18 +182,18 @@ pub fn worked_runs()
         × IsOutcome Ntsc (ones_ending 11 11) (Word 16777215)
         × IsOutcome Ntsc (ones_ending 11 18) (Word 16777215)
         × IsOutcome Ntsc (ones_ending 11 19) (Hold 535) }
-    ensures ntsc_double { IsOutcome Ntsc (zeros_behind 11 21) (Change 32)
-        × IsOutcome Ntsc (zeros_behind 11 22) (Word 8388608)
-        × IsOutcome Ntsc (zeros_behind 11 36) (Word 8388608)
-        × IsOutcome Ntsc (zeros_behind 11 37) (Hold 47) }
+    ensures ntsc_double { IsOutcome Ntsc (zeros_after 11 21) (Change 32)
+        × IsOutcome Ntsc (zeros_after 11 22) (Word 8388608)
+        × IsOutcome Ntsc (zeros_after 11 36) (Word 8388608)
+        × IsOutcome Ntsc (zeros_after 11 37) (Hold 47) }
     ensures pal_single { IsOutcome Pal (ones_ending 14 13) (Change 671)
         × IsOutcome Pal (ones_ending 14 14) (Word 16777215)
         × IsOutcome Pal (ones_ending 14 22) (Word 16777215)
         × IsOutcome Pal (ones_ending 14 23) (Hold 680) }
-    ensures pal_double { IsOutcome Pal (zeros_behind 14 27) (Change 41)
-        × IsOutcome Pal (zeros_behind 14 28) (Word 8388608)
-        × IsOutcome Pal (zeros_behind 14 44) (Word 8388608)
-        × IsOutcome Pal (zeros_behind 14 45) (Hold 58) }
+    ensures pal_double { IsOutcome Pal (zeros_after 14 27) (Change 41)
+        × IsOutcome Pal (zeros_after 14 28) (Word 8388608)
+        × IsOutcome Pal (zeros_after 14 44) (Word 8388608)
+        × IsOutcome Pal (zeros_after 14 45) (Hold 58) }
 {}
 
 /// A row whose first change of level lies a column early, one that is blurred there so that columns stand alone, one

@@ -51,7 +51,7 @@ impl Judged {
         self.judged(None).iter().map(Number::of)
     }
 
-    /// The first field of the whole side of which this number or chapter is believed or due.
+    /// The first field of the whole side for which this number or chapter is believed or due.
     pub fn seek(&self, place: Place) -> Option<Field> {
         let (counted, number) = place.counted(self.system)?;
         let index = c::ldvbi_first_of(self.judged(counted), number);

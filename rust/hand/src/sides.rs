@@ -161,7 +161,7 @@ impl<'a> Side<'a> {
         })
     }
 
-    /// The first field of which this number or chapter is believed or due.
+    /// The first field for which this number or chapter is believed or due.
     ///
     /// A picture or a time is sought by halving, as `ldvbi_seek` of the library for C does, at the pace of the fields
     /// that are read. If that finds none, and for a chapter, the whole side is judged. So if a capture goes back and

@@ -25,4 +25,4 @@ returns c = λ before old.
     whole (omega arith) c.loop-column.auto.column-end c.loop-column.invariant.reached
     (λ k low high. c.loop-column.invariant.within k (omega arith) (omega arith))
     (λ k high. c.loop-column.invariant.before k (omega arith) ∙ ap (λ (marks : List Bool). get_or marks k false) old)
-    (λ k low. c.loop-column.invariant.behind k (omega arith) ∙ ap (λ (marks : List Bool). get_or marks k false) old)
+    (λ k low. c.loop-column.invariant.after k (omega arith) ∙ ap (λ (marks : List Bool). get_or marks k false) old)

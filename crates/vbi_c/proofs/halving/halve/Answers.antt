@@ -1,42 +1,38 @@
-use Rattle.vbi_c.specs.Telling.{IsSilent}
-use Rattle.std.proofs.Common.{◌+◌, ◌-◌, ◌/◌, ◌≤◌, ◌∙◌, ap, sym, subst, arith}
+use Rattle.std.proofs.Common.{◌∙◌, ap, sym, subst, refl}
 use Rattle.vbi_c.specs.declared.narrowing.Between.{Between}
-use Rattle.vbi_c.specs.Leads.{IsWithin, IsToldAt, IsNarrower}
-use Rattle.vbi_c.proofs.Leading.{told_middle, not_both}
+use Rattle.vbi_c.specs.Searches.{IsSilent, IsHalved, middle_in}
+use Rattle.vbi_c.proofs.Leading.{told_there, middle_halves, not_both}
 use Rattle.vbi_c.proofs.halving.halve.Goals as goal
 
-pub returns-then-narrow-clause-leads : goal.returns-then-narrow-clause-leads
-returns-then-narrow-clause-leads c = λ t a b leads within told.
-    told_middle c.args.seek.now c.args.bytes.now c.args.count c.args.number t a b c.args.between.now
-    c.narrow.new.between leads within c.requires.wide (c.narrow.ensures.narrowed c.if-narrow.true)
+pub returns-then-narrow-clause-halved : goal.returns-then-narrow-clause-halved
+returns-then-narrow-clause-halved c =
+    told_there c.args.search.now _ c.args.between.now c.narrow.new.between
+    (middle_halves c.args.between.now _ c.requires.wide refl refl) (c.narrow.ensures.narrowed c.if-narrow.true)
 
-pub returns-in-Some-lower-clause-leads : goal.returns-in-Some-lower-clause-leads
-returns-in-Some-lower-clause-leads c = λ t a b leads within told.
+pub returns-in-Some-lower-clause-halved : goal.returns-in-Some-lower-clause-halved
+returns-in-Some-lower-clause-halved c =
     let kept = c.narrow.ensures.kept c.if-narrow.false in
-    let order : c.args.between.now.low ≤ c.args.between.now.high = omega arith in
-    absurd (not_both c.args.seek.now c.args.bytes.now c.args.count c.args.number t a b c.in-Some-lower.lower
-    c.in-Some.higher c.args.between.now leads within order (c.narrow.ensures.silent c.if-narrow.false)
+    not_both c.args.search.now c.in-Some-lower.lower c.in-Some.higher c.args.between.now c.narrow_between.new.between
+    c.requires.part (c.narrow.ensures.silent c.if-narrow.false)
     (sym (ap (λ (n : Between). n.lower) kept) ∙ c.in-Some-lower.is)
-    (sym (ap (λ (n : Between). n.higher) kept) ∙ c.in-Some.is))
+    (sym (ap (λ (n : Between). n.higher) kept) ∙ c.in-Some.is)
 
-pub narrow_behind-requires-clause-silent : goal.narrow_behind-requires-clause-silent
-narrow_behind-requires-clause-silent c =
-    subst (λ (n : Between). IsSilent c.args.seek.now c.args.bytes.now c.args.count (n.low + (n.high - n.low) / 2))
-    (sym (c.narrow.ensures.kept c.if-narrow.false)) (c.narrow.ensures.silent c.if-narrow.false)
+pub narrow_in_silence-requires-clause-silent : goal.narrow_in_silence-requires-clause-silent
+narrow_in_silence-requires-clause-silent c =
+    subst (λ (n : Between). IsSilent c.args.search.now (middle_in n)) (sym (c.narrow.ensures.kept c.if-narrow.false))
+    (c.narrow.ensures.silent c.if-narrow.false)
 
-pub narrow_before-requires-clause-silent : goal.narrow_before-requires-clause-silent
-narrow_before-requires-clause-silent c =
-    subst (λ (n : Between). IsSilent c.args.seek.now c.args.bytes.now c.args.count (n.low + (n.high - n.low) / 2))
-    (sym (c.narrow.ensures.kept c.if-narrow.false)) (c.narrow.ensures.silent c.if-narrow.false)
+pub returns-in-None-clause-halved : goal.returns-in-None-clause-halved
+returns-in-None-clause-halved c =
+    subst (λ (n : Between). IsHalved c.args.search.now n c.narrow_in_silence.new.between)
+    (c.narrow.ensures.kept c.if-narrow.false) c.narrow_in_silence.ensures.halved
 
-pub returns-in-None-clause-leads : goal.returns-in-None-clause-leads
-returns-in-None-clause-leads c = λ t a b leads within told.
-    let kept = sym (c.narrow.ensures.kept c.if-narrow.false) in
-    subst (λ (n : Between). IsNarrower t a b n c.narrow_behind.new.between) (sym kept)
-    (c.narrow_behind.ensures.leads t a b leads (subst (IsWithin t a b) kept within) (subst IsToldAt kept told))
+pub narrow_in_silence-requires-in-None-lower-clause-silent : goal.narrow_in_silence-requires-in-None-lower-clause-silent
+narrow_in_silence-requires-in-None-lower-clause-silent c =
+    subst (λ (n : Between). IsSilent c.args.search.now (middle_in n)) (sym (c.narrow.ensures.kept c.if-narrow.false))
+    (c.narrow.ensures.silent c.if-narrow.false)
 
-pub returns-in-None-lower-clause-leads : goal.returns-in-None-lower-clause-leads
-returns-in-None-lower-clause-leads c = λ t a b leads within told.
-    let kept = sym (c.narrow.ensures.kept c.if-narrow.false) in
-    subst (λ (n : Between). IsNarrower t a b n c.narrow_before.new.between) (sym kept)
-    (c.narrow_before.ensures.leads t a b leads (subst (IsWithin t a b) kept within) (subst IsToldAt kept told))
+pub returns-in-None-lower-clause-halved : goal.returns-in-None-lower-clause-halved
+returns-in-None-lower-clause-halved c =
+    subst (λ (n : Between). IsHalved c.args.search.now n c.narrow_in_silence-in-None-lower.new.between)
+    (c.narrow.ensures.kept c.if-narrow.false) c.narrow_in_silence-in-None-lower.ensures.halved

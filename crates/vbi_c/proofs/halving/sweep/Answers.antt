@@ -1,5 +1,6 @@
 use Rattle.std.proofs.Common.{ℕ, arith, below_more, subst, ◌∙◌}
-use Rattle.vbi_c.specs.Telling.{IsSilent, middle_of}
+use Rattle.vbi_c.specs.Searches.{IsSilent}
+use Rattle.vbi_c.specs.Telling.{middle_of}
 use Rattle.vbi_c.proofs.halving.sweep.Goals as goal
 
 pub loop-part-preserved : goal.loop-part-preserved
@@ -7,10 +8,9 @@ loop-part-preserved c = record {
   few = omega arith;
   kept = c.narrow.ensures.kept c.if-narrow.false ∙ c.loop-part.invariant.kept;
   silent = below_more
-      (λ (part : ℕ). IsSilent c.args.seek.now c.args.bytes.now c.args.count (middle_of c.args.count c.args.parts part))
+      (λ (part : ℕ). IsSilent c.args.search.now (middle_of c.args.search.now.count c.args.parts part))
       c.loop-part.part c.loop-part.invariant.silent
-      (subst (IsSilent c.args.seek.now c.args.bytes.now c.args.count) c.middle_of-field.ensures.middle
-      (c.narrow.ensures.silent c.if-narrow.false));
+      (subst (IsSilent c.args.search.now) c.middle_of.ensures.middle (c.narrow.ensures.silent c.if-narrow.false));
 }
 
 pub returns-clause-silent : goal.returns-clause-silent

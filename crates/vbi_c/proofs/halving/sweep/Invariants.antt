@@ -1,11 +1,12 @@
 use Rattle.std.proofs.Common.{◌≡◌, ℕ, ◌+◌, ◌*◌, ◌<◌, ◌≤◌}
+use Rattle.vbi_c.specs.Searches.{IsSilent}
 use Rattle.vbi_c.specs.Seeking.{probe_most}
-use Rattle.vbi_c.specs.Telling.{IsSilent, middle_of}
+use Rattle.vbi_c.specs.Telling.{middle_of}
 use Rattle.vbi_c.proofs.halving.sweep.Given as goal
 
 abbrev pub invariant-loop-part : goal.invariant-loop-part
 invariant-loop-part l = record {
   few : l.looked.fields + l.looked.spare ≤ l.initial.looked.fields + l.initial.looked.spare + probe_most * l.part;
   kept : l.between ≡ l.initial.between;
-  silent : (part : ℕ) → part < l.part → IsSilent l.seek l.bytes l.count (middle_of l.count l.parts part);
+  silent : (part : ℕ) → part < l.part → IsSilent l.search (middle_of l.search.count l.parts part);
 }

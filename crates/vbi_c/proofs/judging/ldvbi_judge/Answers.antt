@@ -1,9 +1,10 @@
-use Rattle.std.proofs.Common.{subst, sym, ◌∙◌}
+use Rattle.std.proofs.Common.{Bool, ap, subst, sym, ◌∙◌}
 use Rattle.std.specs.Prelude.{Result, IfOk}
 use Rattle.vbi_side.specs.declared.pace.Pace as paces
 use Rattle.vbi_c.specs.declared.judging.Judging.{Judging}
 use Rattle.vbi_c.specs.declared.status.Refusal.{Refusal}
-use Rattle.vbi_c.specs.Judging.{AreJudged}
+use Rattle.vbi_c.specs.Judging.{AreJudged, with_pace, with_lengths, counted_of, asked_of}
+use Rattle.vbi_c.specs.Setups.{system_of}
 use Rattle.vbi_c.proofs.Judged.{read_sound}
 use Rattle.vbi_c.proofs.judging.ldvbi_judge.Goals as goal
 
@@ -15,7 +16,10 @@ returns-in-Ok-clause-judges c =
     let Judges : Result Judging Refusal → Type 0
     = λ found. IfOk found (λ judging. (pace : paces.Pace) × AreJudged judging readings seen numbers pace) in
     let judges = c.judge.ensures in
-    subst Judges (sym c.in-Ok.is ∙ c.judging_of.ensures) (
+    let asked : Bool → Result Judging Refusal
+    = λ fit. with_pace (with_lengths (system_of c.args.system) fit) (counted_of c.args.counted) (asked_of c.args.pace)
+    in
+    subst Judges (sym c.in-Ok.is ∙ c.judging_of.ensures ∙ ap asked c.are_as_long-fit.ensures) (
       c.pace_for.result,
       record {
         pace_is = c.pace_for.ensures;

@@ -1,13 +1,14 @@
 use Rattle.std.proofs.Common.{◌≡◌, ◌+◌, arith, inl, inr, refl, subst, sym}
+use Rattle.std.proofs.Math.ListN.{length-set}
 use Rattle.std.proofs.lemmas.Bool.Decides.{leb_tells}
-use Rattle.vbi_c.specs.Seeking.{shown_at}
-use Rattle.vbi_c.specs.Telling.{TellsIn, TellsFrom}
+use Rattle.vbi_c.specs.Searches.{shows, TellsAt}
+use Rattle.vbi_c.specs.Telling.{TellsIn}
 use Rattle.vbi_c.proofs.Shown.{shown_more, counted_more}
 use Rattle.vbi_c.proofs.probing.probe.Goals as goal
 
 pub returns-in-Some-clause-told : goal.returns-in-Some-clause-told
 returns-in-Some-clause-told c =
-    let made = shown_more (shown_at c.args.seek.now c.args.bytes.now) c.loop-i.seen c.args.field c.loop-i.i
+    let made = shown_more (shows c.args.search.now) c.loop-i.seen c.args.field c.loop-i.i
     c.shown_at.result (omega arith) c.loop-i.invariant.made c.shown_at.ensures.shown in
     subst (λ seen. TellsIn seen c.in-Some.number) made c.in-Some.ensures.some
 
@@ -15,9 +16,10 @@ returns-in-Some-clause-told c =
 pub loop-i-preserved : goal.loop-i-preserved
 loop-i-preserved c =
     let i = c.loop-i.i in
-    let made = shown_more (shown_at c.args.seek.now c.args.bytes.now) c.loop-i.seen c.args.field i
+    let made = shown_more (shows c.args.search.now) c.loop-i.seen c.args.field i
     c.shown_at.result (omega arith) c.loop-i.invariant.made c.shown_at.ensures.shown in
     record {
+      long = simp length-set c.loop-i.invariant.long;
       made = made;
       counted = counted_more c.args.looked.now c.loop-i.looked c.shown_at.new.looked i c.loop-i.invariant.counted
           c.shown_at.ensures.counted;
@@ -25,7 +27,7 @@ loop-i-preserved c =
         | inl less ↦ c.loop-i.invariant.silent k n less.1 tells
         | inr more ↦
             let same : k ≡ i + 1 = omega (arith, more.1, few) in
-            let all = subst (λ j. TellsFrom c.args.seek.now c.args.bytes.now c.args.field j n) same tells in
+            let all = subst (λ j. TellsAt c.args.search.now c.args.field j n) same tells in
             c.in_default.ensures.none refl n (subst (λ seen. TellsIn seen n) (sym made) all)
       ];
     }
@@ -35,7 +37,7 @@ returns-clause-silent c = λ none k n few tells. c.loop-i.invariant.silent k n (
 
 pub returns-in-Some-clause-seen : goal.returns-in-Some-clause-seen
 returns-in-Some-clause-seen c =
-    shown_more (shown_at c.args.seek.now c.args.bytes.now) c.loop-i.seen c.args.field c.loop-i.i c.shown_at.result
+    shown_more (shows c.args.search.now) c.loop-i.seen c.args.field c.loop-i.i c.shown_at.result
     (omega arith) c.loop-i.invariant.made c.shown_at.ensures.shown
 
 pub returns-in-Some-clause-first : goal.returns-in-Some-clause-first

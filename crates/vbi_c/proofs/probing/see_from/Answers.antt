@@ -1,12 +1,12 @@
-use Rattle.std.proofs.Common.{ap, arith}
-use Rattle.vbi_c.specs.declared.probing.Looked.{Looked}
-use Rattle.vbi_c.specs.Seeking.{shown_at}
-use Rattle.vbi_c.proofs.Shown.{shown_more}
+use Rattle.std.proofs.Common.{arith}
+use Rattle.vbi_c.specs.Searches.{shows}
+use Rattle.vbi_c.proofs.Shown.{shown_more, counted_more}
 use Rattle.vbi_c.proofs.probing.see_from.Goals as goal
 
 pub loop-i-preserved : goal.loop-i-preserved
 loop-i-preserved c = record {
-  made = shown_more (shown_at c.args.seek.now c.args.bytes.now) c.loop-i.seen c.args.first c.loop-i.i c.shown_at.result
+  made = shown_more (shows c.args.search.now) c.loop-i.seen c.args.first c.loop-i.i c.shown_at.result
       (omega arith) c.loop-i.invariant.made c.shown_at.ensures.shown;
-  counted = omega (arith, ap (λ (l : Looked). l.fields) c.shown_at.ensures.counted);
+  counted = counted_more c.args.looked.now c.loop-i.looked c.shown_at.new.looked c.loop-i.i
+      c.loop-i.invariant.counted c.shown_at.ensures.counted;
 }

@@ -1,5 +1,5 @@
 use Rattle.std.proofs.Common.{ℕ, ◌/◌, length, IfOk, Result, subst}
-use Rattle.vbi_c.specs.declared.probing.Seek.{Seek}
+use Rattle.vbi_c.specs.declared.search.Seek.{Seek}
 use Rattle.vbi_c.specs.declared.status.Refusal.{Refusal}
 use Rattle.vbi_c.specs.Leads.{IsComplete, IsCompleteIn}
 use Rattle.vbi_c.proofs.seeking.ldvbi_seek.Goals as goal
@@ -8,7 +8,7 @@ pub returns-in-Ok-clause-complete : goal.returns-in-Ok-clause-complete
 returns-in-Ok-clause-complete c =
     let here : IsCompleteIn c.in-Ok.seek c.args.bytes.now (length c.args.bytes.now / c.field_bytes.result) c.args.number
     c.look_around.result = λ t a b pace few known leads.
-    c.look_around.ensures.complete t pace known (c.place_of-place.ensures.leads t a b few leads) in
+    c.look_around.ensures.complete t pace known (c.place_of.ensures.leads t a b few leads) in
     subst (λ (asked : Result Seek Refusal). IfOk asked (λ seek.
     IsComplete seek c.args.bytes.now c.args.number c.look_around.result)) c.in-Ok.ensures
     (subst (λ (size : ℕ). IsCompleteIn c.in-Ok.seek c.args.bytes.now (length c.args.bytes.now / size) c.args.number

@@ -1,6 +1,6 @@
 use Rattle.std.proofs.Common.{◌≡◌, None, arith, rules}
 use Rattle.vbi_words.specs.Drawn.{drawn_line_of}
-use Rattle.vbi_field.proofs.DrawEnds.{bad_row, row_ended, row_read_failed, byte_ended, byte_read_failed, too_many}
+use Rattle.vbi_field.proofs.DrawEnds.{bad_row, row_read_failed, byte_read_failed, too_many}
 use Rattle.vbi_field.proofs.DrawSteps.{start, row_failed, row_drawn, last_row_failed, last_row_drawn}
 use Rattle.vbi_field.proofs.drawing.draw.Goals as goal
 
@@ -41,21 +41,10 @@ returns-in-Malformed-clause-run g c =
     bad_row c.loop-done.invariant c.next_row.new.self c.in-Malformed.ensures
     (omega (arith, c.max_fields-done-end.ensures.value))
 
-pub returns-in-AtEnd-clause-run : goal.returns-in-AtEnd-clause-run
-returns-in-AtEnd-clause-run g c =
-    row_ended c.loop-done.invariant c.next_row.new.self c.in-AtEnd.ensures
-    (omega (arith, c.max_fields-done-end.ensures.value))
-
 pub returns-in-Failed-clause-run : goal.returns-in-Failed-clause-run
 returns-in-Failed-clause-run g c =
     row_read_failed c.loop-done.invariant c.next_row.new.self c.in-Failed.ensures
     (omega (arith, c.max_fields-done-end.ensures.value))
-
-pub returns-in-AtEnd-next_byte-clause-run : goal.returns-in-AtEnd-next_byte-clause-run
-returns-in-AtEnd-next_byte-clause-run g c =
-    byte_ended c.loop-done.invariant c.next_byte.new.self c.in-AtEnd-next_byte.ensures _
-    c.max_fields.ensures.value
-    (omega (arith, c.max_fields-done-end.ensures.value, c.max_fields.ensures.value))
 
 pub returns-in-Byte-clause-run : goal.returns-in-Byte-clause-run
 returns-in-Byte-clause-run g c =

@@ -28,12 +28,6 @@ returns-in-Err-clause-most g c =
     (put_part c.loop-row.invariant (omega (arith, ap height_of c.system.ensures))
     c.next_line.ensures c.put_all.ensures.puts c.in-Err.ensures.short).1
 
-pub returns-in-Err-clause-failed : goal.returns-in-Err-clause-failed
-returns-in-Err-clause-failed g c =
-    let v = c.loop-row.invariant in
-    cause_later c.args.outlet.now.device c.loop-row.outlet.device c.put_all.new.self.device v.errors v.least
-    c.in-Err.ensures.failed
-
 pub loop-row-preserved : goal.loop-row-preserved
 loop-row-preserved g c =
     Putting-more c.loop-row.invariant c.next_line.ensures c.put_all.ensures.puts

@@ -36,6 +36,3 @@ returns-then-rest-gt0-clause-levels c =
     let long : length all ≡ width_of system = omega (arith, longer, old.invariant.inside, c.width-width.ensures) in
     sliced_all c.args.slicing bytes all (width_of system) (c.requires.bytes ∙ line_bytes-twice system) long
     (subst (Sliced c.args.slicing bytes) (sym is) sliced)
-
-pub returns-else-rest-gt0-clause-levels : goal.returns-else-rest-gt0-clause-levels
-returns-else-rest-gt0-clause-levels c = grind arith

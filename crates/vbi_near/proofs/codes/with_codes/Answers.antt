@@ -13,8 +13,8 @@ loop-words-preserved c =
     let at : ℕ = c.args.prices.now.start in
     let words : ℕ × ℕ = get_or codes i (0, 0) in
     let close : IsFew c.args.found → IsClose c.nearer_lead-best.result = λ few.
-    c.nearer_lead-best.ensures.close (c.loop-words.invariant.few few) c.in_range.ensures.distance
-    c.in_range.ensures.order (omega (arith, c.in_range.ensures.word)) in
+    c.nearer_lead-best.ensures.close (c.loop-words.invariant.few few) c.nearest_in_range.ensures.distance
+    c.nearest_in_range.ensures.order (omega (arith, c.nearest_in_range.ensures.word)) in
     record {
       lead = λ cost looks priced is.
           let more : with_ranges looks at (ranges_of (take (i + 1) codes))
@@ -23,7 +23,7 @@ loop-words-preserved c =
           subst (λ (seen : List Look). IsLead cost (IsSeen seen) c.nearer_lead-best.result) (sym more)
           (c.nearer_lead-best.ensures.lead cost (with_ranges looks at (ranges_of (take i codes))) at
           (range words.0 words.1) (c.loop-words.invariant.lead cost looks priced is)
-          (c.in_range.ensures.lead cost priced));
+          (c.nearest_in_range.ensures.lead cost priced));
       few = λ few. let is = close few in (is.0, is.1, inl is.2);
       close = λ few some. close few;
     }

@@ -11,21 +11,21 @@ use Rattle.vbi_near.proofs.Columns.{width-few}
 use Rattle.vbi_near.proofs.levelled.level.Goals as goal
 
 pub slice_bounds-buffer-end : goal.slice_bounds-buffer-end
-slice_bounds-buffer-end c = omega (arith, width-few c.args.system, c.width.ensures)
+slice_bounds-buffer-end c = omega (arith, width-few c.args.line.now.system, c.width.ensures)
 
 pub levelled_sample-sample-requires-clause-range : goal.levelled_sample-sample-requires-clause-range
 levelled_sample-sample-requires-clause-range c =
-    let system = c.args.system in
-    let bytes = c.args.row.now in
-    let wide : length bytes ≡ 2 * width_of system = c.requires.row ∙ line_bytes-twice system in
+    let system = c.args.line.now.system in
+    let bytes = c.args.line.now.row.now in
+    let wide : length bytes ≡ 2 * width_of system = c.args.line.now.whole ∙ line_bytes-twice system in
     scale_fits system (samples_of bytes) c.from.result c.from-2.result
-    (short_bytes bytes (width_of system) wide (λ k. omega (arith, c.type_inv.row k)))
-    (line-samples system bytes c.requires.row) (c.from.ensures ∙ c.window.ensures) (c.from-2.ensures ∙ c.requires.swing)
+    (short_bytes bytes (width_of system) wide c.args.line.now.bytes)
+    (line-samples system bytes c.args.line.now.whole) (c.from.ensures ∙ c.window.ensures) (c.from-2.ensures ∙ c.requires.swing)
 
 pub loop-column-preserved : goal.loop-column-preserved
 loop-column-preserved c =
-    let system = c.args.system in
-    let samples = samples_of c.args.row.now in
+    let system = c.args.line.now.system in
+    let samples = samples_of c.args.line.now.row.now in
     let column = c.loop-column.column in
     let scale = c.from.result * c.from-2.result in
     let less : column < width_of system = omega (arith, c.loop-column-test.true, c.width-column-end.ensures) in
@@ -44,8 +44,8 @@ loop-column-preserved c =
 pub returns-clause-levelled : goal.returns-clause-levelled
 unfolding levelled
 returns-clause-levelled c =
-    let system = c.args.system in
-    let samples = samples_of c.args.row.now in
+    let system = c.args.line.now.system in
+    let samples = samples_of c.args.line.now.row.now in
     let end : c.loop-column.column ≡ width_of system
     = omega (arith, c.loop-column-test.false, c.loop-column.auto.column-end, c.width-column-end.ensures) in
     let window : c.from.result ≡ window_of system = c.from.ensures ∙ c.window.ensures in

@@ -7,5 +7,5 @@ use Rattle.vbi_near.proofs.levelled.level.Given as goal
 abbrev pub invariant-loop-column : goal.invariant-loop-column
 invariant-loop-column l = record {
   long : length l.out ≡ length l.initial.out;
-  written : WrittenTo (levelled_at l.system l.fn.levels l.scale (samples_of l.row)) l.out l.column;
+  written : WrittenTo (levelled_at l.line.system l.fn.levels l.scale (samples_of l.line.row.now)) l.out l.column;
 }

@@ -7,7 +7,7 @@ use Rattle.vbi_near.proofs.Levelling.{wide-fits}
 use Rattle.vbi_near.proofs.levelled.sum_windows.Goals as goal
 
 pub overflow_sub-to : goal.overflow_sub-to
-overflow_sub-to c = omega (arith, wide-fits c.args.system, c.end.ensures, c.window-wide.ensures)
+overflow_sub-to c = omega (arith, wide-fits c.args.line.now.system, c.end.ensures, c.window-wide.ensures)
 
 pub bounds-windows-column : goal.bounds-windows-column
 bounds-windows-column c =
@@ -17,7 +17,7 @@ bounds-windows-column c =
       c.loop-column.auto.windows,
       c.first.ensures,
       c.window-wide.ensures,
-      ordered_windows c.args.system,
+      ordered_windows c.args.line.now.system,
       c.requires.room,
     )
 
@@ -29,14 +29,14 @@ bounds-windows-column-in-loop-column-2 c =
       c.loop-column-2.auto.windows,
       c.end.ensures,
       c.window-wide.ensures,
-      ordered_windows c.args.system,
+      ordered_windows c.args.line.now.system,
       c.requires.room,
     )
 
 pub loop-column-preserved : goal.loop-column-preserved
 loop-column-preserved c =
-    let system = c.args.system in
-    let samples = samples_of c.args.row.now in
+    let system = c.args.line.now.system in
+    let samples = samples_of c.args.line.now.row.now in
     let column = c.loop-column.column in
     let wide : c.window-wide.result ≡ window_of system = c.window-wide.ensures in
     let less : column < first_of system + window_of system / 2
@@ -52,41 +52,41 @@ loop-column-preserved c =
 
 pub bounds-sums-column : goal.bounds-sums-column
 bounds-sums-column c =
-    let system = c.args.system in
-    (amid_by_sums system (samples_of c.args.row.now) c.args.sums.now c.loop-column-2.column c.window-wide.result
-    (line-samples system c.args.row.now c.requires.row) c.requires.sums c.window-wide.ensures
+    let system = c.args.line.now.system in
+    (amid_by_sums system (samples_of c.args.line.now.row.now) c.args.line.now.sums.now c.loop-column-2.column c.window-wide.result
+    (line-samples system c.args.line.now.row.now c.args.line.now.whole) c.args.line.now.summed c.window-wide.ensures
     (omega (arith, c.loop-column-2.auto.column, c.first.ensures, c.window-wide.ensures))
     (omega (arith, c.loop-column-2-test.true, c.end.ensures, c.window-wide.ensures))).0
 
 pub bounds-sums-column-in-loop-column-2 : goal.bounds-sums-column-in-loop-column-2
 bounds-sums-column-in-loop-column-2 c =
-    let system = c.args.system in
-    let both = amid_by_sums system (samples_of c.args.row.now) c.args.sums.now c.loop-column-2.column
+    let system = c.args.line.now.system in
+    let both = amid_by_sums system (samples_of c.args.line.now.row.now) c.args.line.now.sums.now c.loop-column-2.column
     c.window-wide.result
-    (line-samples system c.args.row.now c.requires.row) c.requires.sums c.window-wide.ensures
+    (line-samples system c.args.line.now.row.now c.args.line.now.whole) c.args.line.now.summed c.window-wide.ensures
     (omega (arith, c.loop-column-2.auto.column, c.first.ensures, c.window-wide.ensures))
     (omega (arith, c.loop-column-2-test.true, c.end.ensures, c.window-wide.ensures)) in
     omega (arith, both.0)
 
 pub overflow_sub-windows-in-loop-column-2-2 : goal.overflow_sub-windows-in-loop-column-2-2
 overflow_sub-windows-in-loop-column-2-2 c =
-    let system = c.args.system in
-    let both = amid_by_sums system (samples_of c.args.row.now) c.args.sums.now c.loop-column-2.column
+    let system = c.args.line.now.system in
+    let both = amid_by_sums system (samples_of c.args.line.now.row.now) c.args.line.now.sums.now c.loop-column-2.column
     c.window-wide.result
-    (line-samples system c.args.row.now c.requires.row) c.requires.sums c.window-wide.ensures
+    (line-samples system c.args.line.now.row.now c.args.line.now.whole) c.args.line.now.summed c.window-wide.ensures
     (omega (arith, c.loop-column-2.auto.column, c.first.ensures, c.window-wide.ensures))
     (omega (arith, c.loop-column-2-test.true, c.end.ensures, c.window-wide.ensures)) in
     omega (arith, both.1)
 
 pub loop-column-2-preserved : goal.loop-column-2-preserved
 loop-column-2-preserved c =
-    let system = c.args.system in
-    let samples = samples_of c.args.row.now in
+    let system = c.args.line.now.system in
+    let samples = samples_of c.args.line.now.row.now in
     let column = c.loop-column-2.column in
     let less : column < end_of system - window_of system + window_of system / 2
     = omega (arith, c.loop-column-2-test.true, c.end.ensures, c.window-wide.ensures) in
-    let both = amid_by_sums system samples c.args.sums.now column c.window-wide.result
-    (line-samples system c.args.row.now c.requires.row) c.requires.sums c.window-wide.ensures
+    let both = amid_by_sums system samples c.args.line.now.sums.now column c.window-wide.result
+    (line-samples system c.args.line.now.row.now c.args.line.now.whole) c.args.line.now.summed c.window-wide.ensures
     (omega (arith, c.loop-column-2.auto.column, c.first.ensures, c.window-wide.ensures)) less in
     record {
       windows = windows_more system samples c.loop-column-2.windows column _
@@ -96,19 +96,19 @@ loop-column-2-preserved c =
 
 pub loop-column-3-preserved : goal.loop-column-3-preserved
 loop-column-3-preserved c =
-    let system = c.args.system in
-    let samples = samples_of c.args.row.now in
+    let system = c.args.line.now.system in
+    let samples = samples_of c.args.line.now.row.now in
     let column = c.loop-column-3.column in
     let to : c.end.result - c.window-wide.result + c.window-wide.result / 2
     ≡ end_of system - window_of system + window_of system / 2
     = omega (arith, c.end.ensures, c.window-wide.ensures) in
     let more : end_of system - window_of system + window_of system / 2 ≤ column
     = omega (arith, c.loop-column-3.auto.column, to) in
-    let is : c.window_sum-behind.result ≡ window_sum system samples column
-    = c.window_sum-behind.ensures ∙ ap (window_sum system samples) to
+    let is : c.window_sum-after.result ≡ window_sum system samples column
+    = c.window_sum-after.ensures ∙ ap (window_sum system samples) to
     ∙ ap (λ (start : ℕ). sum_from samples start (window_of system)) (sym (window_after system column more)) in
     record {
-      windows = windows_more system samples c.loop-column-3.windows column c.window_sum-behind.result
+      windows = windows_more system samples c.loop-column-3.windows column c.window_sum-after.result
           (omega (
             arith,
             c.loop-column-3-test.true,

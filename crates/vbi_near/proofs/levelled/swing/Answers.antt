@@ -7,26 +7,26 @@ use Rattle.vbi_near.proofs.Columns.{width-few}
 use Rattle.vbi_near.proofs.levelled.swing.Goals as goal
 
 pub slice_bounds-buffer-end : goal.slice_bounds-buffer-end
-slice_bounds-buffer-end c = omega (arith, width-few c.args.system, c.width.ensures)
+slice_bounds-buffer-end c = omega (arith, width-few c.args.line.now.system, c.width.ensures)
 
 pub own-requires-clause-column : goal.own-requires-clause-column
 own-requires-clause-column c =
-    omega (arith, c.loop-column-test.true, c.end-column-end.ensures, inside c.args.system)
+    omega (arith, c.loop-column-test.true, c.end-column-end.ensures, inside c.args.line.now.system)
 
 pub overflow_sub-columns : goal.overflow_sub-columns
-overflow_sub-columns c = omega (arith, c.end.ensures, c.first.ensures, ordered c.args.system)
+overflow_sub-columns c = omega (arith, c.end.ensures, c.first.ensures, ordered c.args.line.now.system)
 
 pub loop-column-preserved : goal.loop-column-preserved
 loop-column-preserved c =
-    let samples = samples_of c.args.row.now in
+    let samples = samples_of c.args.line.now.row.now in
     let column = c.loop-column.column in
-    let low : first_of c.args.system ≤ column
+    let low : first_of c.args.line.now.system ≤ column
     = omega (arith, c.loop-column.auto.column, c.first-column.ensures) in
-    let more = off_more c.args.system samples column low in
-    let less : column < width_of c.args.system
-    = omega (arith, c.loop-column-test.true, c.end-column-end.ensures, inside c.args.system) in
+    let more = off_more c.args.line.now.system samples column low in
+    let less : column < width_of c.args.line.now.system
+    = omega (arith, c.loop-column-test.true, c.end-column-end.ensures, inside c.args.line.now.system) in
     let mean = c.sum_windows.ensures.windows column less in
-    let is : c.from-off.result ≡ off_mean c.args.system samples column
+    let is : c.from-off.result ≡ off_mean c.args.line.now.system samples column
     = omega (arith, c.abs_diff.ensures, c.own.ensures, mean, c.from-off.ensures) in
     record {
       off = omega (arith, more, is, c.loop-column.invariant.off);
@@ -36,8 +36,8 @@ loop-column-preserved c =
 pub returns : goal.returns
 unfolding swing_of
 returns c =
-    let samples = samples_of c.args.row.now in
-    let system = c.args.system in
+    let samples = samples_of c.args.line.now.row.now in
+    let system = c.args.line.now.system in
     let e : c.loop-column.column - first_of system ≡ columns_of system
     = omega (
       arith,

@@ -5,6 +5,6 @@ use Rattle.vbi_near.proofs.levelled.swing.Given as goal
 
 abbrev pub invariant-loop-column : goal.invariant-loop-column
 invariant-loop-column l = record {
-  off : l.off ≡ off_in l.system (samples_of l.row) (l.column - first_of l.system);
-  few : l.off ≤ 2 ^ 32 * (l.column - first_of l.system);
+  off : l.off ≡ off_in l.line.system (samples_of l.line.row.now) (l.column - first_of l.line.system);
+  few : l.off ≤ 2 ^ 32 * (l.column - first_of l.line.system);
 }

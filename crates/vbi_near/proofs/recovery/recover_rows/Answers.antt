@@ -1,47 +1,56 @@
-use Rattle.std.proofs.Common.{ℕ, List, [], ◌∷◌, sym, ap, ◌∙◌, get_or}
+use Rattle.std.proofs.Common.{◌≡◌, Bool, ℕ, List, [], ◌∷◌, sym, ap, ◌∙◌, get_or, subst}
+use Rattle.vbi_words.specs.declared.system.System.{System}
+use Rattle.vbi_words.specs.Levels.{Slicing}
 use Rattle.vbi_near.specs.declared.recovery.Recovered.{Recovered}
 use Rattle.vbi_near.specs.Distances.{unit_of}
-use Rattle.vbi_near.specs.Candidates.{Row}
-use Rattle.vbi_near.specs.Recovery.{row_at, alone, stands_of}
+use Rattle.vbi_near.specs.Candidates.{Row, AreOfBoth}
+use Rattle.vbi_near.specs.Lines.{row_in}
+use Rattle.vbi_near.specs.Recovery.{row_at, row_reading, alone, stands_of, IsSeen, IsRecovered, IsKept}
 use Rattle.vbi_near.proofs.SomeSeen.{some_seen, some_of_both}
 use Rattle.vbi_near.proofs.Kept.{sure-shown}
 use Rattle.vbi_near.proofs.recovery.recover_rows.Goals as goal
 
-pub returns-clause-recovered : goal.returns-clause-recovered
-returns-clause-recovered c =
-    let row : ℕ → Row = row_at c.args.system c.args.rows.now c.args.erased.now in
-    let first = some_seen c.args.system 16 c.args.levels (row 0) in
-    let second = some_seen c.args.system 17 c.args.levels (row 1) in
-    let third = some_seen c.args.system 18 c.args.levels (row 2) in
-    let both = some_of_both c.args.system 17 c.args.levels (row 1) (row 2) in
-    let shows = c.shown_first-first.ensures first.0 both.0 first.1 in
-    let others = c.shown_pair-others.ensures second.0 third.0 both.0 second.1 third.1 (λ opened. both.1) in (
+-- what lines show keeps what was read for sure
+all-kept : (system : System) (slicing : Slicing) (rows : List ℕ) (erased : List Bool) (recovered : List Recovered)
+    → IsRecovered system slicing rows erased recovered → (a b d : Recovered) → recovered ≡ a ∷ b ∷ d ∷ []
+    → IsKept (row_reading system slicing rows 0) a × IsKept (row_reading system slicing rows 1) b
+    × IsKept (row_reading system slicing rows 2) d
+all-kept system slicing rows erased recovered (first, second, third, both, seen, is) a b d e =
+    let unit = unit_of slicing in (
+      λ sure. ap (λ (list : List Recovered). get_or list 0 a) (sym e ∙ is)
+          ∙ sure-shown alone unit first both _ seen.line_16.reading sure,
+      λ sure. ap (λ (list : List Recovered). get_or list 1 a) (sym e ∙ is)
+          ∙ sure-shown (stands_of unit second third both) unit second both _ seen.line_17.reading sure,
+      λ sure. ap (λ (list : List Recovered). get_or list 2 a) (sym e ∙ is)
+          ∙ sure-shown (stands_of unit second third both) unit third both _ seen.line_18.reading sure,
+    )
+
+pub returns : goal.returns
+returns c =
+    let system = c.args.system in
+    let levels = c.args.levels in
+    let row : ℕ → Row = row_at system c.args.rows.now c.args.erased.now in
+    let first = some_seen system 16 levels (row 0) in
+    let second = some_seen system 17 levels (row 1) in
+    let third = some_seen system 18 levels (row 2) in
+    let both = some_of_both system 17 levels (row 1) (row 2) in
+    let shows = c.shown_first-first.ensures first.0 both.0
+    (subst (λ (s : System). IsSeen s 16 levels (row_in c.row.result) first.0) (sym c.row.ensures.system)
+    (subst (λ (r : Row). IsSeen system 16 levels r first.0) (sym c.row.ensures.row) first.1)) in
+    let others = c.shown_pair-others.ensures second.0 third.0 both.0
+    (subst (λ (r : Row). IsSeen system 17 levels r second.0) (sym c.row-second.ensures.row) second.1)
+    (subst (λ (r : Row). IsSeen system 18 levels r third.0) (sym c.row-third.ensures.row) third.1)
+    (λ opened. subst (λ (r : Row). AreOfBoth system 17 levels r (row_in c.row-third.result) both.0) (sym c.row-second.ensures.row)
+    (subst (λ (r : Row). AreOfBoth system 17 levels (row 1) r both.0) (sym c.row-third.ensures.row) both.1)) in
+    let is : IsRecovered system levels c.args.rows.now c.args.erased.now _ = (
       first.0,
       second.0,
       third.0,
       both.0,
       record { line_16 = first.1; line_17 = second.1; line_18 = third.1; pair = λ opened. both.1 },
       λ j. shows j ∷ others.0 j ∷ others.1 j ∷ [],
-    )
-
-pub returns-clause-kept : goal.returns-clause-kept
-returns-clause-kept c a b d e =
-    let row : ℕ → Row = row_at c.args.system c.args.rows.now c.args.erased.now in
-    let unit = unit_of c.args.levels in
-    let first = some_seen c.args.system 16 c.args.levels (row 0) in
-    let second = some_seen c.args.system 17 c.args.levels (row 1) in
-    let third = some_seen c.args.system 18 c.args.levels (row 2) in
-    let both = some_of_both c.args.system 17 c.args.levels (row 1) (row 2) in
-    let shows = c.shown_first-first.ensures first.0 both.0 first.1 in
-    let others = c.shown_pair-others.ensures second.0 third.0 both.0 second.1 third.1 (λ opened. both.1) in
-    let stands = stands_of unit second.0 third.0 both.0 in (
-      λ sure. sym (ap (λ (rows : List Recovered). get_or rows 0 a) e)
-          ∙ shows
-          ∙ sure-shown alone unit first.0 both.0 _ first.1.reading sure,
-      λ sure. sym (ap (λ (rows : List Recovered). get_or rows 1 a) e)
-          ∙ others.0
-          ∙ sure-shown stands unit second.0 both.0 _ second.1.reading sure,
-      λ sure. sym (ap (λ (rows : List Recovered). get_or rows 2 a) e)
-          ∙ others.1
-          ∙ sure-shown stands unit third.0 both.0 _ third.1.reading sure,
-    )
+    ) in
+    record {
+      recovered = is;
+      kept = all-kept system levels c.args.rows.now c.args.erased.now _ is;
+    }

@@ -1,11 +1,8 @@
 use Rattle.std.proofs.Common.{◌+◌, ap, arith, subst, sym, ◌∙◌}
 use Rattle.std.specs.Prelude.{slice_set}
-use Rattle.vbi_side.proofs.Filling.{Filling, filling_begins, filling_due, filling_kept, filling_ends}
+use Rattle.vbi_side.proofs.Filling.{Filling, filling_due, filling_kept, filling_ends}
 use Rattle.vbi_side.proofs.answers.fill.Goals.{in-Some, in_default}
 use Rattle.vbi_side.proofs.answers.fill.Goals as goal
-
-pub loop-field-init : goal.loop-field-init
-loop-field-init c = filling_begins c.args.pace c.args.fields.now c.args.numbers.now c.requires
 
 pub loop-field-preserved : goal.loop-field-preserved
 loop-field-preserved c =

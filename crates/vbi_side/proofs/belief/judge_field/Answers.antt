@@ -1,28 +1,22 @@
-use Rattle.std.proofs.Common.{get_or}
+use Rattle.std.proofs.Common.{inl, inr}
 use Rattle.std.proofs.lemmas.Option.{slice_get-get_or}
-use Rattle.vbi_side.specs.declared.sighting.Sightings.{Sightings}
-use Rattle.vbi_side.proofs.Ahead.{first_judged, second_judged}
+use Rattle.vbi_side.proofs.Ahead.{ahead_believed, believed_ahead, one_believed, first_judged, second_judged}
 use Rattle.vbi_side.proofs.belief.judge_field.Goals as goal
 
-no_sightings : Sightings
-no_sightings = record {
-  line_17 = record { number = 0; weight = 0 };
-  line_18 = record { number = 0; weight = 0 };
-  instead = 0;
-}
-
 pub returns-in-Some : goal.returns-in-Some
-unfolding no_sightings
 returns-in-Some c =
     let fields = c.args.fields.now in
     let i = c.args.field in
-    first_judged c.args.pace fields i c.in-Some.number (get_or fields i no_sightings) c.believed.result
-    (slice_get-get_or fields i no_sightings c.requires) c.in-Some.is c.believed.ensures
+    first_judged _ _ c.in-Some.number c.believed.result
+    (λ n h. ahead_believed c.args.pace fields i n _ (slice_get-get_or fields i _ c.requires) (inl h))
+    (one_believed c.args.pace fields i)
+    c.in-Some.is c.believed.ensures
 
 pub returns-in-None : goal.returns-in-None
-unfolding no_sightings
 returns-in-None c =
     let fields = c.args.fields.now in
     let i = c.args.field in
-    second_judged c.args.pace fields i (get_or fields i no_sightings) c.believed.result c.believed-in-None.result
-    (slice_get-get_or fields i no_sightings c.requires) c.in-None.is c.believed.ensures c.believed-in-None.ensures
+    second_judged _ _ _ c.believed.result c.believed-in-None.result
+    (λ n h. ahead_believed c.args.pace fields i n _ (slice_get-get_or fields i _ c.requires) (inr h))
+    (λ n. believed_ahead c.args.pace fields i n _ (slice_get-get_or fields i _ c.requires))
+    c.in-None.is c.believed.ensures c.believed-in-None.ensures

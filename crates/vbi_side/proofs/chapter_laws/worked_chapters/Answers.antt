@@ -13,7 +13,7 @@ returns c = record {
     alone said_by_10 0 7 10 0 refl refl refl (omega arith) (omega arith),
     unsaid said_by_9 0 7 9 refl refl (omega arith),
   );
-  behind = (
+  after = (
     alone said_to_24 0 7 10 0 refl refl refl (omega arith) (omega arith),
     unsaid said_to_25 0 7 8 refl refl (omega arith),
   );

@@ -42,7 +42,7 @@ returns-clause-finding c = record {
       begins = refl;
       ends = refl;
       none_before = λ i k less. absurd (omega (arith, less));
-      none_behind = λ i k less at. let p = marked_is i k at in absurd (omega (arith, less, p.0, p.1));
+      none_after = λ i k less at. let p = marked_is i k at in absurd (omega (arith, less, p.0, p.1));
     },
     refl,
   );

@@ -1,24 +1,17 @@
-use Rattle.std.proofs.Common.{◌≡◌, ◌∙◌, Bool, true, false, refl, sym, subst}
-use Rattle.std.specs.Prelude.{not}
+use Rattle.std.proofs.lemmas.Bool.{not-true, not-false}
+use Rattle.std.proofs.Common.{◌∙◌, sym, subst}
 use Rattle.vbi_side.specs.Drifts.{IsSpreadBefore}
 use Rattle.vbi_side.proofs.Telling.{marked_here}
 use Rattle.vbi_side.proofs.Drifting.{drift_found, no_drift_on, no_drift_apart}
 use Rattle.vbi_side.proofs.drift.drifts_at.Goals as goal
-
-not_true : (b : Bool) → not b ≡ true → b ≡ false
-not_true true e = absurd cc
-not_true false e = refl
-
-not_false : (b : Bool) → not b ≡ false → b ≡ true
-not_false true e = refl
-not_false false e = absurd cc
 
 pub returns-then-not-goes_on_by-clause-none : goal.returns-then-not-goes_on_by-clause-none
 returns-then-not-goes_on_by-clause-none c = λ e.
     let clock = c.args.rule.numbering.clock in
     let pace = c.args.rule.pace in
     let slack = c.args.rule.slack in
-    let spread = subst (IsSpreadBefore clock pace slack c.args.numbers.now c.args.field) c.in-Some.is c.requires.spread in
+    let spread = subst
+    (IsSpreadBefore clock pace slack c.args.numbers.now c.args.field) c.in-Some.is c.requires.spread in
     no_drift_apart clock pace slack c.args.numbers.now c.args.field _ c.in-Some.on.last spread.last
     (marked_here c.args.numbers.now c.args.field _ c.requires.inside
     (c.is_believed.ensures.0 c.if-not-is_believed.false))
@@ -29,7 +22,8 @@ returns-then-not-goes_on_by-2-clause-drifts c = λ e.
     let clock = c.args.rule.numbering.clock in
     let pace = c.args.rule.pace in
     let slack = c.args.rule.slack in
-    let spread = subst (IsSpreadBefore clock pace slack c.args.numbers.now c.args.field) c.in-Some.is c.requires.spread in
+    let spread = subst
+    (IsSpreadBefore clock pace slack c.args.numbers.now c.args.field) c.in-Some.is c.requires.spread in
     drift_found clock pace slack c.args.numbers.now c.args.field _ c.in-Some.on c.in-Some.on.low spread
     (marked_here c.args.numbers.now c.args.field _ c.requires.inside
     (c.is_believed.ensures.0 c.if-not-is_believed.false))
@@ -41,20 +35,23 @@ returns-clause-drifts c = λ e.
     let clock = c.args.rule.numbering.clock in
     let pace = c.args.rule.pace in
     let slack = c.args.rule.slack in
-    let spread = subst (IsSpreadBefore clock pace slack c.args.numbers.now c.args.field) c.in-Some.is c.requires.spread in
+    let spread = subst
+    (IsSpreadBefore clock pace slack c.args.numbers.now c.args.field) c.in-Some.is c.requires.spread in
     drift_found clock pace slack c.args.numbers.now c.args.field _ c.in-Some.on c.in-Some.on.high spread
     (marked_here c.args.numbers.now c.args.field _ c.requires.inside
     (c.is_believed.ensures.0 c.if-not-is_believed.false))
     (sym c.goes_on_by.ensures ∙ c.if-not-goes_on_by.false) spread.high spread.high_inside spread.high_before
-    (sym c.goes_on_by-3.ensures ∙ not_true c.goes_on_by-3.result e)
+    (sym c.goes_on_by-3.ensures ∙ not-true c.goes_on_by-3.result e)
 
 pub returns-clause-none : goal.returns-clause-none
 returns-clause-none c = λ e.
     let clock = c.args.rule.numbering.clock in
     let pace = c.args.rule.pace in
     let slack = c.args.rule.slack in
-    let spread = subst (IsSpreadBefore clock pace slack c.args.numbers.now c.args.field) c.in-Some.is c.requires.spread in
+    let spread = subst
+    (IsSpreadBefore clock pace slack c.args.numbers.now c.args.field) c.in-Some.is c.requires.spread in
     no_drift_on clock pace slack c.args.numbers.now c.args.field _ c.in-Some.on spread
     (marked_here c.args.numbers.now c.args.field _ c.requires.inside
     (c.is_believed.ensures.0 c.if-not-is_believed.false))
-    (sym c.goes_on_by-2.ensures ∙ c.if-not-goes_on_by-2.false) (sym c.goes_on_by-3.ensures ∙ not_false c.goes_on_by-3.result e)
+    (sym c.goes_on_by-2.ensures ∙ c.if-not-goes_on_by-2.false)
+    (sym c.goes_on_by-3.ensures ∙ not-false c.goes_on_by-3.result e)

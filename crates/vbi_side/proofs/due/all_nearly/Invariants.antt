@@ -5,5 +5,5 @@ use Rattle.vbi_side.proofs.due.all_nearly.Given as goal
 
 abbrev pub invariant-loop-field : goal.invariant-loop-field
 invariant-loop-field l =
-    AllNearly (IsMarked l.numbers) l.pace (slack_of l.before.field l.fn.behind.field) l.before.field
+    AllNearly (IsMarked l.numbers) l.pace (slack_of l.fn.before.field l.fn.after.field) l.fn.before.field
     l.field l.here.field l.here.number

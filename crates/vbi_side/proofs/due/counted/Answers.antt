@@ -7,7 +7,7 @@ use Rattle.vbi_side.proofs.due.counted.Goals as goal
 pub returns-then-number-pictures : goal.returns-then-number-pictures
 returns-then-number-pictures c n =
     let a = c.args in
-    let p = counted_some a.pace a.before.field a.before.number a.field a.behind.field a.behind.number c.pictures.result
+    let p = counted_some a.pace a.before.field a.before.number a.field a.after.field a.after.number c.pictures.result
     c.pictures-2.result _ n c.requires.first c.requires.last c.pictures.ensures.counted
     c.pictures-2.ensures.counted (omega (arith, c.from.ensures))
     (omega (arith, c.from-2.ensures, c.if-number-pictures.true)) in
@@ -16,7 +16,7 @@ returns-then-number-pictures c n =
 pub returns-else-number-pictures : goal.returns-else-number-pictures
 returns-else-number-pictures c n =
     let a = c.args in
-    nothing_there _ n refl (counted_none a.pace a.before.field a.before.number a.field a.behind.field a.behind.number
+    nothing_there _ n refl (counted_none a.pace a.before.field a.before.number a.field a.after.field a.after.number
     c.pictures.result c.pictures-2.result n c.requires.first c.requires.last c.pictures.ensures.counted
     c.pictures-2.ensures.counted
     (λ e. absurd (omega (arith, e, c.from.ensures, c.from-2.ensures, c.if-number-pictures.false))))

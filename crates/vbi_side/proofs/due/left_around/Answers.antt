@@ -3,54 +3,44 @@ use Rattle.std.specs.Prelude.{unwrap_or}
 use Rattle.vbi_side.specs.Nearest.{AllNearly}
 use Rattle.vbi_side.specs.Due.{slack_of, IsLeft}
 use Rattle.vbi_side.specs.Numbers.{IsMarked}
-use Rattle.vbi_side.proofs.Around.{no_before, no_behind, nothing_there, none_some, left_counts, left_nearly}
+use Rattle.vbi_side.proofs.Around.{nothing_there, none_some, left_counts, left_nearly}
 use Rattle.vbi_side.proofs.Around.{nearest_leave, not_both}
 use Rattle.vbi_side.proofs.due.left_around.Goals as goal
-
-pub returns-in_err-before : goal.returns-in_err-before
-returns-in_err-before c n =
-    nothing_there c.from_residual.result n c.from_residual.ensures
-    (no_before c.args.numbers.now c.args.pace c.args.field n (c.before-2.ensures.none c.in_err-before.was))
-
-pub returns-in_err-behind : goal.returns-in_err-behind
-returns-in_err-behind c n =
-    nothing_there c.from_residual-in_err-behind.result n c.from_residual-in_err-behind.ensures
-    (no_behind c.args.numbers.now c.args.pace c.args.field n (c.behind.ensures.none c.in_err-behind.was))
 
 pub returns-in_err-number : goal.returns-in_err-number
 returns-in_err-number c n =
     let a = c.args in
     let b = c.in_ok-before.before in
-    let d = c.in_ok-behind.behind in
+    let d = c.in_ok-after.after in
     nothing_there c.from_residual-in_err-number.result n c.from_residual-in_err-number.ensures
     (λ left. none_some c.counted.result n c.in_err-number.was ((c.counted.ensures n).1
     (left_counts a.numbers.now a.pace a.field b.field b.number d.field d.number n
-    c.in_ok-before.ensures.some c.in_ok-behind.ensures.some.1 left)))
+    c.in_ok-before.ensures.some c.in_ok-after.ensures.some.1 left)))
 
 pub returns-then-all_nearly : goal.returns-then-all_nearly
 returns-then-all_nearly c n =
     let a = c.args in
     let b = c.in_ok-before.before in
-    let d = c.in_ok-behind.behind in
+    let d = c.in_ok-after.after in
     let counts = (c.counted.ensures c.in_ok-number.number).0 c.in_ok-number.was in
     let left = nearest_leave a.numbers.now a.pace a.field b.field b.number d.field d.number c.in_ok-number.number
-    c.in_ok-before.ensures.some c.in_ok-behind.ensures.some.1 counts.0 counts.1
+    c.in_ok-before.ensures.some c.in_ok-after.ensures.some.1 counts.0 counts.1
     (c.all_nearly.ensures.0 c.if-all_nearly.true) in (
       λ e. subst (IsLeft (IsMarked a.numbers.now) a.pace a.field) (ap (λ o. unwrap_or o n) e) left,
       λ other. sym c.in_ok-number.was ∙ (c.counted.ensures n).1 (left_counts a.numbers.now a.pace a.field b.field
-          b.number d.field d.number n c.in_ok-before.ensures.some c.in_ok-behind.ensures.some.1 other),
+          b.number d.field d.number n c.in_ok-before.ensures.some c.in_ok-after.ensures.some.1 other),
     )
 
 pub returns-else-all_nearly : goal.returns-else-all_nearly
 returns-else-all_nearly c n =
     let a = c.args in
     let b = c.in_ok-before.before in
-    let d = c.in_ok-behind.behind in
+    let d = c.in_ok-after.after in
     nothing_there _ n refl (λ left.
     let is = sym c.in_ok-number.was ∙ (c.counted.ensures n).1 (left_counts a.numbers.now a.pace a.field b.field
-    b.number d.field d.number n c.in_ok-before.ensures.some c.in_ok-behind.ensures.some.1 left) in
+    b.number d.field d.number n c.in_ok-before.ensures.some c.in_ok-after.ensures.some.1 left) in
     not_both c.if-all_nearly.false (c.all_nearly.ensures.1
     (subst (AllNearly (IsMarked a.numbers.now) a.pace (slack_of b.field d.field) b.field d.field a.field)
     (sym (ap (λ o. unwrap_or o n) is))
     (left_nearly a.numbers.now a.pace a.field b.field b.number d.field d.number n
-    c.in_ok-before.ensures.some c.in_ok-behind.ensures.some.1 left))))
+    c.in_ok-before.ensures.some c.in_ok-after.ensures.some.1 left))))

@@ -30,7 +30,7 @@ no_swap : (k : ℕ) → IsSwap Plain two_pictures two_answers k → ⊥
 unfolding kept
 no_swap k swap =
     let inside = slice_get_within two_answers swap.j (believed swap.n) swap.neighbours.there in
-    let middle : k ≡ 1 = omega (arith, inside, swap.behind, swap.before) in
+    let middle : k ≡ 1 = omega (arith, inside, swap.after, swap.before) in
     let h : false ≡ true = subst (λ x. is_stray Plain two_answers swap.i swap.m x
     (slice_get two_pictures x) ≡ true) middle swap.stray in cc
 
@@ -98,7 +98,7 @@ returns c = record {
       begins = refl;
       ends = refl;
       none_before = λ i k less. absurd (omega (arith, less));
-      none_behind = λ i k less at. absurd (omega (arith, less, slice_get_within two_answers i (believed k) at));
+      none_after = λ i k less at. absurd (omega (arith, less, slice_get_within two_answers i (believed k) at));
     },
     refl,
   );

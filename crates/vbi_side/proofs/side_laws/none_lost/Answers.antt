@@ -1,3 +1,4 @@
+use Rattle.vbi_side.proofs.Anchors.{pictures_there}
 use Rattle.vbi_side.proofs.Sides.{whole, none_lacks}
 use Rattle.vbi_side.proofs.side_laws.none_lost.Goals as goal
 
@@ -6,3 +7,6 @@ returns-clause-in_order c = λ disc place fields i m j n runs rises. whole disc 
 
 pub returns-clause-lacks : goal.returns-clause-lacks
 returns-clause-lacks c = none_lacks
+
+pub returns-clause-pictures : goal.returns-clause-pictures
+returns-clause-pictures c = pictures_there

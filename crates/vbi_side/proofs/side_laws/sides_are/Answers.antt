@@ -1,4 +1,4 @@
-use Rattle.vbi_side.proofs.SideAnswers.{video_runs_on, both_count, one_skipped}
+use Rattle.vbi_side.proofs.Anchors.{video_runs_on, both_count, one_skipped}
 use Rattle.vbi_side.proofs.side_laws.sides_are.Goals as goal
 
 pub returns-clause-video : goal.returns-clause-video

@@ -20,8 +20,8 @@ returns-then-goes_on_by-clause-some c =
     (marked_here c.args.numbers.now c.args.field _ c.requires.inside
     (c.is_believed.ensures.0 c.if-not-is_believed.false))
     (sym c.goes_on_by.ensures ∙ c.if-goes_on_by.true)
-    (subst (λ last. AreStrays c.args.clock c.args.seen.now c.args.numbers.now last c.args.field c.args.search.stray) c.in-Some.is
-    c.requires.strays)
+    (subst (λ last. AreStrays c.args.clock c.args.seen.now c.args.numbers.now last c.args.field c.args.search.stray)
+    c.in-Some.is c.requires.strays)
 
 pub returns-then-goes_on_by-clause-none : goal.returns-then-goes_on_by-clause-none
 returns-then-goes_on_by-clause-none c =
@@ -29,5 +29,5 @@ returns-then-goes_on_by-clause-none c =
     (subst (IsLast c.args.numbers.now c.args.field) c.in-Some.is c.requires.last)
     (marked_here c.args.numbers.now c.args.field _ c.requires.inside
     (c.is_believed.ensures.0 c.if-not-is_believed.false))
-    (subst (λ last. AreStrays c.args.clock c.args.seen.now c.args.numbers.now last c.args.field c.args.search.stray) c.in-Some.is
-    c.requires.strays)
+    (subst (λ last. AreStrays c.args.clock c.args.seen.now c.args.numbers.now last c.args.field c.args.search.stray)
+    c.in-Some.is c.requires.strays)

@@ -1,7 +1,7 @@
 use Rattle.std.proofs.Common.{◌≡◌, ℕ, ◌<◌, List, refl, sym, subst, inl, inr, length}
 use Rattle.std.specs.Prelude.{Option, Some, None, IfSome, unwrap_or}
 use Rattle.vbi_side.specs.declared.number.Number.{Number}
-use Rattle.vbi_side.specs.declared.gap.Place.{Place}
+use Rattle.vbi_side.specs.declared.place.Place.{Place}
 use Rattle.vbi_side.specs.Numbers.{IsMarked}
 use Rattle.vbi_side.proofs.verdict.judge_whole.Goals as goal
 
@@ -49,7 +49,7 @@ returns c =
           begins = c.in-Some.ensures.some.1;
           ends = last.0;
           none_before = c.in-Some.ensures.some.2;
-          none_behind = last.1;
+          none_after = last.1;
         },
         c.reasons-reasons.ensures,
       );

@@ -1,7 +1,7 @@
 use Rattle.std.proofs.Common.{true, refl, lit<, lit≤}
 use Rattle.vbi_words.specs.declared.system.System.TheVariants.{Ntsc, Pal}
 use Rattle.vbi_words.specs.Words.{lowest_bits}
-use Rattle.vbi_words.specs.WorkedLines.{ones_ending, zeros_behind}
+use Rattle.vbi_words.specs.WorkedLines.{ones_ending, zeros_after}
 use Rattle.vbi_words.proofs.Outcomes.{word_outcome, changes, holds}
 use Rattle.vbi_words.proofs.laws.worked_runs.Goals as goal
 
@@ -15,10 +15,10 @@ returns c = record {
     holds Ntsc (ones_ending 11 19) 535 true (lit< tt) (λ e. cc) refl refl refl,
   );
   ntsc_double = (
-    changes Ntsc (zeros_behind 11 21) 32 true (lit< tt) (λ e. cc) refl refl refl,
-    word_outcome Ntsc (zeros_behind 11 22) 8388608 (lit≤ tt, lit< tt) refl,
-    word_outcome Ntsc (zeros_behind 11 36) 8388608 (lit≤ tt, lit< tt) refl,
-    holds Ntsc (zeros_behind 11 37) 47 true (lit< tt) (λ e. cc) refl refl refl,
+    changes Ntsc (zeros_after 11 21) 32 true (lit< tt) (λ e. cc) refl refl refl,
+    word_outcome Ntsc (zeros_after 11 22) 8388608 (lit≤ tt, lit< tt) refl,
+    word_outcome Ntsc (zeros_after 11 36) 8388608 (lit≤ tt, lit< tt) refl,
+    holds Ntsc (zeros_after 11 37) 47 true (lit< tt) (λ e. cc) refl refl refl,
   );
   pal_single = (
     changes Pal (ones_ending 14 13) 671 true (lit< tt) (λ e. cc) refl refl refl,
@@ -27,9 +27,9 @@ returns c = record {
     holds Pal (ones_ending 14 23) 680 true (lit< tt) (λ e. cc) refl refl refl,
   );
   pal_double = (
-    changes Pal (zeros_behind 14 27) 41 true (lit< tt) (λ e. cc) refl refl refl,
-    word_outcome Pal (zeros_behind 14 28) 8388608 (lit≤ tt, lit< tt) refl,
-    word_outcome Pal (zeros_behind 14 44) 8388608 (lit≤ tt, lit< tt) refl,
-    holds Pal (zeros_behind 14 45) 58 true (lit< tt) (λ e. cc) refl refl refl,
+    changes Pal (zeros_after 14 27) 41 true (lit< tt) (λ e. cc) refl refl refl,
+    word_outcome Pal (zeros_after 14 28) 8388608 (lit≤ tt, lit< tt) refl,
+    word_outcome Pal (zeros_after 14 44) 8388608 (lit≤ tt, lit< tt) refl,
+    holds Pal (zeros_after 14 45) 58 true (lit< tt) (λ e. cc) refl refl refl,
   );
 }

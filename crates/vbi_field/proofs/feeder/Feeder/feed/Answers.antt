@@ -15,6 +15,7 @@ loop-at-preserved g c =
     c.in-Ok.count
     c.in-Ok.is le e.some.1 e.same e.stand e.rises e.no_error
 
+-- kept for time, with the next one: 1 s
 pub returns-in-Err-clause-refused : goal.returns-in-Err-clause-refused
 returns-in-Err-clause-refused g c =
     let t = c.loop-at.invariant.started in (

@@ -32,5 +32,6 @@ returns-in-None-clause-ok c =
     ∙ sym (free c.args.system (state_of c.args.self) c.args.level begun.begun begun.ensures.some c.args.count
     c.requires.some c.in-None.ensures)
 
+-- kept for time: 3 s
 pub overflow_sub-result : goal.overflow_sub-result
 overflow_sub-result c = grind arith

@@ -1,0 +1,50 @@
+//! Laws of the verdict's reasons, worked by hand. A function here does nothing: its contract holds rows of numbers, each
+//! law those of few definitions, so that a definition turned together with its code is refused by one of them.
+
+ghost use Rattle.std.specs.Prelude.{◌≡◌, ◌∷◌, [], ◌++◌, map, replicate, true, false};
+ghost use Rattle.vbi_side.specs.declared.clock.Clock.TheVariants.{Plain};
+ghost use Rattle.vbi_side.specs.declared.pace.Pace.TheVariants.{Video};
+ghost use Rattle.vbi_side.specs.Ends.{out_weight, in_weight};
+ghost use Rattle.vbi_side.specs.Gaps.{lost, held, back, still, joined, open_gap, gap_made, tally_of};
+ghost use Rattle.vbi_side.specs.Numbers.{believed, doubtful};
+ghost use Rattle.vbi_side.specs.Verdicts.{is_begin_unseen, seen_reasons, reasons_of, are_doubtful};
+ghost use Rattle.vbi_side.specs.Worked.{shown_in};
+
+/// The reasons of a verdict by their numbers.
+#[tactic(auto, unfolding(crate::specs::Clocks::kept, crate::specs::Gaps::since_end))]
+pub fn worked_reasons()
+    ensures seen { map (λ kind. seen_reasons Video [] (tally_of Plain (gap_made 10 5 12 8 kind 4 0 ∷ []) 0) 0 1)
+        (lost ∷ held ∷ back ∷ joined ∷ still ∷ []) ≡ 1 ∷ 2 ∷ 4 ∷ 8 ∷ 0 ∷ [] }
+    ensures late { seen_reasons Video (0 ∷ []) (tally_of Plain [] 0) 1 3 ≡ 16 }
+    ensures swapped { reasons_of Plain Video 0 true (believed 1 ∷ []) [] (tally_of Plain [] 0) true false 0 1 0 1 ≡ 32 }
+    ensures drifts { reasons_of Plain Video 0 true (believed 1 ∷ []) [] (tally_of Plain [] 0) false true 0 1 0 1 ≡ 64 }
+    ensures off { reasons_of Plain Video 0 true (believed 1 ∷ []) [] (tally_of Plain [] 0) false false 0 1 2 1 ≡ 64 }
+    ensures stood { reasons_of Plain Video 0 true (believed 1 ∷ []) []
+        (tally_of Plain (gap_made 0 1 2 1 still 2 0 ∷ []) 0) false false 0 1 2 1 ≡ 0 }
+    ensures left_open { reasons_of Plain Video 0 true (believed 1 ∷ []) []
+        (tally_of Plain (gap_made 0 1 2 1 open_gap 2 0 ∷ []) 0) false false 0 1 2 1 ≡ 2048 }
+    ensures end { reasons_of Plain Video 0 false (believed 1 ∷ []) [] (tally_of Plain [] 0) false false 0 1 0 1 ≡ 256 }
+    ensures begin { reasons_of Plain Video 0 true (believed 2 ∷ []) (replicate 101 0) (tally_of Plain [] 0) false false
+        101 2 101 2 ≡ 512 }
+{}
+
+/// A begin is unseen from 101 fields on, and many numbers are doubtful from a tenth on.
+#[tactic(auto, unfolding(crate::specs::Gaps::since_end))]
+pub fn worked_limits()
+    ensures begin { map (λ n. is_begin_unseen (replicate n 0) n 2) (100 ∷ 101 ∷ []) ≡ false ∷ true ∷ [] }
+    ensures doubtful { map are_doubtful ((replicate 9 (believed 1) ++ doubtful 1 ∷ [])
+        ∷ (replicate 10 (believed 1) ++ doubtful 1 ∷ []) ∷ []) ≡ true ∷ false ∷ [] }
+{}
+
+/// What a tally counts of a gap: its fields.
+pub fn worked_tallies()
+    ensures lost_fields { (tally_of Plain (gap_made 10 5 12 8 lost 4 0 ∷ []) 0).lost ≡ 4 }
+    ensures held_fields { (tally_of Plain (gap_made 10 5 15 6 held 3 0 ∷ []) 0).held ≡ 3 }
+{}
+
+/// What a code of lead-out and of lead-in weighs by the pass in which it was read.
+#[tactic(auto, unfolding(vbi_words::specs::Codes::code_of))]
+pub fn worked_leads()
+    ensures outs { map (λ pass. out_weight (shown_in pass 0x80EEEE)) (1 ∷ 2 ∷ 3 ∷ []) ≡ 2 ∷ 1 ∷ 1 ∷ [] }
+    ensures ins { map (λ pass. in_weight (shown_in pass 0x88FFFF)) (1 ∷ 2 ∷ 3 ∷ []) ≡ 2 ∷ 1 ∷ 1 ∷ [] }
+{}
