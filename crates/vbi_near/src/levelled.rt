@@ -19,7 +19,7 @@ ghost use Rattle.std.specs.Prelude.{IsFalse};
 ghost use Rattle.vbi_words.specs.Geometry.{width_of, line_bytes};
 ghost use Rattle.vbi_words.specs.Levels.{samples_of};
 ghost use Rattle.vbi_line.specs.Line.{sample_at};
-ghost use Rattle.vbi_near.specs.Levelled.{window_of, first_of, end_of, window_start, window_sum, swing_of, is_swing};
+ghost use Rattle.vbi_near.specs.Levelled.{window_of, first_of, end_of, window_start, sum_from, window_sum, swing_of, is_swing};
 ghost use Rattle.vbi_near.specs.Levelled.{middle_of, levelled_sample, levelled, filled, AreSampleSums, AreWindows};
 
 use crate::near::WIDEST;
@@ -142,13 +142,21 @@ pub(crate) fn sum_samples(system: System, row: &[u8], sums: &mut [u32])
     }
 }
 
-/// The sum of the window of a column.
+/// The sum of the window that begins in a column.
 #[inline(always)]
+fn sum_from(line: &Summed, start: usize) -> u32
+    requires { start + window_of line.now.system ≤ width_of line.now.system }
+    ensures { result ≡ sum_from (samples_of line.now.row.now) start (window_of line.now.system) }
+{
+    line.sums[start + window(line.system) as usize] - line.sums[start]
+}
+
+/// The sum of the window of a column.
+#[tactic(auto, using(crate::proofs::Levelling::window_inside))]
 fn window_sum(line: &Summed, column: usize) -> u32
     ensures { result ≡ window_sum line.now.system (samples_of line.now.row.now) column }
 {
-    let start = window_start(line.system, column);
-    line.sums[start + window(line.system) as usize] - line.sums[start]
+    sum_from(line, window_start(line.system, column))
 }
 
 /// A sample times the columns of a window.
@@ -164,13 +172,13 @@ fn own(system: System, row: &[u8], column: usize) -> u32
 /// Writes for each column the sum of its window.
 // First the windows begin where the first one does, then half a window before their columns, at last where the last one
 // does: a loop for each, of which a compiler makes vectors.
+#[tactic(auto, using(crate::proofs::Levelling::ordered_windows, crate::proofs::Levelling::window_inside))]
 fn sum_windows(line: &Summed, windows: &mut [u32])
     requires room { length windows.old ≡ width_of line.now.system }
     ensures windows { AreWindows line.now.system (samples_of line.now.row.now) windows.new }
     ensures long { length windows.new ≡ length windows.old }
 {
     let system = line.system;
-    let sums = line.sums;
     let wide = window(system) as usize;
     let half = wide / 2;
     let from = first(system) + half;
@@ -181,7 +189,7 @@ fn sum_windows(line: &Summed, windows: &mut [u32])
         windows[column] = before;
     }
     for column in from..to {
-        windows[column] = sums[column - half + wide] - sums[column - half];
+        windows[column] = sum_from(line, column - half);
     }
     for column in to..system.width() {
         windows[column] = after;

@@ -1,37 +1,9 @@
 use Rattle.std.proofs.Common.{◌≡◌, ℕ, ◌+◌, ◌-◌, ◌/◌, ◌≤◌, ◌<◌, ap, ◌∙◌, sym, arith}
 use Rattle.vbi_words.specs.Levels.{samples_of}
-use Rattle.vbi_near.specs.Levelled.{window_of, first_of, end_of, sum_from, window_sum}
-use Rattle.vbi_near.proofs.Counting.{line-samples}
-use Rattle.vbi_near.proofs.Levelling.{windows_more, window_before, window_after, amid_by_sums, ordered_windows}
-use Rattle.vbi_near.proofs.Levelling.{wide-fits}
+use Rattle.vbi_near.specs.Levelled.{window_of, first_of, end_of, window_start, sum_from, window_sum}
+use Rattle.vbi_near.proofs.Levelling.{windows_more, window_before, window_amid, window_after, ordered_windows}
+use Rattle.vbi_near.proofs.Levelling.{window_inside}
 use Rattle.vbi_near.proofs.levelled.sum_windows.Goals as goal
-
-pub overflow_sub-to : goal.overflow_sub-to
-overflow_sub-to c = omega (arith, wide-fits c.args.line.now.system, c.end.ensures, c.window-wide.ensures)
-
-pub bounds-windows-column : goal.bounds-windows-column
-bounds-windows-column c =
-    omega (
-      arith,
-      c.loop-column-test.true,
-      c.loop-column.auto.windows,
-      c.first.ensures,
-      c.window-wide.ensures,
-      ordered_windows c.args.line.now.system,
-      c.requires.room,
-    )
-
-pub bounds-windows-column-in-loop-column-2 : goal.bounds-windows-column-in-loop-column-2
-bounds-windows-column-in-loop-column-2 c =
-    omega (
-      arith,
-      c.loop-column-2-test.true,
-      c.loop-column-2.auto.windows,
-      c.end.ensures,
-      c.window-wide.ensures,
-      ordered_windows c.args.line.now.system,
-      c.requires.room,
-    )
 
 pub loop-column-preserved : goal.loop-column-preserved
 loop-column-preserved c =
@@ -50,33 +22,17 @@ loop-column-preserved c =
           c.loop-column.invariant.windows;
     }
 
-pub bounds-sums-column : goal.bounds-sums-column
-bounds-sums-column c =
+pub sum_from-requires : goal.sum_from-requires
+sum_from-requires c =
     let system = c.args.line.now.system in
-    (amid_by_sums system (samples_of c.args.line.now.row.now) c.args.line.now.sums.now c.loop-column-2.column c.window-wide.result
-    (line-samples system c.args.line.now.row.now c.args.line.now.whole) c.args.line.now.summed c.window-wide.ensures
-    (omega (arith, c.loop-column-2.auto.column, c.first.ensures, c.window-wide.ensures))
-    (omega (arith, c.loop-column-2-test.true, c.end.ensures, c.window-wide.ensures))).0
-
-pub bounds-sums-column-in-loop-column-2 : goal.bounds-sums-column-in-loop-column-2
-bounds-sums-column-in-loop-column-2 c =
-    let system = c.args.line.now.system in
-    let both = amid_by_sums system (samples_of c.args.line.now.row.now) c.args.line.now.sums.now c.loop-column-2.column
-    c.window-wide.result
-    (line-samples system c.args.line.now.row.now c.args.line.now.whole) c.args.line.now.summed c.window-wide.ensures
-    (omega (arith, c.loop-column-2.auto.column, c.first.ensures, c.window-wide.ensures))
-    (omega (arith, c.loop-column-2-test.true, c.end.ensures, c.window-wide.ensures)) in
-    omega (arith, both.0)
-
-pub overflow_sub-windows-in-loop-column-2-2 : goal.overflow_sub-windows-in-loop-column-2-2
-overflow_sub-windows-in-loop-column-2-2 c =
-    let system = c.args.line.now.system in
-    let both = amid_by_sums system (samples_of c.args.line.now.row.now) c.args.line.now.sums.now c.loop-column-2.column
-    c.window-wide.result
-    (line-samples system c.args.line.now.row.now c.args.line.now.whole) c.args.line.now.summed c.window-wide.ensures
-    (omega (arith, c.loop-column-2.auto.column, c.first.ensures, c.window-wide.ensures))
-    (omega (arith, c.loop-column-2-test.true, c.end.ensures, c.window-wide.ensures)) in
-    omega (arith, both.1)
+    omega (
+      arith,
+      window_inside system c.loop-column-2.column,
+      window_amid system c.loop-column-2.column
+          (omega (arith, c.loop-column-2.auto.column, c.first.ensures, c.window-wide.ensures))
+          (omega (arith, c.loop-column-2-test.true, c.end.ensures, c.window-wide.ensures)),
+      c.window-wide.ensures,
+    )
 
 pub loop-column-2-preserved : goal.loop-column-2-preserved
 loop-column-2-preserved c =
@@ -85,13 +41,15 @@ loop-column-2-preserved c =
     let column = c.loop-column-2.column in
     let less : column < end_of system - window_of system + window_of system / 2
     = omega (arith, c.loop-column-2-test.true, c.end.ensures, c.window-wide.ensures) in
-    let both = amid_by_sums system samples c.args.line.now.sums.now column c.window-wide.result
-    (line-samples system c.args.line.now.row.now c.args.line.now.whole) c.args.line.now.summed c.window-wide.ensures
-    (omega (arith, c.loop-column-2.auto.column, c.first.ensures, c.window-wide.ensures)) less in
+    let start : column - c.window-wide.result / 2 ≡ window_start system column
+    = ap (λ (n : ℕ). column - n / 2) c.window-wide.ensures
+    ∙ sym (window_amid system column
+    (omega (arith, c.loop-column-2.auto.column, c.first.ensures, c.window-wide.ensures)) less) in
     record {
-      windows = windows_more system samples c.loop-column-2.windows column _
+      windows = windows_more system samples c.loop-column-2.windows column c.sum_from.result
           (omega (arith, less, c.loop-column-2.auto.windows, c.requires.room, ordered_windows system))
-          (omega (arith, both.1)) c.loop-column-2.invariant.windows;
+          (c.sum_from.ensures ∙ ap (λ (n : ℕ). sum_from samples n (window_of system)) start)
+          c.loop-column-2.invariant.windows;
     }
 
 pub loop-column-3-preserved : goal.loop-column-3-preserved
