@@ -217,3 +217,8 @@ right_elected recorded minute fields i part m voted =
       majority = omega (arith, voted.most, for, all_votes recorded minute fields i part);
       some = omega (arith, voted.some, for);
     }
+
+-- what elects a number rightly elects no other (vbi_c cites it)
+pub rightly_soundly : (recorded : ℕ → Option ℕ) (minute : ℕ) (fields : List Sightings) (i part m : ℕ)
+    → IsVotedRightly recorded minute fields i part m → IsVotedSoundly recorded minute fields i part m
+rightly_soundly recorded minute fields i part m voted = record { runs = voted.runs; few = inl voted.most }

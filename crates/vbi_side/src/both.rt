@@ -120,8 +120,8 @@ fn turns(numbers: &[Number]) -> Steps
 }
 
 /// Whether numbers stand on both fields of a picture: a quarter or more of those that follow another one stand an odd
-/// count of fields after it. If all fields are read, half of them do, and of a worn disc fewer; without numbers on both
-/// fields it takes a lost field for each.
+/// count of fields after it. On such a disc all do if all fields are read, and the fewer the more fields are worn; on
+/// another one each takes a lost field.
 pub fn is_on_both(numbers: &[Number]) -> bool
     ensures { result ≡ is_on_both numbers.now }
 {

@@ -7,11 +7,14 @@
 //!
 //! It takes three explained places, since one or two may be losses that fall where the clock would leave a number out,
 //! and at least twice as many as are opposed. Of a disc without a clock, and if clocks explain as much, it is the one
-//! that the rule has. vbi_c judges sides without a clock; what it costs to change a bound is in
-//! `specs/ClocksFound.antt`, the laws of `clock_laws`, include/ldvbi.h and rule 9 of docs/SIDES.md.
+//! that the rule has.
+//!
+//! gaps.rt has the pass and gap.rt the test whether two numbers go on; clock.rt says what each clock leaves out. Another
+//! bound, or a clock more, changes `specs/ClocksFound.antt` and the contract of `find_clock`.
 
-ghost use Rattle.std.specs.Prelude.{◌≡◌, ◌+◌, ◌*◌, ◌<◌, ◌≤◌, ◌^◌, ◌↔◌, ◌⊎◌, true, length};
+ghost use Rattle.std.specs.Prelude.{◌≡◌, ◌+◌, ◌*◌, ◌<◌, ◌≤◌, ◌^◌, ◌↔◌, ◌⊎◌, true, length, List};
 ghost use Rattle.vbi_side.specs.declared.clock.Clock.TheVariants.{DropFrame, OneIn};
+ghost use Rattle.vbi_side.specs.declared.number.Number.{Number};
 ghost use Rattle.vbi_side.specs.Paces.{nearly};
 ghost use Rattle.vbi_side.specs.Clocks.{nearly_by, IsProper};
 ghost use Rattle.vbi_side.specs.ClocksFound.{explains, opposes, with_pair, ArePairs, AreEnough, IsClockTold};
@@ -183,6 +186,35 @@ fn even_by(numbers: &[Number], rule: Rule, period: u32) -> Even
     Even { phase, pairs }
 }
 
+/// The clock of these two that explains more, if one does, else that of the rule.
+fn even_clock(rule: Rule, first: Even, second: Even) -> Clock
+    requires first { first.phase < 1000 }
+    requires second { second.phase < 1001 }
+    requires few { first.pairs.opposed < 2 ^ 60 }
+    requires fewer { second.pairs.opposed < 2 ^ 60 }
+    ensures { (numbers : List Number)
+        → ArePairs (OneIn 1000 first.phase) rule.pace rule.slack numbers (length numbers) first.pairs
+        → ArePairs (OneIn 1001 second.phase) rule.pace rule.slack numbers (length numbers) second.pairs
+        → (result ≡ rule.numbering.clock)
+        ⊎ (IsProper result × IsClockTold result rule.pace rule.slack numbers) }
+{
+    let one = first.pairs.told();
+    let other = second.pairs.told();
+    if one > other {
+        return Clock::OneIn {
+            period: 1000,
+            phase: first.phase,
+        };
+    }
+    if other > one {
+        return Clock::OneIn {
+            period: 1001,
+            phase: second.phase,
+        };
+    }
+    rule.numbering.clock
+}
+
 /// The clock that explains most of the places at which the numbers of an NTSC CLV disc don't go on, of those that
 /// explain at least three, and at least twice as many as they speak against. If drop-frame explains as much as one
 /// number in 1,000 or 1,001 it is drop-frame; if these two explain as much it is neither. One in 1,000 or 1,001 is
@@ -205,17 +237,5 @@ pub fn find_clock(numbers: &[Number], rule: Rule) -> Clock
     if drop > 0 && drop >= one && drop >= other {
         return Clock::DropFrame;
     }
-    if one > other {
-        return Clock::OneIn {
-            period: 1000,
-            phase: first.phase,
-        };
-    }
-    if other > one {
-        return Clock::OneIn {
-            period: 1001,
-            phase: second.phase,
-        };
-    }
-    rule.numbering.clock
+    even_clock(rule, first, second)
 }

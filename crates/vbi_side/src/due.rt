@@ -20,8 +20,8 @@ use crate::pace::Pace;
 use crate::place::Place;
 use crate::sighting::Sightings;
 
-/// The fields to which two numbers may be apart that allow one between them to be off by a field: four pictures, over
-/// which a disc with numbers on both fields of a picture, or a misread one beside them, can't be told from a loss.
+/// The fields to which two numbers may be apart that allow one between them to be off by a field, since a disc may have
+/// its number on both fields of a picture: four pictures, of which the first and the last count to one number anyway.
 const CLOSE: usize = 8;
 
 /// Whether so many fields last whole pictures.

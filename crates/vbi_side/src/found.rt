@@ -27,8 +27,8 @@ fn believed_count(fields: &[Sightings], pace: Pace) -> usize
 fn more_believed(fields: &[Sightings]) -> Pace
     ensures { IsMore fields.now result }
 {
-    // Film leaves room for half a picture more, so of a video disc some wrong numbers are believed by it as well: a
-    // tenth more is more than these.
+    // Film leaves room for half a picture more, so of a video disc some wrong numbers are believed by it as well. So it
+    // takes a tenth more to be film.
     let video = believed_count(fields, Pace::Video);
     let film = believed_count(fields, Pace::Film);
     if 10 * film as u128 > 11 * video as u128 {

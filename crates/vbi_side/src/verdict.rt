@@ -7,7 +7,7 @@
 //! `CANNOT_TELL`. A capture without a number has the reason `NO_NUMBERS` alone.
 //!
 //! A reason more, or another bound, changes `specs/Verdicts.antt`, the worked reasons of `gap_laws`, include/ldvbi.h,
-//! the Python package (`REASONS` and its schema) and docs/SIDES.md.
+//! `Reason` of python/ldvbi/sides.py and docs/SIDES.md.
 
 ghost use Rattle.std.specs.Prelude.{◌≡◌, ℕ, List, ◌+◌, ◌*◌, ◌<◌, ◌≤◌, ◌^◌, length, Bool};
 ghost use Rattle.vbi_side.specs.Paces.{nearly};
@@ -169,8 +169,8 @@ pub(crate) fn count_of(numbers: &[Number], state: u32) -> usize
     numbers.iter().filter(|n| n.state == state).count()
 }
 
-/// Whether a tenth or more of the numbers that were read is in doubt. Then so much was misread that what lies between
-/// believed numbers says little of the rest.
+/// Whether a tenth or more of the numbers that were read is in doubt. With so much set aside the believed ones say too
+/// little of the capture.
 fn are_doubtful(numbers: &[Number]) -> bool
     ensures { result ≡ are_doubtful numbers.now }
 {
@@ -233,7 +233,7 @@ fn reasons(numbers: &[Number], ends: &[u32], rule: Rule, may_end: bool, found: &
         + reason(IS_SWAPPED, found.swap.is_seen)
         + reason(IS_OFF, found.drifts || is_off(rule, tally, begin, end))
         + reason(END_UNSEEN, !may_end && !is_ended)
-        // Two seconds without a number before one that isn't the first: more than a worn beginning has.
+        // Some two seconds show no number: those before the first one may be there, unread.
         + reason(BEGIN_UNSEEN, found.first.number > 1 && before > 100)
         + reason(MANY_DOUBTFUL, are_doubtful(numbers))
         + reason(IS_OPEN, tally.open_gaps > 0)
