@@ -96,7 +96,8 @@ second_on_18 = field_of 5 2 5 2 ∷ blank ∷ field_of 0 0 6 2 ∷ []
 
 -- what a whole side is judged by
 abbrev pub sided_as : System → Counted → Pace → Siding
-sided_as system counted pace = record { numbering = record { system = system; counted = counted; clock = Plain }; pace = pace }
+sided_as system counted pace =
+    record { numbering = record { system = system; counted = counted; clock = Plain }; pace = pace }
 
 -- numbers on one field of each picture, and on both
 abbrev pub on_one : List Number

@@ -9,13 +9,14 @@
 //!
 //! The numbers make 1,000 fields at most. 188 are judged around the place (seeking.rt), so 812 are left. 31 spots are
 //! asked until the first number is told, in 1, 2, 4, 8 and 16 parts, and 36 steps leave 32 of a million fields, since
-//! each leaves three quarters at most: of 12 fields each that makes 372 and 432, or 804 in all. What is left over, on
-//! a shorter side more, is spare for spots with worn lines. 16 parts find any numbers that fill a sixteenth of the side,
-//! as `Leads` of specs/Leads.antt asks; specs/Seeking.antt has these numbers for proofs, and include/ldvbi.h the 1,000.
+//! each leaves three quarters at most: of 12 fields each that makes 372 and 432, or 804 in all. What is left over, more
+//! on a shorter side, is spare for spots with worn lines. 16 parts find any numbers that fill a sixteenth of the side,
+//! as `Leads` of specs/Leads.antt asks. specs/Seeking.antt has these numbers for proofs, and include/ldvbi.h the 1,000.
 
 ghost use Rattle.std.specs.Prelude.{◌≡◌, ℕ, ◌+◌, ◌-◌, ◌*◌, ◌/◌, ◌^◌, ◌<◌, ◌≤◌, false, true};
 ghost use Rattle.vbi_c.specs.Leads.{IsPlaced, left_after};
-ghost use Rattle.vbi_c.specs.Searches.{IsAlone, IsHalved, IsHalving, IsNarrowedAt, IsPart, IsSilent, LeadsTo, middle_in};
+ghost use Rattle.vbi_c.specs.Searches.{IsAlone, IsHalved, IsHalving, IsNarrowedAt, IsPart, IsSilent, LeadsTo};
+ghost use Rattle.vbi_c.specs.Searches.{middle_in};
 ghost use Rattle.vbi_c.specs.Seeking.{probe_most, probed_most, looked_most, left_most};
 ghost use Rattle.vbi_c.specs.Telling.{middle_of};
 
@@ -23,16 +24,16 @@ use crate::narrowing::{Between, Spot, Told, narrow, narrow_between, narrow_eithe
 use crate::probing::{LONGEST, NOTHING_SEEN, PROBE};
 use crate::search::{Looked, Search};
 
-/// Halving ends when no more fields than these are left.
+/// Halving ends when no more fields than these are left: so few are judged at once.
 pub(crate) const LEFT: usize = 32;
 
-/// So many fields at most are read while the place is sought.
+/// So many fields at most are read while the place is sought: 1,000 without the 188 that are judged around it.
 const PROBED: u32 = 812;
 
-/// So many spots at most are asked until the first number is told.
+/// So many spots at most are asked until the first number is told: the middles of 1, 2, 4, 8 and 16 parts.
 const SPOTS: u32 = 31;
 
-/// A million fields are halved so often at most.
+/// A million fields are halved so often at most: each step leaves three quarters of them, and 32 are left.
 const STEPS: u32 = 36;
 
 /// The field in the middle of one of so many equal parts of a side.

@@ -1,15 +1,16 @@
 //! Narrowing the fields between which a number is sought, by what is told or shown at a spot among them.
 //!
-//! `narrow` is the one step: the fields from a spot on are read until they tell a number, which becomes the first or the
-//! last of the fields between which the number is sought. `narrow_by_spare` does it if fields may be read besides, and
-//! `narrow_either` at two spots. That is all that a proof speaks of: what is told is right if `Leads` holds of the side.
-//! `narrow_between` is for a silent middle between two ends that have told numbers, which no side has to which the
-//! fields lead: there anything goes that leaves fewer fields, so even a single line that shows a number between the two
-//! (`narrow_by_one`) is believed, and at last where the number stands between the two (`is_after`).
+//! `narrow` is the one step: the fields from a spot on are read until they tell a number, which becomes the first or
+//! the last of the fields between which the number is sought. `narrow_by_spare` does it if fields may be read besides,
+//! and `narrow_either` at two spots. On these rests that a number is found if the fields lead to it (`Leads`).
+//! `narrow_between` is for a silent middle between two ends that have told numbers. A side whose fields lead to the
+//! number never comes there, so whatever leaves fewer fields will do: even a single line is believed that shows a
+//! number between the two (`narrow_by_one`), and at last where the number stands between them (`is_after`).
 //!
 //! A spot is read for 12 fields, which each step of halving has, and for more out of a spare that all steps share, so
-//! that `Looked` never passes 1,000. A sixteenth of the fields at most is read beyond the 12, so that a number that is
-//! told late at a quarter is still told among them. halving.rt chooses the spots: both change together.
+//! that `Looked` never passes 1,000. An eighth of the fields at most is read beyond the 12 in the middle, and a
+//! sixteenth elsewhere, so that what is told leaves three quarters at most. halving.rt chooses most spots: both change
+//! together.
 
 ghost use Rattle.std.specs.Prelude.{◌≡◌, ◌↔◌, ◌⊎◌, ℕ, ◌+◌, ◌-◌, ◌*◌, ◌<◌, ◌≤◌, false, true, None, IfSome};
 ghost use Rattle.vbi_c.specs.Searches.{IsNarrowedAt, IsPart, IsSilent, IsSpotIn};

@@ -1,15 +1,14 @@
 //! Which number some fields of a side tell together. Each field that is read is counted.
 //!
-//! `shown_at` reads one field, and `see_from` some in a row. `probe` reads one after the other until what was read tells
-//! a number, or no more may be read. A number is told (`is_together`) if what supports it weighs 6 in the judge's
-//! votes, at either pace, or if what all these fields show does that lies as far from it as numbers of video do: so a
-//! few words that could be read tell a number, however far apart they are. One field alone weighs 4 at most, so that
+//! `shown_at` reads one field, and `see_from` some in a row. `probe` reads one after the other until what was read
+//! tells a number, or no more may be read. A number is told (`is_together`) if what supports it by the judge's rule
+//! weighs 6, at either pace, or if what all these fields show weighs 6 that lies as far from it as numbers of video do:
+//! so a few words that could be read tell a number, however far apart they are. One field alone weighs 4 at most, so
 //! its two lines, misread alike, tell nothing.
 //!
-//! 12 fields are read at a spot at least, since they tell a number on any disc that is in good order: video has a number
-//! every 2 fields, film every 2 or 3. 144 are read at most if lines are worn. specs/Telling.antt has the rule, and
-//! specs/Seeking.antt these numbers: whoever changes one changes how many fields `ldvbi_seek` reads (halving.rt has the
-//! sum), and what `Leads` of specs/Leads.antt promises.
+//! 12 fields are read at a spot, six pictures of video, and up to twelve times as many if few lines show a number.
+//! specs/Telling.antt has the rule, and specs/Seeking.antt these numbers for proofs: whoever changes one changes how
+//! many fields `ldvbi_seek` reads (halving.rt has the sum), and what `Leads` of specs/Leads.antt promises.
 
 ghost use Rattle.std.specs.Prelude.{◌≡◌, ◌↔◌, ℕ, ◌+◌, ◌-◌, ◌*◌, ◌<◌, ◌≤◌, min, length, take, slice_get, true};
 ghost use Rattle.std.specs.Prelude.{IfSome, None};
@@ -25,10 +24,10 @@ use crate::recovering::recover_whole;
 use crate::search::{Looked, Search};
 use vbi_side::{Pace, Sighting, Sightings, support};
 
-/// So many fields tell a number at one spot, on a disc that is in good order.
+/// So many fields are read at one spot: six pictures of video.
 pub(crate) const PROBE: usize = 12;
 
-/// So many at most are read there: a side whose every twelfth field can be read still tells.
+/// So many at most are read there if few lines show a number, twelve times as many.
 pub(crate) const LONGEST: usize = 144;
 
 /// What is shown together weighs so much. No field alone does, even if both its lines were misread alike.

@@ -4,9 +4,9 @@
 //! place are read and judged, and the number is answered only of a field that has it by `ldvbi_judge` of the whole
 //! side.
 //!
-//! The number is looked for (`first_among`) from 24 fields before the place to 24 after it (`fields_around`), which
-//! is 32 fields wide at most, and told by 12 fields more. An answer depends on 48 fields before its own and as many after
-//! it, 97 with its own, so 24 + 32 + 12 + 24 + 96 = 188 fields are judged at most (`judge_around`). The very first of
+//! The number is looked for (`first_among`) from 24 fields before the place to 24 after it (`fields_around`). The place
+//! is 32 fields wide at most, and what is told there is told by 12 more. An answer depends on 48 fields before its own
+//! and as many after it, so 24 + 32 + 12 + 24 + 96 = 188 fields are judged at most (`judge_around`). The very first of
 //! those in which the number is looked for isn't answered unless the side begins there: the number may have begun
 //! before it. 188 and the 812 of halving.rt are the 1,000 of include/ldvbi.h; specs/Seeking.antt has all three.
 
