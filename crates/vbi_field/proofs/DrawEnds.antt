@@ -1,7 +1,7 @@
 -- How a run of drawing ends where no field is written any more: the reader's end, its fault, a malformed row, or a byte
 -- after the last row that is allowed.
 use Rattle.std.proofs.Common.{◌≡◌, ℕ, ◌+◌, ◌≤◌, ◌<◌, ◌⊎◌, inl, inr, List, [], ◌∷◌, ◌++◌}
-use Rattle.std.proofs.Common.{length, refl, ap, subst, ◌∙◌, arith}
+use Rattle.std.proofs.Common.{length, refl, ap, ◌∙◌, arith}
 use Rattle.std.specs.Prelude.{Option, None, Result, Ok, Err}
 use Rattle.std.specs.Io.KnownBytes.{IsAtEnd}
 use Rattle.vbi_field.specs.Outlet.{device_of, NoError, HasCause, Outlet}
@@ -10,7 +10,7 @@ use Rattle.vbi_field.specs.RowIntake as intakes
 use Rattle.vbi_field.specs.RowIntake.{HasNoNewline, Fetches, TakesRow, TakesByte, RowIntake}
 use Rattle.vbi_field.specs.WordRows.{newline, rows_of, row_words, word_row_of}
 use Rattle.vbi_field.specs.Draws.{draw_out, Draws, RunsDrawing, counts_of}
-use Rattle.vbi_field.specs.declared.row_intake.NextRow.TheVariants.{Malformed, AtEnd, Failed}
+use Rattle.vbi_field.specs.declared.row_intake.NextRow.TheVariants.{Malformed, Failed}
 use Rattle.vbi_field.specs.declared.row_intake.NextByte.TheVariants as bytes
 use Rattle.vbi_field.specs.declared.drawing.DrawFault.{DrawFault}
 use Rattle.vbi_field.specs.declared.drawing.DrawFault.TheVariants as faults

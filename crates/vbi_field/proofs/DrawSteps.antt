@@ -3,7 +3,6 @@ use Rattle.std.proofs.Common.{rules}
 use Rattle.std.proofs.Common.{◌≡◌, ℕ, ◌+◌, ◌*◌, ◌≤◌, ◌<◌, inl, inr, List, [], ◌∷◌, ◌++◌}
 use Rattle.std.proofs.Common.{length, refl, sym, ap, ◌∙◌, arith, append_assoc}
 use Rattle.std.specs.Prelude.{Option, Some, None, Result, Ok, Err, IsErrAnd}
-use Rattle.std.specs.List.{flat_map}
 use Rattle.std.specs.Io.KnownBytes.{IsAtEnd}
 use Rattle.std.proofs.lemmas.List.{append-nil, length-append}
 use Rattle.std.proofs.lemmas.Grind.{flat_map-append}
@@ -18,7 +17,6 @@ use Rattle.vbi_field.specs.Draws.{draw_out, drawn_field_of, EndsRow, RunsDrawing
 use Rattle.vbi_field.specs.declared.row_intake.NextRow.TheVariants.{Row, LastRow}
 use Rattle.vbi_field.specs.declared.drawing.DrawFault.{DrawFault}
 use Rattle.vbi_field.specs.declared.drawing.DrawFault.TheVariants as faults
-use Rattle.vbi_field.proofs.Counts.{sizes_of}
 use Rattle.vbi_field.proofs.DrawnLemmas.{length-drawn_field_of}
 use Rattle.vbi_field.proofs.RowSteps.{Fetches-none, Fetches-more}
 use Rattle.vbi_field.proofs.Devices.{has_failed, inside_of, wrote_none, wrote_twice}

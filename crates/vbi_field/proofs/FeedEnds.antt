@@ -1,12 +1,12 @@
 -- How a stream that is pushed begins and ends.
-use Rattle.std.proofs.Common.{◌≡◌, ℕ, ◌+◌, ◌*◌, ◌<◌, List, length, arith, sym, ap, subst, ◌∙◌}
+use Rattle.std.proofs.Common.{◌≡◌, ℕ, ◌+◌, ◌*◌, ◌<◌, List, length, arith, sym, ap, ◌∙◌}
 use Rattle.std.specs.Prelude.{Option, Result, Ok, Err}
 use Rattle.vbi_field.specs.ConfigView.{line_bytes, ConfigView}
 use Rattle.vbi_line.specs.Line.{Line}
 use Rattle.vbi_field.specs.Texts.{document}
 use Rattle.vbi_field.specs.Feed.{IsAt, IsFinished, IsFeederState, position_in}
 use Rattle.vbi_field.specs.Outlet.{written_of, Puts, WrotePart, Outlet}
-use Rattle.vbi_field.specs.Stream.{fields_of, rest_of, cut_of, looks_of}
+use Rattle.vbi_field.specs.Stream.{fields_of, rest_of, looks_of}
 use Rattle.vbi_field.specs.declared.progress.Progress.{Progress}
 use Rattle.vbi_field.specs.Extracts.{PutsTail}
 use Rattle.vbi_field.specs.Ran.{RunFault, Summary}

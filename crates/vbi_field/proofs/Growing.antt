@@ -1,14 +1,14 @@
 -- Rows of a stream that grows.
 use Rattle.std.proofs.Common.{rules}
-use Rattle.std.proofs.Common.{◌≡◌, ℕ, ◌+◌, ◌*◌, ◌≤◌, ◌<◌, inl, inr, List, ◌++◌, length, take, drop, sym, ap, ◌∙◌}
-use Rattle.std.proofs.Common.{◌-◌, refl, arith, lit≤}
+use Rattle.std.proofs.Common.{◌≡◌, ℕ, ◌+◌, ◌*◌, ◌≤◌, ◌<◌, List, ◌++◌, length, sym, ap, ◌∙◌}
+use Rattle.std.proofs.Common.{refl, arith, lit≤}
 use Rattle.std.specs.Prelude.{Option, Some, None}
 use Rattle.std.proofs.lemmas.Bool.{cond_below, cond_above}
 use Rattle.std.proofs.Math.Nat.{eq-or-lt_of_le, eq-zero-or-pos, le_trans, mul-le-mul_right}
 use Rattle.std.proofs.lemmas.List.{length-append, length-drop, take-append-le, drop-append-le, take_all}
 use Rattle.std.proofs.Math.Seq.{drop_at}
-use Rattle.vbi_field.specs.ConfigView.{height_of, line_bytes, field_bytes, System, ConfigView}
-use Rattle.vbi_field.specs.Stream.{row_levels, reading_of, Reading, FieldReadings, reading_at, readings_at}
+use Rattle.vbi_field.specs.ConfigView.{height_of, line_bytes, System, ConfigView}
+use Rattle.vbi_field.specs.Stream.{row_levels, reading_of, Reading, FieldReadings, reading_at}
 use Rattle.vbi_field.specs.Stream.{reading_among, line_at, rows_at}
 use Rattle.vbi_field.specs.declared.progress.PartialReadings.{PartialReadings}
 use Rattle.vbi_field.specs.Progress.{Progress, IsProgress, IsLineOf, IsKept, TakesReading, Advances, all_of}

@@ -2,7 +2,7 @@
 use Rattle.std.proofs.Common.{arith}
 use Rattle.std.proofs.Common.{◌≡◌, ℕ, ◌+◌, List, ◌++◌, ap, ◌∙◌}
 use Rattle.std.specs.Prelude.{◌↔◌}
-use Rattle.vbi_field.specs.Stream.{row_levels, line_at, fields_of, rest_of, readings_at, FieldReadings}
+use Rattle.vbi_field.specs.Stream.{fields_of, rest_of, readings_at, FieldReadings}
 use Rattle.vbi_line.proofs.OneReading.{is_reading, only_reading}
 use Rattle.vbi_field.specs.Texts.{FieldReads, IsWholeText, text_before_tail, whole_text, ReadingKind, by}
 use Rattle.vbi_field.specs.ConfigView.{ConfigView}

@@ -12,8 +12,7 @@ use Rattle.vbi_words.specs.Levels.{Slicing}
 use Rattle.vbi_near.specs.declared.near.Near.{Near}
 use Rattle.vbi_near.specs.declared.recovery.Recovered.{Recovered}
 use Rattle.vbi_near.specs.Candidates.{Row, given_samples}
-use Rattle.vbi_near.specs.Distances.{unit_of}
-use Rattle.vbi_near.specs.Recovery.{IsRecovered, IsSureBy, none_erased, row_reading, alone, stands_of}
+use Rattle.vbi_near.specs.Recovery.{IsRecovered, IsSureBy, none_erased, row_reading}
 use Rattle.vbi_near.proofs.Kept.{sure-shown}
 use Rattle.vbi_near.proofs.OneNear.{one_near}
 use Rattle.vbi_near.proofs.OneRecovered.{one_recovered}

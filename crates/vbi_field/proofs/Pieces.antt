@@ -9,7 +9,7 @@ use Rattle.vbi_field.specs.ConfigView.{field_bytes, ConfigView, allowed_bytes}
 use Rattle.vbi_field.specs.Extracts.{ExtractsAll}
 use Rattle.vbi_field.specs.Feed.{IsFed, IsFinished, StandsAt, Feeds, FeedsAll, Pushes, Feeding}
 use Rattle.vbi_field.specs.Texts.{document, IsTextBetween, text_before_tail, whole_text, Wrote, Outlet}
-use Rattle.vbi_field.specs.Stream.{Position, fields_of, rest_of, cut_of, looks_of}
+use Rattle.vbi_field.specs.Stream.{Position}
 use Rattle.vbi_field.specs.Ran.{RunFault, Read, Write, TooManyFields, Failed, Summary}
 use Rattle.vbi_field.proofs.Devices.{wrote_twice, longer_part}
 use Rattle.vbi_field.proofs.Entries.{stood-none, text_before_tail-stood}

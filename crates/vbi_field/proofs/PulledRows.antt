@@ -1,5 +1,5 @@
 -- What a run keeps from row to row, with the bytes of rows that are kept.
-use Rattle.std.proofs.Common.{◌≡◌, ℕ, ◌+◌, List, ◌++◌, length, sym, ap, ◌∙◌, subst, arith}
+use Rattle.std.proofs.Common.{◌≡◌, ℕ, ◌+◌, List, ◌++◌, length, ap, ◌∙◌, arith}
 use Rattle.std.specs.Prelude.{Option, Bool, IsTrue, Ok}
 use Rattle.vbi_field.specs.ConfigView.{ConfigView, height_of}
 use Rattle.vbi_field.specs.Outlet.{Outlet}

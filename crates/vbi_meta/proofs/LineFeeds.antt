@@ -1,5 +1,5 @@
 -- A line feed after a text adds no token to it (JSON of RFC 8259, by the rules of the library `json`).
-use Rattle.std.proofs.Common.{◌≡◌, ℕ, ◌+◌, ◌-◌, Bool, true, false, cond, ◌&&◌, ◌||◌, ◌==◌, not, nat_lt, nat_eq, List}
+use Rattle.std.proofs.Common.{◌≡◌, ℕ, ◌+◌, Bool, true, false, cond, ◌&&◌, ◌||◌, ◌==◌, not, nat_lt, nat_eq, List}
 use Rattle.std.proofs.Common.{[], ◌∷◌, ◌++◌, length, take, drop, Option, Some, None, option_map, option_and_then, refl}
 use Rattle.std.proofs.Common.{ap, ap₂, ◌∙◌, arith}
 use Rattle.std.proofs.lemmas.Bool.{not-true, and_parts}
@@ -12,7 +12,7 @@ use Rattle.json.specs.Lex.{Class, quote, backslash, operator, space, other, clas
 use Rattle.json.specs.Lex.{in_escape, token, string_token, operator_lexeme, lex_byte, lex, fresh, punctuate, tokens}
 use Rattle.json.specs.Text.{Within, plain, after_backslash, after_u, after_high, code_unit, short_escape, content}
 use Rattle.json.specs.Text.{prepend, is_high_surrogate, is_low_surrogate, surrogate_pair}
-use Rattle.json.specs.Token.{Token, number, boolean, null, bad}
+use Rattle.json.specs.Token.{Token, boolean, null, bad}
 use Rattle.json.specs.Word.{ends_word, after_digits, after_minus, after_sign, after_whole, after_fraction}
 use Rattle.json.specs.Word.{after_exponent, after_number, number_before, literal, word}
 use Rattle.json.specs.Ascii.{true_text, false_text, null_text}

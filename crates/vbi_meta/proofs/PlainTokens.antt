@@ -1,6 +1,6 @@
 -- Trees of JSON whose tokens are printed in plain bytes and have small numbers, and those of a document.
 use Rattle.std.proofs.Common.{◌≡◌, ℕ, suc, zero, ◌+◌, ◌<◌, ◌^◌, ◌==◌, ◌&&◌, Bool, true, false, cond, List, [], ◌∷◌}
-use Rattle.std.proofs.Common.{◌++◌, ◌⊎◌, inl, inr, decimal, refl, sym, subst, arith, lit<}
+use Rattle.std.proofs.Common.{◌++◌, ◌⊎◌, inl, inr, decimal, refl, subst, arith, lit<}
 use Rattle.std.specs.Fmt.{digits}
 use Rattle.std.specs.List.{AllByRecursion, range_with_len}
 use Rattle.std.specs.Prelude.{codes}

@@ -1,5 +1,5 @@
 -- What a line's reading gives to a document: numbers of 64 bits, and a cause in UTF-8 with nothing to escape.
-use Rattle.std.proofs.Common.{◌≡◌, ℕ, ◌+◌, ◌*◌, ◌<◌, ◌≤◌, ◌^◌, Bool, List, [], ◌∷◌, ◌++◌, length, drop, decimal, IsUtf8}
+use Rattle.std.proofs.Common.{◌≡◌, ℕ, ◌<◌, ◌≤◌, ◌^◌, Bool, List, [], ◌∷◌, ◌++◌, length, decimal, IsUtf8}
 use Rattle.std.proofs.Common.{◌∙◌, refl, ap, ap₂, inl, inr, arith, lit<, true}
 use Rattle.std.proofs.lemmas.List.{length-take, length-map}
 use Rattle.std.proofs.lemmas.Fmt.{decimal_is_IsNumeral, IsAscii-decimal}
@@ -13,8 +13,8 @@ use Rattle.json.specs.Print.{escape, escape_byte}
 use Rattle.vbi_field.specs.CodeTexts.{Outcome, Word, Blank, Unfinished, Change, Hold, cause_text_of}
 use Rattle.vbi_field.specs.Stream.{Reading, reading_at, readings_at, row_levels, line_at}
 use Rattle.vbi_field.specs.declared.readings.FieldReadings.{FieldReadings}
-use Rattle.vbi_field.specs.ConfigView.{System, ConfigView, Ntsc, Pal, line_bytes, field_bytes}
-use Rattle.vbi_words.specs.Levels.{samples_of, is_high_of}
+use Rattle.vbi_field.specs.ConfigView.{System, ConfigView, Ntsc, Pal, line_bytes}
+use Rattle.vbi_words.specs.Levels.{samples_of}
 use Rattle.vbi_words.specs.Outcomes.{FirstHopeless}
 use Rattle.vbi_words.specs.Readings.{Reads}
 use Rattle.vbi_line.proofs.OneReading.{is_reading}

@@ -1,7 +1,6 @@
 use Rattle.std.proofs.Common.{ap, ◌∙◌, arith, length}
 use Rattle.vbi_words.specs.Geometry.{height_of}
 use Rattle.vbi_field.specs.Draws.{word_at}
-use Rattle.vbi_line.proofs.Causes.{cause_later}
 use Rattle.vbi_field.proofs.Counts.{sizes_of}
 use Rattle.vbi_words.proofs.DrawnLines.{length-drawn_line_of}
 use Rattle.vbi_field.proofs.PutFieldSteps.{Putting-none, Putting-more, put_whole, put_part}
