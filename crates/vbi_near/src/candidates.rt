@@ -111,8 +111,9 @@ pub(crate) fn levelled_near_of_one(number: u32, levels: Levels, row: &Row) -> Op
     }
 }
 
-/// Whether two lines that swing so may be levelled together: neither swings more than twice as much as the other. Levelled
-/// lines count the same, and noise of a line that swings less would be made as much as the signal of the other.
+/// Whether two lines that swing so may be levelled together: neither swings more than twice as much as the other.
+/// Levelled lines count the same, and noise of a line that swings less would be made as much as the signal of the
+/// other.
 pub(crate) fn are_alike(unit: u32, swing: u32, other: u32) -> bool
     ensures { result ≡ are_alike_by unit swing other }
 {

@@ -1,15 +1,16 @@
 //! Lines whose running mean is taken off, and whose swing is made that of white and black.
 //!
-//! Each cell of a word is black in one half and white in the other, so the mean of some whole cells is half way between
-//! black and white, wherever the level of the signal wanders and however weak it is. `fill` puts that middle into erased
-//! columns, `sum_samples` and `sum_windows` give each column the sum of a window about it, `swing` is twice how far the
-//! samples are from their means, in the mean of the columns, and `level` writes the line. candidates.rt calls them in
-//! this order, and `is_swing` tells between them whether the line swings as one with a word does.
+//! Each cell of a word is black in one half and white in the other, so the mean of some whole cells is half way
+//! between black and white, wherever the level of the signal wanders and however weak it is. `fill` puts that middle
+//! into erased columns, `sum_samples` and `sum_windows` give each column the sum of a window about it, `swing` is
+//! twice how far the samples are from their means, in the mean of the columns, and `level` writes the line.
+//! candidates.rt calls them in this order, and `is_swing` tells between them whether the line swings as one with a
+//! word does.
 //!
-//! A window has six cells of two microseconds, 172 columns in NTSC and 213 in PAL: enough that a word's bits hardly show
-//! in its mean, and few enough that the mean follows hum and tilt. No window leaves the columns that a word and the
-//! black about it can have (`first`, `end`). A sum stands for a mean, and what is compared with it is multiplied by the
-//! columns of the window, so that nothing is rounded before the one division (`quotient`).
+//! A window has six cells of two microseconds, 172 columns in NTSC and 213 in PAL: enough that a word's bits hardly
+//! show in its mean, and few enough that the mean follows hum and tilt. No window leaves the columns that a word and
+//! the black about it can have (`first`, `end`). A sum stands for a mean, and what is compared with it is multiplied
+//! by the columns of the window, so that nothing is rounded before the one division (`quotient`).
 //!
 //! specs/Levelled.antt has the same numbers, and levelled_laws.rt has worked lines. A change of what a line becomes
 //! changes what fields show, and so the tables of docs/measured.

@@ -18,9 +18,9 @@ use vbi_words::{Levels, System, Word24};
 /// So many lines at most: the sums of more could pass 32 bits.
 const MOST_LINES: usize = 28;
 
-/// By how many columns the nearest word has to be ahead, by whether the erased columns are known. If they are, no dropout
-/// is left in what is summed up, and a code needs the 6 columns that it needs on one line. Else a dropout at one place
-/// of all lines may turn a code into another one, so it needs as many as any other word, 10.
+/// By how many columns the nearest word has to be ahead, by whether the erased columns are known. If they are, no
+/// dropout is left in what is summed up, and a code needs the 6 columns that it needs on one line. Else a dropout at
+/// one place of all lines may turn a code into another one, so it needs as many as any other word, 10.
 fn pile_margins(known: bool) -> Margins
     ensures { result ≡ pile_margins known }
 {

@@ -45,8 +45,8 @@ const LONE: Margins = Margins {
     other_share: 0,
 };
 
-/// Those of one of two lines that don't agree: one of them at least is badly worn, so its nearest word is worth less, and
-/// has to be ahead by four columns more than that of a line alone, 10 for 6 and 12 for 8.
+/// Those of one of two lines that don't agree: one of them at least is badly worn, so its nearest word is worth less,
+/// and has to be ahead by four columns more than that of a line alone, 10 for 6 and 12 for 8.
 const APART: Margins = Margins {
     code: 10,
     other: 12,
@@ -54,11 +54,11 @@ const APART: Margins = Margins {
     other_share: 0,
 };
 
-/// Those of two lines together. With 6 columns in place of 8 a noisy time code on both is taken for a code five times as
-/// often. Wear that they share, as noise that makes all cells count less, grows with both: so they have to be ahead by a
-/// share of what a cell counts, too. A cell counts about a twelfth of how much nearer the word is than none, so 4 and 3
-/// of 144 parts are a third and a quarter of a cell. Columns alone, enough for a dropout at one place of both lines,
-/// would lose three times as many right words.
+/// Those of two lines together. With 6 columns in place of 8 a noisy time code on both is taken for a code five times
+/// as often. Wear that they share, as noise that makes all cells count less, grows with both: so they have to be ahead
+/// by a share of what a cell counts, too. A cell counts about a twelfth of how much nearer the word is than none, so 4
+/// and 3 of 144 parts are a third and a quarter of a cell. Columns alone, enough for a dropout at one place of both
+/// lines, would lose three times as many right words.
 const BOTH: Margins = Margins {
     code: 8,
     other: 9,
