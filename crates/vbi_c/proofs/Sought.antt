@@ -1,7 +1,7 @@
 -- What is judged of a part of a side, read field by field, is what is judged of the whole side.
 use Rattle.std.proofs.Common.{◌≡◌, ℕ, ◌+◌, ◌*◌, ◌-◌, ◌<◌, ◌≤◌, List, length, map, take, drop, ap, sym, subst, ◌∙◌}
 use Rattle.std.proofs.Common.{arith, inl, inr, zero-add, refl}
-use Rattle.std.specs.Prelude.{◌⊎◌, Some, None, get_or, slice_get, min}
+use Rattle.std.specs.Prelude.{◌⊎◌, Some, None, get_or, slice_get}
 use Rattle.std.specs.List.{range_with_len}
 use Rattle.std.proofs.lemmas.Bool.Decides.{leb_tells}
 use Rattle.std.proofs.lemmas.List.{get_or-take, get_or-drop, length-take, length-drop}
@@ -15,10 +15,9 @@ use Rattle.vbi_side.specs.Numbers.{IsAnswer, IsFirst, IsKnown}
 use Rattle.vbi_side.specs.Parts.{IsPart}
 use Rattle.vbi_side.proofs.Filling.{one_answer}
 use Rattle.vbi_side.proofs.Parts.{same_in_part}
-use Rattle.vbi_c.specs.declared.narrowing.Between.{Between}
 use Rattle.vbi_c.specs.declared.search.Search.{Search}
 use Rattle.vbi_c.specs.declared.seeking.Around.{Around}
-use Rattle.vbi_c.specs.Leads.{IsFirstKnown, IsPlaced}
+use Rattle.vbi_c.specs.Leads.{IsFirstKnown}
 use Rattle.vbi_c.specs.Searches.{shows, shown_from, among, IsWindow, IsJudgedAround}
 use Rattle.vbi_c.specs.Seeking.{shown_of, HasOther, IsJudgedIn}
 
@@ -234,40 +233,3 @@ first_sought search a t pace here numbers judged known (from, to) =
     (sym (known.asked a.first (a.end - a.first) here (omega (arith, judged.window.few))
     (judged_in search a here numbers t judged from to))) known)
     from to
-
--- ---- the fields that are judged
-
-pub window : (low high count : ℕ) (a : Around) → low ≤ high → high ≤ count → a.from ≡ low - 24
-    → a.to ≡ low + min (count - low) (min (high - low) 32 + 12 + 24) → a.first ≡ a.from - 48
-    → a.end ≡ a.to + min (count - a.to) 48 → IsWindow count a
-window low high count a order inside from_is to_is first_is end_is = record {
-  order = (
-    omega (arith, first_is),
-    omega (arith, from_is, to_is),
-    omega (arith, end_is),
-    omega (arith, order, inside, to_is, end_is),
-  );
-  before = elim (leb_tells 48 a.from) [
-    | inl (t, far) ↦ inr (omega (arith, first_is, far))
-    | inr (t, close) ↦ inl (omega (arith, first_is, close))
-  ];
-  after = elim (leb_tells 48 (count - a.to)) [
-    | inl (t, far) ↦ inr (omega (arith, end_is, far))
-    | inr (t, close) ↦ inl (omega (arith, order, inside, end_is, to_is, close))
-  ];
-  few = omega (arith, from_is, to_is, first_is, end_is);
-  read = elim (leb_tells 72 (a.end - a.first)) [
-    | inl (t, much) ↦ inr much
-    | inr (t, little) ↦ inl (omega (arith, order, inside, from_is, to_is, first_is, end_is, little))
-  ];
-}
-
--- a field to which the fields lead is among those in which the number is looked for
-pub reached : (t : ℕ) (place : Between) (count : ℕ) (a : Around) → IsPlaced t place → t < count
-    → a.from ≡ place.low - 24
-    → a.to ≡ place.low + min (count - place.low) (min (place.high - place.low) 32 + 12 + 24)
-    → (a.from ≤ t) × (t < a.to)
-reached t place count a placed inside from_is to_is = (
-  omega (arith, placed.from, from_is),
-  omega (arith, placed.from, placed.to, placed.near, inside, to_is),
-)
