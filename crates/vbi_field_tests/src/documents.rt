@@ -1,4 +1,12 @@
 //! Documents and reports of known streams.
+//!
+//! Each stream is extracted and shown, and both texts are compared whole. `FIELDS` has a row for each kind of line,
+//! with its record and its part of the report; `HEADS` has the heads of both systems by their levels; `CUTS` has a
+//! field that is cut at each place where the counts change: in and after the rows 15 to 17, whose samples are looked
+//! at, and at its first and last byte. A field has 263 rows of 1820 bytes (NTSC) or 313 of 2270 (PAL).
+//!
+//! The texts that several tests need are in known.rt. They were written down by hand, as those here, and never come
+//! from what the program writes. Faults are in faults.rt, recovered words in recovered.rt.
 
 use crate::fields::Line::{Black, Run, Scratched, Word};
 use crate::fields::{DRAWN, Lines, NONE, config, field, front, two_fields};
@@ -6,7 +14,7 @@ use crate::known::{
     BLACK, CUT, CUT_END, HEAD, PAL_HEAD, PAL_REPORT_HEAD, PAL_WORDS, REPORT_BLACK, REPORT_HEAD,
     REPORT_SECOND_BLACK, REPORT_TAIL, REPORT_WORDS, SECOND_BLACK, TAIL, WORDS,
 };
-use crate::runs::{Ended, Verb, answers, undisturbed, whole, writes};
+use crate::runs::{Ended, Verb, undisturbed, whole, writes, writes_by_any_reads};
 use std::alloc::Global;
 use std::test::Fail;
 use vbi_field::{Config, Outlet, extract};
@@ -15,17 +23,23 @@ use vbi_test_devices::{Paper, Tape, holds, same};
 use vbi_words::Levels;
 use vbi_words::System::{self, Ntsc, Pal};
 
-/// Fails where a stream ends otherwise, or has other texts in its document and its report.
+/// The texts of a document, and those of a report.
+#[derive(Clone, Copy)]
+struct Texts<'a>(&'a [&'a str], &'a [&'a str]);
+
+/// Fails if a stream ends otherwise, or has other texts in its document and its report.
 fn writes_both(
     alloc: Global,
     config: &Config,
     stream: &[u8],
     ended: Ended,
-    document: &[&str],
-    report: &[&str],
+    texts: Texts,
 ) -> Result<(), Fail> {
-    writes(alloc, Verb::Extract, config, stream, ended, document)?;
-    writes(alloc, Verb::Show, config, stream, ended, report)
+    let Texts(document, report) = texts;
+    let document = undisturbed(stream, ended, document);
+    writes(alloc, Verb::Extract, config, stream, document)?;
+    let report = undisturbed(stream, ended, report);
+    writes(alloc, Verb::Show, config, stream, report)
 }
 
 /// The heads of a document and of a report with the usual levels.
@@ -102,14 +116,8 @@ fn a_field_has_its_record_and_its_part_of_the_report(rt: HostRuntime) -> Result<
         let (head, report_head) = heads(system);
         let document = [head, record, TAIL];
         let report = [report_head, part, REPORT_TAIL];
-        writes_both(
-            rt.alloc(),
-            &config,
-            stream.as_slice(),
-            ended,
-            &document,
-            &report,
-        )?;
+        let texts = Texts(&document, &report);
+        writes_both(rt.alloc(), &config, stream.as_slice(), ended, texts)?;
     }
     Ok(())
 }
@@ -125,7 +133,8 @@ fn each_field_has_its_own_words(rt: HostRuntime) -> Result<(), Fail> {
         let document = [head, WORDS, SECOND_BLACK, TAIL];
         let tail = "fields 2 cut none\n";
         let report = [report_head, REPORT_WORDS, REPORT_SECOND_BLACK, tail];
-        writes_both(rt.alloc(), &config, stream, ended, &document, &report)?;
+        let texts = Texts(&document, &report);
+        writes_both(rt.alloc(), &config, stream, ended, texts)?;
     }
     Ok(())
 }
@@ -174,7 +183,7 @@ fn an_empty_stream_has_a_head_and_a_tail(rt: HostRuntime) -> Result<(), Fail> {
         let report = [report_head, "fields 0 cut none\n"];
         let begin = r#"{"version":2,"videoParameters":{"#;
         let document = [begin, head, levels, "},\"fields\":[\n", TAIL];
-        writes_both(rt.alloc(), &config, b"", ended, &document, &report)?;
+        writes_both(rt.alloc(), &config, b"", ended, Texts(&document, &report))?;
     }
     same(
         HEAD.len() + TAIL.len(),
@@ -227,7 +236,7 @@ fn a_cut_field_is_named(rt: HostRuntime) -> Result<(), Fail> {
         let (head, report_head) = heads(system);
         let document = [head, CUT, bytes, CUT_END];
         let report = [report_head, "fields 0 cut field 1 bytes ", bytes, "\n"];
-        writes_both(rt.alloc(), &config, cut, ended, &document, &report)?;
+        writes_both(rt.alloc(), &config, cut, ended, Texts(&document, &report))?;
     }
     Ok(())
 }
@@ -245,7 +254,8 @@ fn a_second_field_that_is_cut_has_number_two(rt: HostRuntime) -> Result<(), Fail
         let report_cut = "fields 1 cut field 2 bytes 1\n";
         let document = [head, BLACK, cut];
         let report = [report_head, REPORT_BLACK, report_cut];
-        writes_both(rt.alloc(), &config, stream, ended, &document, &report)?;
+        let texts = Texts(&document, &report);
+        writes_both(rt.alloc(), &config, stream, ended, texts)?;
     }
     Ok(())
 }
@@ -255,14 +265,12 @@ fn reads_of_any_length_give_one_document(rt: HostRuntime) -> Result<(), Fail> {
     let config = config(Ntsc, 5)?;
     let stream = field(rt.alloc(), &config, DRAWN)?;
     let texts = [HEAD, WORDS, TAIL];
-    let done = undisturbed(stream.as_slice(), whole(1, None, 2730), &texts);
-    for piece in [1, 3, 1821] {
-        let mut tape = Tape {
-            piece,
-            ..Tape::new(stream.as_slice())
-        };
-        let mut paper = Paper::new(rt.alloc());
-        answers(Verb::Extract, &config, &mut tape, &mut paper, done, &texts)?;
-    }
-    Ok(())
+    let wanted = undisturbed(stream.as_slice(), whole(1, None, 2730), &texts);
+    writes_by_any_reads(
+        rt.alloc(),
+        Verb::Extract,
+        &config,
+        stream.as_slice(),
+        wanted,
+    )
 }

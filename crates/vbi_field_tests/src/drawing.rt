@@ -1,4 +1,12 @@
 //! Texts of words as they are drawn, from readers that interrupt and fail to writers that cut, interrupt and fail.
+//!
+//! `ROWS` has texts with their answers, good ones and each kind of bad one; a fault names its row, from 1.
+//! `READ_FAULTS`, `WRITE_FAULTS`, `TWO_FAULTS` and `INTERRUPTED` have devices that fail, what was written by then, and
+//! which of two faults is the answer: the one that is met first. A reader is asked once for each byte, and once more
+//! where the end is met; 16 interruptions in a row are borne.
+//!
+//! `NTSC_PARTS` and `PAL_PARTS` have the samples of one field from boundary to boundary of its half cells, by their
+//! columns, which were worked out by hand. They change with the law `worked_columns` of vbi_words.
 
 use crate::fields::config;
 use crate::runs::{Drawn, Failures, NO_FAILURE, ONE_ERROR, drew, interruptions};

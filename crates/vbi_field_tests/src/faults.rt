@@ -151,7 +151,7 @@ fn no_reader_is_asked_again_after_its_end_or_an_error(rt: HostRuntime) -> Result
                 write_failures: NO_FAILURE,
             };
             let mut paper = Paper::new(rt.alloc());
-            answers(verb, &config, &mut tape, &mut paper, done, &texts)?;
+            answers(verb, &config, &mut tape, &mut paper, done.with(&texts))?;
             same(tape.asked, asked, (verb, end))?;
         }
     }
@@ -187,7 +187,7 @@ fn no_writer_is_asked_again_after_it_failed_at_any_byte(rt: HostRuntime) -> Resu
             };
             let mut tape = Tape::new(stream.as_slice());
             let done = unwritten(room, head);
-            answers(verb, &config, &mut tape, &mut paper, done, &texts)?;
+            answers(verb, &config, &mut tape, &mut paper, done.with(&texts))?;
             same(paper.asked, u64::from(room) + 1, (verb, room))?;
         }
         let mut paper = Paper {
@@ -200,7 +200,7 @@ fn no_writer_is_asked_again_after_it_failed_at_any_byte(rt: HostRuntime) -> Resu
             write_failures: NO_FAILURE,
             ..unwritten(bytes, head)
         };
-        answers(verb, &config, &mut tape, &mut paper, done, &texts)?;
+        answers(verb, &config, &mut tape, &mut paper, done.with(&texts))?;
         same(paper.asked, u64::from(bytes), verb)?;
     }
     Ok(())
@@ -217,14 +217,8 @@ fn a_record_is_written_before_the_next_field_is_read(rt: HostRuntime) -> Result<
             ..Paper::failing(rt.alloc(), 150)
         };
         let done = unwritten(150, 135);
-        answers(
-            Verb::Extract,
-            &config,
-            &mut tape,
-            &mut paper,
-            done,
-            &[HEAD, BLACK],
-        )?;
+        let wanted = done.with(&[HEAD, BLACK]);
+        answers(Verb::Extract, &config, &mut tape, &mut paper, wanted)?;
     }
     Ok(())
 }
@@ -272,7 +266,8 @@ fn sixteen_interruptions_in_a_row_are_borne(rt: HostRuntime) -> Result<(), Fail>
             write_failures: interruptions(interrupts),
         };
         let texts = [HEAD, BLACK, TAIL];
-        answers(Verb::Extract, &config, &mut tape, &mut paper, done, &texts)?;
+        let wanted = done.with(&texts);
+        answers(Verb::Extract, &config, &mut tape, &mut paper, wanted)?;
     }
     Ok(())
 }

@@ -3,7 +3,8 @@
 use crate::fields::{DRAWN, NONE, config, field, front};
 use crate::known::{BLACK, CUT, CUT_END, HEAD, PAL_HEAD, TAIL, WORDS};
 use crate::runs::{
-    Ended, Failures, NO_FAILURE, ONE_ERROR, failures_of_writes, total, whole, wrote,
+    Ended, Failures, NO_FAILURE, ONE_ERROR, Wanted, failures_of_writes, total, undisturbed, whole,
+    wrote,
 };
 use std::alloc::Global;
 use std::test::Fail;
@@ -47,30 +48,30 @@ fn push_chunks(
     end(feeder, outlet)
 }
 
-/// Fails where a stream in pieces of so many bytes ends otherwise, or other texts than these are written.
+/// Fails if a stream in pieces of this many bytes ends otherwise, or other texts than these are written.
 pub(crate) fn feeds_chunks(
     alloc: Global,
     config: Config,
     stream: &[u8],
     size: usize,
-    ended: Ended,
-    texts: &[&str],
+    wanted: Wanted,
 ) -> Result<(), Fail> {
     let mut paper = Paper::new(alloc);
     let mut outlet = Outlet::new(&mut paper);
     let feeder = Feeder::begin(config, &mut outlet)?;
     let found = push_chunks(feeder, stream, size, &mut outlet)?;
-    same(found, ended, size)?;
+    same(found, wanted.done.result, size)?;
     same(failures_of_writes(&outlet), NO_FAILURE, size)?;
-    wrote(&paper, total(texts), texts)
+    wrote(&paper, total(wanted.texts), wanted.texts)
 }
 
 #[test]
 fn an_empty_stream_has_a_head_and_a_tail(rt: HostRuntime) -> Result<(), Fail> {
     for (system, head) in [(System::Ntsc, HEAD), (System::Pal, PAL_HEAD)] {
         let config = config(system, 5)?;
-        let ended = whole(0, None, 0);
-        feeds_chunks(rt.alloc(), config, b"", 1, ended, &[head, TAIL])?;
+        let texts = [head, TAIL];
+        let wanted = undisturbed(b"", whole(0, None, 0), &texts);
+        feeds_chunks(rt.alloc(), config, b"", 1, wanted)?;
     }
     Ok(())
 }
@@ -82,8 +83,9 @@ fn pieces_of_any_length_give_one_document(rt: HostRuntime) -> Result<(), Fail> {
     let stream = stream.as_slice();
     let ended = whole(1, None, 2730);
     let texts = [HEAD, WORDS, TAIL];
+    let wanted = undisturbed(stream, ended, &texts);
     for size in [1, 3, 1821] {
-        feeds_chunks(rt.alloc(), config, stream, size, ended, &texts)?;
+        feeds_chunks(rt.alloc(), config, stream, size, wanted)?;
     }
     // Inside the first sample of line 16, and a piece of no bytes.
     let (front, back) = stream.split_at_checked(27301).ok_or("short")?;
@@ -108,25 +110,13 @@ fn one_piece_may_be_a_whole_stream(rt: HostRuntime) -> Result<(), Fail> {
         let stream = field(alloc, &config, NONE)?;
         let stream = stream.as_slice();
         let looked = 3 * system.width() as u64;
-        let ended = whole(1, None, looked);
-        feeds_chunks(
-            alloc,
-            config,
-            stream,
-            1_000_000,
-            ended,
-            &[head, BLACK, TAIL],
-        )?;
-        let ended = whole(0, Some(bytes), looked);
+        let texts = [head, BLACK, TAIL];
+        let wanted = undisturbed(stream, whole(1, None, looked), &texts);
+        feeds_chunks(alloc, config, stream, 1_000_000, wanted)?;
         let stream = front(stream, bytes as usize);
-        feeds_chunks(
-            alloc,
-            config,
-            stream,
-            1_000_000,
-            ended,
-            &[head, CUT, cut, CUT_END],
-        )?;
+        let texts = [head, CUT, cut, CUT_END];
+        let wanted = undisturbed(stream, whole(0, Some(bytes), looked), &texts);
+        feeds_chunks(alloc, config, stream, 1_000_000, wanted)?;
     }
     Ok(())
 }

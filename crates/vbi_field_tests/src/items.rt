@@ -124,7 +124,7 @@ static ROWS: [&str; 5] = [
 ];
 
 #[test]
-fn words_have_any_digits_behind_the_first(rt: HostRuntime) -> Result<(), Fail> {
+fn words_have_any_digits_after_the_first(rt: HostRuntime) -> Result<(), Fail> {
     for &text in &ROWS {
         ends(rt.alloc(), System::Ntsc, text, Ok(1), 478_660)?;
         ends(rt.alloc(), System::Pal, text, Ok(1), 710_510)?;

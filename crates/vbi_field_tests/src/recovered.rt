@@ -10,7 +10,9 @@ use crate::known::{
     CUT, CUT_END, PAL_RECOVERED_HEAD, PAL_REPORT_HEAD, RECOVERED_HEAD, REPORT_HEAD, REPORT_TAIL,
     TAIL,
 };
-use crate::runs::{Done, NO_FAILURE, ONE_ERROR, Verb, answers, undisturbed, whole, writes};
+use crate::runs::{
+    Done, NO_FAILURE, ONE_ERROR, Verb, answers, undisturbed, whole, writes, writes_by_any_reads,
+};
 use std::test::Fail;
 use vbi_field::RunFault;
 use vbi_test_devices::{Paper, Tape};
@@ -103,23 +105,11 @@ fn a_worn_field_has_its_record_and_its_part_of_the_report(rt: HostRuntime) -> Re
         let ended = whole(1, None, 3 * system.width() as u64);
         let (head, report_head) = heads(system);
         let document = [head, record, TAIL];
-        writes(
-            rt.alloc(),
-            Verb::ExtractRecovered,
-            &config,
-            stream,
-            ended,
-            &document,
-        )?;
+        let wanted = undisturbed(stream, ended, &document);
+        writes(rt.alloc(), Verb::ExtractRecovered, &config, stream, wanted)?;
         let report = [report_head, part, REPORT_TAIL];
-        writes(
-            rt.alloc(),
-            Verb::ShowRecovered,
-            &config,
-            stream,
-            ended,
-            &report,
-        )?;
+        let wanted = undisturbed(stream, ended, &report);
+        writes(rt.alloc(), Verb::ShowRecovered, &config, stream, wanted)?;
     }
     Ok(())
 }
@@ -134,13 +124,13 @@ fn each_field_has_the_words_of_its_own_rows(rt: HostRuntime) -> Result<(), Fail>
         \"vbiNear\":[null,{\"word\":8396253,\"distance\":500,\"rival\":2300},null]}";
     let texts = [RECOVERED_HEAD, WORN_RECORD, second, TAIL];
     let ended = whole(2, None, 6 * 910);
+    let wanted = undisturbed(stream.as_slice(), ended, &texts);
     writes(
         rt.alloc(),
         Verb::ExtractRecovered,
         &config,
         stream.as_slice(),
-        ended,
-        &texts,
+        wanted,
     )
 }
 
@@ -151,14 +141,8 @@ fn a_worn_field_that_is_cut_is_not_recovered(rt: HostRuntime) -> Result<(), Fail
     let cut = front(stream.as_slice(), 478_659);
     let ended = whole(0, Some(478_659), 2730);
     let texts = [RECOVERED_HEAD, CUT, "478659", CUT_END];
-    writes(
-        rt.alloc(),
-        Verb::ExtractRecovered,
-        &config,
-        cut,
-        ended,
-        &texts,
-    )
+    let wanted = undisturbed(cut, ended, &texts);
+    writes(rt.alloc(), Verb::ExtractRecovered, &config, cut, wanted)
 }
 
 #[test]
@@ -166,23 +150,14 @@ fn reads_of_any_length_give_one_recovered_document(rt: HostRuntime) -> Result<()
     let config = config(Ntsc, 5)?;
     let stream = field(rt.alloc(), &config, WORN)?;
     let texts = [RECOVERED_HEAD, WORN_RECORD, TAIL];
-    let done = undisturbed(stream.as_slice(), whole(1, None, 2730), &texts);
-    for piece in [1, 3, 1821] {
-        let mut tape = Tape {
-            piece,
-            ..Tape::new(stream.as_slice())
-        };
-        let mut paper = Paper::new(rt.alloc());
-        answers(
-            Verb::ExtractRecovered,
-            &config,
-            &mut tape,
-            &mut paper,
-            done,
-            &texts,
-        )?;
-    }
-    Ok(())
+    let wanted = undisturbed(stream.as_slice(), whole(1, None, 2730), &texts);
+    writes_by_any_reads(
+        rt.alloc(),
+        Verb::ExtractRecovered,
+        &config,
+        stream.as_slice(),
+        wanted,
+    )
 }
 
 #[test]
@@ -206,13 +181,13 @@ fn faults_are_those_of_extract(rt: HostRuntime) -> Result<(), Fail> {
         written: RECOVERED_HEAD.len() as u64,
         write_failures: NO_FAILURE,
     };
+    let wanted = unread.with(&texts);
     answers(
         Verb::ExtractRecovered,
         &config,
         &mut tape,
         &mut paper,
-        unread,
-        &texts,
+        wanted,
     )?;
 
     let mut tape = Tape::new(stream.as_slice());
@@ -224,12 +199,12 @@ fn faults_are_those_of_extract(rt: HostRuntime) -> Result<(), Fail> {
         written: 150,
         write_failures: ONE_ERROR,
     };
+    let wanted = unwritten.with(&texts);
     answers(
         Verb::ExtractRecovered,
         &config,
         &mut tape,
         &mut paper,
-        unwritten,
-        &texts,
+        wanted,
     )
 }

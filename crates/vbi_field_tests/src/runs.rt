@@ -151,41 +151,72 @@ pub(crate) fn total(texts: &[&str]) -> u64 {
     bytes
 }
 
-/// Fails where a run between two devices ends otherwise, or where what was written doesn't begin these texts.
+/// What a run has to answer, and the texts that it has to begin, or to write if it ends well.
+#[derive(Clone, Copy)]
+pub(crate) struct Wanted<'a> {
+    pub(crate) done: Done,
+    pub(crate) texts: &'a [&'a str],
+}
+
+impl Done {
+    /// The same, with what is written.
+    pub(crate) fn with<'a>(self, texts: &'a [&'a str]) -> Wanted<'a> {
+        Wanted { done: self, texts }
+    }
+}
+
+/// Fails if a run between two devices ends otherwise, or if what was written doesn't begin these texts.
 pub(crate) fn answers<R: Read + Drop>(
     verb: Verb,
     config: &Config,
     reader: &mut R,
     paper: &mut Paper,
-    done: Done,
-    texts: &[&str],
+    wanted: Wanted,
 ) -> Result<(), Fail> {
-    same(ran(verb, config, reader, paper), done, verb)?;
-    wrote(paper, done.written, texts)
+    same(ran(verb, config, reader, paper), wanted.done, verb)?;
+    wrote(paper, wanted.done.written, wanted.texts)
 }
 
 /// What a run answers that takes all of a stream and writes these texts, and whose devices don't fail.
-pub(crate) fn undisturbed(stream: &[u8], ended: Ended, texts: &[&str]) -> Done {
-    Done {
+pub(crate) fn undisturbed<'a>(stream: &[u8], ended: Ended, texts: &'a [&'a str]) -> Wanted<'a> {
+    let done = Done {
         result: ended,
         fetched: stream.len() as u64,
         read_failures: NO_FAILURE,
         written: total(texts),
         write_failures: NO_FAILURE,
-    }
+    };
+    done.with(texts)
 }
 
-/// Fails where a run over a stream ends otherwise, a device fails, or other texts than these are written.
+/// Fails if a run over a stream ends otherwise, a device fails, or other texts than these are written.
 pub(crate) fn writes(
     alloc: Global,
     verb: Verb,
     config: &Config,
     stream: &[u8],
-    ended: Ended,
-    texts: &[&str],
+    wanted: Wanted,
 ) -> Result<(), Fail> {
     let mut tape = Tape::new(stream);
     let mut paper = Paper::new(alloc);
-    let done = undisturbed(stream, ended, texts);
-    answers(verb, config, &mut tape, &mut paper, done, texts)
+    answers(verb, config, &mut tape, &mut paper, wanted)
+}
+
+/// The same of reads of some lengths: a byte, an odd number of bytes, and a line of NTSC and a byte.
+pub(crate) fn writes_by_any_reads(
+    alloc: Global,
+    verb: Verb,
+    config: &Config,
+    stream: &[u8],
+    wanted: Wanted,
+) -> Result<(), Fail> {
+    for piece in [1, 3, 1821] {
+        let mut tape = Tape {
+            piece,
+            ..Tape::new(stream)
+        };
+        let mut paper = Paper::new(alloc);
+        answers(verb, config, &mut tape, &mut paper, wanted)?;
+    }
+    Ok(())
 }
