@@ -1,4 +1,11 @@
 //! `run_line`: its answers and faults, what was written by then, what its devices were asked, and what was counted.
+//!
+//! The first three tables run over the stored line, with devices that cut, interrupt and fail: `READ_FAULTS` at each
+//! place where a reader can end or fail, `WRITE_FAULTS` at each byte that a writer can refuse, and `WHOLE` where
+//! neither does for good. A reader that has a byte for each read is asked once for each, and once more for its end or
+//! its error; 16 interruptions in a row are borne, and the 17th is a fault. `RUNS` are lines that show no word, by runs
+//! of equal samples, each with its cause; the last test draws words and reads them back. The numbers are those of a
+//! line of 910 samples (NTSC) or 1135 (PAL), of two bytes each.
 
 use crate::known::{drawn_line, front, push_samples, stored_line};
 use crate::runs::Asked;

@@ -20,11 +20,11 @@ const BEFORE: &str =
 const FIELD: &str = ",{\"seqNo\":1,\"isFirstField\":true,\"syncConf\":100,\"fileLoc\":123456}";
 
 /// The metadata with 31,250 fields, which are two million bytes, and then this text.
-fn two_megabytes(alloc: Global, behind: &str) -> Result<Vec<u8>, AllocError> {
+fn two_megabytes(alloc: Global, after: &str) -> Result<Vec<u8>, AllocError> {
     let mut text = Vec::new(alloc);
     text.extend_from_slice(BEFORE.as_bytes())?;
     text.extend_from_slice(repeated(alloc, FIELD.as_bytes(), 31_250)?.as_slice())?;
-    text.extend_from_slice(behind.as_bytes())?;
+    text.extend_from_slice(after.as_bytes())?;
     Ok(text)
 }
 
@@ -32,12 +32,12 @@ fn two_megabytes(alloc: Global, behind: &str) -> Result<Vec<u8>, AllocError> {
 fn two_megabytes_that_are_no_json_are_called_so(rt: HostRuntime) -> Result<(), Fail> {
     let alloc = rt.alloc();
     // A list without an end, and one with something at its very end that JSON doesn't have.
-    for behind in ["", ",NaN]}"] {
-        let meta = two_megabytes(alloc, behind)?;
+    for after in ["", ",NaN]}"] {
+        let meta = two_megabytes(alloc, after)?;
         let extract = job(EXTRACT, NONE);
         let ran = run_over(alloc, &extract, Some(meta.as_slice()), b"some bytes");
-        ends(&ran, Err(AppFault::Meta(MetaFault::NotJson)), 1, behind)?;
-        same(ran.asked, NEVER, behind)?;
+        ends(&ran, Err(AppFault::Meta(MetaFault::NotJson)), 1, after)?;
+        same(ran.asked, NEVER, after)?;
     }
     Ok(())
 }

@@ -1,7 +1,15 @@
 //! Words of the command line that are refused, and the texts that say why.
+//!
+//! `REFUSALS` has a row for each way in which words after a command can be refused, with its whole text, and each
+//! command is tried with each row; `REFUSED`, `NO_LEVELS` and `NO_OPTIONS` are more of the same, of which only the
+//! refusal is tested. `NO_COMMAND` and `NO_NAMES` are words that name no command. `--recover` is of `extract` and
+//! `show` alone.
+//!
+//! The texts are clap's own, with the names of src/commands.rt in vbi_cli: a row changes with those, and otherwise only
+//! with clap. What good words put into a job is in words.rt.
 
 use crate::known::joined;
-use crate::words::{COMMANDS, read, read_behind};
+use crate::words::{COMMANDS, read, read_after};
 use std::alloc::Global;
 use std::test::Fail;
 use vbi_cli::{Job, WordsFault};
@@ -135,13 +143,13 @@ fn says_why(
     why: &str,
     has_usage: bool,
 ) -> Result<(), Fail> {
-    let outcome = read_behind(alloc, command, words);
-    let [before, named, behind] = if has_usage {
+    let outcome = read_after(alloc, command, words);
+    let [before, named, after] = if has_usage {
         ["\n\nUsage: ldvbi ", command, " [OPTIONS] [INPUT]"]
     } else {
         [""; 3]
     };
-    let texts = ["error: ", why, before, named, behind, MORE];
+    let texts = ["error: ", why, before, named, after, MORE];
     is_said(alloc, outcome, words, &texts)
 }
 
@@ -194,7 +202,7 @@ static NO_LEVELS: [&str; 9] = [
 
 /// Fails where a command doesn't refuse these words.
 fn refuses(alloc: Global, command: &str, words: &[&str]) -> Result<(), Fail> {
-    refused(alloc, read_behind(alloc, command, words), words)?;
+    refused(alloc, read_after(alloc, command, words), words)?;
     Ok(())
 }
 
@@ -246,7 +254,7 @@ fn each_command_refuses_other_options(rt: HostRuntime) -> Result<(), Fail> {
     for &(command, _) in &COMMANDS {
         for &word in &NO_OPTIONS {
             let words = [word, "5"];
-            let text = refused(rt.alloc(), read_behind(alloc, command, &words), &words)?;
+            let text = refused(rt.alloc(), read_after(alloc, command, &words), &words)?;
             let first = format!(in alloc; "error: unexpected argument '{word}' found\n")?;
             holds(text.as_str().starts_with(first.as_str()), text)?;
         }

@@ -1,4 +1,13 @@
 //! What the words of the command line put into a job.
+//!
+//! `each_command_takes_each_set_of_options` goes through all 32 sets of the five options, with each value apart from
+//! its name and joined to it, and the input before them or after them. The tables after it have what that leaves out:
+//! which input has metadata beside it (`BESIDE`), paths that look like options or are odd otherwise (`PATHS`), and the
+//! least and the greatest values (`LEVELS`, `LIMITS`), some of which the settings refuse later. The last two tests are
+//! of memory that runs out.
+//!
+//! `read` and `read_after` serve refusals.rt, which has the words that are refused. An option that is added in
+//! vbi_cli/src/commands.rt gets its row in `OPTIONS`, and its place in `Held`.
 
 use crate::runs::{EXTRACT, NONE, SHOW};
 use std::alloc::{AllocError, Global};
@@ -15,13 +24,9 @@ pub(crate) fn read(alloc: Global, texts: &[&str]) -> Result<Job, WordsFault> {
 }
 
 /// The same of the program's name, a command, and the words after it.
-pub(crate) fn read_behind(
-    alloc: Global,
-    command: &str,
-    behind: &[&str],
-) -> Result<Job, WordsFault> {
+pub(crate) fn read_after(alloc: Global, command: &str, texts: &[&str]) -> Result<Job, WordsFault> {
     let mut words = owned(alloc, &["ldvbi", command])?;
-    for text in behind {
+    for text in texts {
         words.push(String::from_str(alloc, text)?)?;
     }
     read_words(alloc, words.as_slice())
@@ -129,7 +134,7 @@ fn each_command_takes_each_set_of_options(rt: HostRuntime) -> Result<(), Fail> {
             for is_joined in [false, true] {
                 for input in [None, Some("disc.tbc"), Some("-")] {
                     let words = said(rt.alloc(), given, is_joined, input)?;
-                    let job = read_behind(rt.alloc(), command, words.as_slice())?;
+                    let job = read_after(rt.alloc(), command, words.as_slice())?;
                     let wanted = wanted(verb, given, input);
                     let row = (command, words.as_slice());
                     same(contents_of(&job), wanted, row)?;
@@ -141,10 +146,10 @@ fn each_command_takes_each_set_of_options(rt: HostRuntime) -> Result<(), Fail> {
 }
 
 #[test]
-fn recovered_words_are_asked_for_before_or_behind_the_input(rt: HostRuntime) -> Result<(), Fail> {
+fn recovered_words_are_asked_for_before_or_after_the_input(rt: HostRuntime) -> Result<(), Fail> {
     for &(command, verb) in &RECOVERING {
         for words in [["--recover", "disc.tbc"], ["disc.tbc", "--recover"]] {
-            let job = read_behind(rt.alloc(), command, &words)?;
+            let job = read_after(rt.alloc(), command, &words)?;
             let wanted = wanted(verb, [false; 5], Some("disc.tbc"));
             same(contents_of(&job), wanted, (command, words))?;
         }
@@ -171,7 +176,7 @@ static BESIDE: [(&[&str], bool); 7] = [
 #[test]
 fn metadata_is_looked_for_beside_a_file(rt: HostRuntime) -> Result<(), Fail> {
     for &(words, looks) in &BESIDE {
-        let job = read_behind(rt.alloc(), "extract", words)?;
+        let job = read_after(rt.alloc(), "extract", words)?;
         same(job.looks_beside(), looks, words)?;
     }
     Ok(())
@@ -188,7 +193,7 @@ static PATHS: [(&[&str], Option<&str>, Option<&str>); 17] = [
     (&["./-"], None, Some("./-")),
     // The empty text is a path.
     (&[""], None, Some("")),
-    // Behind `--` stands no option.
+    // After `--` stands no option.
     (&["--"], None, None),
     (&["--", "-"], None, None),
     (&["--", "-disc.tbc"], None, Some("-disc.tbc")),
@@ -210,7 +215,7 @@ static PATHS: [(&[&str], Option<&str>, Option<&str>); 17] = [
 fn paths_are_kept_as_they_are(rt: HostRuntime) -> Result<(), Fail> {
     for &(command, verb) in &COMMANDS {
         for &(words, meta, input) in &PATHS {
-            let job = read_behind(rt.alloc(), command, words)?;
+            let job = read_after(rt.alloc(), command, words)?;
             let wanted = Held {
                 verb,
                 overrides: NONE,
@@ -226,7 +231,7 @@ fn paths_are_kept_as_they_are(rt: HostRuntime) -> Result<(), Fail> {
 /// Fails where an option with this value isn't taken, or isn't all that the job holds.
 fn takes(alloc: Global, option: &str, value: &str, overrides: Overrides) -> Result<(), Fail> {
     for &(command, verb) in &COMMANDS {
-        let job = read_behind(alloc, command, &[option, value])?;
+        let job = read_after(alloc, command, &[option, value])?;
         let wanted = Held {
             verb,
             overrides,

@@ -1,4 +1,12 @@
-//! The vectors of `settings`.
+//! What metadata and options settle, and for what they are refused: the vectors of `settings`.
+//!
+//! The order of the tables is that in which faults are looked for: no object `videoParameters` (`EMPTY`), then its
+//! members one after another (`REFUSED`, also with options that stand in for members: `OVERRIDDEN`), the sizes of a
+//! field by the system (`NTSC_SIZES`, `PAL_SIZES`, `NAMED`), and the limit of fields, last of all. Of two faults the
+//! first in this order is the refusal: beside each row with two faults or more there is one with all of them but the
+//! first. `SETTLED`, `LIMITS` and `OPTIONS` have what is settled.
+//!
+//! The order is `IsRefused` of vbi_meta/specs/Settings.antt; a member that is added there gets its rows in both tables.
 
 use std::alloc::{AllocError, Global};
 use std::test::Fail;

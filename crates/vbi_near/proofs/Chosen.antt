@@ -100,7 +100,8 @@ lead-found sums system ranges lead is some =
     lead is)
   where
     go : ((lead.word ≡ 0) × (lead.start ≡ 0))
-        ⊎ ((lead.start < starts system) × IsOneOf ranges lead.word × IsCodePlace ranges system (Some lead.word) lead.start
+        ⊎ ((lead.start < starts system) × IsOneOf ranges lead.word × IsCodePlace ranges system (Some lead.word)
+        lead.start
         × IsWord lead.word)
         → (lead.start < starts system) × IsWord lead.word
         × (place_cost sums system lead.start lead.word ≡ lead.distance)
@@ -351,7 +352,8 @@ module _ (sums : Sums) (found : Found) (is : IsFound (word_cost_by sums) 0 (star
 pub near-word : (sums : Sums) (found : Found) → IsFound (word_cost_by sums) 0 (starts sums.system) found
     → (longer shorter blank : ℕ) (near : Near) → blank ≡ span (shades_of sums) false 0 (width_of sums.system)
     → IsChosen found longer shorter blank near
-    → IsLongerFound (shades_of sums) sums.system found longer → IsShorterFound (shades_of sums) sums.system found shorter
+    → IsLongerFound (shades_of sums) sums.system found longer → IsShorterFound (shades_of sums) sums.system found
+    shorter
     → (slicing : Slicing) (lines : List Samples) (costs : Shades) → IsRowOf sums slicing lines costs
     → IsNearWord sums.system slicing lines near
 near-word sums found is longer shorter blank near value chosen longest shortest slicing lines costs row =

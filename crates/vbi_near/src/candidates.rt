@@ -6,7 +6,8 @@ ghost use Rattle.vbi_words.specs.Levels.{samples_of};
 ghost use Rattle.vbi_near.specs.Lines.{row_in, first_in, other_in};
 ghost use Rattle.vbi_near.specs.Levelled.{levelled};
 ghost use Rattle.vbi_near.specs.Stretched.{IsStretched};
-ghost use Rattle.vbi_near.specs.Candidates.{HasNear, HasNearIf, row_of, given_samples, filled_samples, swing_in, has_swing};
+ghost use Rattle.vbi_near.specs.Candidates.{HasNear, HasNearIf, row_of, given_samples, filled_samples, swing_in};
+ghost use Rattle.vbi_near.specs.Candidates.{has_swing};
 ghost use Rattle.vbi_near.specs.Candidates.{are_alike, are_alike_by, levelled_samples};
 
 use crate::levelled::{Summed, fill, is_swing, level, sum_samples, swing};

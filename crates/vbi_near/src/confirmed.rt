@@ -7,7 +7,8 @@
 ghost use Rattle.std.specs.Prelude.{◌≡◌, ℕ, ◌-◌, ◌∷◌, []};
 ghost use Rattle.vbi_near.specs.Lines.{row_in};
 ghost use Rattle.vbi_near.specs.Stretched.{IsStretched};
-ghost use Rattle.vbi_near.specs.Candidates.{Candidates, candidates, given_samples, has_swing, levelled_samples, HasNearIf};
+ghost use Rattle.vbi_near.specs.Candidates.{Candidates, candidates, given_samples, has_swing, levelled_samples};
+ghost use Rattle.vbi_near.specs.Candidates.{HasNearIf};
 ghost use Rattle.vbi_near.specs.Candidates.{AreOf};
 ghost use Rattle.vbi_near.specs.Recovery.{said_alone, other_than, is_stretched, is_confirmed};
 

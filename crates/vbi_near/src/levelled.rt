@@ -20,7 +20,8 @@ ghost use Rattle.std.specs.Prelude.{IsFalse};
 ghost use Rattle.vbi_words.specs.Geometry.{width_of, line_bytes};
 ghost use Rattle.vbi_words.specs.Levels.{samples_of};
 ghost use Rattle.vbi_line.specs.Line.{sample_at};
-ghost use Rattle.vbi_near.specs.Levelled.{window_of, first_of, end_of, window_start, sum_from, window_sum, swing_of, is_swing};
+ghost use Rattle.vbi_near.specs.Levelled.{window_of, first_of, end_of, window_start, sum_from, window_sum, swing_of};
+ghost use Rattle.vbi_near.specs.Levelled.{is_swing};
 ghost use Rattle.vbi_near.specs.Levelled.{middle_of, levelled_sample, levelled, filled, AreSampleSums, AreWindows};
 
 use crate::near::WIDEST;

@@ -107,7 +107,8 @@ impl<'a> Pile<'a> {
         requires erased { length erased.now ≡ width_of self.old.system }
         ensures count { self.new.count ≡ self.old.count + 1 }
         ensures system { self.new.system ≡ self.old.system }
-        ensures line { (system : System) (slicing : Slicing) (lines : List Samples) → IsPileOf system slicing lines self.old
+        ensures line { (system : System) (slicing : Slicing) (lines : List Samples) → IsPileOf system slicing lines
+            self.old
             → IsPileOf system slicing (lines ++ known_but erased.now (samples_of line.now) ∷ []) self.new }
     {
         add_line(self.levels, line, erased, self.darks, self.lights);

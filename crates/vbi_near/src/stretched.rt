@@ -88,7 +88,8 @@ fn word_costs(sums: &Sums, word: Word24, rate: usize, costs: &mut [u32])
 /// How far the lines are from the nearest row of a word on cells of this rate.
 fn distance_by(sums: &Sums, word: Word24, rate: usize) -> u32
     requires { (98 ≤ rate) × (rate ≤ 102) }
-    ensures { IsLeastAt (IsAtRate sums.now.system rate) (stretched_row_cost (shades_of sums.now) sums.now.system word) result }
+    ensures { IsLeastAt (IsAtRate sums.now.system rate) (stretched_row_cost (shades_of sums.now) sums.now.system word)
+        result }
 {
     let length = stretched_offset(sums.system, rate, 48);
     let count = sums.system.width() - length + 1;

@@ -9,8 +9,8 @@
 //! and at least twice as many as are opposed. Of a disc without a clock, and if clocks explain as much, it is the one
 //! that the rule has.
 //!
-//! gaps.rt has the pass and gap.rt the test whether two numbers go on; clock.rt says what each clock leaves out. Another
-//! bound, or a clock more, changes `specs/ClocksFound.antt` and the contract of `find_clock`.
+//! gaps.rt has the pass and gap.rt the test whether two numbers go on; clock.rt says what each clock leaves out.
+//! Another bound, or a clock more, changes `specs/ClocksFound.antt` and the contract of `find_clock`.
 
 ghost use Rattle.std.specs.Prelude.{◌≡◌, ◌+◌, ◌*◌, ◌<◌, ◌≤◌, ◌^◌, ◌↔◌, ◌⊎◌, true, length, List};
 ghost use Rattle.vbi_side.specs.declared.clock.Clock.TheVariants.{DropFrame, OneIn};

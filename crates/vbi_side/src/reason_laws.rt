@@ -1,5 +1,5 @@
-//! Laws of the verdict's reasons, worked by hand. A function here does nothing: its contract holds rows of numbers, each
-//! law those of few definitions, so that a definition turned together with its code is refused by one of them.
+//! Laws of the verdict's reasons, worked by hand. A function here does nothing: its contract holds rows of numbers,
+//! each law those of few definitions, so that a definition turned together with its code is refused by one of them.
 
 ghost use Rattle.std.specs.Prelude.{◌≡◌, ◌∷◌, [], ◌++◌, map, replicate, true, false};
 ghost use Rattle.vbi_side.specs.declared.clock.Clock.TheVariants.{Plain};

@@ -22,8 +22,8 @@ use crate::lines::rate;
 use crate::sighting::{Sighting, Sightings};
 use vbi_words::System;
 
-/// The fields on either side of one whose times vote: four seconds of NTSC, so that some line 17 or 18 of a worn disc is
-/// read among them, and few enough that a clock leaves out four numbers there at most (`few_left_out`).
+/// The fields on either side of one whose times vote: four seconds of NTSC, so that some line 17 or 18 of a worn disc
+/// is read among them, and few enough that a clock leaves out four numbers there at most (`few_left_out`).
 pub const VOTE_REACH: usize = 240;
 
 /// In which field a number is elected, with which part of a minute.

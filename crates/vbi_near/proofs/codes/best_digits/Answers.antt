@@ -34,9 +34,11 @@ loop-place-preserved c =
       best = λ cost same.
           subst (λ (k : ℕ). AreBest cost c.args.prices.now.base (digit_at c.args.words.0) (digit_at c.args.words.1) k
           c.with_digit-best.result) (sym (add-one p))
-          (c.with_digit-best.ensures.best cost c.args.prices.now.base (digit_at c.args.words.0) (digit_at c.args.words.1) p
+          (c.with_digit-best.ensures.best cost c.args.prices.now.base (digit_at c.args.words.0)
+          (digit_at c.args.words.1) p
           (c.loop-place.invariant.best cost same) (sym c.place_of-from.ensures.value) (sym c.place_of-to.ensures.value)
-          (λ value l. cut-read c.args.prices.now.digits.now (16 * p) 16 value l ∙ same p value c.loop-place-test.true l));
+          (λ value l. cut-read c.args.prices.now.digits.now (16 * p) 16 value l ∙ same p value c.loop-place-test.true
+          l));
       word = omega (arith, c.with_digit-best.ensures.word, c.loop-place.invariant.word, next-power p);
       distance = omega (arith, c.with_digit-best.ensures.distance, c.loop-place.invariant.distance);
     }
@@ -44,5 +46,6 @@ loop-place-preserved c =
 pub returns-clause-best : goal.returns-clause-best
 returns-clause-best c cost same =
     let e : c.loop-place.place ≡ 6 = omega (arith, c.loop-place-test.false, c.loop-place.auto.place-end) in
-    subst (λ (k : ℕ). AreBest cost c.args.prices.now.base (digit_at c.args.words.0) (digit_at c.args.words.1) k c.loop-place.best) e
+    subst (λ (k : ℕ). AreBest cost c.args.prices.now.base (digit_at c.args.words.0) (digit_at c.args.words.1) k
+    c.loop-place.best) e
     (c.loop-place.invariant.best cost same)

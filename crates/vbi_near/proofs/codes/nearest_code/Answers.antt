@@ -13,7 +13,8 @@ loop-start-preserved c =
     let n : ℕ = c.loop-start.start in
     record {
       lead = subst (λ (k : ℕ). IsLead (code_cost sums c.args.sums.now.system)
-          (IsSeen (looks_before (codes_of c.args.sums.now.system c.args.line) c.args.first k)) c.with_start_by-best.result)
+          (IsSeen (looks_before (codes_of c.args.sums.now.system c.args.line) c.args.first k))
+          c.with_start_by-best.result)
           (sym (add-one n)) (c.with_start_by-best.ensures.lead
           (looks_before (codes_of c.args.sums.now.system c.args.line) c.args.first n) c.loop-start.invariant.lead);
       close = c.with_start_by-best.ensures.close c.loop-start.invariant.close;
@@ -24,7 +25,8 @@ returns-clause-lead c =
     let sums : Shades = shades_of c.args.sums.now in
     let e : c.loop-start.start ≡ starts c.args.sums.now.system
     = omega (arith, c.loop-start-test.false, c.loop-start.auto.start-end, c.requires.bounds) in
-    all-looks (code_cost sums c.args.sums.now.system) (codes_of c.args.sums.now.system c.args.line) c.args.sums.now.system c.args.first
+    all-looks (code_cost sums c.args.sums.now.system) (codes_of c.args.sums.now.system c.args.line)
+    c.args.sums.now.system c.args.first
     c.loop-start.best c.requires.first
     (subst (λ (k : ℕ). IsLead (code_cost sums c.args.sums.now.system)
     (IsSeen (looks_before (codes_of c.args.sums.now.system c.args.line) c.args.first k)) c.loop-start.best) e

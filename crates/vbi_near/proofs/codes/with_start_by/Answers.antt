@@ -13,7 +13,8 @@ pub returns-else-needs_look-clause-lead : goal.returns-else-needs_look-clause-le
 returns-else-needs_look-clause-lead c looks is =
     let sums : Shades = shades_of c.args.sums.now in
     let passed = c.needs_look.ensures c.if-needs_look.false in
-    passed-ranges (code_cost sums c.args.sums.now.system) looks c.args.start (codes_of c.args.sums.now.system c.args.line) c.args.found
+    passed-ranges (code_cost sums c.args.sums.now.system) looks c.args.start
+    (codes_of c.args.sums.now.system c.args.line) c.args.found
     (λ w word. omega (
       arith,
       c.requires.bound w word,

@@ -20,7 +20,8 @@ levelled_sample-sample-requires-clause-range c =
     let wide : length bytes ≡ 2 * width_of system = c.args.line.now.whole ∙ line_bytes-twice system in
     scale_fits system (samples_of bytes) c.from.result c.from-2.result
     (short_bytes bytes (width_of system) wide c.args.line.now.bytes)
-    (line-samples system bytes c.args.line.now.whole) (c.from.ensures ∙ c.window.ensures) (c.from-2.ensures ∙ c.requires.swing)
+    (line-samples system bytes c.args.line.now.whole) (c.from.ensures ∙ c.window.ensures)
+    (c.from-2.ensures ∙ c.requires.swing)
 
 pub loop-column-preserved : goal.loop-column-preserved
 loop-column-preserved c =

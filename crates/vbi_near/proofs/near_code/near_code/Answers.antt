@@ -24,13 +24,15 @@ word_of-requires c =
 
 pub returns-clause-place : goal.returns-clause-place
 returns-clause-place c =
-    let found = lead-found (shades_of c.args.sums.now) c.args.sums.now.system (codes_of c.args.sums.now.system c.args.line)
+    let found = lead-found (shades_of c.args.sums.now) c.args.sums.now.system
+    (codes_of c.args.sums.now.system c.args.line)
     c.nearest_code-lead.result c.nearest_code-lead.ensures.lead c.if-lead-eq0.false in
     (subst IsWord (sym c.word_of.ensures) found.1, omega (arith, found.0, word-fits c.args.sums.now.system))
 
 pub returns-clause-near : goal.returns-clause-near
 returns-clause-near c =
-    let found = lead-found (shades_of c.args.sums.now) c.args.sums.now.system (codes_of c.args.sums.now.system c.args.line)
+    let found = lead-found (shades_of c.args.sums.now) c.args.sums.now.system
+    (codes_of c.args.sums.now.system c.args.line)
     c.nearest_code-lead.result c.nearest_code-lead.ensures.lead c.if-lead-eq0.false in
     near-code c.args.sums.now c.args.line c.nearest_code-lead.result c.nearest_code-lead.ensures.lead
     c.nearest_code-lead.ensures.close c.longer_distance-longer.result c.shorter_distance-shorter.result _

@@ -40,7 +40,8 @@ returns c =
     let others = c.shown_pair-others.ensures second.0 third.0 both.0
     (subst (λ (r : Row). IsSeen system 17 levels r second.0) (sym c.row-second.ensures.row) second.1)
     (subst (λ (r : Row). IsSeen system 18 levels r third.0) (sym c.row-third.ensures.row) third.1)
-    (λ opened. subst (λ (r : Row). AreOfBoth system 17 levels r (row_in c.row-third.result) both.0) (sym c.row-second.ensures.row)
+    (λ opened. subst (λ (r : Row). AreOfBoth system 17 levels r (row_in c.row-third.result) both.0)
+    (sym c.row-second.ensures.row)
     (subst (λ (r : Row). AreOfBoth system 17 levels (row 1) r both.0) (sym c.row-third.ensures.row) both.1)) in
     let is : IsRecovered system levels c.args.rows.now c.args.erased.now _ = (
       first.0,

@@ -12,9 +12,11 @@ returns-then-is_some-2 c near other both is are pair =
     let some_other : is_some c.said_by_pair-said.result.1 ≡ true = search rules in
     let a = levelled-same c.args.pair.now.system 17 c.args.levels second c.args.levelled.now c.requires.levelled
     near is in
-    let b = levelled-same c.args.pair.now.system 18 c.args.levels third c.args.other_levelled.now c.requires.other_levelled
+    let b = levelled-same c.args.pair.now.system 18 c.args.levels third c.args.other_levelled.now
+    c.requires.other_levelled
     other are in
-    let e = levelled-both c.args.pair.now.system 17 c.args.levels second third both pair c.levelled_near_of_two-both.result
+    let e = levelled-both c.args.pair.now.system 17 c.args.levels second third both pair
+    c.levelled_near_of_two-both.result
     c.levelled_near_of_two-both.ensures in
     let unit = c.unit_of-unit.ensures.value in (
       pair-says _ _ c.args.levelled.now c.args.other_levelled.now c.levelled_near_of_two-both.result
@@ -29,13 +31,16 @@ returns c near other both is are pair =
     let third = other_in c.args.pair.now in
     let a = levelled-same c.args.pair.now.system 17 c.args.levels second c.args.levelled.now c.requires.levelled
     near is in
-    let b = levelled-same c.args.pair.now.system 18 c.args.levels third c.args.other_levelled.now c.requires.other_levelled
+    let b = levelled-same c.args.pair.now.system 18 c.args.levels third c.args.other_levelled.now
+    c.requires.other_levelled
     other are in
-    let e = levelled-both c.args.pair.now.system 17 c.args.levels second third both pair c.levelled_near_of_two-both.result
+    let e = levelled-both c.args.pair.now.system 17 c.args.levels second third both pair
+    c.levelled_near_of_two-both.result
     c.levelled_near_of_two-both.ensures in
     let p = given-same c.args.pair.now.system 17 c.args.levels second c.args.levelled.now c.requires.levelled near
     is c.near_of_one.result c.near_of_one.ensures in
-    let q = given-same c.args.pair.now.system 18 c.args.levels third c.args.other_levelled.now c.requires.other_levelled other
+    let q = given-same c.args.pair.now.system 18 c.args.levels third c.args.other_levelled.now
+    c.requires.other_levelled other
     are c.near_of_one-2.result c.near_of_one-2.ensures in
     let r = given-both c.args.pair.now.system 17 c.args.levels second third both pair c.near_of_two.result
     c.near_of_two.ensures in

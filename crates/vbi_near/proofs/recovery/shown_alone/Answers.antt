@@ -15,7 +15,8 @@ pub returns-then-is_open : goal.returns-then-is_open
 returns-then-is_open c seen both is =
     let row = row_in c.args.row.now in
     let opened : IsTrue (is_open c.args.own.outcome) = search rules in
-    let near = open-near c.args.row.now.system c.args.number c.args.levels row c.args.own c.requires.own seen is opened in
+    let near = open-near c.args.row.now.system c.args.number c.args.levels row c.args.own c.requires.own seen is
+    opened in
     c.recovered_as.ensures
     ∙ open-shows c.args.row.now.system c.args.number c.args.levels row c.args.own c.requires.own alone seen both
     c.said_alone-said.result is opened (c.said_alone-said.ensures seen.near near)

@@ -9,7 +9,8 @@ use Rattle.vbi_near.proofs.stretched.distance_by.Goals as goal
 
 pub overflow_add-costs : goal.overflow_add-costs
 overflow_add-costs c =
-    let long = starts-long c.args.sums.now.system c.args.rate c.width.result c.stretched_offset-length.result c.requires.0
+    let long = starts-long c.args.sums.now.system c.args.rate c.width.result c.stretched_offset-length.result
+    c.requires.0
     c.width.ensures c.stretched_offset-length.ensures.value in
     omega (
       arith,
@@ -29,9 +30,11 @@ loop-start-preserved c =
     let far : ℕ → ℕ → ℕ = stretched_row_cost sums c.args.sums.now.system c.args.word in
     let start : ℕ = c.loop-start.start in
     let begin : ℕ = start + c.stretched_offset-length.result in
-    let long = starts-long c.args.sums.now.system c.args.rate c.width.result c.stretched_offset-length.result c.requires.0
+    let long = starts-long c.args.sums.now.system c.args.rate c.width.result c.stretched_offset-length.result
+    c.requires.0
     c.width.ensures c.stretched_offset-length.ensures.value in
-    let row = row-read sums c.args.sums.now.system c.args.word c.args.rate start (get_or c.word_costs.new.costs start 0) begin
+    let row = row-read sums c.args.sums.now.system c.args.word c.args.rate start
+    (get_or c.word_costs.new.costs start 0) begin
     c.width-in-loop-start.result c.between-in-loop-start.result
     (c.word_costs.ensures.value start (omega (arith, long, c.loop-start-test.true)))
     (ap (λ (n : ℕ). start + n) c.stretched_offset-length.ensures.value) c.width-in-loop-start.ensures

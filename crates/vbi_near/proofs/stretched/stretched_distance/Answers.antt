@@ -33,6 +33,7 @@ returns c slicing lines pile =
     let row = c.of-sums.ensures.row slicing lines pile in
     let e : c.loop-rate.rate ≡ 103 = omega (arith, c.loop-rate-test.false, c.loop-rate.auto.rate-end) in
     subst (λ (s : System). IsStretched s slicing lines c.args.word c.loop-rate.least) c.of-sums.ensures.system
-    (stretched-same (shades c.args.darks.now c.args.lights.now) (shades_of c.of-sums.result) system row.both slicing lines
+    (stretched-same (shades c.args.darks.now c.args.lights.now) (shades_of c.of-sums.result) system row.both slicing
+    lines
     row.pile c.args.word c.loop-rate.least
     (subst (λ (end : ℕ). IsLeastAt (IsRateBefore system end) far c.loop-rate.least) e c.loop-rate.invariant))

@@ -11,5 +11,6 @@ invariant-loop-half l = record {
       → get_or l.costs k 0
       ≡ span (shades_of l.sums) false 0 k
       + halves_cost (stretched_cost (shades_of l.sums) l.sums.system l.rate k) 0 (take l.half (halves_of l.word));
-  few : (k : ℕ) → k < length l.costs → get_or l.costs k 0 ≤ 1834980 * (k + stretched_offset l.sums.system l.rate l.half);
+  few : (k : ℕ) → k < length l.costs → get_or l.costs k 0 ≤ 1834980 *
+      (k + stretched_offset l.sums.system l.rate l.half);
 }
