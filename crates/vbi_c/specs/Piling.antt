@@ -24,23 +24,23 @@ count_in system bytes = bytes / line_bytes system
 abbrev pub is_list_of : ℕ → ℕ → List LdvbiErased → Bool
 is_list_of line count list = is_taken count list && list_all (λ entry. entry.line == line) list
 
--- the setup of a call that was found right, of a line with code words
-abbrev pub with_line : ℕ → Result Setup Refusal → Result Setup Refusal
-with_line line asked = in_turn asked (λ setup. if is_code_line line then Ok setup else Err Line)
+-- the setup of a call that was found right so far, unless its line has no code words
+abbrev pub refuse_line : ℕ → Result Setup Refusal → Result Setup Refusal
+refuse_line line asked = in_turn asked (λ setup. if is_code_line line then Ok setup else Err Line)
 
--- of which it is said whether dropouts are known: 0 or 1
-abbrev pub with_known : ℕ → Result Setup Refusal → Result Setup Refusal
-with_known known asked = in_turn asked (λ setup. if nat_le known 1 then Ok setup else Err Known)
+-- unless it says neither that dropouts are known, by 1, nor that they aren't, by 0
+abbrev pub refuse_known : ℕ → Result Setup Refusal → Result Setup Refusal
+refuse_known known asked = in_turn asked (λ setup. if nat_le known 1 then Ok setup else Err Known)
 
--- of which the list is taken
-abbrev pub with_list : ℕ → ℕ → List LdvbiErased → Result Setup Refusal → Result Setup Refusal
-with_list line bytes list asked = in_turn asked (λ setup.
+-- unless its list isn't taken
+abbrev pub refuse_list : ℕ → ℕ → List LdvbiErased → Result Setup Refusal → Result Setup Refusal
+refuse_list line bytes list asked = in_turn asked (λ setup.
     if is_list_of line (count_in setup.system bytes) list then Ok setup else Err Erased)
 
 -- the setup of a call with lines of one number
 abbrev pub pile_setup : ℕ → ℕ → ℕ → ℕ → ℕ → ℕ → List LdvbiErased → Result Setup Refusal
 pile_setup system black white line known bytes list =
-    with_list line bytes list (with_known known (with_line line (lines_setup system black white bytes)))
+    refuse_list line bytes list (refuse_known known (refuse_line line (lines_setup system black white bytes)))
 
 -- ---- what is answered
 

@@ -4,7 +4,8 @@ ghost use Rattle.std.specs.Prelude.{◌≡◌, ◌≢◌, ◌*◌, ◌≤◌, �
 ghost use Rattle.std.specs.List.{list_all};
 ghost use Rattle.vbi_words.specs.Geometry.{line_bytes, width_of};
 ghost use Rattle.vbi_c.specs.Erased.{is_code_line, is_taken};
-ghost use Rattle.vbi_c.specs.Piling.{is_list_of, with_line, with_known, with_list, pile_setup, IsWordOf, HasMarks};
+ghost use Rattle.vbi_c.specs.Piling.{is_list_of, refuse_line, refuse_known, refuse_list, pile_setup, IsWordOf};
+ghost use Rattle.vbi_c.specs.Piling.{HasMarks};
 ghost use Rattle.vbi_c.specs.Statuses.{status_of};
 
 use crate::erased::{FIRST_LINE, LAST_LINE, LdvbiErased, is_taken, mark_field};
@@ -30,9 +31,9 @@ fn is_list_of(line: u32, count: usize, list: &[LdvbiErased]) -> bool
     is_taken(count, list) && are_of_line(line, list)
 }
 
-/// The setup of a call that was found right, of a line with code words, or why the call is refused.
-fn with_line(line: u32, asked: Result<Setup, Refusal>) -> Result<Setup, Refusal>
-    ensures { result ≡ with_line line asked }
+/// Refuses a call whose line has no code words, unless it was refused before; else passes its setup on.
+fn refuse_line(line: u32, asked: Result<Setup, Refusal>) -> Result<Setup, Refusal>
+    ensures { result ≡ refuse_line line asked }
 {
     let setup = asked?;
     if line < FIRST_LINE || line > LAST_LINE {
@@ -41,9 +42,9 @@ fn with_line(line: u32, asked: Result<Setup, Refusal>) -> Result<Setup, Refusal>
     Ok(setup)
 }
 
-/// The same, of which it is said whether dropouts are known.
-fn with_known(known: u32, asked: Result<Setup, Refusal>) -> Result<Setup, Refusal>
-    ensures { result ≡ with_known known asked }
+/// Refuses one that says neither that dropouts are known nor that they aren't.
+fn refuse_known(known: u32, asked: Result<Setup, Refusal>) -> Result<Setup, Refusal>
+    ensures { result ≡ refuse_known known asked }
 {
     let setup = asked?;
     if known > 1 {
@@ -52,14 +53,14 @@ fn with_known(known: u32, asked: Result<Setup, Refusal>) -> Result<Setup, Refusa
     Ok(setup)
 }
 
-/// The same, of which the list is taken.
-fn with_list(
+/// Refuses one whose list of erased columns is of other lines, or isn't in order.
+fn refuse_list(
     line: u32,
     length: usize,
     list: &[LdvbiErased],
     asked: Result<Setup, Refusal>,
 ) -> Result<Setup, Refusal>
-    ensures { result ≡ with_list line length list.now asked }
+    ensures { result ≡ refuse_list line length list.now asked }
 {
     let setup = asked?;
     if !is_list_of(line, length / setup.system.line_bytes(), list) {
@@ -100,11 +101,11 @@ fn pile_setup(
         length,
     } = lines;
     let asked = lines_setup(system, black, white, length);
-    with_list(
+    refuse_list(
         line,
         length,
         list,
-        with_known(known, with_line(line, asked)),
+        refuse_known(known, refuse_line(line, asked)),
     )
 }
 
