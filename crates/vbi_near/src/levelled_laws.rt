@@ -38,14 +38,6 @@ pub fn worked_samples()
 
 /// Lines whose samples are low and high in turn, so many columns each. The levelled line goes from black to white where
 /// each window has as many high columns as low ones, and roughly so where it hasn't.
-#[tactic(
-    auto,
-    unfolding(
-        crate::specs::Levelled::swing_of,
-        crate::specs::Levelled::levelled_sample,
-        crate::specs::Levelled::levelled,,
-    )
-)]
 pub fn worked_waves()
     ensures swing { swing_of Ntsc (wave Ntsc 43 30000 42000) ≡ 12000 }
     ensures pal_swing { swing_of Pal (wave Pal 18 30000 42000) ≡ 12117 }

@@ -19,16 +19,6 @@ pub fn stretched_by_none()
 
 /// Rows on which a word begins later or ends earlier, and rows of words on cells of other lengths, each written
 /// down by the columns at which its level changes, and its width.
-#[tactic(
-    auto,
-    unfolding(
-        vbi_words::specs::Words::lowest_bits,
-        crate::specs::Pictures::drawn_halves,
-        crate::specs::Shorter::row_of_halves,
-        crate::specs::Stretched::halves_with,
-        crate::specs::Stretched::stretched_picture,,
-    )
-)]
 pub fn worked_rows()
     ensures two_later { row_of_halves Ntsc 100 (begun_later 0x8AE012 4) ≡ changing false 0 (
         157 ∷ 171 ∷ 185 ∷ 200 ∷ 228 ∷ 257 ∷ 286 ∷ 314 ∷ 343 ∷ 357 ∷ 372 ∷ 386 ∷ 400 ∷ 429 ∷ 443 ∷ 457 ∷ 472 ∷ 486

@@ -207,15 +207,7 @@ pub fn none_known()
 {}
 
 /// Gaps, worked by hand: of video between picture 5 in field 10 and others, of times, and of film.
-#[tactic(
-    auto,
-    unfolding(
-        crate::specs::Clocks::kept,
-        crate::specs::Gaps::since_end,
-        crate::specs::Gaps::stills_of,
-        crate::specs::Gaps::last_still,,
-    )
-)]
+#[tactic(auto, unfolding(crate::specs::Clocks::kept))]
 pub fn worked_gaps()
     ensures goes_on { map (λ n. gap_of Video 0 cav false 0 10 5 (2 * n) n) (6 ∷ 7 ∷ 1000 ∷ []) ≡ None ∷ None ∷ None ∷
         [] }
@@ -257,15 +249,7 @@ pub fn worked_gaps()
 {}
 
 /// Swapped fields, numbers on both fields, and verdicts, worked by hand.
-#[tactic(
-    auto,
-    unfolding(
-        crate::specs::Clocks::kept,
-        crate::specs::Both::last_known,
-        crate::specs::Both::turns,
-        crate::specs::Both::odd_turns,,
-    )
-)]
+#[tactic(auto, unfolding(crate::specs::Clocks::kept))]
 pub fn worked_verdicts()
     ensures off { map (λ k. stands_off 10 5 k 6) (10 ∷ 11 ∷ 12 ∷ 13 ∷ 14 ∷ []) ≡ false ∷ true ∷ false ∷ true ∷ false ∷
         [] }

@@ -1,0 +1,18 @@
+use Rattle.std.proofs.Common.{refl}
+use Rattle.vbi_words.specs.Words.{lowest_bits}
+use Rattle.vbi_near.specs.Pictures.{drawn_halves}
+use Rattle.vbi_near.specs.Shorter.{row_of_halves}
+use Rattle.vbi_near.specs.Stretched.{halves_with, stretched_picture}
+use Rattle.vbi_near.proofs.row_laws.worked_rows.Goals as goal
+
+pub returns : goal.returns
+unfolding lowest_bits drawn_halves row_of_halves halves_with stretched_picture
+returns c = record {
+  two_later = refl;
+  one_later = refl;
+  one_earlier = refl;
+  two_earlier = refl;
+  longest = refl;
+  shortest = refl;
+  lengths = (refl, refl);
+}
