@@ -3,6 +3,7 @@
 import array
 import ctypes
 import enum
+import operator
 import struct
 from typing import Any, Callable, Dict, Iterable, Iterator, List, NamedTuple, Optional, Sequence, Tuple, Union, overload
 
@@ -140,7 +141,34 @@ def unpacked(readings: Any) -> Iterator[FieldReadings]:
         yield FieldReadings(Reading(_CAUSES[a], b, c, d), Reading(_CAUSES[e], f, g, h), Reading(_CAUSES[i], j, k, l))
 
 
-class PackedFields(Sequence[FieldReadings]):
+class Fields(Sequence[FieldReadings]):
+    """A sequence of the readings of fields, for a class that has their number and yields those from one field to before
+    another."""
+
+    def _readings(self, begin: int, end: int) -> Iterator[FieldReadings]:
+        raise NotImplementedError
+
+    def __iter__(self) -> Iterator[FieldReadings]:
+        return self._readings(0, len(self))
+
+    @overload
+    def __getitem__(self, index: int) -> FieldReadings: ...
+
+    @overload
+    def __getitem__(self, index: slice) -> List[FieldReadings]: ...
+
+    def __getitem__(self, index: Union[int, slice]) -> Union[FieldReadings, List[FieldReadings]]:
+        count = len(self)
+        if isinstance(index, slice):
+            wanted = range(count)[index]
+            return list(self._readings(wanted.start, wanted.stop)) if wanted.step == 1 else [self[i] for i in wanted]
+        number = operator.index(index)
+        if not -count <= number < count:
+            raise IndexError("field %d of a stream of %d fields" % (number, count))
+        return next(self._readings(number % count, number % count + 1))
+
+
+class PackedFields(Fields):
     """The readings of fields as the library writes them, in `data`: 24 bytes a field. It is a sequence of the
     `FieldReadings` of these fields, each of which is made when it is asked for. `words`, `passes` and `causes` take one
     part of all fields at once, in a tenth of the time."""
@@ -158,20 +186,8 @@ class PackedFields(Sequence[FieldReadings]):
     def __len__(self) -> int:
         return len(self.data) // PACKED_FIELD.size
 
-    def __iter__(self) -> Iterator[FieldReadings]:
-        return unpacked(self.data)
-
-    @overload
-    def __getitem__(self, index: int) -> FieldReadings: ...
-
-    @overload
-    def __getitem__(self, index: slice) -> List[FieldReadings]: ...
-
-    def __getitem__(self, index: Union[int, slice]) -> Union[FieldReadings, List[FieldReadings]]:
-        if isinstance(index, slice):
-            return [self[place] for place in range(len(self))[index]]
-        place = PACKED_FIELD.size * range(len(self))[index]
-        return next(unpacked(self.data[place:place + PACKED_FIELD.size]))
+    def _readings(self, begin: int, end: int) -> Iterator[FieldReadings]:
+        return unpacked(self.data[PACKED_FIELD.size * begin:PACKED_FIELD.size * end])
 
     def __eq__(self, other: object) -> bool:
         return isinstance(other, Sequence) and list(self) == list(other)

@@ -1,14 +1,13 @@
 """Streams of fields: TBC files and buffers. Each field is read when it is asked for."""
 
 import ctypes
-import operator
 import os
 import struct
-from typing import Any, Iterable, Iterator, List, Optional, Tuple, Union, overload
+from typing import Any, Iterable, Iterator, List, Optional, Tuple
 
 from .dropouts import Dropouts, refuse_dropouts
 from .library import System, later_call, library, setup_of
-from .readings import PACKED_FIELD, AnySystem, Cut, FieldReadings, field_bytes, line_bytes, unpacked
+from .readings import PACKED_FIELD, AnySystem, Cut, FieldReadings, Fields, field_bytes, line_bytes, unpacked
 from .rows import File, Window
 from .samples import Samples
 
@@ -19,7 +18,7 @@ _PACKED_RECORD = struct.Struct("=I448s")  # LdvbiRecord of ldvbi.h
 StreamDropouts = Optional[Iterable[Tuple[int, int, int, int]]]
 
 
-class Stream:
+class Stream(Fields):
     """A stream of fields: a TBC file, given by its path, or a buffer. It is a sequence of the `FieldReadings` of its
     whole fields: it has a length, an index from 0 (or from -1, backwards), slices, which are lists, and a loop over all
     of them. Each field is read when it is asked for. `cut_bytes` is the number of bytes past the last whole field.
@@ -77,25 +76,6 @@ class Stream:
 
     def __len__(self) -> int:
         return self._count
-
-    def __iter__(self) -> Iterator[FieldReadings]:
-        return self._readings(0, self._count)
-
-    @overload
-    def __getitem__(self, index: int) -> FieldReadings: ...
-
-    @overload
-    def __getitem__(self, index: slice) -> List[FieldReadings]: ...
-
-    def __getitem__(self, index: Union[int, slice]) -> Union[FieldReadings, List[FieldReadings]]:
-        if isinstance(index, slice):
-            wanted = range(self._count)[index]
-            return list(self._readings(wanted.start, wanted.stop)) if wanted.step == 1 else [self[i] for i in wanted]
-        number = operator.index(index)
-        if not -self._count <= number < self._count:
-            raise IndexError("field %d of a stream of %d fields" % (number, self._count))
-        begin = number % self._count
-        return next(self._readings(begin, begin + 1))
 
     def _readings(self, begin: int, end: int) -> Iterator[FieldReadings]:
         for block in self.packed(begin, end):

@@ -15,7 +15,9 @@ use vbi_cli::{LineFault, run_line};
 use vbi_field::{Config, Outlet};
 use vbi_line::Intake;
 use vbi_test_devices::{Paper, Tape, same};
-use vbi_words::{Levels, Outcome, System, Word24};
+use vbi_words::Outcome::{self, Blank, Change, Hold, Unfinished};
+use vbi_words::System::{self, Ntsc, Pal};
+use vbi_words::{Levels, Word24};
 
 /// What a run of `run_line` answers, what the intake and the outlet counted, and what the devices were asked.
 #[derive(Clone, Copy, Debug, PartialEq, Eq)]
@@ -55,7 +57,7 @@ fn run_counted(config: &Config, mut tape: Tape, paper: &mut Paper) -> Done {
 
 /// The settings of the stored run.
 fn stored_config() -> Result<Config, Fail> {
-    Ok(Config::new(System::Ntsc, Levels::new(8224, 16448)?, 1)?)
+    Ok(Config::new(Ntsc, Levels::new(8224, 16448)?, 1)?)
 }
 
 /// The bytes that there are of the stored line, after how many of them the reader fails, the interruptions before its
@@ -253,57 +255,22 @@ const HIGH: u16 = 51200;
 
 /// Runs of equal samples, which black ones fill up to a line, its outcome and what is written of it.
 const RUNS: [(System, &[(u16, usize)], Outcome, &[u8]); 9] = [
-    (System::Ntsc, &[], Outcome::Blank, b"blank\n"),
-    (System::Pal, &[], Outcome::Blank, b"blank\n"),
-    (
-        System::Ntsc,
-        &[(HIGH, 1)],
-        Outcome::Change(0),
-        b"change 0\n",
-    ),
-    (
-        System::Ntsc,
-        &[(LOW, 14), (HIGH, 20)],
-        Outcome::Change(34),
-        b"change 34\n",
-    ),
-    (
-        System::Ntsc,
-        &[(LOW, 14), (HIGH, 14)],
-        Outcome::Hold(46),
-        b"hold 46\n",
-    ),
-    (
-        System::Ntsc,
-        &[(LOW, 873), (HIGH, 37)],
-        Outcome::Hold(909),
-        b"hold 909\n",
-    ),
-    (
-        System::Ntsc,
-        &[(LOW, 900), (HIGH, 10)],
-        Outcome::Unfinished,
-        b"unfinished\n",
-    ),
-    (
-        System::Pal,
-        &[(LOW, 17), (HIGH, 24)],
-        Outcome::Change(41),
-        b"change 41\n",
-    ),
-    (
-        System::Pal,
-        &[(LOW, 207), (HIGH, 928)],
-        Outcome::Hold(251),
-        b"hold 251\n",
-    ),
+    (Ntsc, &[], Blank, b"blank\n"),
+    (Pal, &[], Blank, b"blank\n"),
+    (Ntsc, &[(HIGH, 1)], Change(0), b"change 0\n"),
+    (Ntsc, &[(LOW, 14), (HIGH, 20)], Change(34), b"change 34\n"),
+    (Ntsc, &[(LOW, 14), (HIGH, 14)], Hold(46), b"hold 46\n"),
+    (Ntsc, &[(LOW, 873), (HIGH, 37)], Hold(909), b"hold 909\n"),
+    (Ntsc, &[(LOW, 900), (HIGH, 10)], Unfinished, b"unfinished\n"),
+    (Pal, &[(LOW, 17), (HIGH, 24)], Change(41), b"change 41\n"),
+    (Pal, &[(LOW, 207), (HIGH, 928)], Hold(251), b"hold 251\n"),
 ];
 
 /// A line of these runs.
 fn line_of(alloc: Global, system: System, runs: &[(u16, usize)]) -> Result<Vec<u8>, AllocError> {
     let width = match system {
-        System::Ntsc => 910,
-        System::Pal => 1135,
+        Ntsc => 910,
+        Pal => 1135,
     };
     let mut line = Vec::new(alloc);
     let mut column = 0usize;
@@ -338,22 +305,16 @@ fn blackened(alloc: Global, line: &[u8], from: usize, to: usize) -> Result<Vec<u
 #[test]
 fn writes_the_word_of_a_line(rt: HostRuntime) -> Result<(), Fail> {
     let alloc = rt.alloc();
-    let line = drawn_line(alloc, System::Pal, LOW, HIGH, 0x8A_E012)?;
+    let line = drawn_line(alloc, Pal, LOW, HIGH, 0x8A_E012)?;
     let word = Outcome::Word(Word24::new(0x8A_E012)?);
-    answers(alloc, System::Pal, line.as_slice(), word, b"8AE012\n")?;
-    let line = drawn_line(alloc, System::Ntsc, LOW, HIGH, 0x82_CFFF)?;
+    answers(alloc, Pal, line.as_slice(), word, b"8AE012\n")?;
+    let line = drawn_line(alloc, Ntsc, LOW, HIGH, 0x82_CFFF)?;
     let word = Outcome::Word(Word24::new(0x82_CFFF)?);
-    answers(alloc, System::Ntsc, line.as_slice(), word, b"82CFFF\n")?;
+    answers(alloc, Ntsc, line.as_slice(), word, b"82CFFF\n")?;
     // A glitch of three columns is smoothed away, one of four isn't.
     let damaged = blackened(alloc, line.as_slice(), 170, 173)?;
-    answers(alloc, System::Ntsc, damaged.as_slice(), word, b"82CFFF\n")?;
+    answers(alloc, Ntsc, damaged.as_slice(), word, b"82CFFF\n")?;
     let damaged = blackened(alloc, line.as_slice(), 170, 174)?;
-    let damage = Outcome::Change(170);
-    answers(
-        alloc,
-        System::Ntsc,
-        damaged.as_slice(),
-        damage,
-        b"change 170\n",
-    )
+    let damage = Change(170);
+    answers(alloc, Ntsc, damaged.as_slice(), damage, b"change 170\n")
 }

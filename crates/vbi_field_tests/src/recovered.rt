@@ -11,10 +11,11 @@ use crate::known::{
     TAIL,
 };
 use crate::runs::{
-    Done, NO_FAILURE, ONE_ERROR, Verb, answers, undisturbed, whole, writes, writes_by_any_reads,
+    Done, Ended, NO_FAILURE, ONE_ERROR, Verb, answers, undisturbed, whole, writes,
+    writes_by_any_reads,
 };
 use std::test::Fail;
-use vbi_field::RunFault;
+use vbi_field::{Config, RunFault};
 use vbi_test_devices::{Paper, Tape};
 use vbi_words::System::{self, Ntsc, Pal};
 
@@ -114,6 +115,18 @@ fn a_worn_field_has_its_record_and_its_part_of_the_report(rt: HostRuntime) -> Re
     Ok(())
 }
 
+/// Fails if a run of `extract` with recovery ends otherwise, or writes other texts than these.
+fn recovers(
+    rt: &HostRuntime,
+    config: &Config,
+    stream: &[u8],
+    ended: Ended,
+    texts: &[&str],
+) -> Result<(), Fail> {
+    let wanted = undisturbed(stream, ended, texts);
+    writes(rt.alloc(), Verb::ExtractRecovered, config, stream, wanted)
+}
+
 #[test]
 fn each_field_has_the_words_of_its_own_rows(rt: HostRuntime) -> Result<(), Fail> {
     let config = config(Ntsc, 5)?;
@@ -124,14 +137,7 @@ fn each_field_has_the_words_of_its_own_rows(rt: HostRuntime) -> Result<(), Fail>
         \"vbiNear\":[null,{\"word\":8396253,\"distance\":500,\"rival\":2300},null]}";
     let texts = [RECOVERED_HEAD, WORN_RECORD, second, TAIL];
     let ended = whole(2, None, 6 * 910);
-    let wanted = undisturbed(stream.as_slice(), ended, &texts);
-    writes(
-        rt.alloc(),
-        Verb::ExtractRecovered,
-        &config,
-        stream.as_slice(),
-        wanted,
-    )
+    recovers(&rt, &config, stream.as_slice(), ended, &texts)
 }
 
 #[test]
@@ -141,23 +147,17 @@ fn a_worn_field_that_is_cut_is_not_recovered(rt: HostRuntime) -> Result<(), Fail
     let cut = front(stream.as_slice(), 478_659);
     let ended = whole(0, Some(478_659), 2730);
     let texts = [RECOVERED_HEAD, CUT, "478659", CUT_END];
-    let wanted = undisturbed(cut, ended, &texts);
-    writes(rt.alloc(), Verb::ExtractRecovered, &config, cut, wanted)
+    recovers(&rt, &config, cut, ended, &texts)
 }
 
 #[test]
 fn reads_of_any_length_give_one_recovered_document(rt: HostRuntime) -> Result<(), Fail> {
     let config = config(Ntsc, 5)?;
-    let stream = field(rt.alloc(), &config, WORN)?;
+    let worn = field(rt.alloc(), &config, WORN)?;
+    let stream = worn.as_slice();
     let texts = [RECOVERED_HEAD, WORN_RECORD, TAIL];
-    let wanted = undisturbed(stream.as_slice(), whole(1, None, 2730), &texts);
-    writes_by_any_reads(
-        rt.alloc(),
-        Verb::ExtractRecovered,
-        &config,
-        stream.as_slice(),
-        wanted,
-    )
+    let wanted = undisturbed(stream, whole(1, None, 2730), &texts);
+    writes_by_any_reads(rt.alloc(), Verb::ExtractRecovered, &config, stream, wanted)
 }
 
 #[test]
@@ -181,14 +181,8 @@ fn faults_are_those_of_extract(rt: HostRuntime) -> Result<(), Fail> {
         written: RECOVERED_HEAD.len() as u64,
         write_failures: NO_FAILURE,
     };
-    let wanted = unread.with(&texts);
-    answers(
-        Verb::ExtractRecovered,
-        &config,
-        &mut tape,
-        &mut paper,
-        wanted,
-    )?;
+    let (verb, wanted) = (Verb::ExtractRecovered, unread.with(&texts));
+    answers(verb, &config, &mut tape, &mut paper, wanted)?;
 
     let mut tape = Tape::new(stream.as_slice());
     let mut paper = Paper::failing(rt.alloc(), 150);
@@ -200,11 +194,5 @@ fn faults_are_those_of_extract(rt: HostRuntime) -> Result<(), Fail> {
         write_failures: ONE_ERROR,
     };
     let wanted = unwritten.with(&texts);
-    answers(
-        Verb::ExtractRecovered,
-        &config,
-        &mut tape,
-        &mut paper,
-        wanted,
-    )
+    answers(verb, &config, &mut tape, &mut paper, wanted)
 }

@@ -7,8 +7,8 @@ use vbi_meta::MetaFault::UnknownSystem;
 use vbi_meta::Overrides;
 use vbi_words::System;
 
-/// Values that are no truth value. Languages differ on which of them they take for one.
-static NO_FLAGS: [&str; 15] = [
+/// Values that are neither a truth value nor the name of a system.
+static NEITHER: [&str; 10] = [
     "0",
     "1",
     "2",
@@ -17,31 +17,25 @@ static NO_FLAGS: [&str; 15] = [
     "null",
     r#""""#,
     r#""true""#,
+    "[]",
+    "{}",
+];
+
+/// More values that are no truth value. Languages differ on which of them they take for one.
+static NO_FLAGS: [&str; 5] = [
     r#""false""#,
     r#""PAL""#,
     r#""NTSC""#,
-    "[]",
     "[true]",
-    "{}",
     r#"{"isSourcePal":true}"#,
 ];
 
-/// Values that aren't the text `NTSC` or `PAL`: other kinds of JSON, names of other systems, and texts that differ in
-/// case or have a letter more or one less.
-static NO_NAMES: [&str; 30] = [
-    "0",
-    "1",
-    "2",
-    "-1",
-    "0.5",
-    "null",
+/// More values that aren't the text `NTSC` or `PAL`: other kinds of JSON, names of other systems, and texts that differ
+/// in case or have a letter more or one less.
+static NO_NAMES: [&str; 20] = [
     "true",
     "false",
-    r#""""#,
-    r#""true""#,
-    "[]",
     r#"["PAL"]"#,
-    "{}",
     r#"{"system":"PAL"}"#,
     r#""NTSC-J""#,
     r#""NTSC_J""#,
@@ -116,6 +110,7 @@ fn a_flag_is_true_or_false(rt: HostRuntime) -> Result<(), Fail> {
     names(alloc, r#""isSourcePal":true"#, &NONE, System::Pal)?;
     names(alloc, r#""isSourcePal":false"#, &NONE, System::Ntsc)?;
     let others = [r#""system":"NTSC""#, r#""system":"PAL""#];
+    make_it_unknown(alloc, "isSourcePal", &NEITHER, &others)?;
     make_it_unknown(alloc, "isSourcePal", &NO_FLAGS, &others)
 }
 
@@ -125,5 +120,6 @@ fn a_name_is_that_of_a_system(rt: HostRuntime) -> Result<(), Fail> {
     names(alloc, r#""system":"PAL""#, &NONE, System::Pal)?;
     names(alloc, r#""system":"NTSC""#, &NONE, System::Ntsc)?;
     let others = [r#""isSourcePal":true"#, r#""isSourcePal":false"#];
+    make_it_unknown(alloc, "system", &NEITHER, &others)?;
     make_it_unknown(alloc, "system", &NO_NAMES, &others)
 }

@@ -90,17 +90,17 @@ bits-above cost m (suc n) w =
       ap (λ (k : ℕ). bits_cost cost k w) e,
     )
 
-pub first-within : (sums : Shades) (system : System) (start w distance : ℕ)
+pub first_within : (sums : Shades) (system : System) (start w distance : ℕ)
     → place_cost sums system start w ≡ distance
     → cell_cost sums system start 0 (bit_in_cell w 0) + cell_cost sums system start 1 (bit_in_cell w 1) ≤ distance
 unfolding place_cost bits_cost
-first-within sums system start w distance exact = grind (arith, shr-shr, bits-above, nat_eq)
+first_within sums system start w distance exact = grind (arith, shr-shr, bits-above, nat_eq)
 
-pub last-within : (sums : Shades) (system : System) (start w distance : ℕ)
+pub last_within : (sums : Shades) (system : System) (start w distance : ℕ)
     → place_cost sums system start w ≡ distance
     → cell_cost sums system start 22 (bit_in_cell w 22) + cell_cost sums system start 23 (bit_in_cell w 23) ≤ distance
 unfolding place_cost bits_cost
-last-within sums system start w distance exact =
+last_within sums system start w distance exact =
     let cost : ℕ → Bool → ℕ = cell_cost sums system start in
     let q : w / 2 ^ 0 ≡ w = omega arith in
     let whole : bits_cost cost 24 w ≡ bits_cost cost 22 (w / 2 / 2) + cost 22 (nat_eq (w / 2 % 2) 1)

@@ -50,18 +50,22 @@ near_with word rival longer = record {
 abbrev pub cut_at : ℕ → Near
 cut_at shorter = record (near_with 0xF12345 20000 10000) { shorter = shorter }
 
+-- the picture number 12345 at this distance, with that of its rival
+abbrev pub picture_at : ℕ → ℕ → Near
+picture_at distance rival = record {
+  word = Some 0xF12345;
+  start = 150;
+  distance = distance;
+  rival = rival;
+  longer = distance;
+  shorter = distance;
+}
+
 -- a word that no code is, beside a code at this distance, with that of the code's rival
 abbrev pub beside : ℕ → ℕ → Nears
 beside distance rival = record {
   word = near_with 0xF1234A 10100 10000;
-  code = record {
-    word = Some 0xF12345;
-    start = 150;
-    distance = distance;
-    rival = rival;
-    longer = distance;
-    shorter = distance;
-  };
+  code = picture_at distance rival;
   blank = 30000;
   word_halved = 99999;
   code_halved = 99999;
@@ -111,14 +115,7 @@ read_as outcome pass = record {
 
 -- two lines at this distance together from the picture number 12345, with that of their rival
 abbrev pub both_at : ℕ → ℕ → Nears
-both_at distance rival = as_code (record {
-  word = Some 0xF12345;
-  start = 150;
-  distance = distance;
-  rival = rival;
-  longer = distance;
-  shorter = distance;
-})
+both_at distance rival = as_code (picture_at distance rival)
 
 abbrev pub together_at : ℕ → ℕ → Candidates
 together_at distance rival = as_given (both_at distance rival)
@@ -153,17 +150,6 @@ Shows lines words passes = (words_of lines ≡ words) × (passes_of lines ≡ pa
 -- this word, which no code is, beside the picture number 12345, each at a distance; of the word that of the row that
 -- goes on, of the code that of its rival
 abbrev pub code_beside : ℕ → ℕ → ℕ → ℕ → ℕ → Nears
-code_beside word near longer distance rival = record {
+code_beside word near longer distance rival = record (beside distance rival) {
   word = record (near_with word 10100 longer) { distance = near; rival = near + 100; shorter = near };
-  code = record {
-    word = Some 0xF12345;
-    start = 150;
-    distance = distance;
-    rival = rival;
-    longer = distance;
-    shorter = distance;
-  };
-  blank = 30000;
-  word_halved = 99999;
-  code_halved = 99999;
 }

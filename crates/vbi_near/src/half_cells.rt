@@ -23,6 +23,7 @@ const PAL: [usize; 49] = [
 
 /// The columns from a word's start to a half cell, or to its end.
 #[inline(always)]
+#[tactic(auto, using(crate::proofs::Tables::in_ntsc, crate::proofs::Tables::in_pal))]
 pub(crate) fn offset(system: System, half: usize) -> usize
     requires { half ≤ 48 }
     ensures value { start_of system + result ≡ boundary system half }

@@ -45,6 +45,7 @@ fn without_cell(sums: &Sums, found: Found, cell: usize, distance: u32) -> u32
 }
 
 /// The least distance of a drawn row that has fewer cells than the word: one or two at either end are black.
+#[tactic(auto, using(crate::proofs::CutShort::first_within, crate::proofs::CutShort::last_within))]
 pub(crate) fn shorter_distance(sums: &Sums, found: Found) -> u32
     requires start { found.start < starts sums.now.system }
     requires exact { word_cost_by sums.now found.start found.word ≡ found.distance }

@@ -10,9 +10,9 @@ use Rattle.vbi_side.specs.declared.pace.Pace.{Pace}
 use Rattle.vbi_side.specs.declared.pace.Pace.TheVariants.{Video, Film}
 use Rattle.vbi_side.specs.declared.sighting.Sighting.{Sighting}
 use Rattle.vbi_side.specs.declared.sighting.Sightings.{Sightings}
-use Rattle.vbi_side.specs.Sightings.{weight_of, Shows}
+use Rattle.vbi_side.specs.Sightings.{weight_of}
 use Rattle.vbi_side.specs.Paces.{fits, stays, Count, nearly}
-use Rattle.vbi_side.specs.Beliefs.{reach, enough, sighting_weight, field_weight, weight_at, weight_below}
+use Rattle.vbi_side.specs.Beliefs.{reach, sighting_weight, field_weight, weight_at, weight_below}
 use Rattle.vbi_side.specs.Beliefs.{support_of, Believed}
 use Rattle.vbi_side.specs.Due.{slack_of, Leaves, IsLeft, Due}
 use Rattle.vbi_side.specs.Numbers.{due, IsAnswer}
@@ -20,7 +20,7 @@ use Rattle.vbi_side.specs.Parts.{IsPart}
 use Rattle.vbi_side.specs.Truth.{IsNear}
 use Rattle.vbi_side.proofs.DueLemmas.{video_nearly}
 use Rattle.std.proofs.lemmas.Bool.{and_from}
-use Rattle.vbi_side.proofs.Truth.{video_fits, film_fits, stays_is}
+use Rattle.vbi_side.proofs.Truth.{video_fits, film_fits, stays_is, believed_alike}
 
 -- ---- what fits, so many fields later
 
@@ -131,37 +131,16 @@ support_later pace part whole first i m seen =
 
 believed_later : (pace : Pace) (part whole : List Sightings) (first i n : ℕ) → IsSeen part whole first i
     → Believed pace part i n ↔ Believed pace whole (first + i) n
-believed_later pace part whole first i n seen = (on, back)
+believed_later pace part whole first i n seen = (
+  believed_alike pace part whole i (first + i) n here same,
+  believed_alike pace whole part (first + i) i n (sym here) (λ m. sym (same m)),
+)
   where
     here : slice_get part i ≡ slice_get whole (first + i)
     here = seen.agree i (omega arith, omega arith)
 
     same : (m : ℕ) → support_of pace part i m ≡ support_of pace whole (first + i) m
     same m = support_later pace part whole first i m seen
-
-    on : Believed pace part i n → Believed pace whole (first + i) n
-    on b = record {
-      shown = subst (λ f. Shows f n) here b.shown;
-      enough = subst (λ w. enough ≤ w) (same n) b.enough;
-      ahead = λ m shown apart. omega (
-        arith,
-        same m,
-        same n,
-        b.ahead m (subst (λ f. Shows f m) (sym here) shown) apart,
-      );
-    }
-
-    back : Believed pace whole (first + i) n → Believed pace part i n
-    back b = record {
-      shown = subst (λ f. Shows f n) (sym here) b.shown;
-      enough = subst (λ w. enough ≤ w) (sym (same n)) b.enough;
-      ahead = λ m shown apart. omega (
-        arith,
-        same m,
-        same n,
-        b.ahead m (subst (λ f. Shows f m) here shown) apart,
-      );
-    }
 
 -- ---- what is due
 

@@ -27,33 +27,29 @@ apart place i j rises le =
     let whole : i + (j - i) ≡ j = omega (arith, le) in
     subst (λ n. place i + (j - i) ≤ place n) whole (further place i (j - i) rises)
 
--- where the two ends are as far apart on the disc as in the capture, none is lost between
+-- where the two ends are as far apart on the disc as in the capture, each field between them is where it was
+held_between : (place : ℕ → ℕ) (p k q : ℕ) → Rises place → p ≤ k → k ≤ q → place q ≡ place p + (q - p)
+    → place k ≡ place p + (k - p)
+held_between place p k q rises from to same =
+    omega (arith, from, to, same, apart place p k rises from, apart place k q rises to)
+
+-- so none is lost between
 pub none_lost : (place : ℕ → ℕ) (p q i j : ℕ) → Rises place → p ≤ i → j ≤ q → place q ≡ place p + (q - p)
     → NoneLost place i j
 none_lost place p q i j rises first last same k from to =
-    let at_i : place i ≡ place p + (i - p)
-    = omega (
-      arith,
-      first,
-      last,
-      from,
-      to,
-      same,
-      apart place p i rises first,
-      apart place i q rises
-          (omega (arith, from, to, last)),
-    ) in
-    omega (
-      arith,
-      first,
-      last,
-      from,
-      to,
-      same,
-      at_i,
-      apart place p k rises (omega (arith, first, from)),
-      apart place k q rises (omega (arith, to, last)),
-    )
+    let here = held_between place p i q rises first (omega (arith, from, to, last)) same in
+    let there = held_between place p k q rises (omega (arith, first, from)) (omega (arith, to, last)) same in
+    omega (arith, first, from, here, there)
+
+-- what is lost between two fields, each near an end, of which the disc has at most so many more between them
+pub lost_between : (place : ℕ → ℕ) (i j p q most : ℕ) → Rises place → IsNear i p → IsNear j q → i + 2 * reach ≤ j
+    → place q + p ≤ place p + q + most
+    → (p q lost : ℕ) × IsNear i p × IsNear j q × AreLost place p q lost × (lost ≤ most)
+lost_between place i j p q most rises first last far few =
+    let order : p ≤ q = omega (arith, first.1, last.0, far) in
+    let least = apart place p q rises order in
+    let lost = place q - (place p + (q - p)) in
+    (p, q, lost, first, last, omega (arith, least, order), omega (arith, order, least, few))
 
 -- so the capture lacks no field of the disc there
 pub none_lacks : (place : ℕ → ℕ) (i j d : ℕ) → NoneLost place i j → i ≤ j → place i ≤ d → d ≤ place j
@@ -161,13 +157,5 @@ module _ (disc : ℕ → Option ℕ) (place : ℕ → ℕ) (fields : List Sighti
       let one = film_fits i m p.0 p.1 p.4 in
       let other = film_fits j n q.0 q.1 q.4 in
       let both = film_fits i m j n same in
-      let order : p.0 ≤ q.0 = omega (arith, p.2.1, q.2.0, far) in
-      let least = apart place p.0 q.0 rises order in (
-        p.0,
-        q.0,
-        place q.0 - (place p.0 + (q.0 - p.0)),
-        p.2,
-        q.2,
-        omega (arith, least, order),
-        omega (arith, order, least, fit.0, fit.1, one.0, one.1, other.0, other.1, both.0, both.1),
-      )
+      lost_between place i j p.0 q.0 4 rises p.2 q.2 far
+      (omega (arith, fit.0, fit.1, one.0, one.1, other.0, other.1, both.0, both.1))

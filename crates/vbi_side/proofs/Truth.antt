@@ -165,6 +165,22 @@ sound_still recorded fields i m n (still, few) b = go (eqb_tells n m)
 
 -- ---- whatever the truth
 
+-- what is believed of a field is of another that shows the same numbers, if each has the same support there
+pub believed_alike : (pace : Pace) (fields others : List Sightings) (i j n : ℕ)
+    → slice_get fields i ≡ slice_get others j
+    → ((m : ℕ) → support_of pace fields i m ≡ support_of pace others j m)
+    → Believed pace fields i n → Believed pace others j n
+believed_alike pace fields others i j n here same b = record {
+  shown = subst (λ f. Shows f n) here b.shown;
+  enough = subst (λ w. enough ≤ w) (same n) b.enough;
+  ahead = λ m shown apart. omega (
+    arith,
+    same m,
+    same n,
+    b.ahead m (subst (λ f. Shows f m) (sym here) shown) apart,
+  );
+}
+
 pub only_near : (pace : Pace) (fields others : List Sightings) (i n : ℕ)
     → ((j : ℕ) → IsNear i j → slice_get fields j ≡ slice_get others j)
     → Believed pace fields i n → Believed pace others i n
@@ -176,16 +192,7 @@ only_near pace fields others i n agree b =
       weight_below-agree (fits pace i m) fields others i (2 * reach + 1) (omega arith) agree,
       weight_below-agree (stays i m) fields others i (2 * reach + 1) (omega arith) agree,
     ) in
-    record {
-      shown = subst (λ f. Shows f n) here b.shown;
-      enough = subst (λ w. enough ≤ w) (same n) b.enough;
-      ahead = λ m shown apart. omega (
-        arith,
-        same m,
-        same n,
-        b.ahead m (subst (λ f. Shows f m) (sym here) shown) apart,
-      );
-    }
+    believed_alike pace fields others i i n here same b
 
 -- ---- another field agrees
 

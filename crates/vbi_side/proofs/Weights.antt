@@ -10,14 +10,14 @@ use Rattle.vbi_side.specs.Sightings.{weight_of, Has, Shows}
 use Rattle.vbi_side.specs.Beliefs.{reach, field_most, sighting_weight, field_weight, weight_at, weight_below}
 use Rattle.std.proofs.Math.Dec.{eqb}
 
-pub weight_below-zero : (test : ℕ → ℕ → Bool) (fields : List Sightings) (i : ℕ) → weight_below test fields i 0 ≡ 0
+pub weight_below_zero : (test : ℕ → ℕ → Bool) (fields : List Sightings) (i : ℕ) → weight_below test fields i 0 ≡ 0
 unfolding weight_below
-weight_below-zero test fields i = refl
+weight_below_zero test fields i = refl
 
-pub weight_below-more : (test : ℕ → ℕ → Bool) (fields : List Sightings) (i n : ℕ)
+pub weight_below_more : (test : ℕ → ℕ → Bool) (fields : List Sightings) (i n : ℕ)
     → weight_below test fields i (n + 1) ≡ weight_below test fields i n + weight_at test fields i n
 unfolding weight_below
-weight_below-more test fields i n = ap (weight_below test fields i) (add-one n)
+weight_below_more test fields i n = ap (weight_below test fields i) (add-one n)
 
 -- more of the window weighs no less
 grows_by : (test : ℕ → ℕ → Bool) (fields : List Sightings) (i m k : ℕ)
@@ -28,7 +28,7 @@ grows_by test fields i m zero =
 grows_by test fields i m (suc k) =
     let next : m + k + 1 ≡ m + suc k = omega (arith, add-one k) in
     let more : weight_below test fields i m ≤ weight_below test fields i (m + k + 1)
-    = omega (arith, grows_by test fields i m k, weight_below-more test fields i (m + k)) in
+    = omega (arith, grows_by test fields i m k, weight_below_more test fields i (m + k)) in
     subst (λ n. weight_below test fields i m ≤ weight_below test fields i n) next more
 
 pub weight_below-grows : (test : ℕ → ℕ → Bool) (fields : List Sightings) (i m n : ℕ) → m ≤ n

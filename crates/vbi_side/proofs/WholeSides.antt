@@ -30,7 +30,7 @@ use Rattle.vbi_side.specs.Verdicts.{is_end_unseen, is_begin_unseen, are_doubtful
 use Rattle.std.proofs.lemmas.Bool.{and_parts}
 use Rattle.vbi_side.proofs.Truth.{video_fits, film_fits}
 use Rattle.vbi_side.proofs.Filling.{answer_believed}
-use Rattle.vbi_side.proofs.Sides.{apart, near_one, alone_of, none_lost}
+use Rattle.vbi_side.proofs.Sides.{apart, near_one, alone_of, none_lost, lost_between}
 use Rattle.vbi_side.proofs.Anchors.{anchor}
 use Rattle.vbi_side.proofs.GapLaws.{lost_below}
 
@@ -211,19 +211,11 @@ yes_of_both slack disc place fields answers numbering may_end seen ends finding 
     let alone = alone_of disc place rises (λ d e k here there. omega (arith, one, counts e d k k there here)) in
     let p = near_one Video (captured disc place) fields alone finding.first e.0 first in
     let q = near_one Video (captured disc place) fields alone finding.last e.1 last in
-    let order : p.0 ≤ q.0 = omega (arith, p.2.1, q.2.0, far) in
-    let least = apart place p.0 q.0 rises order in
     let on = counts (place p.0) (place q.0) p.1 q.1 p.3 q.3 in
     let here = clear_video clock finding.first e.0 p.0 p.1 (clear e.0 e.2.begins) p.2 p.4 in
-    let there = clear_video clock finding.last e.1 q.0 q.1 (too e.1 e.2.ends) q.2 q.4 in (
-      p.0,
-      q.0,
-      place q.0 - (place p.0 + (q.0 - p.0)),
-      p.2,
-      q.2,
-      omega (arith, least, order),
-      omega (arith, order, least, on, here, there, near.0, near.1),
-    )
+    let there = clear_video clock finding.last e.1 q.0 q.1 (too e.1 e.2.ends) q.2 q.4 in
+    lost_between place finding.first finding.last p.0 q.0 (2 * slack) rises p.2 q.2 far
+    (omega (arith, on, here, there, near.0, near.1))
 
 pub yes_of_film : (disc : ℕ → Option ℕ) (place : ℕ → ℕ) (fields : List Sightings) (answers : List Number)
     (slack : ℕ) (numbering : Numbering) (may_end : Bool) (seen : List Sightings) (ends : List ℕ) (finding : Finding)
@@ -259,16 +251,8 @@ yes_of_film disc place fields answers slack numbering may_end seen ends finding 
     (runs (place p.0) (place q.0) p.1 q.1 p.3 q.3) in
     let here = clear_film clock finding.first e.0 p.0 p.1 (clear e.0 e.2.begins) p.2 p.4 in
     let there = clear_film clock finding.last e.1 q.0 q.1 (too e.1 e.2.ends) q.2 q.4 in
-    let order : p.0 ≤ q.0 = omega (arith, p.2.1, q.2.0, far) in
-    let least = apart place p.0 q.0 rises order in (
-      p.0,
-      q.0,
-      place q.0 - (place p.0 + (q.0 - p.0)),
-      p.2,
-      q.2,
-      omega (arith, least, order),
-      omega (arith, order, least, fit.0, fit.1, here.0, here.1, there.0, there.1, near.0, near.1),
-    )
+    lost_between place finding.first finding.last p.0 q.0 4 rises p.2 q.2 far
+    (omega (arith, fit.0, fit.1, here.0, here.1, there.0, there.1, near.0, near.1))
 
 -- wherever the ends are: at most twice as many fields are lost as numbers are left out near these
 pub yes_anywhere : (disc : ℕ → Option ℕ) (place : ℕ → ℕ) (fields : List Sightings) (answers : List Number)
@@ -291,23 +275,24 @@ yes_anywhere disc place fields answers numbering may_end seen ends finding old n
     (λ d e k here there. omega (arith, video_fits d (kept clock k) e (kept clock k) (runs d e k k here there))) in
     let p = near_one Video (captured disc place) fields alone finding.first e.0 first in
     let q = near_one Video (captured disc place) fields alone finding.last e.1 last in
-    let order : p.0 ≤ q.0 = omega (arith, p.2.1, q.2.0, far) in
-    let least = apart place p.0 q.0 rises order in
     let on = video_fits (place p.0) (kept clock p.1) (place q.0) (kept clock q.1)
     (runs (place p.0) (place q.0) p.1 q.1 p.3 q.3) in
     let here = near_video clock finding.first e.0 p.0 p.1 p.2 p.4 in
-    let there = near_video clock finding.last e.1 q.0 q.1 q.2 q.4 in (
+    let there = near_video clock finding.last e.1 q.0 q.1 q.2 q.4 in
+    let between = lost_between place finding.first finding.last p.0 q.0
+    (2 * (out_near clock e.0 + out_near clock e.1)) rises p.2 q.2 far
+    (omega (arith, on, here.0, here.1, there.0, there.1, e.3)) in (
       e.0,
       e.1,
-      p.0,
-      q.0,
-      place q.0 - (place p.0 + (q.0 - p.0)),
+      between.0,
+      between.1,
+      between.2,
       e.2.begins,
       e.2.ends,
-      p.2,
-      q.2,
-      omega (arith, least, order),
-      omega (arith, order, least, on, here.0, here.1, there.0, there.1, e.3),
+      between.3,
+      between.4,
+      between.5,
+      between.6,
     )
 
 pub plain_of_both : (slack : ℕ) (disc : ℕ → Option ℕ) (place : ℕ → ℕ) (fields : List Sightings)

@@ -6,8 +6,9 @@ use Rattle.vbi_side.specs.Sightings.{Shows}
 use Rattle.vbi_side.specs.Beliefs.{enough, weight_below, support_of, Believed}
 use Rattle.vbi_side.specs.Truth.{IsSound, wrong_weight, video_disc, film_disc}
 use Rattle.vbi_side.specs.Whole.{IsWhole}
-use Rattle.vbi_side.specs.Worked.{wrong_by_9, wrong_by_10, field_of, blank, film_side}
+use Rattle.vbi_side.specs.Worked.{wrong_by_9, wrong_by_10, field_of, film_side}
 use Rattle.vbi_side.proofs.Discs.{video_runs, film_runs}
+use Rattle.vbi_side.proofs.WorkedPictures.{none_shown}
 
 pub nine : wrong_weight video_disc wrong_by_9 4 ≡ 9
 unfolding weight_below
@@ -65,12 +66,6 @@ shown_is : (m n weight : ℕ) → Shows (Some (field_of m weight m weight)) n �
 shown_is m n weight shown = elim shown [
   | inl h ↦ h.1
   | inr h ↦ h.1
-]
-
-none_shown : (n : ℕ) → Shows (Some blank) n → ⊥
-none_shown n shown = elim shown [
-  | inl h ↦ absurd (omega (arith, h.0))
-  | inr h ↦ absurd (omega (arith, h.0))
 ]
 
 film_right : (i n : ℕ) → Shows (slice_get film_side i) n → film_disc i ≡ Some n

@@ -15,6 +15,7 @@ use Rattle.vbi_side.specs.Beliefs.{enough, weight_below, support_of, Believed}
 use Rattle.vbi_side.specs.Truth.{wrong_weight, video_disc}
 use Rattle.vbi_side.specs.Numbers.{believed, nothing, IsMarked, AreAnswers}
 use Rattle.vbi_side.specs.Due.{IsLeft}
+use Rattle.vbi_side.specs.Side.{AreEnds}
 use Rattle.vbi_side.specs.Gaps.{AreNeighbours, AreGaps}
 use Rattle.vbi_side.specs.Swaps.{IsSwap, is_stray}
 use Rattle.vbi_side.specs.Drifts.{IsDrift}
@@ -35,7 +36,7 @@ shown_here m n shown = elim shown [
   | inr h ↦ h.1
 ]
 
-none_shown : (n : ℕ) → Shows (Some blank) n → ⊥
+pub none_shown : (n : ℕ) → Shows (Some blank) n → ⊥
 none_shown n shown = elim shown [
   | inl h ↦ absurd (omega (arith, h.0))
   | inr h ↦ absurd (omega (arith, h.0))
@@ -109,6 +110,15 @@ marked_is i n at = elim (answer_is 25 0 i (believed n) at) [
       let same : n ≡ 0 + t = ap (λ (a : Number). a.number) e in (omega (arith, is, same), omega (arith, less, same))
   | inr (t, is, less, e) ↦ let h : 1 ≡ 0 = ap (λ (a : Number). a.state) e in absurd (omega (arith, h))
 ]
+
+-- the first one is in the first field, the last one in the last but one
+pub ends_are : AreEnds worked_answers 0 0 48 24
+ends_are = record {
+  begins = refl;
+  ends = refl;
+  none_before = λ i k less. absurd (omega (arith, less));
+  none_after = λ i k less at. let p = marked_is i k at in absurd (omega (arith, less, p.0, p.1));
+}
 
 -- ---- the judge's answers
 

@@ -118,6 +118,7 @@ fn weight_of_other(fields: &[Sightings], fit: Fit, field: usize, number: u32, of
 }
 
 /// The weight of the sightings within reach of a field that fit this number there.
+#[tactic(auto, using(crate::proofs::Weights::weight_below_more))]
 pub(crate) fn weight_around(fields: &[Sightings], fit: Fit, field: usize, number: u32) -> u32
     requires { field < length fields.now }
     ensures { result ≡ window_weight (fits_as fit field number) fields.now field }

@@ -15,7 +15,7 @@ use crate::clock::Clock;
 use crate::gap::{Rule, goes_on_by};
 use crate::number::Number;
 use crate::pace::Pace;
-use crate::place::{Place, by_clock};
+use crate::place::{Place, believed_at, by_clock};
 
 /// A stretch of numbers that go on.
 #[derive(Clone, Copy)]
@@ -121,13 +121,8 @@ fn with_field(
     requires spread { IsSpreadBefore rule.numbering.clock rule.pace rule.slack numbers.now field stretch }
     ensures { IsSpreadBefore rule.numbering.clock rule.pace rule.slack numbers.now (field + 1) result }
 {
-    let answer = numbers[field];
-    if !answer.is_believed() {
+    let Some(there) = believed_at(numbers, field) else {
         return stretch;
-    }
-    let there = Place {
-        field,
-        number: answer.number,
     };
     let Some(on) = stretch else {
         return Some(begun(numbers, rule, None, there));
@@ -146,13 +141,8 @@ fn drifts_at(numbers: &[Number], rule: Rule, field: usize, stretch: Option<Stret
     ensures drifts { result ≡ true → IsDrift rule.numbering.clock rule.pace rule.slack numbers.now field }
     ensures none { result ≡ false → IsDrift rule.numbering.clock rule.pace rule.slack numbers.now field → ⊥ }
 {
-    let answer = numbers[field];
-    if !answer.is_believed() {
+    let Some(there) = believed_at(numbers, field) else {
         return false;
-    }
-    let there = Place {
-        field,
-        number: answer.number,
     };
     let Some(on) = stretch else {
         return false;

@@ -17,7 +17,7 @@ use crate::belief::REACH;
 use crate::gap::goes_on;
 use crate::number::Number;
 use crate::pace::Pace;
-use crate::place::Place;
+use crate::place::{Place, believed_at};
 use crate::sighting::Sightings;
 
 /// The fields to which two numbers may be apart that allow one between them to be off by a field, since a disc may have
@@ -44,12 +44,9 @@ fn before(numbers: &[Number], pace: Pace, field: usize) -> Option<Place>
         if distance > field {
             return None;
         }
-        let place = field - distance;
-        if are_whole(pace, distance) && numbers[place].is_believed() {
-            return Some(Place {
-                field: place,
-                number: numbers[place].number,
-            });
+        let found = believed_at(numbers, field - distance);
+        if are_whole(pace, distance) && found.is_some() {
+            return found;
         }
     }
     None
@@ -67,11 +64,9 @@ fn after(numbers: &[Number], pace: Pace, field: usize) -> Option<Place>
         if place >= numbers.len() {
             return None;
         }
-        if are_whole(pace, distance) && numbers[place].is_believed() {
-            return Some(Place {
-                field: place,
-                number: numbers[place].number,
-            });
+        let found = believed_at(numbers, place);
+        if are_whole(pace, distance) && found.is_some() {
+            return found;
         }
     }
     None

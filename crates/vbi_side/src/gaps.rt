@@ -30,7 +30,7 @@ use crate::gap::{
     BACK, Gap, HELD, JOINED, LOST, Neighbours, OPEN, Rule, STILL, Tally, between, skipped,
 };
 use crate::number::Number;
-use crate::place::Place;
+use crate::place::{Place, believed_at};
 use crate::sighting::Sightings;
 
 impl Tally {
@@ -151,21 +151,9 @@ pub(crate) fn neighbours_at(numbers: &[Number], at: Reached) -> Option<Neighbour
         × AreNeighbours numbers.now pair.here.field pair.here.number pair.there.field pair.there.number) }
     ensures none { result ≡ None → IsFree numbers.now at.field }
 {
-    let field = at.field;
-    let answer = numbers[field];
-    if !answer.is_believed() {
-        return None;
-    }
-    match at.last {
-        None => None,
-        Some(here) => {
-            let there = Place {
-                field,
-                number: answer.number,
-            };
-            Some(Neighbours { here, there })
-        }
-    }
+    let there = believed_at(numbers, at.field)?;
+    let here = at.last?;
+    Some(Neighbours { here, there })
 }
 
 /// What a walk over the fields knows before the next one.
@@ -227,15 +215,8 @@ pub(crate) fn last_at(numbers: &[Number], field: usize, last: Option<Place>) -> 
     requires last { IsLast numbers.now field last }
     ensures { IsLast numbers.now (field + 1) result }
 {
-    let answer = numbers[field];
-    if answer.is_believed() {
-        Some(Place {
-            field,
-            number: answer.number,
-        })
-    } else {
-        last
-    }
+    let here = believed_at(numbers, field);
+    if here.is_some() { here } else { last }
 }
 
 /// Whether a field with this answer is of lead-in or lead-out.

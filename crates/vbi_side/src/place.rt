@@ -27,6 +27,23 @@ pub(crate) fn by_clock(clock: Clock, here: Place) -> Place
     }
 }
 
+/// A field with its number, if one is believed of it.
+pub(crate) fn believed_at(numbers: &[Number], field: usize) -> Option<Place>
+    requires { field < length numbers.now }
+    ensures some { IfSome result (λ one. (one.field ≡ field) × IsMarked numbers.now field one.number) }
+    ensures none { result ≡ None → (n : ℕ) → IsMarked numbers.now field n → ⊥ }
+{
+    let answer = numbers[field];
+    if answer.is_believed() {
+        Some(Place {
+            field,
+            number: answer.number,
+        })
+    } else {
+        None
+    }
+}
+
 /// The first field of which a number is believed.
 pub(crate) fn first_believed(numbers: &[Number]) -> Option<Place>
     ensures some { IfSome result (λ one. (one.field < length numbers.now) × IsMarked numbers.now one.field one.number
@@ -34,12 +51,9 @@ pub(crate) fn first_believed(numbers: &[Number]) -> Option<Place>
     ensures none { result ≡ None → (i k : ℕ) → IsMarked numbers.now i k → ⊥ }
 {
     for field in 0..numbers.len() {
-        let answer = numbers[field];
-        if answer.is_believed() {
-            return Some(Place {
-                field,
-                number: answer.number,
-            });
+        let found = believed_at(numbers, field);
+        if found.is_some() {
+            return found;
         }
     }
     None
@@ -52,13 +66,9 @@ pub(crate) fn last_believed(numbers: &[Number]) -> Option<Place>
     ensures none { result ≡ None → (i k : ℕ) → IsMarked numbers.now i k → ⊥ }
 {
     for later in 0..numbers.len() {
-        let field = numbers.len() - 1 - later;
-        let answer = numbers[field];
-        if answer.is_believed() {
-            return Some(Place {
-                field,
-                number: answer.number,
-            });
+        let found = believed_at(numbers, numbers.len() - 1 - later);
+        if found.is_some() {
+            return found;
         }
     }
     None

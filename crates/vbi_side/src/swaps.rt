@@ -14,7 +14,7 @@ use crate::clock::Clock;
 use crate::gap::goes_on_by;
 use crate::number::Number;
 use crate::pace::Pace;
-use crate::place::{Place, by_clock};
+use crate::place::{Place, believed_at, by_clock};
 use crate::sighting::{Sighting, Sightings};
 
 /// Whether a number stands one field before or after the place that another one leaves for it.
@@ -122,19 +122,15 @@ fn with_field(
     ensures last { IsLast numbers.now (field + 1) result.last }
     ensures strays { AreStrays clock seen.now numbers.now result.last (field + 1) result.stray }
 {
-    let answer = numbers[field];
-    if answer.is_believed() {
-        return Search {
-            last: Some(Place {
-                field,
-                number: answer.number,
-            }),
+    match believed_at(numbers, field) {
+        Some(there) => Search {
+            last: Some(there),
             stray: None,
-        };
-    }
-    Search {
-        last: search.last,
-        stray: stray_with(seen, numbers, clock, field, search),
+        },
+        None => Search {
+            last: search.last,
+            stray: stray_with(seen, numbers, clock, field, search),
+        },
     }
 }
 
@@ -156,13 +152,8 @@ fn swap_before(
     let Some(here) = search.last else {
         return None;
     };
-    let answer = numbers[field];
-    if !answer.is_believed() {
+    let Some(there) = believed_at(numbers, field) else {
         return None;
-    }
-    let there = Place {
-        field,
-        number: answer.number,
     };
     if goes_on_by(clock, Pace::Video, 0, here, there) {
         search.stray

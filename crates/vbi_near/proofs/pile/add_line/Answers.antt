@@ -4,22 +4,6 @@ use Rattle.vbi_near.specs.Distances.{unit_of}
 use Rattle.vbi_near.proofs.Counting.{added-few, added_whole, pile-added}
 use Rattle.vbi_near.proofs.pile.add_line.Goals as goal
 
-pub overflow_add-darks : goal.overflow_add-darks
-overflow_add-darks c =
-    omega (
-      arith,
-      c.loop-column.invariant.dark.after c.loop-column.column (omega arith),
-      c.requires.dark c.loop-column.column,
-    )
-
-pub overflow_add-lights : goal.overflow_add-lights
-overflow_add-lights c =
-    omega (
-      arith,
-      c.loop-column.invariant.light.after c.loop-column.column (omega arith),
-      c.requires.light c.loop-column.column,
-    )
-
 pub returns-clause-pile : goal.returns-clause-pile
 returns-clause-pile c system lines wide is =
     let n : ℕ = length c.args.darks.now in

@@ -6,17 +6,14 @@ use Rattle.vbi_side.proofs.chapters.judge_chapter.Goals as goal
 
 pub returns-in-Some : goal.returns-in-Some
 returns-in-Some c =
-    let fields = c.args.fields.now in
-    let i = c.args.field in
     first_judged _ _ c.in-Some.chapter c.believed.result
-    (λ n h. line_believed fields i n _ (slice_get-get_or fields i _ c.requires) (inl h)) (one_chapter fields i)
+    (λ n h. line_believed _ _ n _ (slice_get-get_or c.args.fields.now c.args.field _ c.requires) (inl h))
+    (one_chapter c.args.fields.now c.args.field)
     c.in-Some.is c.believed.ensures
 
 pub returns-in-None : goal.returns-in-None
 returns-in-None c =
-    let fields = c.args.fields.now in
-    let i = c.args.field in
     second_judged _ _ _ c.believed.result c.believed-in-None.result
-    (λ n h. line_believed fields i n _ (slice_get-get_or fields i _ c.requires) (inr h))
-    (λ n. believed_line fields i n _ (slice_get-get_or fields i _ c.requires))
+    (λ n h. line_believed _ _ n _ (slice_get-get_or c.args.fields.now c.args.field _ c.requires) (inr h))
+    (λ n. believed_line _ _ n _ (slice_get-get_or c.args.fields.now c.args.field _ c.requires))
     c.in-None.is c.believed.ensures c.believed-in-None.ensures

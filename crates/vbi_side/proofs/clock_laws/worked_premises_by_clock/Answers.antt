@@ -4,7 +4,7 @@ use Rattle.vbi_side.specs.Clocks.{kept, left_out}
 use Rattle.vbi_side.specs.WorkedSides.{clv_by, worked_ends}
 use Rattle.vbi_side.proofs.ClockDiscs.{thousand_counts}
 use Rattle.vbi_side.proofs.Telling.{none_written}
-use Rattle.vbi_side.proofs.WorkedPictures.{no_gaps, no_swap, no_drift, marked_is}
+use Rattle.vbi_side.proofs.WorkedPictures.{no_gaps, no_swap, no_drift, ends_are}
 use Rattle.vbi_side.proofs.WorkedClock.{clock, same, clear_at, none_wrong}
 use Rattle.vbi_side.proofs.clock_laws.worked_premises_by_clock.Goals as goal
 
@@ -35,15 +35,5 @@ returns-clause-finding c = record {
   drifts = false;
   drift = no_drift clock same;
   verdict = refl;
-  reasons = inr (
-    0,
-    24,
-    record {
-      begins = refl;
-      ends = refl;
-      none_before = λ i k less. absurd (omega (arith, less));
-      none_after = λ i k less at. let p = marked_is i k at in absurd (omega (arith, less, p.0, p.1));
-    },
-    refl,
-  );
+  reasons = inr (0, 24, ends_are, refl);
 }

@@ -5,7 +5,7 @@ use Rattle.vbi_side.specs.Clocks.{kept}
 use Rattle.vbi_side.proofs.Counting.{plain}
 use Rattle.vbi_side.specs.WorkedSides.{cav, worked_ends}
 use Rattle.vbi_side.proofs.Telling.{none_written}
-use Rattle.vbi_side.proofs.WorkedPictures.{answers_are, none_wrong, no_gaps, no_swap, no_drift, marked_is}
+use Rattle.vbi_side.proofs.WorkedPictures.{answers_are, none_wrong, no_gaps, no_swap, no_drift, ends_are}
 use Rattle.vbi_side.proofs.gap_laws.worked_premises.Goals as goal
 
 pub returns-clause-answers : goal.returns-clause-answers
@@ -32,15 +32,5 @@ returns-clause-finding c = record {
   drifts = false;
   drift = no_drift Plain (λ n less. plain Plain n refl);
   verdict = refl;
-  reasons = inr (
-    0,
-    24,
-    record {
-      begins = refl;
-      ends = refl;
-      none_before = λ i k less. absurd (omega (arith, less));
-      none_after = λ i k less at. let p = marked_is i k at in absurd (omega (arith, less, p.0, p.1));
-    },
-    refl,
-  );
+  reasons = inr (0, 24, ends_are, refl);
 }

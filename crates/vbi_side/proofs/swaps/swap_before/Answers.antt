@@ -1,7 +1,6 @@
 use Rattle.std.proofs.Common.{◌∙◌, sym, subst}
 use Rattle.vbi_side.specs.Gaps.{IsLast}
 use Rattle.vbi_side.specs.Swaps.{AreStrays}
-use Rattle.vbi_side.proofs.Telling.{marked_here}
 use Rattle.vbi_side.proofs.Swapping.{none_between, swap_found, none_found}
 use Rattle.vbi_side.proofs.swaps.swap_before.Goals as goal
 
@@ -9,17 +8,15 @@ pub returns-else-goes_on_by-clause-none : goal.returns-else-goes_on_by-clause-no
 returns-else-goes_on_by-clause-none c = λ e k swap same.
     none_between c.args.clock c.args.seen.now c.args.numbers.now c.args.field _ c.in-Some.here
     (subst (IsLast c.args.numbers.now c.args.field) c.in-Some.is c.requires.last)
-    (marked_here c.args.numbers.now c.args.field _ c.requires.inside
-    (c.is_believed.ensures.0 c.if-not-is_believed.false))
-    (sym c.goes_on_by.ensures ∙ c.if-goes_on_by.false) k swap same
+    c.in-Some-believed_at.ensures.some.1
+    (sym (rw c.in-Some-believed_at.ensures.some.0 at c.goes_on_by.ensures) ∙ c.if-goes_on_by.false) k swap same
 
 pub returns-then-goes_on_by-clause-some : goal.returns-then-goes_on_by-clause-some
 returns-then-goes_on_by-clause-some c =
     swap_found c.args.clock c.args.seen.now c.args.numbers.now c.args.field _ c.in-Some.here c.args.search.stray
     (subst (IsLast c.args.numbers.now c.args.field) c.in-Some.is c.requires.last)
-    (marked_here c.args.numbers.now c.args.field _ c.requires.inside
-    (c.is_believed.ensures.0 c.if-not-is_believed.false))
-    (sym c.goes_on_by.ensures ∙ c.if-goes_on_by.true)
+    c.in-Some-believed_at.ensures.some.1
+    (sym (rw c.in-Some-believed_at.ensures.some.0 at c.goes_on_by.ensures) ∙ c.if-goes_on_by.true)
     (subst (λ last. AreStrays c.args.clock c.args.seen.now c.args.numbers.now last c.args.field c.args.search.stray)
     c.in-Some.is c.requires.strays)
 
@@ -27,7 +24,6 @@ pub returns-then-goes_on_by-clause-none : goal.returns-then-goes_on_by-clause-no
 returns-then-goes_on_by-clause-none c =
     none_found c.args.clock c.args.seen.now c.args.numbers.now c.args.field _ c.in-Some.here c.args.search.stray
     (subst (IsLast c.args.numbers.now c.args.field) c.in-Some.is c.requires.last)
-    (marked_here c.args.numbers.now c.args.field _ c.requires.inside
-    (c.is_believed.ensures.0 c.if-not-is_believed.false))
+    c.in-Some-believed_at.ensures.some.1
     (subst (λ last. AreStrays c.args.clock c.args.seen.now c.args.numbers.now last c.args.field c.args.search.stray)
     c.in-Some.is c.requires.strays)
