@@ -17,7 +17,7 @@ use Rattle.vbi_c.specs.Statuses.{in_turn}
 abbrev pub is_code_line : ℕ → Bool
 is_code_line line = nat_le 16 line && nat_le line 18
 
--- an entry of so many fields: columns from a first one to a last one of a line with code words
+-- an entry of this many fields: columns from a first one to a last one of a line with code words
 abbrev pub is_entry : ℕ → LdvbiErased → Bool
 is_entry count entry = nat_lt entry.field count && is_code_line entry.line && nat_le entry.first entry.last
 
@@ -32,11 +32,11 @@ are_sorted [] = true
 are_sorted (first ∷ []) = true
 are_sorted (first ∷ second ∷ rest) = may_follow first second && are_sorted (second ∷ rest)
 
--- a list of so many fields is taken
+-- a list of this many fields is taken
 abbrev pub is_taken : ℕ → List LdvbiErased → Bool
 is_taken count list = list_all (is_entry count) list && are_sorted list
 
--- the setup of a call that was found right, with a list of so many fields
+-- the setup of a call that was found right, with a list of this many fields
 abbrev pub with_erased : ℕ → List LdvbiErased → Result Setup Refusal → Result Setup Refusal
 with_erased count list asked = in_turn asked (λ setup. if is_taken count list then Ok setup else Err Erased)
 

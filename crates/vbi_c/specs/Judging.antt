@@ -114,7 +114,7 @@ pub record AreJudged (judging : Judging) (readings : List LdvbiFieldReadings) (s
 abbrev pub given_of : ℕ → Option Asked
 given_of number = if number == 3 then None else asked_of number
 
--- what the numbers of a call ask for, of this field among so many, which are no more than an answer depends on
+-- what the numbers of a call ask for, of this field among this many, which are no more than an answer depends on
 abbrev pub one_judging_of : ℕ → ℕ → ℕ → ℕ → ℕ → Result Judging Refusal
 one_judging_of system counted pace count field =
     with_pace (with_lengths (system_of system) (nat_le count part_most && nat_lt field count)) (counted_of counted)

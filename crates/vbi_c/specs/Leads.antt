@@ -10,8 +10,8 @@ use Rattle.vbi_c.specs.declared.seeking.LdvbiSought.{LdvbiSought}
 use Rattle.vbi_c.specs.Seeking.{shown_of, probe_most, probe_longest, around_most, left_most, HasOther, IsJudgedIn}
 use Rattle.vbi_c.specs.Telling.{TellsFrom, told_at}
 
--- so many fields of a side from this one on tell a number together, and fewer tell none; they are no more than are read
--- at one place
+-- this many fields of a side from this one on tell a number together, and fewer tell none; they are no more than are
+-- read at one place
 pub record Tells (seek : Seek) (bytes : List ℕ) (count field k n : ℕ) : Type 0 where
   pub few : k ≤ probe_longest
   pub inside : field + k ≤ count
@@ -42,7 +42,7 @@ pub record IsWithin (t a b : ℕ) (between : Between) : Type 0 where
 abbrev pub IsToldAt : Between → Type 0
 IsToldAt between = ((n : ℕ) × (between.lower ≡ Some n)) ⊎ ((n : ℕ) × (between.higher ≡ Some n))
 
--- so few fields are left of these after so many steps, each of which leaves three quarters at most
+-- so few fields are left of these after this many steps, each of which leaves three quarters at most
 unfoldable pub left_after : ℕ → ℕ → ℕ
 left_after count zero = count
 left_after count (suc k) = 3 * left_after count k / 4

@@ -16,11 +16,11 @@ use Rattle.vbi_c.specs.Statuses.{in_turn}
 
 -- ---- what is refused
 
--- how many lines so many bytes are
+-- how many lines this many bytes are
 abbrev pub count_in : words.System → ℕ → ℕ
 count_in system bytes = bytes / line_bytes system
 
--- a list is taken if so many lines of one number are handed over: its entries are of these
+-- a list is taken if this many lines of one number are handed over: its entries are of these
 abbrev pub is_list_of : ℕ → ℕ → List LdvbiErased → Bool
 is_list_of line count list = is_taken count list && list_all (λ entry. entry.line == line) list
 

@@ -24,7 +24,7 @@ use Rattle.vbi_c.specs.Telling.{TellsFrom, IsNarrowed, told_at}
 abbrev pub shows : Search → ℕ → Sightings
 shows search = shown_at search.seek search.bytes.now
 
--- what so many fields from this one on show
+-- what this many fields from this one on show
 abbrev pub shown_from : Search → ℕ → ℕ → List Sightings
 shown_from search first many = map (shows search) (range_with_len first many)
 
@@ -60,7 +60,7 @@ pub record IsHalving (between : Between) (spot : Spot) : Type 0 where
   pub later : 4 * (between.high - spot.field) ≤ 3 * (between.high - between.low)
   pub earlier : 4 * (spot.field + spot.more - between.low) ≤ 3 * (between.high - between.low)
 
--- the number is sought between others of them than before, by what some fields from this spot on tell, so many more
+-- the number is sought between others of them than before, by what some fields from this spot on tell, this many more
 -- than 12 at most, if fewer tell none
 pub record IsNarrowedAt (search : Search) (spot : Spot) (old new : Between) : Type 0 where
   pub read : ℕ

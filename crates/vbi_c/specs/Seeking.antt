@@ -49,7 +49,7 @@ seek_of system black white counted pace = in_turn (setup_of system black white) 
 abbrev pub shown_at : Seek → List ℕ → ℕ → Sightings
 shown_at seek bytes i = seen_in seek.judging (recovered_reading seek.setup (field_in seek.setup.system bytes i))
 
--- what each of so many fields shows
+-- what each of this many fields shows
 abbrev pub shown_of : Seek → List ℕ → ℕ → List Sightings
 shown_of seek bytes count = map (shown_at seek bytes) (range_with_len 0 count)
 
@@ -57,7 +57,7 @@ shown_of seek bytes count = map (shown_at seek bytes) (range_with_len 0 count)
 abbrev pub HasOther : paces.Pace → List Sightings → ℕ → ℕ → Type 0
 HasOther pace shown number i = (other : Number) × IsAnswer pace shown i other × (IsKnown other number → ⊥)
 
--- so many fields from this one on are judged: the field with all on which its answer depends, at the pace that is
+-- this many fields from this one on are judged: the field with all on which its answer depends, at the pace that is
 -- asked for
 pub record IsJudgedIn (seek : Seek) (bytes : List ℕ) (count field first many : ℕ) (pace : paces.Pace) : Type 0 where
   pub inside : first + many ≤ count
@@ -77,8 +77,8 @@ pub record IsFoundIn (seek : Seek) (bytes : List ℕ) (count number : ℕ) (soug
   pub begins : (sought.field ≡ 0)
       ⊎ ((before : ℕ) × (before + 1 ≡ sought.field) × HasOther pace (shown_of seek bytes count) number before)
 
--- so many fields of a side were read at most, and 72 at least or all; the number is found, or the field is none of the
--- side's, and then there is neither a number nor a pace
+-- this many fields of a side were read at most, and 72 at least or all; the number is found, or the field is none of
+-- the side's, and then there is neither a number nor a pace
 pub record IsSoughtIn (seek : Seek) (bytes : List ℕ) (count number : ℕ) (sought : LdvbiSought) : Type 0 where
   pub few : sought.looked ≤ looked_most
   pub read : (count ≤ sought.looked) ⊎ (72 ≤ sought.looked)

@@ -25,22 +25,22 @@ setup_of number black white = in_turn (ok_or (system_of number) System) (λ syst
 abbrev pub of_length : (words.System → Bool) → Result Setup Refusal → Result Setup Refusal
 of_length fits asked = in_turn asked (λ setup. if fits setup.system then Ok setup else Err Length)
 
--- the setup of a call with so many bytes, which have to be those of a line
+-- the setup of a call with this many bytes, which have to be those of a line
 abbrev pub line_setup : ℕ → ℕ → ℕ → ℕ → Result Setup Refusal
 line_setup number black white length =
     of_length (λ system. length == line_bytes system) (setup_of number black white)
 
--- the setup of a call with so many bytes, which have to be those of three lines
+-- the setup of a call with this many bytes, which have to be those of three lines
 abbrev pub rows_setup : ℕ → ℕ → ℕ → ℕ → Result Setup Refusal
 rows_setup number black white length =
     of_length (λ system. length == 3 * line_bytes system) (setup_of number black white)
 
--- the setup of a call with so many bytes, which have to be those of that many fields
+-- the setup of a call with this many bytes, which have to be those of that many fields
 abbrev pub fields_setup : ℕ → ℕ → ℕ → ℕ → ℕ → Result Setup Refusal
 fields_setup number black white length count =
     of_length (λ system. length == count * field_bytes system) (setup_of number black white)
 
--- the setup of a call with so many bytes, which have to be those of 1 to 28 lines
+-- the setup of a call with this many bytes, which have to be those of 1 to 28 lines
 abbrev pub lines_setup : ℕ → ℕ → ℕ → ℕ → Result Setup Refusal
 lines_setup number black white length = of_length (λ system.
     length % line_bytes system == 0 && nat_lt 0 length && nat_le length (28 * line_bytes system))

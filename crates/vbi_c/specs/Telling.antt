@@ -59,6 +59,6 @@ IsNarrowed n field told old new =
 abbrev pub IsShownBetween : List Sightings → ℕ → ℕ → ℕ → ℕ → Type 0
 IsShownBetween seen lower higher i n = Shows (slice_get seen i) n × (lower < n) × (n < higher)
 
--- the middle of one of so many equal parts of a side
+-- the middle of one of this many equal parts of a side
 abbrev pub middle_of : ℕ → ℕ → ℕ → ℕ
 middle_of count parts part = min (count * (2 * part + 1) / (2 * parts)) count

@@ -19,7 +19,7 @@ pub(crate) struct Drawing {
     pub(crate) word: Option<Word24>,
 }
 
-/// The drawing of a word, or of none for 0, on so many bytes.
+/// The drawing of a word, or of none for 0, on this many bytes.
 fn drawing_of(
     system: u32,
     black: u32,

@@ -35,7 +35,7 @@ pub struct LdvbiErased {
 // As include/ldvbi.h has it.
 const _: () = prove!(size_of::<LdvbiErased>() == 16);
 
-/// Whether it has columns of a line with code words, in one of so many fields.
+/// Whether it has columns of a line with code words, in one of this many fields.
 fn is_entry(count: usize, entry: &LdvbiErased) -> bool
     ensures { result ≡ is_entry count entry.now }
 {
@@ -70,21 +70,21 @@ fn are_sorted(list: &[LdvbiErased]) -> bool
     true
 }
 
-/// Whether each is an entry of so many fields.
+/// Whether each is an entry of this many fields.
 fn are_entries(count: usize, list: &[LdvbiErased]) -> bool
     ensures { result ≡ list_all (is_entry count) list.now }
 {
     list.iter().all(|entry| is_entry(count, entry))
 }
 
-/// Whether a list of so many fields is taken.
+/// Whether a list of this many fields is taken.
 pub(crate) fn is_taken(count: usize, list: &[LdvbiErased]) -> bool
     ensures { result ≡ is_taken count list.now }
 {
     are_entries(count, list) && are_sorted(list)
 }
 
-/// The setup of a call that was found right, with a list of so many fields, or why the call is refused.
+/// The setup of a call that was found right, with a list of this many fields, or why the call is refused.
 pub(crate) fn with_erased(
     count: usize,
     list: &[LdvbiErased],

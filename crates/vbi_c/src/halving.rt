@@ -27,16 +27,16 @@ use crate::search::{Looked, Search};
 /// Halving ends when no more fields than these are left: so few are judged at once.
 pub(crate) const LEFT: usize = 32;
 
-/// So many fields at most are read while the place is sought: 1,000 without the 188 that are judged around it.
+/// This many fields at most are read while the place is sought: 1,000 without the 188 that are judged around it.
 const PROBED: u32 = 812;
 
-/// So many spots at most are asked until the first number is told: the middles of 1, 2, 4, 8 and 16 parts.
+/// This many spots at most are asked until the first number is told: the middles of 1, 2, 4, 8 and 16 parts.
 const SPOTS: u32 = 31;
 
 /// A million fields are halved so often at most: each step leaves three quarters of them, and 32 are left.
 const STEPS: u32 = 36;
 
-/// The field in the middle of one of so many equal parts of a side.
+/// The field in the middle of one of this many equal parts of a side.
 fn middle_of(search: &Search, parts: usize, part: usize) -> usize
     requires some { part < parts }
     requires few { parts ≤ 16 }
@@ -46,7 +46,7 @@ fn middle_of(search: &Search, parts: usize, part: usize) -> usize
     (search.count * (2 * part + 1) / (2 * parts)).min(search.count)
 }
 
-/// Narrows the fields between which the number is sought, by the first of the middles of so many equal parts of the
+/// Narrows the fields between which the number is sought, by the first of the middles of this many equal parts of the
 /// side at which a number is told. Answers whether one is.
 fn sweep(search: &Search, parts: usize, between: &mut Between, looked: &mut Looked) -> bool
     requires few { parts ≤ 16 }
@@ -96,7 +96,7 @@ enum End {
     Last,
 }
 
-/// The spot at so many sixteenths of these fields.
+/// The spot at this many sixteenths of these fields.
 fn spot_at(search: &Search, between: &Between, sixteenths: usize) -> Spot
     requires part { IsPart search.now between.now }
     requires few { sixteenths ≤ 16 }
@@ -178,7 +178,7 @@ fn halve(search: &Search, between: &mut Between, looked: &mut Looked)
     }
 }
 
-/// How often so many fields are halved, or a million, if they are more.
+/// How often this many fields are halved, or a million, if they are more.
 fn steps_of(count: usize) -> u32
     requires { 32 * count < 2 ^ 64 }
     ensures few { result ≤ 36 }

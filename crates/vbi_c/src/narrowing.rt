@@ -163,7 +163,7 @@ fn narrow_by_one(
     true
 }
 
-/// Narrows the fields between which the number is sought, by what is told at this spot, if so many fields may be read
+/// Narrows the fields between which the number is sought, by what is told at this spot, if this many fields may be read
 /// besides, or by a single line.
 fn narrow_near(
     search: &Search,
@@ -222,8 +222,8 @@ pub(crate) fn narrow_between(
     }
 }
 
-/// Narrows the fields between which the number is sought, by what is told at one of two spots, if so many fields may be
-/// read besides. Answers whether one of them tells a number.
+/// Narrows the fields between which the number is sought, by what is told at one of two spots, if this many fields may
+/// be read besides. Answers whether one of them tells a number.
 pub(crate) fn narrow_either(
     search: &Search,
     first: Spot,

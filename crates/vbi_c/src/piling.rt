@@ -24,7 +24,7 @@ fn are_of_line(line: u32, list: &[LdvbiErased]) -> bool
     list.iter().all(|entry| entry.line == line)
 }
 
-/// Whether a list is taken if so many lines of one number are handed over.
+/// Whether a list is taken if this many lines of one number are handed over.
 fn is_list_of(line: u32, count: usize, list: &[LdvbiErased]) -> bool
     ensures { result ≡ is_list_of line count list.now }
 {
@@ -131,7 +131,7 @@ fn line_in(system: System, line: u32, all: &[bool]) -> &[bool]
     &all[row..row + width]
 }
 
-/// Marks the erased columns of so many lines of this number, one line after the other.
+/// Marks the erased columns of this many lines of this number, one line after the other.
 fn mark_lines(system: System, line: u32, list: &[LdvbiErased], count: usize, marks: &mut [bool])
     requires few { count ≤ 28 }
     requires long { length marks.old ≡ count * width_of system }

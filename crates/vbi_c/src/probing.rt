@@ -24,10 +24,10 @@ use crate::recovering::recover_whole;
 use crate::search::{Looked, Search};
 use vbi_side::{Pace, Sighting, Sightings, support};
 
-/// So many fields are read at one spot: six pictures of video.
+/// This many fields are read at one spot: six pictures of video.
 pub(crate) const PROBE: usize = 12;
 
-/// So many at most are read there if few lines show a number, twelve times as many.
+/// This many at most are read there if few lines show a number, twelve times as many.
 pub(crate) const LONGEST: usize = 144;
 
 /// What is shown together weighs so much. No field alone does, even if both its lines were misread alike.
@@ -149,7 +149,7 @@ fn number_together(seen: &[Sightings]) -> Option<u32>
     None
 }
 
-/// The number that the fields from this one on tell together, if so many at most tell one, and how many of them were
+/// The number that the fields from this one on tell together, if this many at most tell one, and how many of them were
 /// read for it. What these show stands in `seen`.
 pub(crate) fn probe(
     search: &Search,

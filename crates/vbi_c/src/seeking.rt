@@ -46,7 +46,7 @@ pub struct LdvbiSought {
 // As include/ldvbi.h has it.
 const _: () = prove!(size_of::<LdvbiSought>() == 24);
 
-/// The number is looked for in so many fields more than it is sought between, before and after them.
+/// The number is looked for in this many fields more than it is sought between, before and after them.
 const BESIDE: usize = 24;
 
 /// The fields that are judged: those in which the number is looked for, and all on which their answers depend.
@@ -80,7 +80,7 @@ struct Around {
     end: usize,
 }
 
-/// The fields around a place: so many in which the number is looked for, and as many before and after them as their
+/// The fields around a place: this many in which the number is looked for, and as many before and after them as their
 /// answers depend on.
 fn fields_around(search: &Search, place: &Between) -> Around
     requires { IsPart search.now place.now }

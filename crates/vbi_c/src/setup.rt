@@ -7,7 +7,7 @@ ghost use Rattle.vbi_c.specs.Setups.{system_of, setup_of, line_setup, rows_setup
 use crate::status::Refusal;
 use vbi_words::{Levels, System};
 
-/// So many lines at most have their nearest word searched: the sums of more could pass 32 bits.
+/// This many lines at most have their nearest word searched: the sums of more could pass 32 bits.
 pub(crate) const MOST_LINES: usize = 28;
 
 /// A system and its black and white.
@@ -44,7 +44,7 @@ pub(crate) fn setup_of(number: u32, black: u32, white: u32) -> Result<Setup, Ref
     }
 }
 
-/// The setup of a call with so many bytes, which have to be those of a line, or why the call is refused.
+/// The setup of a call with this many bytes, which have to be those of a line, or why the call is refused.
 pub(crate) fn line_setup(
     number: u32,
     black: u32,
@@ -61,7 +61,7 @@ pub(crate) fn line_setup(
     Ok(setup)
 }
 
-/// The setup of a call with so many bytes, which have to be those of three lines, or why the call is refused.
+/// The setup of a call with this many bytes, which have to be those of three lines, or why the call is refused.
 pub(crate) fn rows_setup(
     number: u32,
     black: u32,
@@ -77,7 +77,7 @@ pub(crate) fn rows_setup(
     Ok(setup)
 }
 
-/// The setup of a call with so many bytes, which have to be those of `count` fields, or why the call is refused.
+/// The setup of a call with this many bytes, which have to be those of `count` fields, or why the call is refused.
 pub(crate) fn fields_setup(
     number: u32,
     black: u32,
@@ -96,7 +96,7 @@ pub(crate) fn fields_setup(
     Ok(setup)
 }
 
-/// The setup of a call with so many bytes, which have to be those of 1 to 28 lines, or why the call is refused.
+/// The setup of a call with this many bytes, which have to be those of 1 to 28 lines, or why the call is refused.
 pub(crate) fn lines_setup(
     number: u32,
     black: u32,

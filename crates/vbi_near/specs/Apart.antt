@@ -3,7 +3,7 @@ use Rattle.std.specs.Prelude.{ℕ}
 use Rattle.vbi_words.specs.declared.system.System.{System}
 use Rattle.vbi_words.specs.declared.system.System.TheVariants.{Ntsc, Pal}
 
--- two pictures of different words, or one of a word and that of none, differ in so many columns at least: in those of
+-- two pictures of different words, or one of a word and that of none, differ in this many columns at least: in those of
 -- a cell
 abbrev pub picture_distance : System → ℕ
 picture_distance Ntsc = 28

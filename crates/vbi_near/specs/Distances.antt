@@ -43,7 +43,7 @@ known_but (true ∷ erased) (sample ∷ samples) = None ∷ known_but erased sam
 known_but (false ∷ erased) (sample ∷ samples) = Some sample ∷ known_but erased samples
 known_but erased samples = []
 
--- the samples of so many lines, whose bytes lie one line after the other
+-- the samples of this many lines, whose bytes lie one line after the other
 abbrev pub lines_of : System → List ℕ → ℕ → List Samples
 lines_of system bytes count = map (λ i. known (samples_of (line_at system bytes 0 i))) (range_with_len 0 count)
 
@@ -75,7 +75,7 @@ pub record IsPile (system : System) (slicing : Slicing) (lines : List Samples) (
   pub exact : (column : ℕ) (level : Bool) → column < width_of system
       → slice_index_or (shade costs level) column 0 ≡ column_cost slicing lines column level
 
--- in no column more than so many lines can be off, each by 65,535 at most
+-- in no column more than this many lines can be off, each by 65,535 at most
 abbrev pub AreFew : ℕ → List ℕ → Type 0
 AreFew lines costs = (column : ℕ) → slice_index_or costs column 0 ≤ 65535 * lines
 

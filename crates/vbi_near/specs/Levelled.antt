@@ -38,7 +38,7 @@ abbrev pub window_start : System → ℕ → ℕ
 window_start system column =
     min (max (column - window_of system / 2) (first_of system)) (end_of system - window_of system)
 
--- the sum of the samples from this column on, so many of them
+-- the sum of the samples from this column on, this many of them
 abbrev pub sum_from : List ℕ → ℕ → ℕ → ℕ
 sum_from samples column n = sum (take n (drop column samples))
 
@@ -53,7 +53,7 @@ abbrev pub off_mean : System → List ℕ → ℕ → ℕ
 off_mean system samples column =
     abs_diff (window_of system * slice_index samples column) (window_sum system samples column)
 
--- how far so many columns are from their means in sum
+-- how far this many columns are from their means in sum
 abbrev pub off_in : System → List ℕ → ℕ → ℕ
 off_in system samples n = sum (map (off_mean system samples) (range_with_len (first_of system) n))
 

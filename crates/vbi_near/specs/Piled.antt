@@ -25,7 +25,7 @@ swing_alike unit swings = list_all (λ swing. list_all (are_alike_by unit swing)
 abbrev pub are_all_alike : System → Slicing → List Row → Bool
 are_all_alike system slicing rows = swing_alike (unit_of slicing) (map (swing_in system slicing) rows)
 
--- the word that so many lines say together
+-- the word that this many lines say together
 abbrev pub said_together : ℕ → Bool → ℕ → Candidates → Option ℕ
 said_together unit known lines near =
     first_said (said_if unit (pile_margins known) lines near.levelled)
@@ -53,6 +53,6 @@ abbrev pub row_in : System → List ℕ → List Bool → ℕ → Row
 row_in system lines erased i =
     row_of (line_at system lines 0 i) (take (width_of system) (drop (width_of system * i) erased))
 
--- the first so many of them
+-- the first ones of them, this many
 abbrev pub rows_in : System → List ℕ → List Bool → ℕ → List Row
 rows_in system lines erased count = map (row_in system lines erased) (range_with_len 0 count)

@@ -1,8 +1,8 @@
 -- What the nearest word of some lines says, if it is so far ahead of any other that noise and dropouts hardly bring it
 -- about; and whether lines 17 and 18 say one word together.
 --
--- All that is compared are sums of how far samples are off. A margin of so many columns is as much as white and black
--- are off from each other in so many columns: `unit` is that of one column.
+-- All that is compared are sums of how far samples are off. A margin of this many columns is as much as white and black
+-- are off from each other in this many columns: `unit` is that of one column.
 use Rattle.std.specs.Prelude.{ℕ, ◌+◌, ◌*◌, ◌==◌, ◌&&◌, ◌||◌, Bool, false, not, is_some, nat_le, nat_lt}
 use Rattle.std.specs.Prelude.{Option, Some, None, if◌then◌else◌}
 use Rattle.vbi_near.specs.declared.near.Near.{Near}
@@ -29,11 +29,11 @@ apart_margins = record { code = 10; other = 12; code_share = 0; other_share = 0 
 abbrev pub both_margins : Margins
 both_margins = record { code = 8; other = 9; code_share = 4; other_share = 3 }
 
--- any other word is farther by so many columns at least
+-- any other word is farther by this many columns at least
 abbrev pub is_ahead : ℕ → ℕ → Near → Bool
 is_ahead unit columns near = nat_le (near.distance + columns * unit) near.rival
 
--- it is farther by so many 144ths at least of how much nearer the nearest word is than none, which is this far
+-- it is farther by this many 144ths at least of how much nearer the nearest word is than none, which is this far
 abbrev pub is_ahead_by : ℕ → ℕ → Near → Bool
 is_ahead_by share blank near =
     nat_le (144 * near.distance + share * blank) (144 * near.rival + share * near.distance)
@@ -63,8 +63,8 @@ is_clear unit columns share lines blank halved near =
 abbrev pub is_close : ℕ → Nears → Bool
 is_close unit near = nat_le near.code.distance (near.word.distance + 10 * unit)
 
--- the word that so many lines say: the nearest code that may stand on them, if it is so far ahead of any other code and
--- of none, and no word is much nearer; else the nearest word, if it is so far ahead of any other
+-- the word that this many lines say: the nearest code that may stand on them, if it is so far ahead of any other code
+-- and of none, and no word is much nearer; else the nearest word, if it is so far ahead of any other
 abbrev pub said_of : ℕ → Margins → ℕ → Nears → Option ℕ
 said_of unit margins lines near =
     if is_some near.code.word && is_close unit near

@@ -11,7 +11,7 @@ use Rattle.vbi_near.specs.Sums.{span}
 
 -- ---- rows
 
--- the columns from a word's start to half cell j, if its cells have so many hundredths of their length: a half cell
+-- the columns from a word's start to half cell j, if its cells have this many hundredths of their length: a half cell
 -- of one microsecond has 315/22 samples, or 709379/40000
 abbrev pub stretched_offset : System → ℕ → ℕ → ℕ
 stretched_offset Ntsc rate j = j * 315 * rate / 2200
@@ -25,7 +25,7 @@ stretched_half system rate j = stretched_offset system rate (suc j) - stretched_
 abbrev pub stretched_length : System → ℕ → ℕ
 stretched_length system rate = stretched_offset system rate 48
 
--- the levels of these half cells, of which the first is half cell j, if each has so many columns
+-- the levels of these half cells, of which the first is half cell j, if each has this many columns
 unfoldable pub halves_with : (ℕ → ℕ) → ℕ → List Bool → List Bool
 halves_with columns j [] = []
 halves_with columns j (half ∷ halves) = replicate (columns j) half ++ halves_with columns (suc j) halves

@@ -9,7 +9,7 @@ use Rattle.vbi_words.specs.Levels.{Slicing}
 abbrev pub slicing_at : ℕ → ℕ → Slicing
 slicing_at black white = record { black = black; white = white }
 
--- a line whose samples are low in so many columns, then high in as many, and so on
+-- a line whose samples are low in this many columns, then high in as many, and so on
 abbrev pub wave : System → ℕ → ℕ → ℕ → List ℕ
 wave system columns low high =
     map (λ column. if nat_lt (column % (2 * columns)) columns then low else high) (range_with_len 0 (width_of system))

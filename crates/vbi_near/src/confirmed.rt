@@ -2,7 +2,7 @@
 //!
 //! A search takes some microseconds, so one is made only if its answer counts: a line as it is is searched only
 //! if the levelled one says no word. The contracts say that a call answers as the definitions do by whatever nearest
-//! words the line has, of which there is one each.
+//! words the line has: there is one of each.
 
 ghost use Rattle.std.specs.Prelude.{◌≡◌, ℕ, ◌-◌, ◌∷◌, []};
 ghost use Rattle.vbi_near.specs.Lines.{row_in};

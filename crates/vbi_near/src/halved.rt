@@ -1,4 +1,4 @@
-//! Signals of which half a word is missing.
+//! Signals that lack half a word.
 
 ghost use Rattle.std.specs.Prelude.{◌≡◌, ◌+◌, ◌≤◌, ◌<◌, false, slice_index_or};
 ghost use Rattle.vbi_words.specs.Geometry.{width_of};

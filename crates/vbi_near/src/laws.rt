@@ -79,7 +79,7 @@ pub fn codes_stand()
         → (IsOneOf (codes_of system line) word ↔ IsTrue (may_stand system line (code_of word))) }
 {}
 
-/// Three rows, of which some columns are erased, show one thing: what their lines are taken to show is fixed by the
+/// Three rows, some columns of which may be erased, show one thing: what their lines are taken to show is fixed by the
 /// bytes, the erased columns and the levels of black and white.
 pub fn one_recovered()
     ensures { (system : System) (slicing : Slicing) (rows : List ℕ) (erased : List Bool)
@@ -100,7 +100,7 @@ pub fn pictures_apart()
         → picture_distance system ≤ differences (picture_of system one s) (picture_of system other t) }
 {}
 
-/// So are drawn rows: their samples are off from one another by so many columns times how far white is from black.
+/// So are drawn rows: their samples are off from one another by that many columns times how far white is from black.
 pub fn rows_apart()
     ensures { (system : System) (slicing : Slicing) (one other : Option ℕ) (s t : ℕ) → IsPlace system one s
         → IsPlace system other t → one ≢ other → picture_distance system * (slicing.white - slicing.black)

@@ -173,7 +173,7 @@ fn own(system: System, row: &[u8], column: usize) -> u32
 
 /// Writes for each column the sum of its window.
 // First the windows begin where the first one does, then half a window before their columns, at last where the last one
-// does: a loop for each, of which a compiler makes vectors.
+// does: a loop for each, which a compiler turns into vector code.
 #[tactic(auto, using(crate::proofs::Levelling::ordered_windows, crate::proofs::Levelling::window_inside))]
 fn sum_windows(line: &Summed, windows: &mut [u32])
     requires room { length windows.old ≡ width_of line.now.system }

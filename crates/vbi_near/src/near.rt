@@ -112,8 +112,8 @@ pub(crate) fn near_word(sums: &Sums, found: Found) -> Near
     or_none(found, longer, shorter, sums.blank())
 }
 
-/// The word that is nearest to some lines, of which `darks` and `lights` say for each column how far their samples are
-/// from black there, and from white, in sum. Of drawn rows that are as near, the one of no word comes first, then the
+/// The word that is nearest to some lines. `darks` and `lights` say for each column how far their samples are in sum
+/// from black there, and from white. Of drawn rows that are as near, the one of no word comes first, then the
 /// one that begins first, and of these the one of the least word.
 pub fn nearest(system: System, darks: &[u32], lights: &[u32]) -> Near
     requires dark { length darks.now ≡ width_of system }

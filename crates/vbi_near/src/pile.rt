@@ -141,7 +141,7 @@ impl<'a> Pile<'a> {
     }
 }
 
-/// The word that is nearest to so many lines of samples, each of two bytes, the low one first.
+/// The word that is nearest to this many lines of samples, each of two bytes, the low one first.
 pub fn nearest_of_lines(system: System, levels: Levels, lines: &[u8], count: usize) -> Near
     requires few { count ≤ 28 }
     requires whole { length lines.now ≡ count * line_bytes system }

@@ -15,7 +15,7 @@ use crate::row::Rows;
 use crate::said::{Margins, first_said, said_if};
 use vbi_words::{Levels, System, Word24};
 
-/// So many lines at most: the sums of more could pass 32 bits.
+/// This many lines at most: the sums of more could pass 32 bits.
 const MOST_LINES: usize = 28;
 
 /// By how many columns the nearest word has to be ahead, by whether the erased columns are known. If they are, no
@@ -87,8 +87,8 @@ fn levelled_near_of_all(number: u32, levels: Levels, rows: &Rows) -> Option<Near
     }
 }
 
-/// The word that so many lines of this number say together, which all have one word, or none. Their samples lie one
-/// line after the other, as do the marks of their erased columns. If these are known, a code may be less far ahead.
+/// The word that some lines of this number, all with one word, say together, or none. Their samples lie one line after
+/// the other, as do the marks of their erased columns. If these are known, a code may be less far ahead.
 pub fn recover_pile(
     system: System,
     number: u32,

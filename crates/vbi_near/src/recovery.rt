@@ -15,7 +15,7 @@
 //! `rule_laws.rt` has worked rows of the rule. Whatever changes a word here changes the tables of docs/measured, too.
 //!
 //! As in `confirmed.rt`, lines as they are are searched only if the levelled ones say no word, and the contracts say
-//! that a call answers as the definitions do by whatever nearest words the lines have, of which there is one each.
+//! that a call answers as the definitions do by whatever nearest words the lines have: there is one of each.
 
 ghost use Rattle.std.specs.Prelude.{◌≡◌, ℕ, ◌+◌, ◌*◌, ◌-◌, ◌<◌, ◌^◌, ◌&&◌, List, ◌∷◌, [], length, take, drop, IsTrue};
 ghost use Rattle.vbi_words.specs.Geometry.{line_bytes, width_of};
@@ -151,7 +151,7 @@ fn shown_alone(number: u32, levels: Levels, row: &Row, line: &Line, own: Recover
     }
 }
 
-/// The words that lines 17 and 18 say, both of which are open. They are searched as they are only if one of them
+/// The words that lines 17 and 18 say if both are open. They are searched as they are only if one of them
 /// says none levelled.
 fn said_by_both(
     levels: Levels,

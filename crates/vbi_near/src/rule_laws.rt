@@ -49,7 +49,7 @@ pub fn worked_margins()
         × (said_of 100 both_margins 2 (as_code (cut_at 9199)) ≡ None) }
 {}
 
-/// Fields written down, NTSC with white 100 above black: which words their lines show, and of which pass.
+/// Fields written down, NTSC with white 100 above black: which words their lines show, and in which pass.
 pub fn worked_fields()
     // The two agree up to 30 columns, or if their words are the same, and then say their word together, whatever
     // each of them says.

@@ -22,7 +22,7 @@ use crate::lines::Nears;
 use crate::near::Near;
 use vbi_words::Word24;
 
-/// By how many columns the nearest word has to be ahead of any other: by so many times what white and black are off
+/// By how many columns the nearest word has to be ahead of any other: by this many times what white and black are off
 /// from each other. Shares are 144ths of how much nearer the word is than none.
 #[derive(Clone, Copy)]
 pub struct Margins {
@@ -77,7 +77,7 @@ pub enum Stand {
     Together,
 }
 
-/// Whether any other word is farther by so many columns.
+/// Whether any other word is farther by this many columns.
 fn is_ahead(unit: u32, columns: u32, near: &Near) -> bool
     ensures { result ≡ is_ahead unit columns near.now }
 {
@@ -94,8 +94,8 @@ fn is_ahead_by(share: u8, blank: u32, near: &Near) -> bool
     144 * distance + share * u64::from(blank) <= 144 * rival + share * distance
 }
 
-/// Whether the signal of so many lines goes on beyond the word: by more than 4 columns a line, since noise alone makes
-/// one more cell somewhat nearer.
+/// Whether the signal of this many lines goes on beyond the word: by more than 4 columns a line, since noise alone
+/// makes one more cell somewhat nearer.
 fn goes_on(unit: u32, lines: u32, near: &Near) -> bool
     requires { lines ≤ 28 }
     ensures { result ≡ goes_on unit lines near.now }
@@ -103,7 +103,7 @@ fn goes_on(unit: u32, lines: u32, near: &Near) -> bool
     u64::from(near.longer) + 4 * u64::from(lines) * u64::from(unit) < u64::from(near.distance)
 }
 
-/// Whether the signal of so many lines has fewer cells than the word, by the same 4 columns a line.
+/// Whether the signal of this many lines has fewer cells than the word, by the same 4 columns a line.
 fn is_cut(unit: u32, lines: u32, near: &Near) -> bool
     requires { lines ≤ 28 }
     ensures { result ≡ is_cut unit lines near.now }
@@ -128,8 +128,8 @@ struct Nearest<'a> {
     halved: u32,
 }
 
-/// Whether the signal of so many lines begins and ends with the word and has both halves of it, and any other is
-/// farther by so many columns and by such a share.
+/// Whether the signal of this many lines begins and ends with the word and has both halves of it, and any other is
+/// farther by this many columns and by such a share.
 fn is_clear(unit: u32, columns: u32, share: u8, lines: u32, word: &Nearest) -> bool
     requires { lines ≤ 28 }
     ensures { result ≡ is_clear unit columns share lines word.now.blank word.now.halved word.now.near.now }
@@ -148,7 +148,7 @@ fn is_close(unit: u32, near: &Nears) -> bool
     u64::from(near.code.distance) <= u64::from(near.word.distance) + 10 * u64::from(unit)
 }
 
-/// The word that so many lines say, of which these are the nearest word and the nearest code.
+/// The word that this many lines say, if these are their nearest word and their nearest code.
 fn said_of(unit: u32, margins: &Margins, lines: u32, near: &Nears) -> Option<Word24>
     requires { lines ≤ 28 }
     ensures { result ≡ said_of unit margins.now lines near.now }
@@ -175,7 +175,7 @@ fn said_of(unit: u32, margins: &Margins, lines: u32, near: &Nears) -> Option<Wor
     }
 }
 
-/// The word that so many lines say, if they have a nearest word and a nearest code.
+/// The word that this many lines say, if they have a nearest word and a nearest code.
 pub(crate) fn said_if(
     unit: u32,
     margins: &Margins,

@@ -12,10 +12,10 @@ ghost use Rattle.vbi_near.specs.Stretched.{stretched_word_cost, stretched_row_co
 use crate::sums::{ROOM, Sums, between};
 use vbi_words::{System, Word24};
 
-/// At so many columns a word may begin at most: on a line of PAL, if its cells have 98 hundredths of their length.
+/// The most columns at which a word may begin: on a line of PAL, if its cells have 98 hundredths of their length.
 const MOST_STARTS: usize = 302;
 
-/// The columns from a word's start to a half cell, or to its end, if its cells have so many hundredths of their
+/// The columns from a word's start to a half cell, or to its end, if its cells have this many hundredths of their
 /// length.
 fn stretched_offset(system: System, rate: usize, half: usize) -> usize
     requires rate { rate ≤ 102 }
@@ -42,7 +42,7 @@ fn lead_costs(dark: &[u32], costs: &mut [u32])
     }
 }
 
-/// Adds what half cells cost that begin and end so many columns after each start.
+/// Adds what half cells cost that begin and end these numbers of columns after each start.
 fn add_half(sums: &[u32], begin: usize, end: usize, costs: &mut [u32])
     requires rising { IsRising sums.now }
     requires short { length sums.now ≤ 1136 }

@@ -28,13 +28,13 @@ abbrev pub is_odd : Option Last → ℕ → Bool
 is_odd None k = false
 is_odd (Some place) k = ((place.field + k) % 2) == 1
 
--- so many believed numbers before field k are others than the one before them
+-- this many believed numbers before field k are others than the one before them
 unfoldable pub turns : List Number → ℕ → ℕ
 turns answers zero = 0
 turns answers (suc k) =
     if is_turn (last_known answers k) (slice_get answers k) then suc (turns answers k) else turns answers k
 
--- and so many of these stand an odd count of fields after that one
+-- and this many of these stand an odd count of fields after that one
 unfoldable pub odd_turns : List Number → ℕ → ℕ
 odd_turns answers zero = 0
 odd_turns answers (suc k) =

@@ -10,11 +10,11 @@ use Rattle.vbi_side.specs.declared.number.Number.{Number}
 use Rattle.vbi_side.specs.Paces.{fits, nearly}
 use Rattle.vbi_side.specs.Numbers.{IsMarked}
 
--- so many numbers below n leave this remainder by the period
+-- this many numbers below n leave this remainder by the period
 abbrev pub passed : ℕ → ℕ → ℕ → ℕ
 passed period remainder n = (n + (period - 1 - remainder)) / period
 
--- so many numbers below n the clock leaves out: the first and the second one of each minute that begins below n, less
+-- this many numbers below n the clock leaves out: the first and the second one of each minute that begins below n, less
 -- those of each tenth minute; or those below n that leave the phase
 unfoldable pub left_out : Clock → ℕ → ℕ
 left_out Plain n = 0
@@ -33,16 +33,16 @@ IsProper Plain = Unit {0}
 IsProper DropFrame = Unit {0}
 IsProper (OneIn period phase) = phase < period
 
--- so many of the numbers between m and n are left out
+-- this many of the numbers between m and n are left out
 abbrev pub out_between : Clock → ℕ → ℕ → ℕ
 out_between clock m n = left_out clock n - left_out clock (m + 1)
 
--- so many numbers below n the disc has
+-- this many numbers below n the disc has
 unfoldable pub kept : Clock → ℕ → ℕ
 kept Plain n = n
 kept clock n = n - left_out clock n
 
--- number n begins so many fields after the disc's first number
+-- number n begins this many fields after the disc's first number
 abbrev pub place : Clock → ℕ → ℕ
 place clock n = 2 * kept clock n
 
@@ -76,7 +76,7 @@ DiscNearlyBy clock slack disc = (d e m n : ℕ) → disc d ≡ Some m → disc e
 abbrev pub IsClear : Clock → ℕ → Type 0
 IsClear clock n = left_out clock (n + 12) ≡ left_out clock (n - 12)
 
--- so many of these are left out
+-- this many of these are left out
 abbrev pub out_near : Clock → ℕ → ℕ
 out_near clock n = left_out clock (n + 12) - left_out clock (n - 12)
 

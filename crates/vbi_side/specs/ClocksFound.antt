@@ -26,7 +26,7 @@ with_pair clock pace slack i m k n pairs = record {
   opposed = one_more (opposes clock pace slack i m k n) pairs.opposed;
 }
 
--- so many of the neighbours before field k the clock explains, and against so many it speaks
+-- this many of the neighbours before field k the clock explains, and against this many it speaks
 unfoldable pub ArePairs : Clock → Pace → ℕ → List Number → ℕ → Pairs → Type 0
 ArePairs clock pace slack answers zero pairs = pairs ≡ record { explained = 0; opposed = 0 }
 ArePairs clock pace slack answers (suc k) pairs =

@@ -10,14 +10,14 @@ use Rattle.vbi_side.specs.declared.pace.Pace.{Pace}
 use Rattle.vbi_side.specs.declared.pace.Pace.TheVariants.{Video, Film}
 use Rattle.vbi_side.specs.Beliefs.{Believed}
 
--- of the first fields, so many show a number that is believed
+-- of the first fields, this many show a number that is believed
 abbrev pub IsCount : Pace → List Sightings → ℕ → ℕ → Type 0
 IsCount pace fields zero count = count ≡ 0
 IsCount pace fields (suc n) count =
     ((m fewer : ℕ) × Believed pace fields n m × IsCount pace fields n fewer × (count ≡ suc fewer))
     ⊎ (((m : ℕ) → Believed pace fields n m → ⊥) × IsCount pace fields n count)
 
--- the pace by which so many numbers are believed, at that of video and at that of film: film if over a tenth more
+-- the pace by which this many numbers are believed, at that of video and at that of film: film if over a tenth more
 -- are believed by it, else video
 abbrev pub pace_by : ℕ → ℕ → Pace
 pace_by video film = if nat_lt (11 * video) (10 * film) then Film else Video

@@ -60,13 +60,13 @@ keeps_time _ _ = false
 abbrev pub has_clock : Numbering → Bool
 has_clock numbering = keeps_time numbering.system numbering.counted && is_plain numbering.clock
 
--- so many fields at least are too few between number m in field i and number n in field k: of video just so many, of
--- film the least that leaves the numbers to fit
+-- this many fields at least are too few between number m in field i and number n in field k: of video just this many,
+-- of film the least that leaves the numbers to fit
 abbrev pub lacking : Pace → ℕ → ℕ → ℕ → ℕ → ℕ
 lacking Video i m k n = (i + 2 * n) - (k + 2 * m)
 lacking Film i m k n = ((2 * i + 5 * n) - (2 * k + 5 * m) - 1) / 2
 
--- they are so many fields too few or too many, at least
+-- they are this many fields too few or too many, at least
 abbrev pub off_by : Pace → ℕ → ℕ → ℕ → ℕ → ℕ
 off_by pace i m k n = lacking pace i m k n + lacking pace k n i m
 
@@ -123,7 +123,7 @@ gap_as clock pace slack kind shown i m k n =
     gap_made i m k n kind (fields_of pace slack kind i (kept clock m) k (kept clock n)) shown
 
 -- the gap between number m in field i and number n in field k, or none if they go on: `slack` is 1 of a disc with a
--- number on both fields of its pictures, else 0; so many fields between show a number between
+-- number on both fields of its pictures, else 0; this many fields between show a number between
 abbrev pub gap_of : Pace → ℕ → Numbering → Bool → ℕ → ℕ → ℕ → ℕ → ℕ → Option Gap
 gap_of pace slack numbering ended shown i m k n =
     if nearly_by numbering.clock pace slack i m k n then None
@@ -140,7 +140,7 @@ shows_twice field = nat_le 2 field.line_17.weight && nat_le 2 field.line_18.weig
 abbrev pub shows_between : ℕ → ℕ → Sightings → Bool
 shows_between m n field = shows_twice field && nat_lt m field.line_17.number && nat_lt field.line_17.number n
 
--- so many fields between i and k show, on both lines in pass 1, a number between m and n
+-- this many fields between i and k show, on both lines in pass 1, a number between m and n
 abbrev pub shown_between : List Sightings → ℕ → ℕ → ℕ → ℕ → ℕ
 shown_between seen i m k n = count_by (shows_between m n) (slice_range seen (i + 1) k)
 
@@ -155,7 +155,7 @@ is_end None = false
 abbrev pub shows_end : List ℕ → ℕ → Bool
 shows_end ends k = is_end (slice_get ends k)
 
--- so many fields stand before field k and after the last one that shows lead-in or lead-out, or from the beginning
+-- this many fields stand before field k and after the last one that shows lead-in or lead-out, or from the beginning
 unfoldable pub since_end : List ℕ → ℕ → ℕ
 since_end ends zero = 0
 since_end ends (suc k) = if shows_end ends k then 0 else suc (since_end ends k)
@@ -225,12 +225,12 @@ one_if kind gap = if gap.kind == kind then 1 else 0
 abbrev pub fields_if : ℕ → Gap → ℕ
 fields_if kind gap = if gap.kind == kind then gap.fields else 0
 
--- of the numbers between those of a gap so many at most are in its fields: one in two fields could be, and each that is
--- shown there is
+-- of the numbers between those of a gap this many at most are in its fields: one in two fields could be, and each that
+-- is shown there is
 abbrev pub shown_most : Gap → ℕ
 shown_most gap = max gap.shown ((gap.before - gap.after - 1) / 2)
 
--- of the numbers between those of a gap with lost fields so many at least are lost; none is that the clock leaves out
+-- of the numbers between those of a gap with lost fields this many at least are lost; none is that the clock leaves out
 abbrev pub lost_of : Clock → Gap → ℕ
 lost_of clock gap = if gap.kind == lost then skipped clock gap.from gap.to - shown_most gap else 0
 
@@ -253,7 +253,7 @@ unfoldable pub last_still : ℕ → List Gap → ℕ
 last_still end [] = end
 last_still end (gap ∷ gaps) = last_still (still_end_of end gap) gaps
 
--- so many stills are among the gaps
+-- this many stills are among the gaps
 unfoldable pub stills_of : ℕ → List Gap → ℕ
 stills_of end [] = 0
 stills_of end (gap ∷ gaps) = begins_still end gap + stills_of (still_end_of end gap) gaps
@@ -292,7 +292,7 @@ with_gap clock tally gap = record {
   unread = tally.unread;
 }
 
--- the same with so many unread numbers more
+-- the same with this many unread numbers more
 abbrev pub with_unread : Tally → ℕ → Tally
 with_unread tally more = record tally { unread = capped (tally.unread + more) }
 
@@ -321,6 +321,6 @@ CountTo clock i m j n = j + 2 * kept clock m ≡ i + 2 * kept clock n
 abbrev pub HasRightEnds : (ℕ → Option ℕ) → Gap → Type 0
 HasRightEnds recorded gap = (recorded gap.after ≡ Some gap.from) × (recorded gap.before ≡ Some gap.to)
 
--- of the fields of the disc between those of capture fields i and j so many at least are lost
+-- of the fields of the disc between those of capture fields i and j this many at least are lost
 abbrev pub LostAtLeast : (ℕ → ℕ) → ℕ → ℕ → ℕ → Type 0
 LostAtLeast place i j lost = place i + (j - i) + lost ≤ place j

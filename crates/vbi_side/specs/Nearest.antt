@@ -5,7 +5,7 @@ use Rattle.vbi_side.specs.declared.pace.Pace.TheVariants.{Video, Film}
 use Rattle.vbi_side.specs.Paces.{nearly}
 use Rattle.vbi_side.specs.Beliefs.{reach}
 
--- so many fields last whole pictures
+-- this many fields last whole pictures
 abbrev pub are_whole : Pace → ℕ → Bool
 are_whole Video fields = fields % 2 == 0
 are_whole Film fields = fields % 5 == 0

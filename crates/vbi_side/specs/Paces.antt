@@ -18,7 +18,7 @@ abbrev pub Count : Pace → ℕ → ℕ → ℕ → ℕ → Type 0
 Count Video i m j n = j + 2 * m ≡ i + 2 * n
 Count Film i m j n = 2 * j + 5 * m ≡ 2 * i + 5 * n
 
--- number m in field i and number n in field j nearly fit: of video to within so many fields
+-- number m in field i and number n in field j nearly fit: of video to within this many fields
 abbrev pub nearly : Pace → ℕ → ℕ → ℕ → ℕ → ℕ → Bool
 nearly Video slack i m j n = nat_le (j + 2 * m) (i + 2 * n + slack) && nat_le (i + 2 * n) (j + 2 * m + slack)
 nearly Film slack i m j n = fits Film i m j n

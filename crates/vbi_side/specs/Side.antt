@@ -37,7 +37,7 @@ NoneLost place i j = (k : ℕ) → i ≤ k → k ≤ j → place k ≡ place i +
 abbrev pub IsOneRun : (ℕ → ℕ) → ℕ → ℕ → Type 0
 IsOneRun place i j = (k : ℕ) → i ≤ k → k < j → place (suc k) ≡ suc (place k)
 
--- of the fields of the disc between those of capture fields i and j so many are lost
+-- of the fields of the disc between those of capture fields i and j this many are lost
 abbrev pub AreLost : (ℕ → ℕ) → ℕ → ℕ → ℕ → Type 0
 AreLost place i j lost = place j ≡ place i + (j - i) + lost
 

@@ -12,7 +12,7 @@ key_of i j n = 2 * n + (i + vote_reach - j)
 abbrev pub votes_by : ℕ → ℕ → ℕ → ℕ → ℕ → ℕ → Bool
 votes_by minute i part key j n = votes minute i part j n && (key_of i j n == key)
 
--- if each key has so many votes, no other has half of all than the leading one: it may have as many more than half
+-- if each key has this many votes, no other has half of all than the leading one: it may have as many more than half
 -- of all as it is ahead, and another one as many less
 pub record Leads (of : ℕ → ℕ) (tally : Tally) : Type 0 where
   pub leading : 2 * of tally.key ≤ tally.all + tally.ahead

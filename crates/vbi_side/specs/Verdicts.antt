@@ -39,7 +39,7 @@ verdict_of reasons = if reasons == 0 then yes else (if (reasons % 64) == 0 then 
 abbrev pub reason : ℕ → Bool → ℕ
 reason bit holds = if holds then bit else 0
 
--- so many fields are fewer than the numbers before number m take, of which 1 is the first; of film by more than a field
+-- this many fields are fewer than the numbers before number m take, if 1 is the first; of film by more than a field
 abbrev pub too_few : Pace → ℕ → ℕ → Bool
 too_few Video fields m = nat_lt fields (2 * (m - 1))
 too_few Film fields m = nat_lt (2 * fields + 2) (5 * (m - 1))
@@ -68,7 +68,7 @@ lead_out_follows ends k = nat_lt 0 (count_by (λ e. e == lead_out) (drop (k + 1)
 abbrev pub is_end_unseen : Bool → List ℕ → ℕ → Bool
 is_end_unseen may_end ends last = not may_end && not (lead_out_follows ends last)
 
--- so many answers are of this state
+-- this many answers are of this state
 abbrev pub count_of : ℕ → List Number → ℕ
 count_of state answers = count_by (λ (a : Number). a.state == state) answers
 

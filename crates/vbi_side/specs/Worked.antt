@@ -32,11 +32,11 @@ wrong_by_10 =
     field_of 0 2 100 2 ∷ blank ∷ field_of 1 2 101 2 ∷ blank ∷ field_of 0 0 102 2 ∷ blank ∷ field_of 3 2 103 2 ∷ blank
     ∷ field_of 4 2 104 2 ∷ blank ∷ field_of 5 2 0 0 ∷ []
 
--- a number in field 0, and in the field that is so many fields after it the one that is 10 greater
+-- a number in field 0, and in the field that is this many fields after it the one that is 10 greater
 abbrev pub apart_by : ℕ → List Sightings
 apart_by distance = field_of 0 2 0 0 ∷ replicate (distance - 1) blank ++ field_of 10 2 0 0 ∷ []
 
--- number 5 in so many even fields, as of a player that stands still
+-- number 5 in this many even fields, as of a player that stands still
 abbrev pub still_of : ℕ → List Sightings
 still_of zero = []
 still_of (suc pictures) = field_of 5 2 0 0 ∷ blank ∷ still_of pictures

@@ -11,12 +11,12 @@ use Rattle.vbi_side.specs.Chapters.{BelievedChapter}
 abbrev pub one : ℕ → Sightings
 one chapter = field_of chapter 2 0 0
 
--- so many fields that show it
+-- this many fields that show it
 abbrev pub fields_of : ℕ → ℕ → List Sightings
 fields_of zero chapter = []
 fields_of (suc n) chapter = one chapter ∷ fields_of n chapter
 
--- so many fields that show nothing
+-- this many fields that show nothing
 abbrev pub blanks : ℕ → List Sightings
 blanks zero = []
 blanks (suc n) = blank ∷ blanks n

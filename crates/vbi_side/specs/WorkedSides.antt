@@ -42,7 +42,7 @@ two_pictures = field_of 1 2 1 2 ∷ blank ∷ field_of 2 2 2 2 ∷ []
 abbrev pub two_answers : List Number
 two_answers = believed 1 ∷ nothing ∷ believed 2 ∷ []
 
--- so many pictures from this number on, read on both lines of one field each
+-- this many pictures from this number on, read on both lines of one field each
 abbrev pub pictures_from : ℕ → ℕ → List Sightings
 pictures_from zero n = []
 pictures_from (suc k) n = field_of n 2 n 2 ∷ blank ∷ pictures_from k (suc n)

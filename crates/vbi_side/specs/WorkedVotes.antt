@@ -34,10 +34,10 @@ abbrev pub three_to_one : List Sightings
 three_to_one =
     field_of 4298 2 0 0 ∷ blank ∷ field_of 4299 1 0 0 ∷ blank ∷ blank ∷ blank ∷ field_of 6101 1 0 0 ∷ []
 
--- a time in field 0, and so many fields after it
+-- a time in field 0, and this many fields after it
 abbrev pub alone_before : ℕ → List Sightings
 alone_before distance = field_of 4300 2 0 0 ∷ replicate distance blank
 
--- a time that is so many fields after field 0
+-- a time that is this many fields after field 0
 abbrev pub alone_after : ℕ → List Sightings
 alone_after distance = replicate distance blank ++ field_of 4300 2 0 0 ∷ []

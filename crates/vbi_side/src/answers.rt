@@ -36,7 +36,7 @@ fn mark(fields: &[Sightings], pace: Pace, numbers: &mut [Number])
     }
 }
 
-/// Answers of each field of which no number is believed the one that is due, if one is.
+/// Gives each field without a believed number the one that is due, if one is.
 fn fill(fields: &[Sightings], pace: Pace, numbers: &mut [Number])
     requires { AreMarks pace fields.now numbers.old }
     ensures { AreAnswers pace fields.now numbers.new }

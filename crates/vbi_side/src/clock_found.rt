@@ -152,7 +152,7 @@ fn with_vote_of(numbers: &[Number], rule: Rule, period: u32, at: Reached, leader
     leader.with_vote((pair.there.number - 1) % period)
 }
 
-/// The phase of more than half of the places at which just one number is left out, if one has so many.
+/// The phase of more than half of the places at which just one number is left out, if one has this many.
 fn leading(numbers: &[Number], rule: Rule, period: u32) -> u32
     requires period { 0 < period }
     ensures { result < period }
@@ -166,7 +166,7 @@ fn leading(numbers: &[Number], rule: Rule, period: u32) -> u32
     leader.phase
 }
 
-/// What is said of all neighbouring numbers by the clock that leaves out one in so many.
+/// What is said of all neighbouring numbers by the clock that leaves out one in this many.
 #[derive(Clone, Copy)]
 struct Even {
     phase: u32,

@@ -21,10 +21,10 @@ use crate::place::{Place, believed_at};
 use crate::sighting::Sightings;
 
 /// The fields to which two numbers may be apart that allow one between them to be off by a field, since a disc may have
-/// its number on both fields of a picture: four pictures, of which the first and the last count to one number anyway.
+/// its number on both fields of a picture: four pictures, the first and the last of which count to one number anyway.
 const CLOSE: usize = 8;
 
-/// Whether so many fields last whole pictures.
+/// Whether this many fields last whole pictures.
 fn are_whole(pace: Pace, fields: usize) -> bool
     ensures { result ≡ are_whole pace fields }
 {
@@ -34,7 +34,7 @@ fn are_whole(pace: Pace, fields: usize) -> bool
     }
 }
 
-/// The nearest field before this one, within reach and whole pictures away, of which a number is believed.
+/// The nearest field before this one, within reach and whole pictures away, with a believed number.
 fn before(numbers: &[Number], pace: Pace, field: usize) -> Option<Place>
     requires { field < length numbers.now }
     ensures some { IfSome result (λ place. IsBefore (IsMarked numbers.now) pace field place.field place.number) }
@@ -52,7 +52,7 @@ fn before(numbers: &[Number], pace: Pace, field: usize) -> Option<Place>
     None
 }
 
-/// The nearest field after this one, within reach and whole pictures away, of which a number is believed.
+/// The nearest field after this one, within reach and whole pictures away, with a believed number.
 fn after(numbers: &[Number], pace: Pace, field: usize) -> Option<Place>
     requires { field < length numbers.now }
     ensures some { IfSome result (λ place. (place.field < length numbers.now)
@@ -72,7 +72,7 @@ fn after(numbers: &[Number], pace: Pace, field: usize) -> Option<Place>
     None
 }
 
-/// The pictures that so many fields last, which are whole ones.
+/// The pictures that this many fields last, which are whole ones.
 fn pictures(pace: Pace, fields: usize) -> u64
     requires whole { are_whole pace fields ≡ true }
     requires few { fields ≤ reach }

@@ -9,7 +9,7 @@ use crate::pace::Pace;
 use crate::sighting::Sightings;
 use vbi_words::System;
 
-/// The fields of which a number is believed at this pace.
+/// How many fields have a believed number at this pace.
 fn believed_count(fields: &[Sightings], pace: Pace) -> usize
     ensures value { IsCount pace fields.now (length fields.now) result }
     ensures range { result ≤ length fields.now }

@@ -87,7 +87,7 @@ pub struct Tally {
     pub lost_numbers: u64,
     /// The further numbers in gaps with lost fields, and those in open gaps: of these it isn't known.
     pub undecided: u64,
-    /// The numbers that weren't read, but of which the fields are there.
+    /// The numbers that weren't read, though their fields are there.
     pub unread: u64,
 }
 
@@ -126,8 +126,8 @@ impl Numbering {
     }
 }
 
-/// How two numbers of a disc go on: at this pace, to within so many fields, which are 1 of a disc with a number on both
-/// fields of its pictures, else 0.
+/// How two numbers of a disc go on: at this pace, to within this many fields, which are 1 of a disc with a number on
+/// both fields of its pictures, else 0.
 #[derive(Clone, Copy)]
 pub struct Rule {
     /// The disc's pace.
@@ -147,7 +147,7 @@ pub(crate) struct Neighbours {
     ghost order: { here.field < there.field },
 }
 
-/// Whether two numbers go on, to within so many fields.
+/// Whether two numbers go on, to within this many fields.
 pub(crate) fn goes_on(pace: Pace, slack: u64, here: Place, there: Place) -> bool
     requires slack { slack ≤ 1 }
     ensures { result ≡ nearly pace slack here.field here.number there.field there.number }

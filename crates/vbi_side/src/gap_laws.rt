@@ -186,7 +186,7 @@ pub fn nearly_whole()
 {}
 
 /// If fields are said to be lost, the numbers at the ends of those gaps are right, and the capture's fields stand in
-/// the disc's order, so many of the disc at least are lost between its first and its last number.
+/// the disc's order, this many of the disc at least are lost between its first and its last number.
 pub fn lost_sound()
     ensures { (pace : Pace) (slack : ℕ) (disc : ℕ → Option ℕ) (place : ℕ → ℕ) (answers : List Number)
         (numbering : Numbering) (may_end : Bool) (seen : List Sightings) (ends : List ℕ) (finding : Finding)

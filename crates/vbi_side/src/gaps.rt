@@ -101,7 +101,7 @@ impl Tally {
         }
     }
 
-    /// With so many unread numbers more.
+    /// With this many unread numbers more.
     fn with_unread(self, more: u64) -> Tally
         ensures { result ≡ with_unread self more }
     {

@@ -44,7 +44,7 @@ pub(crate) fn believed_at(numbers: &[Number], field: usize) -> Option<Place>
     }
 }
 
-/// The first field of which a number is believed.
+/// The first field with a believed number.
 pub(crate) fn first_believed(numbers: &[Number]) -> Option<Place>
     ensures some { IfSome result (λ one. (one.field < length numbers.now) × IsMarked numbers.now one.field one.number
         × ((i k : ℕ) → i < one.field → IsMarked numbers.now i k → ⊥)) }
@@ -59,7 +59,7 @@ pub(crate) fn first_believed(numbers: &[Number]) -> Option<Place>
     None
 }
 
-/// The last field of which a number is believed.
+/// The last field with a believed number.
 pub(crate) fn last_believed(numbers: &[Number]) -> Option<Place>
     ensures some { IfSome result (λ one. (one.field < length numbers.now) × IsMarked numbers.now one.field one.number
         × ((i k : ℕ) → one.field < i → IsMarked numbers.now i k → ⊥)) }

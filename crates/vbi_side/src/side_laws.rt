@@ -25,7 +25,7 @@ pub fn none_lost()
         → d ≤ place j → disc d ≡ Some n → IsLost disc place n → ⊥ }
 {}
 
-/// If they count to so many fields more than lie between them, so many of the disc's fields are lost between two
+/// If they count to this many fields more than lie between them, this many of the disc's fields are lost between two
 /// fields of which one is within 24 fields of each.
 pub fn some_lost()
     ensures { (disc : ℕ → Option ℕ) (place : ℕ → ℕ) (fields : List Sightings) (i m j n lost : ℕ)

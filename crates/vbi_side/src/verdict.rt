@@ -6,8 +6,8 @@
 //! capture itself: with one of these the verdict is `NO`. The others leave it open, so with these alone it is
 //! `CANNOT_TELL`. A capture without a number has the reason `NO_NUMBERS` alone.
 //!
-//! A reason more, or another bound, changes `specs/Verdicts.antt`, the worked reasons of `gap_laws`, include/ldvbi.h,
-//! `Reason` of python/ldvbi/sides.py and docs/SIDES.md.
+//! A reason more, or another bound, changes `specs/Verdicts.antt`, the worked reasons of `reason_laws`,
+//! include/ldvbi.h, `Reason` of python/ldvbi/sides.py and docs/SIDES.md.
 
 ghost use Rattle.std.specs.Prelude.{◌≡◌, ℕ, List, ◌+◌, ◌*◌, ◌<◌, ◌≤◌, ◌^◌, length, Bool};
 ghost use Rattle.vbi_side.specs.Paces.{nearly};
@@ -127,7 +127,7 @@ fn lead_out_follows(ends: &[u32], field: usize) -> bool
     after.iter().filter(|end| **end == LEAD_OUT).count() > 0
 }
 
-/// Whether so many fields are fewer than the numbers before this one take.
+/// Whether this many fields are fewer than the numbers before this one take.
 fn too_few(pace: Pace, fields: usize, number: u32) -> bool
     requires { fields < 2 ^ 60 }
     ensures { result ≡ too_few pace fields number }
@@ -200,7 +200,7 @@ struct Swap {
     is_seen: bool,
 }
 
-/// What was found of a capture of which some number is believed.
+/// What was found of a capture with a believed number.
 #[derive(Clone, Copy)]
 struct Found {
     /// What its gaps come to.

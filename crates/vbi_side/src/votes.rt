@@ -242,7 +242,8 @@ fn number_of(election: Election, key: u64) -> Option<u64>
     }
 }
 
-/// Whether so many votes are enough: at least what both lines of one field weigh in pass 1, and more than half of all.
+/// Whether this many votes are enough: at least what both lines of one field weigh in pass 1, and more than half of
+/// all.
 fn are_enough(votes: u64, all: u64) -> bool
     requires { votes < 2 ^ 63 }
     ensures { (result ≡ true) ↔ ((field_most ≤ votes) × (all < 2 * votes)) }

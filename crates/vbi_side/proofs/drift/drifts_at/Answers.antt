@@ -24,7 +24,8 @@ returns-then-not-goes_on_by-2-clause-drifts c = λ e.
     (IsSpreadBefore clock pace slack c.args.numbers.now c.args.field) c.in-Some-stretch.is c.requires.spread in
     drift_found clock pace slack c.args.numbers.now c.args.field _ c.in-Some-stretch.on c.in-Some-stretch.on.low spread
     c.in-Some.ensures.some.1
-    (sym (rw c.in-Some.ensures.some.0 at c.goes_on_by.ensures) ∙ c.if-not-goes_on_by.false) spread.low spread.low_inside spread.low_before
+    (sym (rw c.in-Some.ensures.some.0 at c.goes_on_by.ensures) ∙ c.if-not-goes_on_by.false)
+    spread.low spread.low_inside spread.low_before
     (sym (rw c.in-Some.ensures.some.0 at c.goes_on_by-2.ensures) ∙ c.if-not-goes_on_by-2.true)
 
 pub returns-clause-drifts : goal.returns-clause-drifts
@@ -36,7 +37,8 @@ returns-clause-drifts c = λ e.
     (IsSpreadBefore clock pace slack c.args.numbers.now c.args.field) c.in-Some-stretch.is c.requires.spread in
     drift_found clock pace slack c.args.numbers.now c.args.field _ c.in-Some-stretch.on c.in-Some-stretch.on.high spread
     c.in-Some.ensures.some.1
-    (sym (rw c.in-Some.ensures.some.0 at c.goes_on_by.ensures) ∙ c.if-not-goes_on_by.false) spread.high spread.high_inside spread.high_before
+    (sym (rw c.in-Some.ensures.some.0 at c.goes_on_by.ensures) ∙ c.if-not-goes_on_by.false)
+    spread.high spread.high_inside spread.high_before
     (sym (rw c.in-Some.ensures.some.0 at c.goes_on_by-3.ensures) ∙ not-true c.goes_on_by-3.result e)
 
 pub returns-clause-none : goal.returns-clause-none
