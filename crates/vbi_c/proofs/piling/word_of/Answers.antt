@@ -1,5 +1,5 @@
 use Rattle.std.proofs.Common.{ℕ, ◌/◌, length, ap, sym, ◌∙◌}
-use Rattle.std.specs.Prelude.{Option, ◌==◌, unwrap_or}
+use Rattle.std.specs.Prelude.{Option, unwrap_or}
 use Rattle.vbi_c.proofs.MarkedLines.{said-marked}
 use Rattle.vbi_c.proofs.piling.word_of.Goals as goal
 
