@@ -101,7 +101,8 @@ def places_of(numbers: Numbers, codes: Codes) -> Places:
     # of all other believed readings the next one is that of the next number
     steps = [_step(numbers, place, may_leave_out) for place in numbers.odd_places]
     joins = [(step.before, step.after) for step in steps if ends and _is_join(step, ends)]
-    steps = [_joined(step) if (step.before, step.after) in set(joins) else step for step in steps] if joins else steps
+    joined = set(joins)
+    steps = [_joined(step) if (step.before, step.after) in joined else step for step in steps]
     due, without_field, unshown, unseen = _due(numbers, steps, codes)
     # if both lines show another number surely, none is due
     others = {one: said for one in due for said in [codes.sure_picture(one[1])] if said is not None}
