@@ -30,8 +30,9 @@ FOLDER = "must-fail"
 REFUSES = f"{FOLDER}/refuses.md"
 # A function refused by itself: by an error in its written proof, or by a goal that has no proof. One that is right and
 # only calls such a function reads 'no proof: it calls ..', or that the borrow checker's part isn't made for that call.
-# Nor is a function refused that the borrow checker doesn't cover yet.
-REFUSED = r"^fn {}: (not proved|no proof: (?!it calls|it passes|it rests|it uses|the borrow checker)).*"
+# Nor is a function refused that the borrow checker doesn't cover yet, of which a whole proof by hand is expected.
+REFUSED = (r"^fn {}: (not proved"
+           r"|no proof: (?!it calls|it passes|it rests|it uses|the borrow checker|expected `\S+_spec`)).*")
 # An error in a written proof which says no more than that a name went with the right body
 LOST = re.compile(r"has no field|is not in scope|has no `|was not admitted")
 MOST_LOST = 3  # that say no more than that: such a refusal shows little

@@ -48,6 +48,7 @@ LINES = {
     "f: no proof: it calls vbi_line::g, which has no proof": False,
     "f: no proof: the borrow checker's part in its proof is not made yet: a call of vbi_line::g": False,
     "f: no proof: the borrow checker does not cover this function yet": False,
+    "f: no proof: expected `f_spec` in ./proofs/f/Proof.antt; the borrow checker does not cover it": False,
     "fg: not proved": False,
 }
 
