@@ -30,18 +30,15 @@ const WORN_RECORD: &str = "{\"seqNo\":1,\"vbi\":{\"vbiData\":[8572927,15803205,1
     \"vbiNear\":[{\"word\":8572927,\"distance\":500,\"rival\":2300},null,\
     {\"word\":15803205,\"distance\":500,\"rival\":2300}]}";
 
+const PAL_WORN_RECORD: &str = "{\"seqNo\":1,\"vbi\":{\"vbiData\":[8572927,15803205,15803205]},\
+    \"vbiCause\":[\"change 299\",\"word\",\"change 299\"],\"vbiPass\":[3,1,3],\
+    \"vbiNear\":[{\"word\":8572927,\"distance\":500,\"rival\":3000},null,\
+    {\"word\":15803205,\"distance\":500,\"rival\":3000}]}";
+
 /// A system, the lines 16, 17 and 18 of a field, its record, and its part of the report.
 static FIELDS: [(System, Lines, &str, &str); 7] = [
     (Ntsc, WORN, WORN_RECORD, REPORT_WORDS),
-    (
-        Pal,
-        WORN,
-        "{\"seqNo\":1,\"vbi\":{\"vbiData\":[8572927,15803205,15803205]},\
-        \"vbiCause\":[\"change 299\",\"word\",\"change 299\"],\"vbiPass\":[3,1,3],\
-        \"vbiNear\":[{\"word\":8572927,\"distance\":500,\"rival\":3000},null,\
-        {\"word\":15803205,\"distance\":500,\"rival\":3000}]}",
-        REPORT_WORDS,
-    ),
+    (Pal, WORN, PAL_WORN_RECORD, REPORT_WORDS),
     // Lines 17 and 18 together.
     (
         Ntsc,
