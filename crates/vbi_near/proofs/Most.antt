@@ -1,5 +1,5 @@
 -- As far as a sample counts at most: all that proofs use of it.
-use Rattle.std.proofs.Common.{ℕ, ◌≤◌, ◌<◌, arith}
+use Rattle.std.proofs.Common.{◌≤◌, ◌<◌, arith}
 use Rattle.vbi_words.specs.Levels.{Slicing}
 use Rattle.vbi_near.specs.Distances.{unit_of, most_of}
 

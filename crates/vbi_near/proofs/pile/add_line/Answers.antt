@@ -1,4 +1,4 @@
-use Rattle.std.proofs.Common.{◌≡◌, ℕ, ◌*◌, ◌≤◌, length, take, arith}
+use Rattle.std.proofs.Common.{◌≡◌, ℕ, ◌*◌, length, take, arith}
 use Rattle.std.proofs.lemmas.List.{take_all}
 use Rattle.vbi_near.specs.Distances.{most_of}
 use Rattle.vbi_near.proofs.Most.{most_of-fits}
