@@ -138,8 +138,8 @@ pub fn drawn_at_start()
 
 /// Rows that are written down by hand, each by the columns at which its level changes, and its width: a picture stop
 /// from the last start on, a time from the first one on, 24 ones with a one before them, and 24 ones with a zero after
-/// them. Two rows that are no farther apart than `pictures_apart` says. The most that a
-/// sample counts, and the distances of a few samples.
+/// them. Two rows that are no farther apart than `pictures_apart` says. The most that a sample counts, and the
+/// distances of a few samples.
 pub fn worked_near()
     ensures last_start { picture_of Ntsc (Some 0x82CFFF) 223 ≡ changing false 0 (
         237 ∷ 265 ∷ 280 ∷ 294 ∷ 308 ∷ 323 ∷ 337 ∷ 351 ∷ 366 ∷ 380 ∷ 409 ∷ 437 ∷ 466 ∷ 480 ∷ 495 ∷ 523 ∷ 538 ∷ 552

@@ -1,5 +1,5 @@
-//! What the columns of lines that have one word cost: how far their samples are from black, and from white, but
-//! no more than a sample counts at most.
+//! What the columns of lines that have one word cost: how far their samples are from black, and from white, but no
+//! more than a sample counts at most.
 
 ghost use Rattle.std.specs.Prelude.{◌≡◌, ℕ, ◌+◌, ◌*◌, ◌≤◌, ◌<◌, ◌∷◌, ◌++◌, [], length, take, List};
 ghost use Rattle.vbi_words.specs.declared.system.System.{System};
