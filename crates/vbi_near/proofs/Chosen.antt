@@ -12,7 +12,7 @@ use Rattle.vbi_near.specs.declared.found.Found.{Found}
 use Rattle.vbi_near.specs.declared.near.Near.{Near}
 use Rattle.vbi_near.specs.declared.sums.Sums.{Sums}
 use Rattle.vbi_near.specs.Pictures.{IsPlace, picture_of, starts, word_length, drawn_as}
-use Rattle.vbi_near.specs.Distances.{Samples, unit_of, distance_of, Shades, distance_from}
+use Rattle.vbi_near.specs.Distances.{Samples, most_of, distance_of, Shades, distance_from}
 use Rattle.vbi_near.specs.Sums.{span}
 use Rattle.vbi_near.specs.Costs.{place_cost}
 use Rattle.vbi_near.specs.Best.{IsFound, IsChosen}
@@ -169,18 +169,18 @@ module _ (sums : Sums) (slicing : Slicing) (lines : List Samples) (costs : Shade
   beyond : (longer shorter : ℕ) (near : Near) → IsCodeChosen lead longer shorter near
       → (lead.word ≡ 0) ⊎ (IsLongerFound (shades_of sums) sums.system lead longer
       × IsShorterFound (shades_of sums) sums.system lead shorter)
-      → HasLeastRow (GoesOn sums.system) (λ levels. distance_of (unit_of slicing) lines (drawn_as slicing levels))
+      → HasLeastRow (GoesOn sums.system) (λ levels. distance_of (most_of slicing) lines (drawn_as slicing levels))
       near.word near near.longer
-      × HasLeastRow (IsCutShort sums.system) (λ levels. distance_of (unit_of slicing) lines (drawn_as slicing levels))
+      × HasLeastRow (IsCutShort sums.system) (λ levels. distance_of (most_of slicing) lines (drawn_as slicing levels))
       near.word near near.shorter
   beyond longer shorter near chosen found =
       go chosen found (begun sums.system IsOne IsThere are (code_cost_by sums) lead is)
     where
       Has : Near → Type 0
       Has n = HasLeastRow (GoesOn sums.system)
-          (λ levels. distance_of (unit_of slicing) lines (drawn_as slicing levels)) n.word n n.longer
+          (λ levels. distance_of (most_of slicing) lines (drawn_as slicing levels)) n.word n n.longer
           × HasLeastRow (IsCutShort sums.system)
-          (λ levels. distance_of (unit_of slicing) lines (drawn_as slicing levels)) n.word n n.shorter
+          (λ levels. distance_of (most_of slicing) lines (drawn_as slicing levels)) n.word n n.shorter
 
       go : IsCodeChosen lead longer shorter near
           → (lead.word ≡ 0) ⊎ (IsLongerFound (shades_of sums) sums.system lead longer

@@ -15,7 +15,7 @@ use Rattle.vbi_words.specs.Levels.{Slicing, samples_of}
 use Rattle.vbi_line.proofs.Slicing.{length-samples_of}
 use Rattle.vbi_line.specs.Line.{sample_at}
 use Rattle.vbi_near.specs.Pictures.{sample_of}
-use Rattle.vbi_near.specs.Distances.{Samples, unit_of, off_by, known, known_but, shade, shades, column_cost, IsPile}
+use Rattle.vbi_near.specs.Distances.{Samples, most_of, off_by, known, known_but, shade, shades, column_cost, IsPile}
 use Rattle.vbi_near.specs.Distances.{AreFew}
 use Rattle.vbi_near.proofs.Columns.{width-few}
 
@@ -69,7 +69,7 @@ sample-read (low ∷ high ∷ bytes) (suc k) l =
 -- what one line more costs in a column
 column_cost-append : (slicing : Slicing) (lines : List Samples) (line : Samples) (k : ℕ) (level : Bool)
     → column_cost slicing (lines ++ line ∷ []) k level
-    ≡ column_cost slicing lines k level + off_by (unit_of slicing) (get_or line k None) (sample_of slicing level)
+    ≡ column_cost slicing lines k level + off_by (most_of slicing) (get_or line k None) (sample_of slicing level)
 unfolding column_cost
 column_cost-append slicing [] line k level = omega arith
 column_cost-append slicing (first ∷ lines) line k level = omega (arith, column_cost-append slicing lines line k level)
@@ -133,8 +133,8 @@ added_whole cut bytes marks erased most level costs new i n same are end is = gr
 
 pub pile-added : (system : System) (slicing : Slicing) (bytes : List ℕ) (erased : List Bool) (lines : List Samples)
     (darks lights dark light : List ℕ) → length bytes ≡ 2 * length darks → length erased ≡ length darks
-    → length darks ≡ width_of system → IsAdded bytes erased (unit_of slicing) slicing.black darks dark (length darks)
-    → IsAdded bytes erased (unit_of slicing) slicing.white lights light (length darks)
+    → length darks ≡ width_of system → IsAdded bytes erased (most_of slicing) slicing.black darks dark (length darks)
+    → IsAdded bytes erased (most_of slicing) slicing.white lights light (length darks)
     → IsPile system slicing lines (shades darks lights)
     → IsPile system slicing (lines ++ known_but erased (samples_of bytes) ∷ []) (shades dark light)
 pile-added system slicing bytes erased lines darks lights dark light room as_many wide is are pile = record {
@@ -157,11 +157,11 @@ pile-added system slicing bytes erased lines darks lights dark light room as_man
         pile.whole last
 
     off : (k level : ℕ) → k < width_of system
-        → kept (unit_of slicing) (get_or erased k false) (sample_at bytes k) level
-        ≡ off_by (unit_of slicing) (get_or (known_but erased (samples_of bytes)) k None) level
+        → kept (most_of slicing) (get_or erased k false) (sample_at bytes k) level
+        ≡ off_by (most_of slicing) (get_or (known_but erased (samples_of bytes)) k None) level
     off k level l =
-        ap (λ (s : ℕ). kept (unit_of slicing) (get_or erased k false) s level) (sample-read bytes k (omega arith))
-        ∙ kept-read (unit_of slicing) erased (samples_of bytes) k level (omega arith) (omega (arith, samples-long))
+        ap (λ (s : ℕ). kept (most_of slicing) (get_or erased k false) s level) (sample-read bytes k (omega arith))
+        ∙ kept-read (most_of slicing) erased (samples_of bytes) k level (omega arith) (omega (arith, samples-long))
 
     exact : (k : ℕ) (level : Bool) → k < width_of system
         → get_or (shade (shades dark light) level) k 0

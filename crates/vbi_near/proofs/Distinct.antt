@@ -19,7 +19,8 @@ use Rattle.vbi_words.proofs.Shown.{word_bits}
 use Rattle.vbi_words.proofs.Apart.{differences_sym}
 use Rattle.vbi_near.specs.declared.near.Near.{Near}
 use Rattle.vbi_near.specs.Pictures.{word_length, drawn_halves, picture_of, IsPlace, sample_of, drawn_as}
-use Rattle.vbi_near.specs.Distances.{known, unit_of, row_distance, distance_of}
+use Rattle.vbi_near.specs.Distances.{known, most_of, row_distance, distance_of}
+use Rattle.vbi_near.proofs.Most.{most_of-within}
 use Rattle.vbi_near.specs.Nearest.{IsNearest, far_from}
 use Rattle.vbi_near.specs.Apart.{picture_distance}
 use Rattle.vbi_near.proofs.Columns.{length-picture}
@@ -114,26 +115,26 @@ pictures_apart system (Some v) (Some w) s t p q differ = words_apart system s t 
 -- ---- lines between two drawn rows
 
 one_differs : (slicing : Slicing) (sample : ℕ) (b c : Bool)
-    → differs b c * (slicing.white - slicing.black)
-    ≤ min (abs_diff sample (sample_of slicing b)) (unit_of slicing)
-    + min (abs_diff sample (sample_of slicing c)) (unit_of slicing)
-one_differs slicing sample b c = grind arith
+    → differs b c * most_of slicing
+    ≤ min (abs_diff sample (sample_of slicing b)) (most_of slicing)
+    + min (abs_diff sample (sample_of slicing c)) (most_of slicing)
+one_differs slicing sample b c = grind (arith, most_of-within)
 
 triangle : (slicing : Slicing) (line : List ℕ) (x y : List Bool) → length line ≡ length x → length line ≡ length y
-    → differences x y * (slicing.white - slicing.black)
-    ≤ row_distance (unit_of slicing) (known line) (drawn_as slicing x)
-    + row_distance (unit_of slicing) (known line) (drawn_as slicing y)
+    → differences x y * most_of slicing
+    ≤ row_distance (most_of slicing) (known line) (drawn_as slicing x)
+    + row_distance (most_of slicing) (known line) (drawn_as slicing y)
 unfolding row_distance
 triangle slicing [] [] y a b = omega arith
 triangle slicing [] (p ∷ x) y a b = absurd (omega arith)
 triangle slicing (l ∷ line) [] y a b = absurd (omega arith)
 triangle slicing (l ∷ line) (p ∷ x) [] a b = absurd (omega arith)
 triangle slicing (l ∷ line) (p ∷ x) (q ∷ y) a b =
-    joined (differs p q) (differences x y) (slicing.white - slicing.black)
-    (min (abs_diff l (sample_of slicing p)) (unit_of slicing))
-    (min (abs_diff l (sample_of slicing q)) (unit_of slicing))
-    (row_distance (unit_of slicing) (known line) (drawn_as slicing x))
-    (row_distance (unit_of slicing) (known line) (drawn_as slicing y)) (one_differs slicing l p q)
+    joined (differs p q) (differences x y) (most_of slicing)
+    (min (abs_diff l (sample_of slicing p)) (most_of slicing))
+    (min (abs_diff l (sample_of slicing q)) (most_of slicing))
+    (row_distance (most_of slicing) (known line) (drawn_as slicing x))
+    (row_distance (most_of slicing) (known line) (drawn_as slicing y)) (one_differs slicing l p q)
     (triangle slicing line x y (omega arith) (omega arith))
   where
     joined : (m n u a b c d : ℕ) → m * u ≤ a + b → n * u ≤ c + d → (m + n) * u ≤ a + c + (b + d)
@@ -141,50 +142,50 @@ triangle slicing (l ∷ line) (p ∷ x) (q ∷ y) a b =
 
 triangles : (slicing : Slicing) (width : ℕ) (lines : List (List ℕ)) (x y : List Bool) → length x ≡ width
     → length y ≡ width → All (λ line. length line ≡ width) lines
-    → length lines * (differences x y * (slicing.white - slicing.black))
-    ≤ distance_of (unit_of slicing) (map known lines) (drawn_as slicing x)
-    + distance_of (unit_of slicing) (map known lines) (drawn_as slicing y)
+    → length lines * (differences x y * most_of slicing)
+    ≤ distance_of (most_of slicing) (map known lines) (drawn_as slicing x)
+    + distance_of (most_of slicing) (map known lines) (drawn_as slicing y)
 unfolding distance_of
 triangles slicing width [] x y a b all =
-    let none : 0 * (differences x y * (slicing.white - slicing.black)) ≡ 0 = omega arith in omega (arith, none)
+    let none : 0 * (differences x y * most_of slicing) ≡ 0 = omega arith in omega (arith, none)
 triangles slicing width (line ∷ lines) x y a b all =
     let long : length line ≡ width = all 0 [] (omega arith) in
     let rest = triangles slicing width lines x y a b (λ k d l. all (suc k) d (omega arith)) in
     omega (
       arith,
-      suc-mul (length lines) (differences x y * (slicing.white - slicing.black)),
+      suc-mul (length lines) (differences x y * most_of slicing),
       triangle slicing line x y (long ∙ sym a) (long ∙ sym b),
       rest,
     )
 
 pub rows : (slicing : Slicing) (x y : List Bool) → length x ≡ length y
-    → differences x y * (slicing.white - slicing.black)
-    ≤ row_distance (unit_of slicing) (known (drawn_as slicing x)) (drawn_as slicing y)
+    → differences x y * most_of slicing
+    ≤ row_distance (most_of slicing) (known (drawn_as slicing x)) (drawn_as slicing y)
 unfolding row_distance
 rows slicing [] y a = omega arith
 rows slicing (p ∷ x) [] a = absurd (omega arith)
 rows slicing (p ∷ x) (q ∷ y) a =
-    joined (differs p q) (differences x y) (slicing.white - slicing.black)
-    (min (abs_diff (sample_of slicing p) (sample_of slicing q)) (unit_of slicing))
-    (row_distance (unit_of slicing) (known (drawn_as slicing x)) (drawn_as slicing y))
+    joined (differs p q) (differences x y) (most_of slicing)
+    (min (abs_diff (sample_of slicing p) (sample_of slicing q)) (most_of slicing))
+    (row_distance (most_of slicing) (known (drawn_as slicing x)) (drawn_as slicing y))
     (one p q) (rows slicing x y (omega arith))
   where
     joined : (m n u a b : ℕ) → m * u ≤ a → n * u ≤ b → (m + n) * u ≤ a + b
     joined m n u a b e f = omega (arith, add-mul m n u)
 
-    one : (b c : Bool) → differs b c * (slicing.white - slicing.black)
-        ≤ min (abs_diff (sample_of slicing b) (sample_of slicing c)) (unit_of slicing)
-    one b c = grind arith
+    one : (b c : Bool) → differs b c * most_of slicing
+        ≤ min (abs_diff (sample_of slicing b) (sample_of slicing c)) (most_of slicing)
+    one b c = grind (arith, most_of-within)
 
 pub rows_apart : (system : System) (slicing : Slicing) (one other : Option ℕ) (s t : ℕ) → IsPlace system one s
     → IsPlace system other t → one ≢ other
-    → picture_distance system * (slicing.white - slicing.black)
-    ≤ row_distance (unit_of slicing) (known (drawn_as slicing (picture_of system one s)))
+    → picture_distance system * most_of slicing
+    ≤ row_distance (most_of slicing) (known (drawn_as slicing (picture_of system one s)))
     (drawn_as slicing (picture_of system other t))
 rows_apart system slicing one other s t p q differ =
     let x : List Bool = picture_of system one s in
     let y : List Bool = picture_of system other t in
-    let u : ℕ = slicing.white - slicing.black in
+    let u : ℕ = most_of slicing in
     let same : length x ≡ length y = length-picture system one s p ∙ sym (length-picture system other t q) in
     let grow : picture_distance system * u ≤ differences x y * u
     = mul-le (picture_distance system) u (differences x y) u (pictures_apart system one other s t p q differ)
@@ -195,12 +196,12 @@ pub few_misread : (system : System) (slicing : Slicing) (lines : List (List ℕ)
     (start : ℕ) → All (λ line. length line ≡ width_of system) lines → IsNearest system slicing (map known lines) near
     → IsPlace system word start
     → 2 * far_from system slicing (map known lines) word start
-    < length lines * (picture_distance system * (slicing.white - slicing.black))
+    < length lines * (picture_distance system * most_of slicing)
     → near.word ≡ word
 few_misread system slicing lines near word start all is place few = go (same_or_not near.word word)
   where
     u : ℕ
-    u = slicing.white - slicing.black
+    u = most_of slicing
 
     go : (near.word ≡ word) ⊎ (near.word ≢ word) → near.word ≡ word
     go (inl e) = e
@@ -210,10 +211,10 @@ few_misread system slicing lines near word start all is place few = go (same_or_
         let apart = pictures_apart system near.word word near.start start is.place place differ in
         let sum = triangles slicing (width_of system) lines x y (length-picture system near.word near.start is.place)
         (length-picture system word start place) all in
-        let each : picture_distance system * (slicing.white - slicing.black)
-        ≤ differences x y * (slicing.white - slicing.black)
-        = mul-le (picture_distance system) (slicing.white - slicing.black) (differences x y)
-        (slicing.white - slicing.black) apart (omega arith) in
-        let grow = mul-le (length lines) (picture_distance system * (slicing.white - slicing.black)) (length lines)
-        (differences x y * (slicing.white - slicing.black)) (omega arith) each in
+        let each : picture_distance system * most_of slicing
+        ≤ differences x y * most_of slicing
+        = mul-le (picture_distance system) (most_of slicing) (differences x y)
+        (most_of slicing) apart (omega arith) in
+        let grow = mul-le (length lines) (picture_distance system * most_of slicing) (length lines)
+        (differences x y * most_of slicing) (omega arith) each in
         absurd (let least = is.least word start place in omega (arith, sum, grow, is.exact, least, few))

@@ -22,7 +22,8 @@ use Rattle.vbi_words.specs.Jitter.{differences}
 use Rattle.vbi_words.proofs.Shown.{word_bits}
 use Rattle.vbi_near.specs.Pictures.{half_length, word_length, drawn_halves, picture_of, sample_of, drawn_as, IsPlace}
 use Rattle.vbi_near.specs.declared.near.Near.{Near}
-use Rattle.vbi_near.specs.Distances.{known, row_distance, distance_of}
+use Rattle.vbi_near.specs.Distances.{most_of, known, row_distance, distance_of}
+use Rattle.vbi_near.proofs.Most.{most_of-some}
 use Rattle.vbi_near.specs.Nearest.{IsNearest, far_from}
 use Rattle.vbi_near.specs.Apart.{picture_distance}
 use Rattle.vbi_near.proofs.Columns.{length-cells, length-picture}
@@ -261,38 +262,38 @@ module _ (system : System) (slicing : Slicing) (lines : List (List ℕ)) (near :
   abbrev row : List ℕ
   row = drawn_as slicing (picture_of system word start)
 
-  abbrev unit : ℕ
-  unit = slicing.white - slicing.black
+  abbrev most : ℕ
+  most = most_of slicing
 
   whole : All (λ line. length line ≡ width_of system) lines
   whole k d l = grind (arith, length-map, length-picture)
 
   nothing : far_from system slicing (map known lines) word start ≡ 0
   nothing =
-      let each = distance-each unit row row lines all in
-      let none : length lines * row_distance unit (known row) row ≡ length lines * 0
-      = ap (λ (n : ℕ). length lines * n) (row-itself unit row) in
+      let each = distance-each most row row lines all in
+      let none : length lines * row_distance most (known row) row ≡ length lines * 0
+      = ap (λ (n : ℕ). length lines * n) (row-itself most row) in
       omega (arith, each, none)
 
   pub drawn-distance : near.distance ≡ 0
   drawn-distance = let least = is.least word start place in omega (arith, least, nothing)
 
   pub drawn-word : near.word ≡ word
-  drawn-word = grind (arith, few_misread, whole, positive, some-apart, nothing)
+  drawn-word = grind (arith, few_misread, whole, positive, some-apart, nothing, most_of-some)
 
   -- the row answered has the samples of the row drawn, and so its levels
-  same-row : row_distance unit (known row) (drawn_as slicing (picture_of system near.word near.start)) ≡ 0
-  same-row = go (cases_lt 0 (row_distance unit (known row) other))
+  same-row : row_distance most (known row) (drawn_as slicing (picture_of system near.word near.start)) ≡ 0
+  same-row = go (cases_lt 0 (row_distance most (known row) other))
     where
       other : List ℕ
       other = drawn_as slicing (picture_of system near.word near.start)
 
-      go : (0 < row_distance unit (known row) other) ⊎ (row_distance unit (known row) other ≤ 0)
-          → row_distance unit (known row) other ≡ 0
+      go : (0 < row_distance most (known row) other) ⊎ (row_distance most (known row) other ≤ 0)
+          → row_distance most (known row) other ≡ 0
       go (inr le) = omega arith
       go (inl l) =
-          let far = positive (length lines) (row_distance unit (known row) other) some l in
-          absurd (omega (arith, far, distance-each unit row other lines all, is.exact, drawn-distance))
+          let far = positive (length lines) (row_distance most (known row) other) some l in
+          absurd (omega (arith, far, distance-each most row other lines all, is.exact, drawn-distance))
 
   same-picture : picture_of system word start ≡ picture_of system near.word near.start
   same-picture = all_same x y long (go (cases_lt 0 (differences x y)))
@@ -309,17 +310,17 @@ module _ (system : System) (slicing : Slicing) (lines : List (List ℕ)) (near :
       go : (0 < differences x y) ⊎ (differences x y ≤ 0) → differences x y ≡ 0
       go (inr le) = omega arith
       go (inl l) =
-          let far = positive (differences x y) unit l (omega (arith, order)) in
+          let far = positive (differences x y) most l (most_of-some slicing order) in
           absurd (omega (arith, far, rows slicing x y long, same-row))
 
   pub drawn-start : near.start ≡ start
   drawn-start = starts-same system word near.word start near.start drawn-word place is.place (sym same-picture)
 
-  pub drawn-rival : length lines * (picture_distance system * unit) ≤ near.rival
+  pub drawn-rival : length lines * (picture_distance system * most) ≤ near.rival
   drawn-rival =
       let o = is.other in
       let far = rows_apart system slicing word o.0 start o.1 place o.2 (λ e. o.3 (sym e ∙ sym drawn-word)) in
-      let each = distance-each unit row (drawn_as slicing (picture_of system o.0 o.1)) lines all in
-      let grow = mul-le (length lines) (picture_distance system * unit) (length lines)
-      (row_distance unit (known row) (drawn_as slicing (picture_of system o.0 o.1))) (omega arith) far in
+      let each = distance-each most row (drawn_as slicing (picture_of system o.0 o.1)) lines all in
+      let grow = mul-le (length lines) (picture_distance system * most) (length lines)
+      (row_distance most (known row) (drawn_as slicing (picture_of system o.0 o.1))) (omega arith) far in
       omega (arith, grow, each, o.4)

@@ -14,7 +14,7 @@ use Rattle.vbi_near.specs.declared.near.Near.{Near}
 use Rattle.vbi_near.specs.Pictures.{IsPlace, word_length, drawn_as}
 use Rattle.vbi_near.specs.Sums.{AreBoth}
 use Rattle.vbi_near.specs.Stretched.{halves_cost}
-use Rattle.vbi_near.specs.Distances.{Samples, unit_of, distance_of, Shades, IsPile}
+use Rattle.vbi_near.specs.Distances.{Samples, most_of, distance_of, Shades, IsPile}
 use Rattle.vbi_near.specs.Shorter.{row_of_halves}
 use Rattle.vbi_near.specs.Halved.{half_of, halved_far, row_cost, halved_cost}
 use Rattle.vbi_near.proofs.Costs.{row-cost}
@@ -71,7 +71,7 @@ module _ (system : System) (slicing : Slicing) (lines : List Samples) (costs sum
     (pile : IsPile system slicing lines costs) (both : AreBoth costs sums (width_of system)) where
   half-same : (late : Bool) (w start : ℕ) → start + word_length system ≤ width_of system
       → row_cost sums system start (half_of late w)
-      ≡ distance_of (unit_of slicing) lines (drawn_as slicing (row_of_halves system start (half_of late w)))
+      ≡ distance_of (most_of slicing) lines (drawn_as slicing (row_of_halves system start (half_of late w)))
   half-same late w start room =
       sym (row-cost costs sums system both start room (half_of late w) (half-long late w))
       ∙ levels-same system slicing lines costs pile (row_of_halves system start (half_of late w))
@@ -80,7 +80,7 @@ module _ (system : System) (slicing : Slicing) (lines : List Samples) (costs sum
 
   pub halved-by : (near : Near) (word : Option ℕ) → IsPlace system word near.start
       → halved_cost sums system word near
-      ≡ halved_far system (λ levels. distance_of (unit_of slicing) lines (drawn_as slicing levels)) word near
+      ≡ halved_far system (λ levels. distance_of (most_of slicing) lines (drawn_as slicing levels)) word near
   halved-by near None place = refl
   halved-by near (Some w) (word, room) =
       λ j. min (half-same true w near.start room j) (half-same false w near.start room j)

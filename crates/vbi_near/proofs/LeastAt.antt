@@ -7,7 +7,7 @@ use Rattle.vbi_words.specs.Geometry.{width_of}
 use Rattle.vbi_words.specs.Levels.{Slicing}
 use Rattle.vbi_words.specs.Words.{halves_of}
 use Rattle.vbi_near.specs.Pictures.{drawn_as}
-use Rattle.vbi_near.specs.Distances.{Samples, unit_of, distance_of, Shades, distance_from, IsPile}
+use Rattle.vbi_near.specs.Distances.{Samples, most_of, distance_of, Shades, distance_from, IsPile}
 use Rattle.vbi_near.specs.Stretched.{stretched_offset, stretched_half, stretched_length, stretched_picture}
 use Rattle.vbi_near.specs.Stretched.{stretched_row_cost, IsLeastAt, IsStretched, IsAtRate, IsStartBefore, IsRateBefore}
 use Rattle.vbi_near.specs.Sums.{AreBoth}
@@ -126,7 +126,7 @@ stretched-same costs sums system both slicing lines pile w distance is = record 
   where
     same : (rate start : ℕ) → start + stretched_length system rate ≤ width_of system
         → stretched_row_cost sums system w rate start
-        ≡ distance_of (unit_of slicing) lines (drawn_as slicing (stretched_picture system rate w start))
+        ≡ distance_of (most_of slicing) lines (drawn_as slicing (stretched_picture system rate w start))
     same rate start fits =
         sym (picture-far system rate start w fits costs sums both)
         ∙ levels-same system slicing lines costs pile (stretched_picture system rate w start)

@@ -19,6 +19,7 @@ pub mod SomeNear
 pub mod CodesStand
 pub mod Highs
 pub mod Shifted
+pub mod Most
 pub mod Counting
 pub mod PiledRows
 pub mod Distinct

@@ -8,7 +8,7 @@ use Rattle.vbi_words.specs.declared.system.System.{System}
 use Rattle.vbi_words.specs.Geometry.{width_of}
 use Rattle.vbi_words.specs.Levels.{Slicing}
 use Rattle.vbi_near.specs.Pictures.{IsPlace, picture_of, sample_of, drawn_as}
-use Rattle.vbi_near.specs.Distances.{Samples, unit_of, off_by, row_distance, distance_of, Shades, shade, column_cost}
+use Rattle.vbi_near.specs.Distances.{Samples, most_of, off_by, row_distance, distance_of, Shades, shade, column_cost}
 use Rattle.vbi_near.specs.Distances.{distance_from, IsPile}
 use Rattle.vbi_near.specs.Nearest.{far_from}
 use Rattle.vbi_near.specs.Longer.{IsLeastRow}
@@ -20,11 +20,11 @@ use Rattle.vbi_near.proofs.Columns.{length-picture}
 row_from : Slicing → Samples → ℕ → List Bool → ℕ
 row_from slicing line i [] = 0
 row_from slicing line i (level ∷ levels) =
-    off_by (unit_of slicing) (get_or line i None) (sample_of slicing level) + row_from slicing line (suc i) levels
+    off_by (most_of slicing) (get_or line i None) (sample_of slicing level) + row_from slicing line (suc i) levels
 
 row_is : (slicing : Slicing) (whole : Samples) (i : ℕ) (line : Samples) (levels : List Bool)
     → length line ≡ length levels → ((j : ℕ) → get_or whole (i + j) None ≡ get_or line j None)
-    → row_from slicing whole i levels ≡ row_distance (unit_of slicing) line (drawn_as slicing levels)
+    → row_from slicing whole i levels ≡ row_distance (most_of slicing) line (drawn_as slicing levels)
 unfolding row_from row_distance
 row_is slicing whole i [] [] same at = refl
 row_is slicing whole i [] (y ∷ levels) same at = absurd (omega arith)
@@ -32,14 +32,14 @@ row_is slicing whole i (x ∷ line) [] same at = absurd (omega arith)
 row_is slicing whole i (x ∷ line) (y ∷ levels) same at =
     let e : i ≡ i + 0 = omega arith in
     let here : get_or whole i None ≡ x = ap (λ (k : ℕ). get_or whole k None) e ∙ at 0 in
-    let first : off_by (unit_of slicing) (get_or whole i None) (sample_of slicing y)
-    ≡ off_by (unit_of slicing) x (sample_of slicing y)
-    = ap (λ (s : Option ℕ). off_by (unit_of slicing) s (sample_of slicing y)) here in
+    let first : off_by (most_of slicing) (get_or whole i None) (sample_of slicing y)
+    ≡ off_by (most_of slicing) x (sample_of slicing y)
+    = ap (λ (s : Option ℕ). off_by (most_of slicing) s (sample_of slicing y)) here in
     let next : (j : ℕ) → suc i + j ≡ i + suc j = λ j. omega arith in
     let rest = row_is slicing whole (suc i) line levels (omega arith)
     (λ j. ap (λ (k : ℕ). get_or whole k None) (next j) ∙ at (suc j)) in
     ap (λ (a : ℕ). a + row_from slicing whole (suc i) levels) first
-    ∙ ap (λ (b : ℕ). off_by (unit_of slicing) x (sample_of slicing y) + b) rest
+    ∙ ap (λ (b : ℕ). off_by (most_of slicing) x (sample_of slicing y) + b) rest
 
 -- ---- all lines
 
@@ -61,16 +61,16 @@ rows_more : (slicing : Slicing) (lines : List Samples) (i : ℕ) (level : Bool) 
 unfolding rows_from row_from column_cost
 rows_more slicing [] i level levels = refl
 rows_more slicing (line ∷ lines) i level levels =
-    ap (λ (n : ℕ). off_by (unit_of slicing) (get_or line i None) (sample_of slicing level)
+    ap (λ (n : ℕ). off_by (most_of slicing) (get_or line i None) (sample_of slicing level)
     + row_from slicing line (suc i) levels + n)
     (rows_more slicing lines i level levels)
-    ∙ swapped (off_by (unit_of slicing) (get_or line i None) (sample_of slicing level))
+    ∙ swapped (off_by (most_of slicing) (get_or line i None) (sample_of slicing level))
     (row_from slicing line (suc i) levels)
     (column_cost slicing lines i level) (rows_from slicing lines (suc i) levels)
 
 rows_are : (slicing : Slicing) (width : ℕ) (lines : List Samples) (levels : List Bool) → length levels ≡ width
     → All (λ line. length line ≡ width) lines
-    → rows_from slicing lines 0 levels ≡ distance_of (unit_of slicing) lines (drawn_as slicing levels)
+    → rows_from slicing lines 0 levels ≡ distance_of (most_of slicing) lines (drawn_as slicing levels)
 unfolding rows_from distance_of
 rows_are slicing width [] levels wide all = refl
 rows_are slicing width (line ∷ lines) levels wide all =
@@ -94,7 +94,7 @@ costs_are slicing lines costs width i (level ∷ levels) exact wide =
 
 pub levels-same : (system : System) (slicing : Slicing) (lines : List Samples) (costs : Shades)
     → IsPile system slicing lines costs → (levels : List Bool) → length levels ≡ width_of system
-    → distance_from costs 0 levels ≡ distance_of (unit_of slicing) lines (drawn_as slicing levels)
+    → distance_from costs 0 levels ≡ distance_of (most_of slicing) lines (drawn_as slicing levels)
 levels-same system slicing lines costs pile levels wide =
     costs_are slicing lines costs (width_of system) 0 levels pile.exact (omega (arith, wide))
     ∙ rows_are slicing (width_of system) lines levels wide pile.whole
@@ -110,12 +110,12 @@ pub row-same : (system : System) (slicing : Slicing) (lines : List Samples) (cos
     → IsPile system slicing lines costs → (IsRow : List Bool → Type 0) (distance : ℕ)
     → ((levels : List Bool) → IsRow levels → length levels ≡ width_of system)
     → IsLeastRow IsRow (distance_from costs 0) distance
-    → IsLeastRow IsRow (λ levels. distance_of (unit_of slicing) lines (drawn_as slicing levels)) distance
+    → IsLeastRow IsRow (λ levels. distance_of (most_of slicing) lines (drawn_as slicing levels)) distance
 row-same system slicing lines costs pile IsRow distance wide is = record {
   least = λ levels row. omega (arith, is.least levels row, same levels row);
   one = (is.one.0, is.one.1, sym (same is.one.0 is.one.1) ∙ is.one.2);
 }
   where
     same : (levels : List Bool) → IsRow levels
-        → distance_from costs 0 levels ≡ distance_of (unit_of slicing) lines (drawn_as slicing levels)
+        → distance_from costs 0 levels ≡ distance_of (most_of slicing) lines (drawn_as slicing levels)
     same levels row = levels-same system slicing lines costs pile levels (wide levels row)

@@ -12,7 +12,7 @@ use Rattle.vbi_words.specs.Codes.{digit_of, IsBetween}
 use Rattle.vbi_near.specs.declared.near.Near.{Near}
 use Rattle.vbi_near.specs.LineCodes.{Range, IsIn, IsOneOf, codes_of, IsCodePlace}
 use Rattle.vbi_near.specs.Pictures.{IsPlace, drawn_as, starts, word_length}
-use Rattle.vbi_near.specs.Distances.{Samples, unit_of, distance_of}
+use Rattle.vbi_near.specs.Distances.{Samples, most_of, distance_of}
 use Rattle.vbi_near.specs.Nearest.{IsNearestBy, IsFirstBy, IsNearest, IsFirst, Precedes, far_from, IsNearestCode}
 use Rattle.vbi_near.specs.Nearest.{IsFirstCode}
 use Rattle.vbi_near.specs.Longer.{GoesOn, IsLeastRow, HasLeastRow, IsLonger, cell_length, begun_earlier, ended_later}
@@ -332,7 +332,7 @@ pub some_near : (system : System) (slicing : Slicing) (lines : List Samples)
 some_near system slicing lines =
     some_near_by system (IsPlace system) (λ word start place. place) (place_told system) refl 8388608
     ((omega arith, omega arith), omega (arith, word-fits system)) (far_from system slicing lines)
-    (λ levels. distance_of (unit_of slicing) lines (drawn_as slicing levels))
+    (λ levels. distance_of (most_of slicing) lines (drawn_as slicing levels))
 
 pub some_near_code : (system : System) (line : ℕ) (slicing : Slicing) (lines : List Samples)
     → (near : Near) × IsNearestCode system line slicing lines near × IsFirstCode system line slicing lines near
@@ -341,4 +341,4 @@ some_near_code system line slicing lines =
     some_near_by system (IsCodePlace (codes_of system line) system) (code-place (codes_of system line) system)
     (code_told (codes_of system line) system) refl 0x82CFFF
     (stop_stands system line, omega (arith, word-fits system)) (far_from system slicing lines)
-    (λ levels. distance_of (unit_of slicing) lines (drawn_as slicing levels))
+    (λ levels. distance_of (most_of slicing) lines (drawn_as slicing levels))

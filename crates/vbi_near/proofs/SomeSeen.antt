@@ -10,7 +10,7 @@ use Rattle.vbi_words.specs.Levels.{Slicing, row_levels}
 use Rattle.vbi_line.specs.OneReading.{reading_of, outcome_of}
 use Rattle.vbi_near.specs.declared.lines.Nears.{Nears}
 use Rattle.vbi_near.specs.Pictures.{drawn_as}
-use Rattle.vbi_near.specs.Distances.{Samples, unit_of, distance_of}
+use Rattle.vbi_near.specs.Distances.{Samples, most_of, distance_of}
 use Rattle.vbi_near.specs.Stretched.{stretched_length, stretched_picture, IsLeastAt, IsAtRate, IsRateBefore}
 use Rattle.vbi_near.specs.Stretched.{IsStretchedPlace, IsStretched}
 use Rattle.vbi_near.specs.Candidates.{HasNear, Row, Candidates, HasNearIf, AreOf, AreOfBoth, given_samples}
@@ -28,7 +28,7 @@ use Rattle.vbi_near.proofs.LeastAt.{same-least, first-rate, rate-more}
 pub some_nears : (system : System) (number : ℕ) (slicing : Slicing) (lines : List Samples)
     → (near : Nears) × HasNear system number slicing lines near
 some_nears system number slicing lines =
-    let far : List Bool → ℕ = λ levels. distance_of (unit_of slicing) lines (drawn_as slicing levels) in
+    let far : List Bool → ℕ = λ levels. distance_of (most_of slicing) lines (drawn_as slicing levels) in
     let w = some_near system slicing lines in
     let c = some_near_code system number slicing lines in (
       record {
@@ -126,7 +126,7 @@ pub some_stretched : (system : System) (slicing : Slicing) (lines : List Samples
     → (distance : ℕ) × IsStretched system slicing lines word distance
 some_stretched system slicing lines word =
     some_at system
-    (λ rate start. distance_of (unit_of slicing) lines (drawn_as slicing (stretched_picture system rate word start)))
+    (λ rate start. distance_of (most_of slicing) lines (drawn_as slicing (stretched_picture system rate word start)))
 
 -- ---- lines
 

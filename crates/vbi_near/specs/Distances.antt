@@ -1,5 +1,6 @@
--- How far some lines are from a drawn row: the sum, over all their samples, of how far each is from the drawn one, but
--- at most as far as white is from black. So a column counts once at most in each line, whatever a dropout leaves there.
+-- How far some lines are from a drawn row: the sum, over all their samples, of how far each is from the drawn one, or
+-- of the most that a sample counts if that is less. So a column counts once at most in each line, whatever a dropout
+-- leaves there.
 use Rattle.std.specs.Prelude.{◌≡◌, ◌≤◌, ◌<◌, ℕ, suc, ◌+◌, ◌-◌, ◌*◌, min, Bool, true, false, List, [], ◌∷◌, length, map}
 use Rattle.std.specs.Prelude.{slice_index_or, Option, Some, None}
 use Rattle.std.specs.List.{All, range_with_len}
@@ -13,9 +14,13 @@ use Rattle.vbi_near.specs.Pictures.{sample_of}
 abbrev pub Samples : Type 0
 Samples = List (Option ℕ)
 
--- how far white is from black: as far as a sample counts at most
+-- how far white is from black
 abbrev pub unit_of : Slicing → ℕ
 unit_of slicing = slicing.white - slicing.black
+
+-- as far as a sample counts at most: as far as white is from black
+unfoldable pub most_of : Slicing → ℕ
+most_of slicing = unit_of slicing
 
 -- how far a sample is from a drawn one, or `most` if that is less; an erased one is as far from any
 abbrev pub off_by : ℕ → Option ℕ → ℕ → ℕ
@@ -66,7 +71,7 @@ shade of false = of.dark
 unfoldable pub column_cost : Slicing → List Samples → ℕ → Bool → ℕ
 column_cost slicing [] column level = 0
 column_cost slicing (line ∷ lines) column level =
-    off_by (unit_of slicing) (slice_index_or line column None) (sample_of slicing level)
+    off_by (most_of slicing) (slice_index_or line column None) (sample_of slicing level)
     + column_cost slicing lines column level
 
 -- lines of the system, of which `costs` says for each column how far they are from black there, and from white

@@ -5,7 +5,7 @@ use Rattle.vbi_words.specs.Geometry.{width_of}
 use Rattle.vbi_words.specs.Levels.{Slicing}
 use Rattle.vbi_near.specs.declared.near.Near.{Near}
 use Rattle.vbi_near.specs.Pictures.{word_length, drawn_as}
-use Rattle.vbi_near.specs.Distances.{Samples, unit_of, distance_of, Shades}
+use Rattle.vbi_near.specs.Distances.{Samples, most_of, distance_of, Shades}
 use Rattle.vbi_near.specs.Sums.{span}
 use Rattle.vbi_near.specs.Costs.{half_cost}
 use Rattle.vbi_near.specs.Stretched.{halves_cost}
@@ -26,7 +26,7 @@ halved_far system far (Some word) near =
 -- how far the lines are from the nearer row of half the word answered
 abbrev pub IsHalved : System → Slicing → List Samples → Near → ℕ → Type 0
 IsHalved system slicing lines near halved = halved
-    ≡ halved_far system (λ levels. distance_of (unit_of slicing) lines (drawn_as slicing levels)) near.word near
+    ≡ halved_far system (λ levels. distance_of (most_of slicing) lines (drawn_as slicing levels)) near.word near
 
 -- ---- by sums
 

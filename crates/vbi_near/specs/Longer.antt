@@ -7,7 +7,7 @@ use Rattle.vbi_words.specs.Words.{cell_of, halves_of}
 use Rattle.vbi_near.specs.declared.found.Found.{Found}
 use Rattle.vbi_near.specs.declared.near.Near.{Near}
 use Rattle.vbi_near.specs.Pictures.{half_length, word_length, drawn_halves, drawn_as}
-use Rattle.vbi_near.specs.Distances.{Samples, unit_of, distance_of, Shades}
+use Rattle.vbi_near.specs.Distances.{Samples, most_of, distance_of, Shades}
 use Rattle.vbi_near.specs.Sums.{total_in}
 use Rattle.vbi_near.specs.Costs.{cell_cost}
 
@@ -50,7 +50,7 @@ HasLeastRow IsRow far (Some word) near distance = IsLeastRow (IsRow word near.st
 -- how far the lines are from the nearest drawn row on which the word answered goes on
 abbrev pub IsLonger : System → Slicing → List Samples → Near → Type 0
 IsLonger system slicing lines near =
-    HasLeastRow (GoesOn system) (λ levels. distance_of (unit_of slicing) lines (drawn_as slicing levels)) near.word
+    HasLeastRow (GoesOn system) (λ levels. distance_of (most_of slicing) lines (drawn_as slicing levels)) near.word
     near near.longer
 
 -- ---- by sums

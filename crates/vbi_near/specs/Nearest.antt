@@ -5,7 +5,7 @@ use Rattle.vbi_words.specs.Levels.{Slicing}
 use Rattle.vbi_near.specs.declared.near.Near.{Near}
 use Rattle.vbi_near.specs.LineCodes.{codes_of, IsCodePlace}
 use Rattle.vbi_near.specs.Pictures.{IsPlace, picture_of, drawn_as}
-use Rattle.vbi_near.specs.Distances.{Samples, unit_of, distance_of}
+use Rattle.vbi_near.specs.Distances.{Samples, most_of, distance_of}
 
 -- of all drawn rows at these places, of words or of none, that of this word at this start has the least distance, and
 -- `rival` is the least distance of a drawn row of another word, or of none
@@ -21,7 +21,7 @@ pub record IsNearestBy (IsThere : Option ℕ → ℕ → Type 0) (far : Option �
 -- how far the lines are from the drawn row of a word, or of none
 abbrev pub far_from : System → Slicing → List Samples → Option ℕ → ℕ → ℕ
 far_from system slicing lines word start =
-    distance_of (unit_of slicing) lines (drawn_as slicing (picture_of system word start))
+    distance_of (most_of slicing) lines (drawn_as slicing (picture_of system word start))
 
 -- of all words this is the nearest one of the lines
 abbrev pub IsNearest : System → Slicing → List Samples → Near → Type 0

@@ -9,7 +9,7 @@ use Rattle.vbi_words.specs.Words.{halves_of}
 use Rattle.vbi_near.specs.declared.found.Found.{Found}
 use Rattle.vbi_near.specs.declared.near.Near.{Near}
 use Rattle.vbi_near.specs.Pictures.{word_length, drawn_halves, drawn_as}
-use Rattle.vbi_near.specs.Distances.{Samples, unit_of, distance_of, Shades}
+use Rattle.vbi_near.specs.Distances.{Samples, most_of, distance_of, Shades}
 use Rattle.vbi_near.specs.Costs.{half_cost, cell_cost}
 use Rattle.vbi_near.specs.Longer.{HasLeastRow}
 
@@ -37,7 +37,7 @@ IsCutShort system word start levels =
 -- how far the lines are from the nearest drawn row on which the word answered begins later or ends earlier
 abbrev pub IsShorter : System → Slicing → List Samples → Near → Type 0
 IsShorter system slicing lines near =
-    HasLeastRow (IsCutShort system) (λ levels. distance_of (unit_of slicing) lines (drawn_as slicing levels)) near.word
+    HasLeastRow (IsCutShort system) (λ levels. distance_of (most_of slicing) lines (drawn_as slicing levels)) near.word
     near near.shorter
 
 -- ---- by sums

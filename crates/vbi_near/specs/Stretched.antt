@@ -6,7 +6,7 @@ use Rattle.vbi_words.specs.Geometry.{width_of}
 use Rattle.vbi_words.specs.Levels.{Slicing}
 use Rattle.vbi_words.specs.Words.{halves_of}
 use Rattle.vbi_near.specs.Pictures.{drawn_as}
-use Rattle.vbi_near.specs.Distances.{Samples, unit_of, distance_of, Shades}
+use Rattle.vbi_near.specs.Distances.{Samples, most_of, distance_of, Shades}
 use Rattle.vbi_near.specs.Sums.{span}
 
 -- ---- rows
@@ -50,7 +50,7 @@ pub record IsLeastAt (IsThere : ℕ → ℕ → Type 0) (far : ℕ → ℕ → �
 -- how far the lines are from the nearest row of this word on cells of 98 to 102 hundredths of their length
 abbrev pub IsStretched : System → Slicing → List Samples → ℕ → ℕ → Type 0
 IsStretched system slicing lines word distance = IsLeastAt (IsStretchedPlace system)
-    (λ rate start. distance_of (unit_of slicing) lines (drawn_as slicing (stretched_picture system rate word start)))
+    (λ rate start. distance_of (most_of slicing) lines (drawn_as slicing (stretched_picture system rate word start)))
     distance
 
 -- ---- by sums

@@ -14,7 +14,7 @@ ghost use Rattle.vbi_words.specs.Drawn.{drawn_row_of};
 ghost use Rattle.vbi_near.specs.declared.near.Near.{Near};
 ghost use Rattle.vbi_words.specs.WorkedLines.{changing};
 ghost use Rattle.vbi_near.specs.Pictures.{IsPlace, starts, picture_of, drawn_as};
-ghost use Rattle.vbi_near.specs.Distances.{Samples, unit_of, known, known_but, row_distance, distance_of};
+ghost use Rattle.vbi_near.specs.Distances.{Samples, most_of, known, known_but, row_distance, distance_of};
 ghost use Rattle.vbi_near.specs.Nearest.{IsNearest, IsFirst, IsNearestCode, IsFirstCode};
 ghost use Rattle.vbi_near.specs.Longer.{begun_earlier, ended_later, IsLonger};
 ghost use Rattle.vbi_near.specs.Shorter.{IsShorter};
@@ -27,14 +27,14 @@ ghost use Rattle.vbi_near.specs.Recovery.{IsRecovered};
 pub fn misread_at_least()
     ensures { (system : System) (slicing : Slicing) (lines : List Samples) (near : Near) (word : Option ℕ) (start : ℕ)
         → IsNearest system slicing lines near → IsPlace system word start → word ≢ near.word
-        → near.rival ≤ distance_of (unit_of slicing) lines (drawn_as slicing (picture_of system word start)) }
+        → near.rival ≤ distance_of (most_of slicing) lines (drawn_as slicing (picture_of system word start)) }
 {}
 
 /// If the samples are off by less than `rival` in sum, the word answered is the recorded one.
 pub fn right_below_rival()
     ensures { (system : System) (slicing : Slicing) (lines : List Samples) (near : Near) (word : Option ℕ) (start : ℕ)
         → IsNearest system slicing lines near → IsPlace system word start
-        → distance_of (unit_of slicing) lines (drawn_as slicing (picture_of system word start)) < near.rival
+        → distance_of (most_of slicing) lines (drawn_as slicing (picture_of system word start)) < near.rival
         → word ≡ near.word }
 {}
 
@@ -100,22 +100,22 @@ pub fn pictures_apart()
         → picture_distance system ≤ differences (picture_of system one s) (picture_of system other t) }
 {}
 
-/// So are drawn rows: their samples are off from one another by that many columns times how far white is from black.
+/// So are drawn rows: their samples are off from one another by that many times the most that a sample counts.
 pub fn rows_apart()
     ensures { (system : System) (slicing : Slicing) (one other : Option ℕ) (s t : ℕ) → IsPlace system one s
-        → IsPlace system other t → one ≢ other → picture_distance system * (slicing.white - slicing.black)
-        ≤ row_distance (unit_of slicing) (known (drawn_as slicing (picture_of system one s)))
+        → IsPlace system other t → one ≢ other → picture_distance system * most_of slicing
+        ≤ row_distance (most_of slicing) (known (drawn_as slicing (picture_of system one s)))
         (drawn_as slicing (picture_of system other t)) }
 {}
 
 /// If the samples are off by so little, the word answered is the recorded one, wherever it begins: in each line, at
-/// the mean, by less than 14 (NTSC) or 17.5 (PAL) times how far white is from black.
+/// the mean, by less than 14 (NTSC) or 17.5 (PAL) times the most that a sample counts.
 pub fn few_misread()
     ensures { (system : System) (slicing : Slicing) (lines : List (List ℕ)) (near : Near) (word : Option ℕ) (start : ℕ)
         → All (λ line. length line ≡ width_of system) lines → IsNearest system slicing (map known lines) near
         → IsPlace system word start
-        → 2 * distance_of (unit_of slicing) (map known lines) (drawn_as slicing (picture_of system word start))
-        < length lines * (picture_distance system * (slicing.white - slicing.black))
+        → 2 * distance_of (most_of slicing) (map known lines) (drawn_as slicing (picture_of system word start))
+        < length lines * (picture_distance system * most_of slicing)
         → near.word ≡ word }
 {}
 
@@ -127,7 +127,7 @@ pub fn drawn_is_nearest()
         → All (λ line. line ≡ drawn_as slicing (picture_of system word start)) lines
         → IsNearest system slicing (map known lines) near → IsPlace system word start
         → (near.word ≡ word) × (near.start ≡ start) × (near.distance ≡ 0)
-        × (length lines * (picture_distance system * (slicing.white - slicing.black)) ≤ near.rival) }
+        × (length lines * (picture_distance system * most_of slicing) ≤ near.rival) }
 {}
 
 /// From the system's own start on, the drawn row is the one that `draw_line` draws.
@@ -138,7 +138,8 @@ pub fn drawn_at_start()
 
 /// Rows that are written down by hand, each by the columns at which its level changes, and its width: a picture stop
 /// from the last start on, a time from the first one on, 24 ones with a one before them, and 24 ones with a zero after
-/// them. Two rows that are no farther apart than `pictures_apart` says. The distances of a few samples.
+/// them. Two rows that are no farther apart than `pictures_apart` says. The most that a sample counts, and the
+/// distances of a few samples.
 pub fn worked_near()
     ensures last_start { picture_of Ntsc (Some 0x82CFFF) 223 ≡ changing false 0 (
         237 ∷ 265 ∷ 280 ∷ 294 ∷ 308 ∷ 323 ∷ 337 ∷ 351 ∷ 366 ∷ 380 ∷ 409 ∷ 437 ∷ 466 ∷ 480 ∷ 495 ∷ 523 ∷ 538 ∷ 552
@@ -160,6 +161,7 @@ pub fn worked_near()
     ensures starts { (starts Ntsc ≡ 224) × (starts Pal ≡ 285) }
     ensures apart { (differences (picture_of Ntsc (Some 0x800000) 223) (picture_of Ntsc (Some 0xA00000) 223) ≡ 28)
         × (differences (picture_of Pal (Some 0x800000) 0) (picture_of Pal (Some 0xC00000) 0) ≡ 35) }
+    ensures most { most_of (record { black = 16384; white = 51200 }) ≡ 34816 }
     ensures samples { drawn_as (record { black = 16384; white = 51200 }) (false ∷ true ∷ true ∷ [])
         ≡ 16384 ∷ 51200 ∷ 51200 ∷ [] }
     ensures distance { distance_of 34816 (map known ((16384 ∷ 51000 ∷ 60000 ∷ []) ∷ (16000 ∷ 51200 ∷ 65535 ∷ []) ∷ []))

@@ -1,12 +1,12 @@
-//! What the columns of lines that have one word cost: how far their samples are from black, and from white, each at
-//! most as far as white is from black.
+//! What the columns of lines that have one word cost: how far their samples are from black, and from white, but no
+//! more than a sample counts at most.
 
 ghost use Rattle.std.specs.Prelude.{◌≡◌, ℕ, ◌+◌, ◌*◌, ◌≤◌, ◌<◌, ◌∷◌, ◌++◌, [], length, take, List};
 ghost use Rattle.vbi_words.specs.declared.system.System.{System};
 ghost use Rattle.vbi_words.specs.Geometry.{line_bytes, width_of};
 ghost use Rattle.vbi_words.specs.Levels.{Slicing, samples_of};
 ghost use Rattle.vbi_line.specs.Line.{sample_at};
-ghost use Rattle.vbi_near.specs.Distances.{Samples, lines_of, known_but, IsPile, AreFew, shades};
+ghost use Rattle.vbi_near.specs.Distances.{Samples, lines_of, known_but, most_of, IsPile, AreFew, shades};
 ghost use Rattle.vbi_near.specs.Nearest.{IsNearest, IsFirst};
 ghost use Rattle.vbi_near.specs.Longer.{IsLonger};
 ghost use Rattle.vbi_near.specs.Shorter.{IsShorter};
@@ -23,6 +23,13 @@ fn sample(line: &[u8], column: usize) -> u16
     ensures { result ≡ sample_at line.now column }
 {
     u16::from(line[2 * column]) + 256 * u16::from(line[2 * column + 1])
+}
+
+/// As far as a sample counts at most.
+fn most_of(levels: Levels) -> u16
+    ensures { result ≡ most_of levels }
+{
+    levels.white() - levels.black()
 }
 
 /// Adds what one line more costs in each column, given by its samples: two bytes for each, the low one first. An erased
@@ -42,7 +49,7 @@ pub fn add_line(levels: Levels, line: &[u8], erased: &[bool], darks: &mut [u32],
     ensures few { (lines : ℕ) → AreFew lines darks.old × AreFew lines lights.old
         → AreFew (lines + 1) darks.new × AreFew (lines + 1) lights.new }
 {
-    let unit = levels.white() - levels.black();
+    let most = most_of(levels);
     let count = darks.len();
 
     // As many bytes and marks as columns, and no branch: so a compiler leaves out the tests of indices, and neither
@@ -51,7 +58,7 @@ pub fn add_line(levels: Levels, line: &[u8], erased: &[bool], darks: &mut [u32],
     let erased = &erased[..count];
     for column in 0..count {
         let sample = sample(line, column);
-        let most = if erased[column] { 0 } else { unit };
+        let most = if erased[column] { 0 } else { most };
         darks[column] += u32::from(sample.abs_diff(levels.black()).min(most));
         lights[column] += u32::from(sample.abs_diff(levels.white()).min(most));
     }

@@ -1,12 +1,12 @@
 use Rattle.std.proofs.Common.{refl}
 use Rattle.vbi_words.specs.Words.{lowest_bits}
 use Rattle.vbi_near.specs.Pictures.{drawn_halves, picture_of}
-use Rattle.vbi_near.specs.Distances.{row_distance, distance_of}
+use Rattle.vbi_near.specs.Distances.{most_of, row_distance, distance_of}
 use Rattle.vbi_near.specs.Longer.{begun_earlier, ended_later}
 use Rattle.vbi_near.proofs.laws.worked_near.Goals as goal
 
 pub returns : goal.returns
-unfolding lowest_bits drawn_halves picture_of row_distance distance_of begun_earlier ended_later
+unfolding lowest_bits drawn_halves picture_of most_of row_distance distance_of begun_earlier ended_later
 returns c = record {
   last_start = refl;
   first_start = refl;
@@ -15,6 +15,7 @@ returns c = record {
   none = refl;
   starts = (refl, refl);
   apart = (refl, refl);
+  most = refl;
   samples = refl;
   distance = refl;
   erased = refl;
