@@ -2,7 +2,7 @@
 -- never_beyond_79999 stands on it.
 use Rattle.std.proofs.Common.{◌≡◌, ℕ, zero, suc, ◌≤◌, inl, inr, Bool, true, false, List, [], ◌∷◌, refl, sym, ap, ◌∙◌}
 use Rattle.std.proofs.Common.{subst, arith}
-use Rattle.std.specs.Prelude.{Option, Some, None, if◌then◌else◌, length}
+use Rattle.std.specs.Prelude.{Option, Some, None, if◌then◌else◌}
 use Rattle.std.specs.List.{All}
 use Rattle.std.proofs.lemmas.Bool.{true≢false}
 use Rattle.vbi_words.specs.declared.system.System.{System}
@@ -26,7 +26,6 @@ use Rattle.vbi_near.specs.Said.{both_margins}
 use Rattle.vbi_near.specs.Candidates.{Candidates, Row}
 use Rattle.vbi_near.specs.Recovery.{Seen, IsSeen, Stands, alone, own_of, is_open, is_confirmed, stands_of, said_by, stays}
 use Rattle.vbi_near.specs.Recovery.{recovered_as, shown_in, IsRecovered, row_at}
-use Rattle.vbi_near.specs.Piled.{IsSaidTogether, pile_margins}
 use Rattle.vbi_near.proofs.Digits.{digits-beyond}
 
 -- ---- what is said
@@ -123,7 +122,7 @@ line-within system number slicing row stands unit seen both is =
     shown-within (is_open (own_of unit seen).outcome) (own_of unit seen) (said_by stands unit seen.near both)
     (own-few system number slicing row seen unit is) (by-within stands unit seen.near both)
 
--- ---- a field, and lines of one word
+-- ---- a field
 
 -- what holds of three lines holds of each
 all-three : (P : Recovered → Type 0) (a b c : Recovered) → P a → P b → P c → All P (a ∷ b ∷ c ∷ [])
@@ -145,14 +144,13 @@ field-within system slicing rows erased recovered (first, second, third, both, s
     (line-within system 17 slicing (row_at system rows erased 1) stands unit second both seen.line_17)
     (line-within system 18 slicing (row_at system rows erased 2) stands unit third both seen.line_18))
 
--- no lines say one together
-pub pile-within : (system : System) (number : ℕ) (slicing : Slicing) (known : Bool) (rows : List Row) (word : ℕ)
-    → IsSaidTogether system number slicing known rows (Some word) → IsBetween 0xF80000 0xFF9999 word → ⊥
-pile-within system number slicing known rows word (near, are, e) x =
-    let unit = unit_of slicing in
-    let margins = pile_margins known in
-    let within = first-within (recovered_by unit margins (length rows) near.levelled)
-    (recovered_by unit margins (length rows) (Some near.given))
-    (recovered-within unit margins (length rows) near.levelled)
-    (recovered-within unit margins (length rows) (Some near.given)) in
+-- ---- lines of one word
+
+-- nor do lines say one that are asked levelled, then as they are
+pub two-within : (unit : ℕ) (margins : Margins) (lines : ℕ) (levelled given : Option Nears) (word : ℕ)
+    → Some word ≡ first_said (recovered_by unit margins lines levelled) (recovered_by unit margins lines given)
+    → IsBetween 0xF80000 0xFF9999 word → ⊥
+two-within unit margins lines levelled given word e x =
+    let within = first-within (recovered_by unit margins lines levelled) (recovered_by unit margins lines given)
+    (recovered-within unit margins lines levelled) (recovered-within unit margins lines given) in
     true≢false (sym (digits-beyond word x) ∙ within word (sym e))

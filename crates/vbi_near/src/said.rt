@@ -4,7 +4,8 @@
 //! share of what the word's cells count (`is_ahead_by`), the signal neither goes on beyond the word (`goes_on`) nor has
 //! fewer cells (`is_cut`), and each half of the word counts (`is_whole`). A code that may stand on the line is asked
 //! first, and is compared with other codes alone (`said_of`). Lines 17 and 18 of most fields have one word: `do_agree`
-//! tells whether these two do, and `said_in` by which margins they speak then.
+//! tells whether these two do, and `said_in` by which margins they speak then. A picture number of 80,000 or more that
+//! is said is never recovered (`unless_beyond`), but confirms a word of pass 2 (confirmed.rt).
 //!
 //! A column counts what white is from black. A word with one bit turned is farther by the columns of a cell, which are
 //! 28 in NTSC and 35 in PAL, and each column of that cell that is turned over takes away two. So in NTSC a margin of 6
