@@ -191,14 +191,20 @@ LDVBI_RESULT LDVBI_POINTER(6) uint32_t ldvbi_nearest(uint32_t system, uint32_t b
  * much farther none is. Two lines aren't taken together if, for each by itself, the row with one more cell is nearer by
  * more than 4 columns.
  *
- * All this is asked first of the levelled lines, then of the lines as they are. To level a line, the mean of six cells
- * is taken off, and the rest is made to swing from black to white. This is done if the rest swings by 3 to 16 tenths of
- * that, and if of two lines neither swings more than twice as much as the other. A word of pass 2 stays only if its
- * line by itself says it in this way, or if a row of it whose cells have 98 to 102 hundredths of their length is nearer
- * than that of any other word by 8 columns.
+ * A picture number of 80,000 or more is never recovered, since no disc is known to have one. Its word is one of 0xF80000
+ * to 0xFF9999 whose last four digits are decimal: the first digit of the number has its top bit. It counts as no code
+ * here. If lines would say it as their nearest word, they say nothing.
  *
- * This is proved: the answer is that of this rule, a word of pass 1 stays as it is, and a blank line stays blank. It
- * isn't proved that a recovered word is the recorded one: this is measured on simulated lines. */
+ * All this is asked first of the levelled lines, then, if they say nothing, of the lines as they are. To level a line,
+ * the mean of six cells is taken off, and the rest is made to swing from black to white. This is done if the rest
+ * swings by 3 to 16 tenths of that, and if of two lines neither swings more than twice as much as the other. A word of
+ * pass 2 stays only if its line by itself says it in this way, or if a row of it whose cells have 98 to 102 hundredths
+ * of their length is nearer than that of any other word by 8 columns. A picture number of 80,000 or more stays, too, if
+ * its line says it as a word that is no code.
+ *
+ * This is proved: the answer is that of this rule, a word of pass 1 stays as it is, a blank line stays blank, and no
+ * word of pass 3 is a picture number of 80,000 or more. It isn't proved that a recovered word is the recorded one: this
+ * is measured on simulated lines. */
 LDVBI_RESULT LDVBI_POINTER(6) uint32_t ldvbi_recover_rows(uint32_t system, uint32_t black, uint32_t white,
     const void *samples, size_t length, LdvbiFieldReadings *readings);
 
@@ -248,7 +254,8 @@ LDVBI_RESULT LDVBI_POINTER(9) uint32_t ldvbi_recovered_record(uint32_t system, u
  * levelled lines are asked first if each of them swings as much as said there, and none more than twice as much as
  * another.
  *
- * This is proved: the answer is that of this rule, and just the columns that an entry names count for nothing. */
+ * This is proved: the answer is that of this rule, no picture number of 80,000 or more, and just the columns that an
+ * entry names count for nothing. */
 LDVBI_RESULT LDVBI_POINTER(10) uint32_t ldvbi_recover_pile(uint32_t system, uint32_t black, uint32_t white,
     uint32_t line, uint32_t known, const void *samples, size_t length, const LdvbiErased *erased, size_t erased_count,
     uint32_t *word);

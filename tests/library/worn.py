@@ -34,6 +34,9 @@ WORN = (
     # glitches, by which a word is of pass 2: it stays where it is ahead, and falls where the cell is erased
     ((0x85D0A1, 0xF12345, 0), (1, 2, 0), (2, 2, 0), ""), ((0x85D0A1, 0xF12345, 0), (1, 2, 0), (0, 2, 0), "16 0 cell"),
     ((0x85D0A1, 0xF12345, 0), (1, 2, 0), (2, 0, 0), "17 1 rest"),
+    # a picture number of 80,000 or more stays in pass 1 and pass 2, and isn't recovered, by one line or by both
+    ((0, 0xF92345, 0), (0, 2, 0), (0, 2, 0), ""), ((0, 0xF92345, 0xF92345), (0, 10, 0), (0, 0, 1), ""),
+    ((0, 0xF92345, 0xF92345), (0, 10, 10), (0, 0, 0), ""), ((0, 0xF8DD45, 0), (0, 10, 0), (0, 3, 0), ""),
     # erased columns
     ((0x85D0A1, 0, 0), (14, 0, 0), (0, 0, 0), "17 0 turned, 18 0 turned"),
     ((0x8DC0A1, 0xF12345, 0), (0, 14, 0), (1, 3, 0), "17 1 turned"),
@@ -212,6 +215,8 @@ SAID = (
     # lines that say it only together: worn in two cells, or in one; and as many as are taken
     (18, 1, 0xF12345, 0xF12345, "0:13 1:13 2:13"), (17, 0, 0xF12345, 0xF12345, "1:11 1:11"),
     (17, 1, 0, 0xF12345, "1:14 1:14"), (17, 0, 0xF12345, 0xF12345, " ".join(["1:13"] * 14 + ["2:13"] * 14)),
+    # a picture number of 80,000 or more, of lines that nothing is turned over in
+    (17, 1, 0, 0xF92345, "0:0 1:0"), (17, 1, 0xF72345, 0xF72345, "0:0 1:0"),
     # the same where the columns of one line are erased, and count neither for a word nor against it
     (17, 1, 0xF12345, 0xF12345, "1:14e 1:14"), (17, 0, 0xF12345, 0xF12345, "1:14 1:14e"))
 

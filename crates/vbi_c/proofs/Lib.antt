@@ -11,3 +11,4 @@ pub mod Leading
 pub mod Running
 pub mod CompletedTimes
 pub mod Placed
+mod NoneBeyond

@@ -2,17 +2,20 @@
 //! nothing: its contract holds each of them.
 
 ghost use Rattle.std.specs.Prelude.{◌≡◌, ◌≤◌, ◌↔◌, ℕ, List, length, [], ◌∷◌, map, take, drop, replicate, true, false};
-ghost use Rattle.std.specs.Prelude.{Some, None, Ok, Err};
+ghost use Rattle.std.specs.Prelude.{Some, None, Ok, Err, Bool};
+ghost use Rattle.std.specs.List.{All};
 ghost use Rattle.vbi_words.specs.declared.code.Code.TheVariants.{Picture, Chapter, Time, ClvPicture, CxOn, CxOff};
 ghost use Rattle.vbi_words.specs.declared.code.Code.TheVariants.{Users, LeadIn, LeadOut, PictureStop, ClvMark, Other};
 ghost use Rattle.vbi_words.specs.declared.format.Format.TheVariants.{Cav, Clv, Both, Neither};
 ghost use Rattle.vbi_words.specs.declared.outcome.Outcome.TheVariants.{Word, Blank, Unfinished, Change, Hold};
 ghost use Rattle.vbi_words.specs.declared.system.System.TheVariants.{Ntsc, Pal};
+ghost use Rattle.vbi_words.specs.Codes.{IsBetween};
 ghost use Rattle.vbi_words.specs.Geometry.{width_of, height_of, line_bytes, field_bytes};
 ghost use Rattle.vbi_side.specs.declared.lines.Counted.TheVariants.{Pictures, Times};
 ghost use Rattle.vbi_side.specs.declared.pace.Pace.TheVariants.{Video, Film};
 ghost use Rattle.vbi_side.specs.Worked.{field_of};
 ghost use Rattle.vbi_c.specs.declared.judging.Asked.TheVariants.{Given, Found};
+ghost use Rattle.vbi_c.specs.declared.erased.LdvbiErased.{LdvbiErased};
 ghost use Rattle.vbi_c.specs.declared.fields.LdvbiFieldReadings.{LdvbiFieldReadings};
 ghost use Rattle.vbi_c.specs.declared.search.Seek.{Seek};
 ghost use Rattle.vbi_c.specs.declared.record.LdvbiRecord.{LdvbiRecord};
@@ -24,6 +27,7 @@ ghost use Rattle.vbi_c.specs.Completing.{times_of, with_time, TellsTime};
 ghost use Rattle.vbi_c.specs.Fields.{field_in, field_reading, fields_reading, rows_reading};
 ghost use Rattle.vbi_c.specs.Judging.{counted_of, asked_of, given_of, pace_for_c, seen_in, IsGiven};
 ghost use Rattle.vbi_c.specs.Nearest.{near_for_c};
+ghost use Rattle.vbi_c.specs.Piling.{IsWordOf};
 ghost use Rattle.vbi_c.specs.Readings.{outcome_for_c};
 ghost use Rattle.vbi_c.specs.Record.{HasText};
 ghost use Rattle.vbi_c.specs.Recovering.{code_bytes, recovered_reading, AreRecovered, AreAllRecovered};
@@ -131,6 +135,15 @@ pub fn one_recovery()
     ensures side { (seek : Seek) (bytes : List ℕ) (count : ℕ) (all : List LdvbiFieldReadings)
         → AreAllRecovered seek.setup bytes (λ field. none_erased seek.setup.system) count all → length all ≡ count
         → map (seen_in seek.judging) all ≡ shown_of seek bytes count }
+{}
+
+/// No line is answered with a recovered picture number of 80,000 or more, in pass 3, and no lines say one together.
+pub fn never_beyond_79999()
+    ensures lines { (setup : Setup) (rows : List ℕ) (marks : List Bool) (readings : LdvbiFieldReadings)
+        → AreRecovered setup rows marks readings
+        → All (λ line. line.pass ≡ 3 → IsBetween 0xF80000 0xFF9999 line.word → ⊥) readings.lines }
+    ensures pile { (setup : Setup) (line known : ℕ) (bytes : List ℕ) (erased : List LdvbiErased) (answer : ℕ)
+        → IsWordOf setup line known bytes erased answer → IsBetween 0xF80000 0xFF9999 answer → ⊥ }
 {}
 
 /// What a completed field is: line 17 has the word, in the pass of line 16, and the others stay. The times that vote

@@ -1,5 +1,5 @@
 -- What is searched only if it is asked for says the same as what is always searched.
--- is_confirmed, said_alone, said_by_both, shown_alone and shown_pair stand on it.
+-- is_confirmed, recovered_alone, said_by_both, shown_alone and shown_pair stand on it.
 use Rattle.std.proofs.Common.{◌≡◌, ℕ, Bool, true, false, [], ◌∷◌, refl, sym, ap, ◌∙◌, subst}
 use Rattle.std.specs.Prelude.{Option, Some, None, is_some, IsTrue, if◌then◌else◌, ◌||◌, ◌&&◌}
 use Rattle.vbi_words.specs.declared.system.System.{System}
@@ -9,12 +9,12 @@ use Rattle.vbi_near.specs.declared.lines.Nears.{Nears}
 use Rattle.vbi_near.specs.declared.recovery.Line.{Line}
 use Rattle.vbi_near.specs.declared.recovery.Recovered.{Recovered}
 use Rattle.vbi_near.specs.Distances.{unit_of}
-use Rattle.vbi_near.specs.Said.{said_if, said_in, stand_of, first_said, lone_margins, is_said}
+use Rattle.vbi_near.specs.Said.{said_if, recovered_by, said_in, stand_of, first_said, lone_margins, is_said}
 use Rattle.vbi_near.specs.Candidates.{Candidates, Row, HasNear, HasNearIf, has_swing, levelled_samples, given_samples}
 use Rattle.vbi_near.specs.Candidates.{are_alike, AreOf, AreOfBoth}
-use Rattle.vbi_near.specs.Recovery.{said_alone, said_by, stands_by, stands_of, alone, is_confirmed, is_stretched, Seen}
+use Rattle.vbi_near.specs.Recovery.{recovered_alone, said_by, stands_by, stands_of, alone, is_confirmed}
 use Rattle.vbi_near.specs.Recovery.{IsSeen, IsLine, IsOwn, own_of, is_open, is_asked, are_open, recovered_as, shown_in}
-use Rattle.vbi_near.specs.Recovery.{Stands}
+use Rattle.vbi_near.specs.Recovery.{is_stretched, Seen, Stands}
 use Rattle.vbi_near.proofs.OneSeen.{one_nears, one_near_if, open_asked}
 use Rattle.vbi_near.proofs.SomeSeen.{some_seen}
 
@@ -32,20 +32,21 @@ is_said-first word (Some w) b is = is
 
 -- a line says by itself what its levelled form says, if that says a word
 pub levelled-says : (unit of : ℕ) (levelled : Option Nears) (near : Candidates) (said : Option ℕ)
-    → said ≡ said_if unit lone_margins 1 levelled → unit ≡ of → levelled ≡ near.levelled → is_some said ≡ true
-    → said ≡ said_alone of near
+    → said ≡ recovered_by unit lone_margins 1 levelled → unit ≡ of → levelled ≡ near.levelled → is_some said ≡ true
+    → said ≡ recovered_alone of near
 levelled-says unit of levelled near said e same is some =
-    first-says said (said_if of lone_margins 1 (Some near.given)) some
-    ∙ ap (λ (s : Option ℕ). first_said s (said_if of lone_margins 1 (Some near.given)))
-    (e ∙ (λ j. said_if (same j) lone_margins 1 (is j)))
+    first-says said (recovered_by of lone_margins 1 (Some near.given)) some
+    ∙ ap (λ (s : Option ℕ). first_said s (recovered_by of lone_margins 1 (Some near.given)))
+    (e ∙ (λ j. recovered_by (same j) lone_margins 1 (is j)))
 
 -- and if that says none, what it says as it is
 pub given-says : (unit of : ℕ) (levelled : Option Nears) (given : Nears) (near : Candidates) (said other : Option ℕ)
-    → said ≡ said_if unit lone_margins 1 levelled → other ≡ said_if unit lone_margins 1 (Some given) → unit ≡ of
-    → levelled ≡ near.levelled → given ≡ near.given → first_said said other ≡ said_alone of near
+    → said ≡ recovered_by unit lone_margins 1 levelled → other ≡ recovered_by unit lone_margins 1 (Some given)
+    → unit ≡ of → levelled ≡ near.levelled → given ≡ near.given → first_said said other ≡ recovered_alone of near
 given-says unit of levelled given near said other e f same is are =
     (λ j. first_said (e j) (f j))
-    ∙ (λ j. first_said (said_if (same j) lone_margins 1 (is j)) (said_if (same j) lone_margins 1 (Some (are j))))
+    ∙ (λ j. first_said (recovered_by (same j) lone_margins 1 (is j))
+    (recovered_by (same j) lone_margins 1 (Some (are j))))
 
 -- a word that the levelled form says is confirmed
 pub levelled-confirms : (unit of : ℕ) (levelled : Option Nears) (near : Candidates) (stretched word : ℕ)

@@ -1,9 +1,9 @@
 -- The table of a line's codes has the words whose code may stand on the line, and no others.
 -- codes_stand stands on it.
 use Rattle.std.proofs.Common.{◌≡◌, ℕ, zero, suc, ◌≤◌, ◌<◌, false, List, [], ◌∷◌, ◌⊎◌, inl, inr, refl, sym, ap, ◌∙◌}
-use Rattle.std.proofs.Common.{subst, arith, lit<}
-use Rattle.std.specs.Prelude.{IsTrue, ◌↔◌}
-use Rattle.std.proofs.lemmas.Bool.{cases_lt, cases_eq, ltb-true, lt-ltb, true≢false}
+use Rattle.std.proofs.Common.{subst, arith, lit<, lit≤}
+use Rattle.std.specs.Prelude.{Bool, true, IsTrue, ◌↔◌, ◌&&◌, not}
+use Rattle.std.proofs.lemmas.Bool.{cases_lt, cases_eq, ltb-true, lt-ltb, true≢false, false_from_ne_true}
 use Rattle.vbi_words.specs.declared.system.System.{System}
 use Rattle.vbi_words.specs.declared.system.System.TheVariants.{Ntsc, Pal}
 use Rattle.vbi_words.specs.declared.code.Code.{Code}
@@ -13,25 +13,8 @@ use Rattle.vbi_words.specs.Words.{IsWord}
 use Rattle.vbi_words.specs.Codes.{digit_of, IsBetween, Pattern, patterns_of, HasPattern, HasCodeOf, code_of, may_stand}
 use Rattle.vbi_words.specs.Codes.{last_two, picture_of, chapter_of, seconds_of, last_three, pictures_in_second}
 use Rattle.vbi_words.proofs.OneCode.{code_of_is, only_code_of}
-use Rattle.vbi_near.specs.LineCodes.{IsOneOf, codes_of, codes_of_16, codes_of_17}
-
--- ---- six digits
-
--- a digit is from one to another
-abbrev Fits : ℕ → ℕ → ℕ → ℕ → Type 0
-Fits least greatest w place = (digit_of least place ≤ digit_of w place) × (digit_of w place ≤ digit_of greatest place)
-
--- by the digits at each place
-between : (least greatest w : ℕ) → Fits least greatest w 1 → Fits least greatest w 2 → Fits least greatest w 3
-    → Fits least greatest w 4 → Fits least greatest w 5 → Fits least greatest w 6 → IsBetween least greatest w
-between least greatest w a b c d e f zero low high = absurd (omega arith)
-between least greatest w a b c d e f (suc zero) low high = a
-between least greatest w a b c d e f (suc (suc zero)) low high = b
-between least greatest w a b c d e f (suc (suc (suc zero))) low high = c
-between least greatest w a b c d e f (suc (suc (suc (suc zero)))) low high = d
-between least greatest w a b c d e f (suc (suc (suc (suc (suc zero))))) low high = e
-between least greatest w a b c d e f (suc (suc (suc (suc (suc (suc zero)))))) low high = f
-between least greatest w a b c d e f (suc (suc (suc (suc (suc (suc (suc place))))))) low high = absurd (omega arith)
+use Rattle.vbi_near.proofs.Digits.{between, beyond-digits, digits-beyond}
+use Rattle.vbi_near.specs.LineCodes.{range, IsIn, IsOneOf, codes_of, codes_of_16, codes_of_17, is_beyond_79999}
 
 -- ---- the pattern of a word's code
 
@@ -116,27 +99,53 @@ module _ (w : ℕ) where
   clv-of_25 : IsBetween 0x8AE020 0x8FE924 w → IsBetween 0x8AE000 0x8FE999 w × (last_two w < 25)
   clv-of_25 x = grind (arith, between)
 
+-- ---- picture numbers below 80,000 and from there on
+
+-- pictures up to 79,999
+module _ (w : ℕ) where
+  low-in : IsBetween 0xF00000 0xFF9999 w → digit_of w 2 < 8 → IsBetween 0xF00000 0xF79999 w
+  low-in x low = grind (arith, between)
+
+  high-in : IsBetween 0xF00000 0xFF9999 w → 8 ≤ digit_of w 2 → IsBetween 0xF80000 0xFF9999 w
+  high-in x high = grind (arith, between)
+
+  picture-in : IsBetween 0xF00000 0xFF9999 w → is_beyond_79999 w ≡ false → IsBetween 0xF00000 0xF79999 w
+  picture-in x within = go (cases_lt (digit_of w 2) 8)
+    where
+      go : (digit_of w 2 < 8) ⊎ (8 ≤ digit_of w 2) → IsBetween 0xF00000 0xF79999 w
+      go (inl low) = low-in x low
+      go (inr high) = absurd (true≢false (sym (digits-beyond w (high-in x high)) ∙ within))
+
+  picture-of : IsBetween 0xF00000 0xF79999 w → IsBetween 0xF00000 0xFF9999 w
+  picture-of x = grind (arith, between)
+
+-- a word isn't in two ranges if the greatest digit of the one at a place is below the least of the other
+apart : (w a b c d place : ℕ) → 1 ≤ place → place ≤ 6 → IsBetween a b w → IsBetween c d w
+    → digit_of b place < digit_of c place → ⊥
+apart w a b c d place low high x y less = omega (arith, (x place low high).1, (y place low high).0, less)
+
 -- ---- the words of a line
 
 module _ (system : System) (w : ℕ) (is : IsWord w) where
   -- what may stand on line 17 is in its table
-  in_17 : (code : Code) → Matched w (patterns_of w) code → IsTrue (may_stand system 17 code) → IsOneOf codes_of_17 w
-  in_17 code (inl (x, e)) stands = inl (is, x)
-  in_17 code (inr (inl (x, e))) stands = inr (inl (is, x))
-  in_17 code (inr (inr (inl (x, e)))) stands = inr (inr (inl (is, x)))
-  in_17 code (inr (inr (inr (inl (x, e))))) stands = inr (inr (inr (inl (is, x))))
-  in_17 code (inr (inr (inr (inr (inl (x, e)))))) stands = inr (inr (inr (inr (inl (is, x)))))
-  in_17 code (inr (inr (inr (inr (inr (inl (x, e))))))) stands = inr (inr (inr (inr (inr (inl (is, x))))))
-  in_17 code (inr (inr (inr (inr (inr (inr (inl (x, e)))))))) stands = grind (arith, ltb-true, may, time-in)
-  in_17 code (inr (inr (inr (inr (inr (inr (inr (inl (x, e))))))))) stands =
+  in_17 : (code : Code) → Matched w (patterns_of w) code → is_beyond_79999 w ≡ false
+      → IsTrue (may_stand system 17 code) → IsOneOf codes_of_17 w
+  in_17 code (inl (x, e)) within stands = inl (is, x)
+  in_17 code (inr (inl (x, e))) within stands = inr (inl (is, x))
+  in_17 code (inr (inr (inl (x, e)))) within stands = inr (inr (inl (is, picture-in w x within)))
+  in_17 code (inr (inr (inr (inl (x, e))))) within stands = inr (inr (inr (inl (is, x))))
+  in_17 code (inr (inr (inr (inr (inl (x, e)))))) within stands = inr (inr (inr (inr (inl (is, x)))))
+  in_17 code (inr (inr (inr (inr (inr (inl (x, e))))))) within stands = inr (inr (inr (inr (inr (inl (is, x))))))
+  in_17 code (inr (inr (inr (inr (inr (inr (inl (x, e)))))))) within stands = grind (arith, ltb-true, may, time-in)
+  in_17 code (inr (inr (inr (inr (inr (inr (inr (inl (x, e))))))))) within stands =
       absurd (barred system 17 code (ClvPicture (seconds_of w) (last_two w)) e refl stands)
-  in_17 code (inr (inr (inr (inr (inr (inr (inr (inr (inl (x, e)))))))))) stands =
+  in_17 code (inr (inr (inr (inr (inr (inr (inr (inr (inl (x, e)))))))))) within stands =
       absurd (barred system 17 code (CxOn (last_three w)) e refl stands)
-  in_17 code (inr (inr (inr (inr (inr (inr (inr (inr (inr (inl (x, e))))))))))) stands =
+  in_17 code (inr (inr (inr (inr (inr (inr (inr (inr (inr (inl (x, e))))))))))) within stands =
       absurd (barred system 17 code (CxOff (last_three w)) e refl stands)
-  in_17 code (inr (inr (inr (inr (inr (inr (inr (inr (inr (inr (inl (x, e)))))))))))) stands =
+  in_17 code (inr (inr (inr (inr (inr (inr (inr (inr (inr (inr (inl (x, e)))))))))))) within stands =
       absurd (barred system 17 code (Users (digit_of w 2) (last_three w)) e refl stands)
-  in_17 code (inr (inr (inr (inr (inr (inr (inr (inr (inr (inr (inr e))))))))))) stands =
+  in_17 code (inr (inr (inr (inr (inr (inr (inr (inr (inr (inr (inr e))))))))))) within stands =
       absurd (barred system 17 code Other e refl stands)
 
   -- a CLV picture, and other codes of line 16, in the table of each system
@@ -193,7 +202,8 @@ module _ (system : System) (w : ℕ) (is : IsWord w) where
   of_17 : IsOneOf codes_of_17 w → IsTrue (may_stand system 17 (code_of w))
   of_17 (inl (word, x)) = by 17 LeadIn (0, _, lit< tt, refl, (x, refl)) refl
   of_17 (inr (inl (word, x))) = by 17 LeadOut (1, _, lit< tt, refl, (x, refl)) refl
-  of_17 (inr (inr (inl (word, x)))) = by 17 (Picture (picture_of w)) (2, _, lit< tt, refl, (x, refl)) refl
+  of_17 (inr (inr (inl (word, x)))) =
+      by 17 (Picture (picture_of w)) (2, _, lit< tt, refl, (picture-of w x, refl)) refl
   of_17 (inr (inr (inr (inl (word, x))))) = by 17 PictureStop (3, _, lit< tt, refl, (x, refl)) refl
   of_17 (inr (inr (inr (inr (inl (word, x)))))) = by 17 (Chapter (chapter_of w)) (4, _, lit< tt, refl, (x, refl)) refl
   of_17 (inr (inr (inr (inr (inr (inl (word, x))))))) = by 17 ClvMark (5, _, lit< tt, refl, (x, refl)) refl
@@ -238,25 +248,98 @@ of_16 Pal w is (inr (inr (inr (inr (inl (word, x)))))) = of_cx_off Pal w is x
 of_16 Pal w is (inr (inr (inr (inr (inr (inl (word, x))))))) = of_users Pal w is x
 of_16 Pal w is (inr (inr (inr (inr (inr (inr none)))))) = absurd none
 
--- the table of a line has a word if its code may stand there, and no other
+-- ---- none of a line's codes is a picture number of 80,000 or more
+
+module _ (w : ℕ) (beyond : IsBetween 0xF80000 0xFF9999 w) where
+  -- those that begin with 8
+  not_8 : (least greatest : ℕ) → IsIn (range least greatest) w → digit_of greatest 1 < 15 → ⊥
+  not_8 least greatest (word, x) less = apart w least greatest 0xF80000 0xFF9999 1 (lit≤ tt) (lit≤ tt) x beyond less
+
+  not_17 : IsOneOf codes_of_17 w → ⊥
+  not_17 (inl x) = not_8 _ _ x (lit< tt)
+  not_17 (inr (inl x)) = not_8 _ _ x (lit< tt)
+  not_17 (inr (inr (inl (word, x)))) =
+      apart w 0xF00000 0xF79999 0xF80000 0xFF9999 2 (lit≤ tt) (lit≤ tt) x beyond (lit< tt)
+  not_17 (inr (inr (inr (inl x)))) = not_8 _ _ x (lit< tt)
+  not_17 (inr (inr (inr (inr (inl x))))) = not_8 _ _ x (lit< tt)
+  not_17 (inr (inr (inr (inr (inr (inl x)))))) = not_8 _ _ x (lit< tt)
+  not_17 (inr (inr (inr (inr (inr (inr (inl (word, x)))))))) =
+      apart w 0xF80000 0xFF9999 0xF0DD00 0xF9DD59 3 (lit≤ tt) (lit≤ tt) beyond x (lit< tt)
+  not_17 (inr (inr (inr (inr (inr (inr (inr none))))))) = none
+
+  not_16 : (system : System) → IsOneOf (codes_of_16 system) w → ⊥
+  not_16 Ntsc (inl x) = not_8 _ _ x (lit< tt)
+  not_16 Ntsc (inr (inl x)) = not_8 _ _ x (lit< tt)
+  not_16 Ntsc (inr (inr (inl x))) = not_8 _ _ x (lit< tt)
+  not_16 Ntsc (inr (inr (inr (inl x)))) = not_8 _ _ x (lit< tt)
+  not_16 Ntsc (inr (inr (inr (inr (inl x))))) = not_8 _ _ x (lit< tt)
+  not_16 Ntsc (inr (inr (inr (inr (inr none))))) = none
+  not_16 Pal (inl x) = not_8 _ _ x (lit< tt)
+  not_16 Pal (inr (inl x)) = not_8 _ _ x (lit< tt)
+  not_16 Pal (inr (inr (inl x))) = not_8 _ _ x (lit< tt)
+  not_16 Pal (inr (inr (inr (inl x)))) = not_8 _ _ x (lit< tt)
+  not_16 Pal (inr (inr (inr (inr (inl x))))) = not_8 _ _ x (lit< tt)
+  not_16 Pal (inr (inr (inr (inr (inr (inl x)))))) = not_8 _ _ x (lit< tt)
+  not_16 Pal (inr (inr (inr (inr (inr (inr none)))))) = none
+
+-- so a code of line 17 is none, and a code of line 16
+within_17 : (w : ℕ) → IsOneOf codes_of_17 w → is_beyond_79999 w ≡ false
+within_17 w one = false_from_ne_true (is_beyond_79999 w) (λ is. not_17 w (beyond-digits w is) one)
+
+within_16 : (system : System) (w : ℕ) → IsOneOf (codes_of_16 system) w → is_beyond_79999 w ≡ false
+within_16 system w one = false_from_ne_true (is_beyond_79999 w) (λ is. not_16 w (beyond-digits w is) system one)
+
+-- ---- on each of the three lines
+
+-- a code may stand on a line and is no picture number of 80,000 or more: both, and each
+both-stand : (a b : Bool) → a ≡ true → b ≡ false → IsTrue (a && not b)
+both-stand a b stands within = λ j. stands j && not (within j)
+
+each-stands : (a b : Bool) → IsTrue (a && not b) → IsTrue a × (b ≡ false)
+each-stands true true is = cc
+each-stands true false is = (refl, refl)
+each-stands false b is = cc
+
+-- the table of a line has a word if its code may stand there, but no picture number of 80,000 or more, and no other
 abbrev Stands : System → ℕ → ℕ → Type 0
-Stands system word line = IsOneOf (codes_of system line) word ↔ IsTrue (may_stand system line (code_of word))
+Stands system word line =
+    IsOneOf (codes_of system line) word
+    ↔ IsTrue (may_stand system line (code_of word) && not (is_beyond_79999 word))
 
 -- on each of the three lines
 pub codes_stand : (system : System) (line word : ℕ) → 16 ≤ line → line ≤ 18 → IsWord word
-    → (IsOneOf (codes_of system line) word ↔ IsTrue (may_stand system line (code_of word)))
+    → (IsOneOf (codes_of system line) word
+    ↔ IsTrue (may_stand system line (code_of word) && not (is_beyond_79999 word)))
 codes_stand system line word low high is = go (cases_eq line 16) (cases_eq line 17)
   where
-    go : (line ≡ 16) ⊎ (line ≡ 16 → ⊥) → (line ≡ 17) ⊎ (line ≡ 17 → ⊥)
-        → (IsOneOf (codes_of system line) word ↔ IsTrue (may_stand system line (code_of word)))
-    go (inl e) any = subst (Stands system word) (sym e)
-        (of_16 system word is, in_16 system word is (code_of word) (code-matched word))
-    go (inr not) (inl e) = subst (Stands system word) (sym e)
-        (of_17 system word is, in_17 system word is (code_of word) (code-matched word))
-    go (inr not) (inr nor) =
+    is_16 : IsOneOf (codes_of_16 system) word
+        → IsTrue (may_stand system 16 (code_of word) && not (is_beyond_79999 word))
+    is_16 one =
+        both-stand (may_stand system 16 (code_of word)) (is_beyond_79999 word) (of_16 system word is one)
+        (within_16 system word one)
+
+    is_17 : IsOneOf codes_of_17 word → IsTrue (may_stand system 17 (code_of word) && not (is_beyond_79999 word))
+    is_17 one =
+        both-stand (may_stand system 17 (code_of word)) (is_beyond_79999 word) (of_17 system word is one)
+        (within_17 word one)
+
+    has_17 : IsTrue (may_stand system 17 (code_of word) && not (is_beyond_79999 word)) → IsOneOf codes_of_17 word
+    has_17 stands =
+        let each = each-stands (may_stand system 17 (code_of word)) (is_beyond_79999 word) stands in
+        in_17 system word is (code_of word) (code-matched word) each.1 each.0
+
+    has_16 : IsTrue (may_stand system 16 (code_of word) && not (is_beyond_79999 word))
+        → IsOneOf (codes_of_16 system) word
+    has_16 stands =
+        let each = each-stands (may_stand system 16 (code_of word)) (is_beyond_79999 word) stands in
+        in_16 system word is (code_of word) (code-matched word) each.0
+
+    go : (line ≡ 16) ⊎ (line ≡ 16 → ⊥) → (line ≡ 17) ⊎ (line ≡ 17 → ⊥) → Stands system word line
+    go (inl e) any = subst (Stands system word) (sym e) (is_16, has_16)
+    go (inr not_first) (inl e) = subst (Stands system word) (sym e) (is_17, has_17)
+    go (inr not_first) (inr nor) =
         let e : line ≡ 18 = omega arith in
-        subst (Stands system word) (sym e) (
-          λ one. same_18 system (code_of word) ∙ of_17 system word is one,
-          λ stands. in_17 system word is (code_of word) (code-matched word)
-              (sym (same_18 system (code_of word)) ∙ stands),
-        )
+        let same : (may_stand system 18 (code_of word) && not (is_beyond_79999 word))
+        ≡ (may_stand system 17 (code_of word) && not (is_beyond_79999 word)) =
+        ap (λ (b : Bool). b && not (is_beyond_79999 word)) (same_18 system (code_of word)) in
+        subst (Stands system word) (sym e) (λ one. same ∙ is_17 one, λ stands. has_17 (sym same ∙ stands))

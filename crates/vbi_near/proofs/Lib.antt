@@ -16,6 +16,7 @@ pub mod Certain
 pub mod OneNear
 pub mod Least
 pub mod SomeNear
+pub mod Digits
 pub mod CodesStand
 pub mod Highs
 pub mod Shifted
@@ -34,6 +35,7 @@ pub mod Asked
 pub mod Kept
 pub mod SomeSeen
 pub mod OneRecovered
+pub mod NeverBeyond
 pub mod SomeRecovered
 pub mod Swings
 pub mod Tables

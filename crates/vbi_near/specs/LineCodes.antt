@@ -1,5 +1,6 @@
 -- The codes that may stand on a line, as ranges of words, and places of drawn rows of these alone.
 use Rattle.std.specs.Prelude.{◌≡◌, ◌≤◌, ◌⊎◌, ℕ, ◌+◌, List, [], ◌∷◌, Option, Some, None, ◌==◌, if◌then◌else◌}
+use Rattle.std.specs.Prelude.{Bool, ◌&&◌, nat_le}
 use Rattle.vbi_words.specs.declared.system.System.{System}
 use Rattle.vbi_words.specs.declared.system.System.TheVariants.{Ntsc, Pal}
 use Rattle.vbi_words.specs.Geometry.{width_of}
@@ -24,13 +25,21 @@ abbrev pub IsOneOf : List Range → ℕ → Type 0
 IsOneOf [] word = ⊥
 IsOneOf (words ∷ ranges) word = IsIn words word ⊎ IsOneOf ranges word
 
--- the codes of lines 17 and 18: lead-in, lead-out, pictures, picture stop, chapters, the CLV mark, times of an hour's
--- 60 minutes
+-- the word of a picture number of 80,000 or more, if the first of its five digits counts with its top bit: F, a digit
+-- from 8 on, and four decimal digits. A line that shows one has the number without that bit, but no disc is known to
+-- have one: it is no code of a line here, and recovery says none.
+abbrev pub is_beyond_79999 : ℕ → Bool
+is_beyond_79999 word =
+    (digit_of word 1 == 15) && nat_le 8 (digit_of word 2) && nat_le (digit_of word 3) 9 && nat_le (digit_of word 4) 9
+    && nat_le (digit_of word 5) 9 && nat_le (digit_of word 6) 9
+
+-- the codes of lines 17 and 18: lead-in, lead-out, pictures up to 79,999, picture stop, chapters, the CLV mark, times
+-- of an hour's 60 minutes
 abbrev pub codes_of_17 : List Range
 codes_of_17 =
     range 0x88FFFF 0x88FFFF
     ∷ range 0x80EEEE 0x80EEEE
-    ∷ range 0xF00000 0xFF9999
+    ∷ range 0xF00000 0xF79999
     ∷ range 0x82CFFF 0x82CFFF
     ∷ range 0x800DDD 0x8F9DDD
     ∷ range 0x87FFFF 0x87FFFF

@@ -7,7 +7,7 @@ use Rattle.vbi_words.specs.Geometry.{width_of, line_at}
 use Rattle.vbi_words.specs.Levels.{Slicing}
 use Rattle.vbi_near.specs.declared.said.Margins.{Margins}
 use Rattle.vbi_near.specs.Distances.{unit_of}
-use Rattle.vbi_near.specs.Said.{said_if, first_said}
+use Rattle.vbi_near.specs.Said.{recovered_by, first_said}
 use Rattle.vbi_near.specs.Candidates.{Row, row_of, given_samples, levelled_samples, swing_in, are_alike_by}
 use Rattle.vbi_near.specs.Candidates.{Candidates, HasNear, HasNearIf}
 
@@ -28,8 +28,8 @@ are_all_alike system slicing rows = swing_alike (unit_of slicing) (map (swing_in
 -- the word that this many lines say together
 abbrev pub said_together : ℕ → Bool → ℕ → Candidates → Option ℕ
 said_together unit known lines near =
-    first_said (said_if unit (pile_margins known) lines near.levelled)
-    (said_if unit (pile_margins known) lines (Some near.given))
+    first_said (recovered_by unit (pile_margins known) lines near.levelled)
+    (recovered_by unit (pile_margins known) lines (Some near.given))
 
 -- ---- from lines
 

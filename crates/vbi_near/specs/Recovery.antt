@@ -15,7 +15,7 @@ use Rattle.vbi_near.specs.declared.near.Near.{Near}
 use Rattle.vbi_near.specs.declared.said.Stand.{Stand}
 use Rattle.vbi_near.specs.declared.said.Stand.TheVariants.{Alone}
 use Rattle.vbi_near.specs.Distances.{unit_of}
-use Rattle.vbi_near.specs.Said.{lone_margins, said_if, first_said, is_said, stand_of, said_in}
+use Rattle.vbi_near.specs.Said.{lone_margins, said_if, recovered_by, first_said, is_said, stand_of, said_in}
 use Rattle.vbi_near.specs.Candidates.{Candidates, Row, row_of, given_samples, levelled_samples, has_swing, HasNearIf}
 use Rattle.vbi_near.specs.Candidates.{AreOf, AreOfBoth}
 use Rattle.vbi_near.specs.Stretched.{IsStretched}
@@ -35,6 +35,11 @@ abbrev pub said_alone : ℕ → Candidates → Option ℕ
 said_alone unit near =
     first_said (said_if unit lone_margins 1 near.levelled) (said_if unit lone_margins 1 (Some near.given))
 
+-- the word that is recovered of what the line says by itself
+abbrev pub recovered_alone : ℕ → Candidates → Option ℕ
+recovered_alone unit near =
+    first_said (recovered_by unit lone_margins 1 near.levelled) (recovered_by unit lone_margins 1 (Some near.given))
+
 -- how far the line is from the nearest row of any other word than this, or of none
 abbrev pub other_than : ℕ → Near → ℕ
 other_than word near = if is_said word near.word then near.rival else near.distance
@@ -43,7 +48,8 @@ other_than word near = if is_said word near.word then near.rival else near.dista
 abbrev pub is_stretched : ℕ → ℕ → ℕ → Near → Bool
 is_stretched unit stretched word near = nat_le (stretched + 8 * unit) (other_than word near)
 
--- a word of pass 2 is confirmed: the line says it by itself, or it is ahead on somewhat longer or shorter cells
+-- a word of pass 2 is confirmed, a picture number of 80,000 or more too: the line says it by itself, or it is ahead on
+-- somewhat longer or shorter cells
 abbrev pub is_confirmed : ℕ → Candidates → ℕ → ℕ → Bool
 is_confirmed unit near stretched word =
     is_said word (said_alone unit near) || is_stretched unit stretched word near.given.word

@@ -10,6 +10,7 @@ use Rattle.vbi_near.specs.declared.lines.Nears.{Nears}
 use Rattle.vbi_near.specs.declared.said.Margins.{Margins}
 use Rattle.vbi_near.specs.declared.said.Stand.{Stand}
 use Rattle.vbi_near.specs.declared.said.Stand.TheVariants.{Alone, Apart, Together}
+use Rattle.vbi_near.specs.LineCodes.{is_beyond_79999}
 
 -- ---- what one or two lines say
 
@@ -78,6 +79,15 @@ abbrev pub said_if : ℕ → Margins → ℕ → Option Nears → Option ℕ
 said_if unit margins lines None = None
 said_if unit margins lines (Some near) = said_of unit margins lines near
 
+-- what is said, but no picture number of 80,000 or more
+abbrev pub unless_beyond : Option ℕ → Option ℕ
+unless_beyond None = None
+unless_beyond (Some word) = if is_beyond_79999 word then None else Some word
+
+-- what is recovered by what there may not be
+abbrev pub recovered_by : ℕ → Margins → ℕ → Option Nears → Option ℕ
+recovered_by unit margins lines near = unless_beyond (said_if unit margins lines near)
+
 -- the word of the first that says one
 abbrev pub first_said : Option ℕ → Option ℕ → Option ℕ
 first_said None other = other
@@ -138,6 +148,6 @@ stand_of unit second third both = if may_agree unit second third both then Toget
 
 -- the word that an open line says by its nearest word, or by that of lines 17 and 18 together
 abbrev pub said_in : Stand → ℕ → Option Nears → Option Nears → Option ℕ
-said_in Alone unit near both = said_if unit lone_margins 1 near
-said_in Apart unit near both = said_if unit apart_margins 1 near
-said_in Together unit near both = said_if unit both_margins 2 both
+said_in Alone unit near both = recovered_by unit lone_margins 1 near
+said_in Apart unit near both = recovered_by unit apart_margins 1 near
+said_in Together unit near both = recovered_by unit both_margins 2 both

@@ -71,6 +71,14 @@ beside distance rival = record {
   code_halved = 99999;
 }
 
+-- the picture number 12345 with the top bit of its first digit, at this distance, with that of its rival
+abbrev pub beyond_at : ℕ → ℕ → Near
+beyond_at distance rival = record (picture_at distance rival) { word = Some 0xF92345 }
+
+-- that word, with the distance of its rival, beside the code 12345 at this distance, with that of the code's rival
+abbrev pub beyond_beside : ℕ → ℕ → ℕ → Nears
+beyond_beside other distance rival = record (beside distance rival) { word = beyond_at 10000 other }
+
 -- nearest words of lines as they are, which can't be levelled; and of lines that can
 abbrev pub as_given : Nears → Candidates
 as_given near = record { levelled = None; given = near }

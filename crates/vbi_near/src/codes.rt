@@ -33,11 +33,11 @@ use vbi_words::{System, digit};
 /// A range of words: the least, and the greatest.
 type Words = (u32, u32);
 
-/// The codes of lines 17 and 18: lead-in, lead-out, pictures, picture stop, chapters, the CLV mark, times.
+/// The codes of lines 17 and 18: lead-in, lead-out, pictures up to 79,999, picture stop, chapters, the CLV mark, times.
 const CODES_17: [Words; 7] = [
     (0x88FFFF, 0x88FFFF),
     (0x80EEEE, 0x80EEEE),
-    (0xF00000, 0xFF9999),
+    (0xF00000, 0xF79999),
     (0x82CFFF, 0x82CFFF),
     (0x800DDD, 0x8F9DDD),
     (0x87FFFF, 0x87FFFF),

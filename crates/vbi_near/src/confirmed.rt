@@ -10,17 +10,17 @@ ghost use Rattle.vbi_near.specs.Stretched.{IsStretched};
 ghost use Rattle.vbi_near.specs.Candidates.{Candidates, candidates, given_samples, has_swing, levelled_samples};
 ghost use Rattle.vbi_near.specs.Candidates.{HasNearIf};
 ghost use Rattle.vbi_near.specs.Candidates.{AreOf};
-ghost use Rattle.vbi_near.specs.Recovery.{said_alone, other_than, is_stretched, is_confirmed};
+ghost use Rattle.vbi_near.specs.Recovery.{recovered_alone, other_than, is_stretched, is_confirmed};
 
 use crate::candidates::{near_of_one, stretched_of_one, unit_of};
 use crate::lines::Nears;
 use crate::near::Near;
 use crate::row::Row;
-use crate::said::{first_said, is_said, said_by_one};
+use crate::said::{first_said, is_said, recovered_by_one, said_by_one};
 use vbi_words::{Levels, Word24};
 
-/// The word that a line says by itself. It is searched as it is only if it says none levelled.
-pub(crate) fn said_alone(
+/// The word that is recovered of what a line says by itself. It is searched as it is only if it says none levelled.
+pub(crate) fn recovered_alone(
     number: u32,
     levels: Levels,
     row: &Row,
@@ -29,15 +29,15 @@ pub(crate) fn said_alone(
     requires { HasNearIf row.now.system number levels (has_swing row.now.system levels (row_in row.now))
         (levelled_samples row.now.system levels (row_in row.now) ∷ []) levelled.now }
     ensures { (near : Candidates) → AreOf row.now.system number levels (row_in row.now) near
-        → result ≡ said_alone (levels.white - levels.black) near }
+        → result ≡ recovered_alone (levels.white - levels.black) near }
 {
     let unit = unit_of(levels);
-    let said = said_by_one(unit, *levelled);
+    let said = recovered_by_one(unit, *levelled);
     if said.is_some() {
         return said;
     }
     let given = near_of_one(number, levels, row);
-    first_said(said, said_by_one(unit, Some(given)))
+    first_said(said, recovered_by_one(unit, Some(given)))
 }
 
 /// How far a line is from the nearest row of any other word than this, or of none.

@@ -1,14 +1,15 @@
 //! Laws of the definitions in `specs/`. A function here does nothing: its contract is a law, which holds of all lines.
 
 ghost use Rattle.std.specs.Prelude.{◌≡◌, ◌≢◌, ℕ, ◌*◌, ◌-◌, ◌≤◌, ◌<◌, Bool, true, false, List, [], ◌∷◌, length};
-ghost use Rattle.std.specs.Prelude.{map, replicate, Option, Some, None, ◌↔◌, IsTrue};
+ghost use Rattle.std.specs.Prelude.{map, replicate, Option, Some, None, ◌↔◌, IsTrue, ◌&&◌, not};
 ghost use Rattle.std.specs.List.{All};
 ghost use Rattle.vbi_words.specs.declared.system.System.{System};
 ghost use Rattle.vbi_words.specs.declared.system.System.TheVariants.{Ntsc, Pal};
+ghost use Rattle.vbi_words.specs.declared.outcome.Outcome.TheVariants.{Word};
 ghost use Rattle.vbi_words.specs.Geometry.{width_of, start_of};
 ghost use Rattle.vbi_words.specs.Levels.{Slicing};
 ghost use Rattle.vbi_words.specs.Words.{IsWord, IsWordOrNone};
-ghost use Rattle.vbi_words.specs.Codes.{may_stand, code_of};
+ghost use Rattle.vbi_words.specs.Codes.{may_stand, code_of, IsBetween};
 ghost use Rattle.vbi_words.specs.Jitter.{differences};
 ghost use Rattle.vbi_words.specs.Drawn.{drawn_row_of};
 ghost use Rattle.vbi_near.specs.declared.near.Near.{Near};
@@ -19,9 +20,11 @@ ghost use Rattle.vbi_near.specs.Nearest.{IsNearest, IsFirst, IsNearestCode, IsFi
 ghost use Rattle.vbi_near.specs.Longer.{begun_earlier, ended_later, IsLonger};
 ghost use Rattle.vbi_near.specs.Shorter.{IsShorter};
 ghost use Rattle.vbi_near.specs.Apart.{picture_distance};
-ghost use Rattle.vbi_near.specs.LineCodes.{IsOneOf, codes_of};
+ghost use Rattle.vbi_near.specs.LineCodes.{IsOneOf, codes_of, is_beyond_79999};
 ghost use Rattle.vbi_near.specs.declared.recovery.Recovered.{Recovered};
+ghost use Rattle.vbi_near.specs.Candidates.{Row};
 ghost use Rattle.vbi_near.specs.Recovery.{IsRecovered};
+ghost use Rattle.vbi_near.specs.Piled.{IsSaidTogether};
 
 /// If another word than the one answered was recorded, the samples of the lines are off by `rival` or more in sum.
 pub fn misread_at_least()
@@ -72,11 +75,12 @@ pub fn some_near()
         × IsLonger system slicing lines near × IsShorter system slicing lines near }
 {}
 
-/// The table that is searched for codes has the words whose code may stand on the line, by the table of classes, and no
-/// others.
+/// The table that is searched for codes has the words whose code may stand on the line, by the table of classes, but no
+/// picture number of 80,000 or more, and no others.
 pub fn codes_stand()
     ensures { (system : System) (line word : ℕ) → 16 ≤ line → line ≤ 18 → IsWord word
-        → (IsOneOf (codes_of system line) word ↔ IsTrue (may_stand system line (code_of word))) }
+        → (IsOneOf (codes_of system line) word
+        ↔ IsTrue (may_stand system line (code_of word) && not (is_beyond_79999 word))) }
 {}
 
 /// Three rows, some columns of which may be erased, show one thing: what their lines are taken to show is fixed by the
@@ -91,6 +95,17 @@ pub fn one_recovered()
 pub fn some_recovered()
     ensures { (system : System) (slicing : Slicing) (rows : List ℕ) (erased : List Bool)
         → (recovered : List Recovered) × IsRecovered system slicing rows erased recovered }
+{}
+
+/// Recovery says no picture number of 80,000 or more: no line of a field shows one in pass 3, and no pile of lines says
+/// one.
+pub fn never_beyond_79999()
+    ensures field { (system : System) (slicing : Slicing) (rows : List ℕ) (erased : List Bool)
+        (recovered : List Recovered) → IsRecovered system slicing rows erased recovered
+        → All (λ line. (word : ℕ) → line ≡ record { outcome = Word word; pass = 3 }
+        → IsBetween 0xF80000 0xFF9999 word → ⊥) recovered }
+    ensures pile { (system : System) (number : ℕ) (slicing : Slicing) (known : Bool) (rows : List Row) (word : ℕ)
+        → IsSaidTogether system number slicing known rows (Some word) → IsBetween 0xF80000 0xFF9999 word → ⊥ }
 {}
 
 /// Pictures of different words, or of a word and of none, are apart, wherever they begin.

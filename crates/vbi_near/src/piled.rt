@@ -12,7 +12,7 @@ use crate::lines::Nears;
 use crate::near::WIDEST;
 use crate::pile::Pile;
 use crate::row::Rows;
-use crate::said::{Margins, first_said, said_if};
+use crate::said::{Margins, first_said, recovered_by};
 use vbi_words::{Levels, System, Word24};
 
 /// This many lines at most: the sums of more could pass 32 bits.
@@ -113,7 +113,7 @@ pub fn recover_pile(
     };
     let levelled = levelled_near_of_all(number, levels, &rows);
     let given = near_of_all(number, levels, &rows);
-    let first = said_if(unit, &margins, count as u32, levelled);
-    let second = said_if(unit, &margins, count as u32, Some(given));
+    let first = recovered_by(unit, &margins, count as u32, levelled);
+    let second = recovered_by(unit, &margins, count as u32, Some(given));
     first_said(first, second)
 }

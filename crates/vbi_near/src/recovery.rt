@@ -31,7 +31,7 @@ ghost use Rattle.vbi_near.specs.Recovery.{row_at, row_reading, alone, shown_in};
 use crate::candidates::{
     levelled_near_of_one, levelled_near_of_two, near_of_one, near_of_two, unit_of,
 };
-use crate::confirmed::{is_confirmed, said_alone};
+use crate::confirmed::{is_confirmed, recovered_alone};
 use crate::lines::Nears;
 use crate::row::{Pair, Row, Rows};
 use crate::said::{first_said, said_by_pair};
@@ -144,7 +144,7 @@ fn shown_alone(number: u32, levels: Levels, row: &Row, line: &Line, own: Recover
         → result ≡ shown_in alone (levels.white - levels.black) seen both }
 {
     if is_open(own.outcome) {
-        let said = said_alone(number, levels, row, &line.levelled);
+        let said = recovered_alone(number, levels, row, &line.levelled);
         recovered_as(own, said)
     } else {
         own

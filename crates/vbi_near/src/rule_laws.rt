@@ -4,9 +4,9 @@
 ghost use Rattle.std.specs.Prelude.{◌≡◌, ◌∷◌, [], Some, None, map, true, false};
 ghost use Rattle.vbi_near.specs.Piled.{said_together};
 ghost use Rattle.vbi_near.specs.Candidates.{are_alike_by};
-ghost use Rattle.vbi_near.specs.WorkedRules.{code_beside};
+ghost use Rattle.vbi_near.specs.WorkedRules.{code_beside, beyond_at, beyond_beside};
 ghost use Rattle.vbi_words.specs.declared.outcome.Outcome.TheVariants.{Word, Blank, Change};
-ghost use Rattle.vbi_near.specs.Said.{said_of, lone_margins, apart_margins, both_margins};
+ghost use Rattle.vbi_near.specs.Said.{said_of, unless_beyond, lone_margins, apart_margins, both_margins};
 ghost use Rattle.vbi_near.specs.Recovery.{recovered_of};
 ghost use Rattle.vbi_near.specs.WorkedRules.{near_with, cut_at, as_code, as_other, beside, from_none, ten_ahead};
 ghost use Rattle.vbi_near.specs.WorkedRules.{code_halved_at, other_halved_at};
@@ -191,4 +191,41 @@ pub fn worked_together()
         (10999 ∷ 11000 ∷ []) ≡ None ∷ Some 0xF1234A ∷ [] }
     ensures alike { map (are_alike_by 100 100) (49 ∷ 50 ∷ 160 ∷ []) ≡ false ∷ true ∷ true ∷ [] }
     ensures alike_least { map (are_alike_by 100 60) (29 ∷ 30 ∷ 120 ∷ 121 ∷ []) ≡ false ∷ true ∷ true ∷ false ∷ [] }
+{}
+
+/// No picture number of 80,000 or more is recovered. The word F92345 is nearest here, and ahead of any other word.
+pub fn worked_beyond()
+    // The words at the limits: picture numbers up to 79,999, a time, and a word with a digit that isn't decimal are
+    // recovered.
+    ensures limits { map (λ word. unless_beyond (Some word)) (0xF79999 ∷ 0xF80000 ∷ 0xF92345 ∷ 0xFF9999 ∷ 0xF8DD00
+        ∷ 0xF9999A ∷ []) ≡ Some 0xF79999 ∷ None ∷ None ∷ None ∷ Some 0xF8DD00 ∷ Some 0xF9999A ∷ [] }
+
+    // The code 12345 is recovered beside it, up to 10 columns farther, and nothing if it is farther.
+    ensures code { Shows (recovered_of 100 (read_as Blank 0) (worn (beyond_beside 10800 11000 11600))
+        (read_as (Word 0xF12345) 1) (together_at 0 0)) (None ∷ Some 0xF12345 ∷ Some 0xF12345 ∷ []) (0 ∷ 3 ∷ 1 ∷ []) }
+    ensures nothing { Shows (recovered_of 100 (read_as Blank 0) (worn (beyond_beside 10800 11001 19999))
+        (read_as (Word 0xF12345) 1) (together_at 0 0)) (None ∷ None ∷ Some 0xF12345 ∷ []) (0 ∷ 0 ∷ 1 ∷ []) }
+
+    // Levelled lines that would say it say nothing, so lines as they are are asked next.
+    ensures given_next { Shows (recovered_of 100 (read_as Blank 0)
+        (worn_by (levelled_as (beyond_beside 10800 11001 19999) (as_code (near_with 0xF12345 10600 10000))))
+        (read_as (Word 0xF12345) 1) (together_at 0 0)) (None ∷ Some 0xF12345 ∷ Some 0xF12345 ∷ []) (0 ∷ 3 ∷ 1 ∷ []) }
+
+    // Neither do two lines that don't agree, two lines together, or a pile.
+    ensures apart { Shows (recovered_of 100 (read_as Blank 0) (worn (beyond_beside 11200 12000 19999))
+        (worn (as_code (near_with 0xF12346 11000 10000))) (together_at 25001 29999))
+        (None ∷ None ∷ Some 0xF12346 ∷ []) (0 ∷ 0 ∷ 3 ∷ []) }
+    ensures together { Shows (recovered_of 100 (read_as Blank 0) (worn (beyond_beside 10800 11001 19999))
+        (worn (beyond_beside 10800 11001 19999)) (as_given (as_other (beyond_at 20000 30000))))
+        (None ∷ None ∷ None ∷ []) (0 ∷ 0 ∷ 0 ∷ []) }
+    ensures pile { map (λ known. said_together 100 known 2 (as_given (as_other (beyond_at 20000 30000))))
+        (true ∷ false ∷ []) ≡ None ∷ None ∷ [] }
+
+    // As a word of pass 1 it stays, and as one of pass 2 if its line says it.
+    ensures stays { Shows (recovered_of 100 (read_as Blank 0) (read_as (Word 0xF92345) 1)
+        (smoothed 0xF92345 (beyond_beside 10800 11001 19999)) (together_at 0 0))
+        (None ∷ Some 0xF92345 ∷ Some 0xF92345 ∷ []) (0 ∷ 1 ∷ 2 ∷ []) }
+    ensures falls { Shows (recovered_of 100 (read_as Blank 0) (read_as (Word 0xF92345) 1)
+        (smoothed 0xF92345 (as_other (beyond_at 10000 10799))) (together_at 0 0))
+        (None ∷ Some 0xF92345 ∷ None ∷ []) (0 ∷ 1 ∷ 0 ∷ []) }
 {}

@@ -4,7 +4,8 @@
 //! share of what the word's cells count (`is_ahead_by`), the signal neither goes on beyond the word (`goes_on`) nor has
 //! fewer cells (`is_cut`), and each half of the word counts (`is_whole`). A code that may stand on the line is asked
 //! first, and is compared with other codes alone (`said_of`). Lines 17 and 18 of most fields have one word: `do_agree`
-//! tells whether these two do, and `said_in` by which margins they speak then.
+//! tells whether these two do, and `said_in` by which margins they speak then. A picture number of 80,000 or more that
+//! is said is never recovered (`unless_beyond`), but confirms a word of pass 2 (confirmed.rt).
 //!
 //! A column counts what white is from black. A word with one bit turned is farther by the columns of a cell, which are
 //! 28 in NTSC and 35 in PAL, and each column of that cell that is turned over takes away two. So in NTSC a margin of 6
@@ -17,10 +18,12 @@ ghost use Rattle.std.specs.Prelude.{◌≡◌, ◌≤◌};
 ghost use Rattle.vbi_near.specs.Said.{is_ahead, is_ahead_by, goes_on, is_cut, is_whole, is_clear, is_close};
 ghost use Rattle.vbi_near.specs.Said.{said_of, said_if, first_said, is_said, is_same, is_one, is_borne, have_word};
 ghost use Rattle.vbi_near.specs.Said.{have_code, have_one, do_agree, may_agree, stand_of, said_in, lone_margins};
+ghost use Rattle.vbi_near.specs.Said.{unless_beyond, recovered_by};
+ghost use Rattle.vbi_near.specs.LineCodes.{is_beyond_79999};
 
 use crate::lines::Nears;
 use crate::near::Near;
-use vbi_words::Word24;
+use vbi_words::{Word24, digit};
 
 /// By how many columns the nearest word has to be ahead of any other: by this many times what white and black are off
 /// from each other. Shares are 144ths of how much nearer the word is than none.
@@ -176,12 +179,7 @@ fn said_of(unit: u32, margins: &Margins, lines: u32, near: &Nears) -> Option<Wor
 }
 
 /// The word that this many lines say, if they have a nearest word and a nearest code.
-pub(crate) fn said_if(
-    unit: u32,
-    margins: &Margins,
-    lines: u32,
-    near: Option<Nears>,
-) -> Option<Word24>
+fn said_if(unit: u32, margins: &Margins, lines: u32, near: Option<Nears>) -> Option<Word24>
     requires { lines ≤ 28 }
     ensures { result ≡ said_if unit margins.now lines near }
 {
@@ -191,11 +189,54 @@ pub(crate) fn said_if(
     }
 }
 
+/// Whether a word is that of a picture number of 80,000 or more, the top bit of its first digit counted.
+fn is_beyond_79999(word: Word24) -> bool
+    ensures { result ≡ is_beyond_79999 word }
+{
+    let word = word.value();
+    digit(word, 1) == 15
+        && digit(word, 2) >= 8
+        && digit(word, 3) <= 9
+        && digit(word, 4) <= 9
+        && digit(word, 5) <= 9
+        && digit(word, 6) <= 9
+}
+
+/// What is said, but no picture number of 80,000 or more.
+fn unless_beyond(said: Option<Word24>) -> Option<Word24>
+    ensures { result ≡ unless_beyond said }
+{
+    match said {
+        Some(word) if is_beyond_79999(word) => None,
+        _ => said,
+    }
+}
+
+/// The word that is recovered of what this many lines say, if they have a nearest word and a nearest code.
+pub(crate) fn recovered_by(
+    unit: u32,
+    margins: &Margins,
+    lines: u32,
+    near: Option<Nears>,
+) -> Option<Word24>
+    requires { lines ≤ 28 }
+    ensures { result ≡ recovered_by unit margins.now lines near }
+{
+    unless_beyond(said_if(unit, margins, lines, near))
+}
+
 /// The word that one line says for itself.
 pub(crate) fn said_by_one(unit: u32, near: Option<Nears>) -> Option<Word24>
     ensures { result ≡ said_if unit lone_margins 1 near }
 {
     said_if(unit, &LONE, 1, near)
+}
+
+/// The word that is recovered of what one line says for itself.
+pub(crate) fn recovered_by_one(unit: u32, near: Option<Nears>) -> Option<Word24>
+    ensures { result ≡ recovered_by unit lone_margins 1 near }
+{
+    unless_beyond(said_by_one(unit, near))
 }
 
 /// The word of the first that says one.
@@ -306,9 +347,9 @@ fn said_in(stand: Stand, unit: u32, near: Option<Nears>, both: Option<Nears>) ->
     ensures { result ≡ said_in stand unit near both }
 {
     match stand {
-        Stand::Alone => said_if(unit, &LONE, 1, near),
-        Stand::Apart => said_if(unit, &APART, 1, near),
-        Stand::Together => said_if(unit, &BOTH, 2, both),
+        Stand::Alone => recovered_by(unit, &LONE, 1, near),
+        Stand::Apart => recovered_by(unit, &APART, 1, near),
+        Stand::Together => recovered_by(unit, &BOTH, 2, both),
     }
 }
 

@@ -5,8 +5,8 @@ use Rattle.vbi_near.specs.Lines.{row_in}
 use Rattle.vbi_near.proofs.Asked.{open-levelled, open-near, open-shows}
 use Rattle.vbi_near.proofs.recovery.shown_alone.Goals as goal
 
-pub said_alone-said-requires : goal.said_alone-said-requires
-said_alone-said-requires c =
+pub recovered_alone-said-requires : goal.recovered_alone-said-requires
+recovered_alone-said-requires c =
     let opened : IsTrue (is_open c.args.own.outcome) = search rules in
     open-levelled c.args.row.now.system c.args.number c.args.levels (row_in c.args.row.now) c.args.own
     c.requires.own c.args.line.now c.requires.line opened
@@ -19,4 +19,4 @@ returns-then-is_open c seen both is =
     opened in
     c.recovered_as.ensures
     ∙ open-shows c.args.row.now.system c.args.number c.args.levels row c.args.own c.requires.own alone seen both
-    c.said_alone-said.result is opened (c.said_alone-said.ensures seen.near near)
+    c.recovered_alone-said.result is opened (c.recovered_alone-said.ensures seen.near near)
