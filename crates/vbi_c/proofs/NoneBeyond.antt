@@ -1,7 +1,7 @@
 -- C is answered no picture number of 80,000 or more that is recovered.
 -- never_beyond_79999 stands on it.
 use Rattle.std.proofs.Common.{◌≡◌, ◌∙◌, ℕ, Bool, List, refl, sym, ap, subst, arith, lit≤}
-use Rattle.std.specs.Prelude.{Option, Some, None, map, length, unwrap_or, slice_index_or, ◌==◌}
+use Rattle.std.specs.Prelude.{Option, Some, None, length, unwrap_or, slice_index_or, ◌==◌}
 use Rattle.std.specs.List.{All}
 use Rattle.std.proofs.lemmas.List.Elements.{All-map}
 use Rattle.vbi_words.specs.declared.outcome.Outcome.{Outcome}
