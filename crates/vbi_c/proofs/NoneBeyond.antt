@@ -1,23 +1,19 @@
 -- C is answered no picture number of 80,000 or more that is recovered.
 -- never_beyond_79999 stands on it.
-use Rattle.std.proofs.Common.{◌≡◌, ◌∙◌, ℕ, Bool, List, refl, sym, ap, subst, arith, lit≤}
-use Rattle.std.specs.Prelude.{Option, Some, None, map, length, unwrap_or, slice_index_or, ◌==◌}
+use Rattle.std.proofs.Common.{◌≡◌, ℕ, Bool, List, refl, sym, ap, subst, arith, lit≤}
+use Rattle.std.specs.Prelude.{Option, Some, None, unwrap_or, slice_index_or}
 use Rattle.std.specs.List.{All}
 use Rattle.std.proofs.lemmas.List.Elements.{All-map}
 use Rattle.vbi_words.specs.declared.outcome.Outcome.{Outcome}
 use Rattle.vbi_words.specs.declared.outcome.Outcome.TheVariants.{Word, Blank, Unfinished, Change, Hold}
 use Rattle.vbi_words.specs.Codes.{IsBetween}
 use Rattle.vbi_near.specs.declared.recovery.Recovered.{Recovered}
-use Rattle.vbi_near.specs.Distances.{unit_of}
-use Rattle.vbi_near.specs.Piled.{pile_margins}
-use Rattle.vbi_near.proofs.NeverBeyond.{field-within, two-within}
-use Rattle.vbi_c.specs.declared.erased.LdvbiErased.{LdvbiErased}
+use Rattle.vbi_near.proofs.NeverBeyond.{field-within}
 use Rattle.vbi_c.specs.declared.fields.LdvbiFieldReadings.{LdvbiFieldReadings}
 use Rattle.vbi_c.specs.declared.reading.LdvbiReading.{LdvbiReading}
 use Rattle.vbi_c.specs.declared.setup.Setup.{Setup}
 use Rattle.vbi_c.specs.Readings.{outcome_for_c}
 use Rattle.vbi_c.specs.Recovering.{recovered_for_c, AreRecovered}
-use Rattle.vbi_c.specs.Piling.{rows_erased, IsWordOf}
 
 -- the word 0, of a line that shows none, is no such number
 zero-within : IsBetween 0xF80000 0xFF9999 0 → ⊥
@@ -51,16 +47,7 @@ lines-within setup rows marks readings (lines, is, e) =
     let here = slice_index_or lines k d in line-within here.outcome here.pass (each k d less)))
 
 -- what lines say together, or 0
-said-within : (said : Option ℕ) → ((word : ℕ) → said ≡ Some word → IsBetween 0xF80000 0xFF9999 word → ⊥)
+pub said-within : (said : Option ℕ) → ((word : ℕ) → said ≡ Some word → IsBetween 0xF80000 0xFF9999 word → ⊥)
     → IsBetween 0xF80000 0xFF9999 (unwrap_or said 0) → ⊥
 said-within None within x = zero-within x
 said-within (Some w) within x = within w refl x
-
--- no lines together
-pub together-within : (setup : Setup) (line known : ℕ) (bytes : List ℕ) (erased : List LdvbiErased) (answer : ℕ)
-    → IsWordOf setup line known bytes erased answer → IsBetween 0xF80000 0xFF9999 answer → ⊥
-together-within setup line known bytes erased answer (said, (near, are, g), e) x =
-    let lines = length (rows_erased setup.system line bytes erased) in
-    said-within said
-    (λ word f. two-within (unit_of setup.levels) (pile_margins (known == 1)) lines near.levelled (Some near.given) word
-    (sym f ∙ g)) (subst (IsBetween 0xF80000 0xFF9999) e x)
