@@ -58,9 +58,9 @@ all-starts system far at end distance e is = grind (arith, same-least)
 
 -- ---- rates
 
-pub first-rate : (system : System) (far : ℕ → ℕ → ℕ) (distance : ℕ) → IsLeastAt (IsAtRate system 98) far distance
+pub first_rate : (system : System) (far : ℕ → ℕ → ℕ) (distance : ℕ) → IsLeastAt (IsAtRate system 98) far distance
     → IsLeastAt (IsRateBefore system 99) far distance
-first-rate system far distance is = grind (arith, same-least)
+first_rate system far distance is = grind (arith, same-least)
 
 pub rate-more : (system : System) (far : ℕ → ℕ → ℕ) (at a b : ℕ) → 98 ≤ at → IsLeastAt (IsRateBefore system at) far a
     → IsLeastAt (IsAtRate system at) far b → IsLeastAt (IsRateBefore system (at + 1)) far (min a b)

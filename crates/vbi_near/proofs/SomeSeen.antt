@@ -20,7 +20,7 @@ use Rattle.vbi_near.specs.Halved.{halved_far}
 use Rattle.vbi_near.specs.Nearest.{far_from}
 use Rattle.vbi_near.proofs.SomeNear.{some_near, some_near_code}
 use Rattle.vbi_near.proofs.Least.{found, at_most_told}
-use Rattle.vbi_near.proofs.LeastAt.{same-least, first-rate, rate-more}
+use Rattle.vbi_near.proofs.LeastAt.{same-least, first_rate, rate-more}
 
 -- ---- nearest words
 
@@ -109,7 +109,7 @@ some_at system far =
     let c = some_at_rate system far 100 (omega arith) in
     let d = some_at_rate system far 101 (omega arith) in
     let e = some_at_rate system far 102 (omega arith) in
-    let one = first-rate system far a.0 a.1 in
+    let one = first_rate system far a.0 a.1 in
     let two = rate-more system far 99 a.0 b.0 (omega arith) one b.1 in
     let three = rate-more system far 100 (min a.0 b.0) c.0 (omega arith) two c.1 in
     let four = rate-more system far 101 (min (min a.0 b.0) c.0) d.0 (omega arith) three d.1 in

@@ -38,8 +38,11 @@ pub fn nears_of(system: System, number: u32, darks: &[u32], lights: &[u32]) -> N
     requires dark { length darks.now ≡ width_of system }
     requires light { length lights.now ≡ width_of system }
     requires few { AreFew 28 darks.now × AreFew 28 lights.now }
-    ensures { (slicing : Slicing) (lines : List Samples) → IsPile system slicing lines (shades darks.now lights.now)
-        → HasNear system number slicing lines result }
+    ensures near { (slicing : Slicing) (lines : List Samples)
+        → IsPile system slicing lines (shades darks.now lights.now) → HasNear system number slicing lines result }
+    ensures code { (slicing : Slicing) (lines : List Samples)
+        → IsPile system slicing lines (shades darks.now lights.now)
+        → IsNearestCode system number slicing lines result.code }
 {
     let mut dark = [0; ROOM];
     let mut light = [0; ROOM];

@@ -1,17 +1,45 @@
 //! The nearest of the codes that may stand on a line, or none.
 
-ghost use Rattle.std.specs.Prelude.{◌≡◌, ◌<◌, length, List};
+ghost use Rattle.std.specs.Prelude.{◌≡◌, ◌<◌, ◌⊎◌, length, List};
 ghost use Rattle.vbi_words.specs.Levels.{Slicing};
+ghost use Rattle.vbi_words.specs.Words.{IsWord};
 ghost use Rattle.vbi_near.specs.Pictures.{starts, IsPlace};
 ghost use Rattle.vbi_near.specs.Rows.{word_cost_by, IsRowOf, IsNearCode};
 ghost use Rattle.vbi_near.specs.Best.{AreBounds};
+ghost use Rattle.vbi_near.specs.Leads.{IsCodeChosen};
 ghost use Rattle.vbi_near.specs.Distances.{Samples, Shades};
 
 use crate::beyond::longer_distance;
 use crate::codes::nearest_code;
+use crate::found::Found;
 use crate::near::{Near, word_of};
 use crate::sums::Sums;
 use crate::within::shorter_distance;
+
+/// The code found, or none.
+fn code_or_none(found: Found, longer: u32, shorter: u32) -> Near
+    requires { (found.word ≡ 0) ⊎ IsWord found.word }
+    ensures { IsCodeChosen found longer shorter result }
+{
+    if found.word == 0 {
+        return Near {
+            word: None,
+            start: 0,
+            distance: found.distance,
+            rival: found.rival,
+            longer: found.distance,
+            shorter: found.distance,
+        };
+    }
+    Near {
+        word: Some(word_of(found.word)),
+        start: found.start,
+        distance: found.distance,
+        rival: found.rival,
+        longer,
+        shorter,
+    }
+}
 
 /// The nearest of the codes that may stand on a line of this number, or none. `bounds` has for each start how near the
 /// nearest of all words that begin there is. The search begins at `first`.
@@ -25,23 +53,9 @@ pub(crate) fn near_code(sums: &Sums, line: u32, first: usize, bounds: &[u32]) ->
 {
     let lead = nearest_code(sums, line, first, bounds);
     if lead.word == 0 {
-        return Near {
-            word: None,
-            start: 0,
-            distance: lead.distance,
-            rival: lead.rival,
-            longer: lead.distance,
-            shorter: lead.distance,
-        };
+        return code_or_none(lead, 0, 0);
     }
     let longer = longer_distance(sums, lead);
     let shorter = shorter_distance(sums, lead);
-    Near {
-        word: Some(word_of(lead.word)),
-        start: lead.start,
-        distance: lead.distance,
-        rival: lead.rival,
-        longer,
-        shorter,
-    }
+    code_or_none(lead, longer, shorter)
 }

@@ -6,18 +6,6 @@ use Rattle.vbi_near.specs.Stretched.{stretched_row_cost, IsLeastAt, IsRateBefore
 use Rattle.vbi_near.proofs.LeastAt.{rate-more, stretched-same}
 use Rattle.vbi_near.proofs.stretched.stretched_distance.Goals as goal
 
-pub loop-rate-init : goal.loop-rate-init
-loop-rate-init c =
-    let first = c.distance_by-least.ensures in record {
-      least = λ rate start there. first.least rate start (omega (arith, there.0, there.1), there.2);
-      one = (
-        first.one.0,
-        first.one.1,
-        (omega (arith, first.one.2.0), omega (arith, first.one.2.0), first.one.2.1),
-        first.one.3,
-      );
-    }
-
 pub loop-rate-preserved : goal.loop-rate-preserved
 loop-rate-preserved c =
     let system = c.of-sums.result.system in
