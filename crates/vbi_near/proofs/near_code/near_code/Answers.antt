@@ -1,6 +1,4 @@
-use Rattle.std.proofs.Common.{ℕ, inl, inr, refl, arith, ap, sym, subst}
-use Rattle.std.specs.Prelude.{Some}
-use Rattle.vbi_words.specs.Words.{IsWord}
+use Rattle.std.proofs.Common.{inl, inr, arith, sym, subst}
 use Rattle.vbi_near.specs.declared.near.Near.{Near}
 use Rattle.vbi_near.specs.LineCodes.{codes_of}
 use Rattle.vbi_near.specs.Pictures.{IsPlace}
