@@ -24,8 +24,8 @@ use Rattle.vbi_near.specs.Distances.{unit_of}
 use Rattle.vbi_near.specs.Said.{said_if, unless_beyond, recovered_by, first_said, said_in, lone_margins, apart_margins}
 use Rattle.vbi_near.specs.Said.{both_margins}
 use Rattle.vbi_near.specs.Candidates.{Candidates, Row}
-use Rattle.vbi_near.specs.Recovery.{Seen, IsSeen, Stands, alone, own_of, is_open, is_confirmed, stands_of, said_by, stays}
-use Rattle.vbi_near.specs.Recovery.{recovered_as, shown_in, IsRecovered, row_at}
+use Rattle.vbi_near.specs.Recovery.{Seen, IsSeen, Stands, alone, own_of, is_open, is_confirmed, stands_of, said_by}
+use Rattle.vbi_near.specs.Recovery.{stays, recovered_as, shown_in, IsRecovered, row_at}
 use Rattle.vbi_near.proofs.Digits.{digits-beyond}
 
 -- ---- what is said

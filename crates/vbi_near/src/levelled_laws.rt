@@ -36,8 +36,8 @@ pub fn worked_samples()
     ensures filled { filled (slicing_at 100 201) (true ∷ false ∷ true ∷ []) (5 ∷ 6 ∷ 7 ∷ []) ≡ 150 ∷ 6 ∷ 150 ∷ [] }
 {}
 
-/// Lines whose samples are low and high in turn, for a number of columns each. The levelled line goes from black to white
-/// where each window has as many high columns as low ones, and roughly so where it hasn't.
+/// Lines whose samples are low and high in turn, for a number of columns each. The levelled line goes from black to
+/// white where each window has as many high columns as low ones, and roughly so where it hasn't.
 pub fn worked_waves()
     ensures swing { swing_of Ntsc (wave Ntsc 43 30000 42000) ≡ 12000 }
     ensures pal_swing { swing_of Pal (wave Pal 18 30000 42000) ≡ 12117 }
