@@ -1,5 +1,6 @@
 """What the lines of a field show: a word, or why there is none. These calls of the library read and draw lines."""
 
+import abc
 import array
 import ctypes
 import enum
@@ -145,8 +146,8 @@ class Fields(Sequence[FieldReadings]):
     """A sequence of the readings of fields, for a class that has their number and yields those from one field to before
     another."""
 
-    def _readings(self, begin: int, end: int) -> Iterator[FieldReadings]:
-        raise NotImplementedError
+    @abc.abstractmethod
+    def _readings(self, begin: int, end: int) -> Iterator[FieldReadings]: ...
 
     def __iter__(self) -> Iterator[FieldReadings]:
         return self._readings(0, len(self))
