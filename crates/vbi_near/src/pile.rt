@@ -26,6 +26,7 @@ fn sample(line: &[u8], column: usize) -> u16
 }
 
 /// As far as a sample counts at most.
+#[tactic(auto, unfolding(crate::specs::Distances::most_of))]
 fn most_of(levels: Levels) -> u16
     ensures { result ≡ most_of levels }
 {
