@@ -40,6 +40,8 @@ pub fn nears_of(system: System, number: u32, darks: &[u32], lights: &[u32]) -> N
     requires few { AreFew 28 darks.now × AreFew 28 lights.now }
     ensures near { (slicing : Slicing) (lines : List Samples)
         → IsPile system slicing lines (shades darks.now lights.now) → HasNear system number slicing lines result }
+
+    // Said once more by itself, so that `nearest_of_codes` follows without a written proof.
     ensures code { (slicing : Slicing) (lines : List Samples)
         → IsPile system slicing lines (shades darks.now lights.now)
         → IsNearestCode system number slicing lines result.code }

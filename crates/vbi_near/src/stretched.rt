@@ -103,7 +103,7 @@ fn distance_by(sums: &Sums, word: Word24, rate: usize) -> u32
     least
 }
 
-/// How far the lines are from the nearest row of a word on cells of the least rate.
+/// How far the lines are from the nearest row of a word on cells of the least rate: of all rates below the next one.
 #[tactic(auto, using(crate::proofs::LeastAt::first_rate))]
 fn distance_by_least(sums: &Sums, word: Word24) -> u32
     ensures { IsLeastAt (IsRateBefore sums.now.system 99) (stretched_row_cost (shades_of sums.now) sums.now.system word)
