@@ -9,9 +9,8 @@ use Rattle.std.proofs.lemmas.List.{take-map, drop-map, get_or-map, length-take-l
 use Rattle.std.proofs.lemmas.List.Sums.{sum_by-cons}
 use Rattle.vbi_words.specs.declared.system.System.{System}
 use Rattle.vbi_words.specs.Geometry.{width_of}
-use Rattle.vbi_words.specs.Levels.{Slicing}
 use Rattle.vbi_near.specs.Levelled.{window_of, first_of, columns_of, window_sum, sum_from, off_mean, off_in, swing_of}
-use Rattle.vbi_near.specs.Levelled.{levelled_sample, levelled_at, levelled}
+use Rattle.vbi_near.specs.Levelled.{levelled_sample, levelled_at, levelled_each, smoothed, levelled}
 use Rattle.vbi_near.specs.WorkedLevels.{raised}
 use Rattle.vbi_near.proofs.Levelling.{window_inside}
 
@@ -64,27 +63,28 @@ swing-raised system d samples long =
 
 -- ---- the levelled samples
 
-sample-raised : (slicing : Slicing) (scale own mean e : ℕ)
-    → levelled_sample slicing scale (own + e) (mean + e) ≡ levelled_sample slicing scale own mean
+sample-raised : (scale own mean e : ℕ) → levelled_sample scale (own + e) (mean + e) ≡ levelled_sample scale own mean
 unfolding levelled_sample
-sample-raised slicing scale own mean e = grind (arith, lt-leb, le-leb)
+sample-raised scale own mean e = grind (arith, lt-leb, le-leb)
 
-at-raised : (system : System) (slicing : Slicing) (scale d : ℕ) (samples : List ℕ) (column : ℕ)
+at-raised : (system : System) (scale d : ℕ) (samples : List ℕ) (column : ℕ)
     → length samples ≡ width_of system → column < width_of system
-    → levelled_at system slicing scale (raised d samples) column ≡ levelled_at system slicing scale samples column
-at-raised system slicing scale d samples column long inside =
+    → levelled_at system scale (raised d samples) column ≡ levelled_at system scale samples column
+at-raised system scale d samples column long inside =
     grind (arith, own-raised, get_or, window-raised, sample-raised)
 
 -- a line at another level is levelled to the same samples
-pub levelled-raised : (system : System) (slicing : Slicing) (d : ℕ) (samples : List ℕ)
-    → length samples ≡ width_of system
-    → levelled system slicing (raised d samples) ≡ levelled system slicing samples
-unfolding levelled
-levelled-raised system slicing d samples long =
+each-raised : (system : System) (d : ℕ) (samples : List ℕ) → length samples ≡ width_of system
+    → levelled_each system (raised d samples) ≡ levelled_each system samples
+unfolding levelled_each
+each-raised system d samples long =
     let swing : window_of system * swing_of system (raised d samples) ≡ window_of system * swing_of system samples
     = ap (λ (k : ℕ). window_of system * k) (swing-raised system d samples long) in
     let scale = window_of system * swing_of system samples in
-    ap
-    (λ (k : ℕ). map (levelled_at system slicing k (raised d samples)) (range_with_len 0 (width_of system))) swing
-    ∙ map-same (levelled_at system slicing scale (raised d samples)) (levelled_at system slicing scale samples) 0
-    (width_of system) (λ k low high. at-raised system slicing scale d samples k long (omega arith))
+    ap (λ (k : ℕ). map (levelled_at system k (raised d samples)) (range_with_len 0 (width_of system))) swing
+    ∙ map-same (levelled_at system scale (raised d samples)) (levelled_at system scale samples) 0
+    (width_of system) (λ k low high. at-raised system scale d samples k long (omega arith))
+
+pub levelled-raised : (system : System) (d : ℕ) (samples : List ℕ) → length samples ≡ width_of system
+    → levelled system (raised d samples) ≡ levelled system samples
+levelled-raised system d samples long = ap (λ (each : List ℕ). smoothed each) (each-raised system d samples long)

@@ -6,7 +6,6 @@ use Rattle.std.proofs.Common.{get_or-set_same, get_or-set_other}
 use Rattle.std.specs.List.{sum, range_with_len}
 use Rattle.std.specs.Prelude.{nat_le, min}
 use Rattle.std.proofs.lemmas.Bool.{cases_lt, le-leb, lt-leb}
-use Rattle.std.proofs.Math.Nat.{one-le-mul}
 use Rattle.std.proofs.lemmas.List.{ext_get_or, take-take, drop-take}
 use Rattle.std.proofs.lemmas.List.FromFn.{fill_by_all, sum_by-map-range_with_len_more}
 use Rattle.std.proofs.lemmas.List.Sums.{sum_by-take-drop, sum_by_more}
@@ -16,8 +15,8 @@ use Rattle.vbi_words.specs.Levels.{Slicing, samples_of}
 use Rattle.vbi_line.proofs.Slicing.{sample_of, length-samples_of}
 use Rattle.vbi_line.specs.Line.{sample_at}
 use Rattle.vbi_near.specs.Levelled.{window_of, first_of, end_of, window_start, window_sum, sum_from, off_mean, off_in}
-use Rattle.vbi_near.specs.Levelled.{middle_of, levelled_sample, filled, AreSampleSums}
-use Rattle.vbi_near.specs.Distances.{unit_of}
+use Rattle.vbi_near.specs.Levelled.{middle_of, levelled_unit, levelled_sample, filled, AreSampleSums}
+use Rattle.vbi_near.specs.Levelled.{smoothed_sample, smoothed_after, smoothed}
 use Rattle.vbi_near.proofs.Inverse.{quotient-above, quotient-below}
 
 -- ---- sums of samples
@@ -191,39 +190,96 @@ filled_all slicing erased row out room as_long all =
 -- ---- levelled samples
 
 -- one quotient for samples above the mean and below it
-pub one_quotient : (slicing : Slicing) (scale own mean : ℕ) → 0 < scale → slicing.black < slicing.white
-    → middle_of slicing ≤ 65535
-    → min ((middle_of slicing * scale + own * unit_of slicing - mean * unit_of slicing) / scale) 65535
-    ≡ levelled_sample slicing scale own mean
+pub one_quotient : (scale own mean : ℕ) → 0 < scale
+    → min ((32768 * scale + own * levelled_unit - mean * levelled_unit) / scale) 65535 ≡ levelled_sample scale own mean
 unfolding levelled_sample
-one_quotient slicing scale own mean some order few = go (cases_lt own mean)
+one_quotient scale own mean some = go (cases_lt own mean)
   where
-    u : ℕ
-    u = unit_of slicing
-
-    m : ℕ
-    m = middle_of slicing
-
     go : (own < mean) ⊎ (mean ≤ own)
-        → min ((m * scale + own * u - mean * u) / scale) 65535 ≡ levelled_sample slicing scale own mean
+        → min ((32768 * scale + own * levelled_unit - mean * levelled_unit) / scale) 65535
+        ≡ levelled_sample scale own mean
     go (inr low) =
         let e : nat_le mean own ≡ true = le-leb mean own low in
-        let d : ℕ = own - mean in
-        let whole : mean + d ≡ own = omega arith in
-        let split : mean * u + d * u ≡ own * u = omega arith ∙ ap (λ (n : ℕ). n * u) whole in
-        let same : m * scale + own * u - mean * u ≡ m * scale + d * u = omega (arith, split) in
-        let is : (m * scale + own * u - mean * u) / scale ≡ m + d * u / scale
-        = ap (λ (n : ℕ). n / scale) same ∙ quotient-above m (d * u) scale some in
+        let same : 32768 * scale + own * levelled_unit - mean * levelled_unit
+        ≡ 32768 * scale + (own - mean) * levelled_unit = omega (arith, low) in
+        let is : (32768 * scale + own * levelled_unit - mean * levelled_unit) / scale
+        ≡ 32768 + (own - mean) * levelled_unit / scale
+        = ap (λ (n : ℕ). n / scale) same ∙ quotient-above 32768 ((own - mean) * levelled_unit) scale some in
         rw e (omega (arith, is))
     go (inl high) =
         let e : nat_le mean own ≡ false = lt-leb mean own high in
-        let d : ℕ = mean - own in
-        let whole : own + d ≡ mean = omega arith in
-        let split : own * u + d * u ≡ mean * u = omega arith ∙ ap (λ (n : ℕ). n * u) whole in
-        let gap : 1 ≤ d = omega arith in
-        let unit : 1 ≤ u = omega arith in
-        let product : 1 ≤ d * u = one-le-mul gap unit in
-        let same : m * scale + own * u - mean * u ≡ m * scale - d * u = omega (arith, split) in
-        let is : (m * scale + own * u - mean * u) / scale ≡ m - (d * u + (scale - 1)) / scale
-        = ap (λ (n : ℕ). n / scale) same ∙ quotient-below m (d * u) scale some product in
-        rw e (omega (arith, is, few))
+        let some_off : 1 ≤ (mean - own) * levelled_unit = omega (arith, high) in
+        let same : 32768 * scale + own * levelled_unit - mean * levelled_unit
+        ≡ 32768 * scale - (mean - own) * levelled_unit = omega (arith, high) in
+        let is : (32768 * scale + own * levelled_unit - mean * levelled_unit) / scale
+        ≡ 32768 - ((mean - own) * levelled_unit + (scale - 1)) / scale
+        = ap (λ (n : ℕ). n / scale) same ∙ quotient-below 32768 ((mean - own) * levelled_unit) scale some some_off in
+        rw e (omega (arith, is))
+
+-- the samples before a column are those of a function
+abbrev pub AreTo : (ℕ → ℕ) → List ℕ → ℕ → Type 0
+AreTo f samples i = (k : ℕ) → k < i → get_or samples k 0 ≡ f k
+
+-- one sample more
+pub are_more : (f : ℕ → ℕ) (samples : List ℕ) (i v : ℕ) → i < length samples → v ≡ f i → AreTo f samples i
+    → AreTo f (set samples i v) (i + 1)
+are_more f samples i v inside is before k less = grind (arith, get_or, get_or-set_other, get_or-set_same)
+
+-- ---- smoothed samples
+
+-- a sample of a row smoothed, by the samples in its column and the two beside it; before the first there is the first,
+-- and after the last the last
+abbrev pub smoothed_at : List ℕ → ℕ → ℕ
+smoothed_at samples k =
+    smoothed_sample (get_or samples (k - 1) 0) (get_or samples k 0) (get_or samples (min (k + 1) (length samples - 1)) 0)
+
+length-smoothed_after : (before : ℕ) (samples : List ℕ) → length (smoothed_after before samples) ≡ length samples
+unfolding smoothed_after
+length-smoothed_after before [] = refl
+length-smoothed_after before (own ∷ []) = refl
+length-smoothed_after before (own ∷ after ∷ samples) = omega (arith, length-smoothed_after own (after ∷ samples))
+
+smoothed_after-read : (before : ℕ) (samples : List ℕ) (k : ℕ) → k < length samples
+    → get_or (smoothed_after before samples) k 0
+    ≡ smoothed_sample (get_or (before ∷ samples) k 0) (get_or samples k 0)
+    (get_or samples (min (k + 1) (length samples - 1)) 0)
+unfolding smoothed_after
+smoothed_after-read before [] k less = absurd (omega arith)
+smoothed_after-read before (own ∷ []) zero less = refl
+smoothed_after-read before (own ∷ []) (suc k) less = absurd (omega arith)
+smoothed_after-read before (own ∷ after ∷ samples) zero less =
+    let next : 1 ≡ min 1 (length (own ∷ after ∷ samples) - 1) = omega arith in
+    ap (λ (i : ℕ). smoothed_sample before own (get_or (own ∷ after ∷ samples) i 0)) next
+smoothed_after-read before (own ∷ after ∷ samples) (suc k) less =
+    let next : suc (min (k + 1) (length (after ∷ samples) - 1))
+    ≡ min (suc k + 1) (length (own ∷ after ∷ samples) - 1) = omega arith in
+    smoothed_after-read own (after ∷ samples) k (omega arith)
+    ∙ ap (λ (i : ℕ). smoothed_sample (get_or (own ∷ after ∷ samples) k 0) (get_or (after ∷ samples) k 0)
+    (get_or (own ∷ after ∷ samples) i 0)) next
+
+-- as many samples as there were
+pub length-smoothed : (samples : List ℕ) → length (smoothed samples) ≡ length samples
+unfolding smoothed
+length-smoothed [] = refl
+length-smoothed (first ∷ samples) = length-smoothed_after first (first ∷ samples)
+
+-- each of them
+pub smoothed-read : (samples : List ℕ) (k : ℕ) → k < length samples
+    → get_or (smoothed samples) k 0 ≡ smoothed_at samples k
+unfolding smoothed
+smoothed-read [] k less = absurd (omega arith)
+smoothed-read (first ∷ samples) zero less = smoothed_after-read first (first ∷ samples) zero less
+smoothed-read (first ∷ samples) (suc k) less =
+    let last : k ≡ suc k - 1 = omega arith in
+    smoothed_after-read first (first ∷ samples) (suc k) less
+    ∙ ap (λ (i : ℕ). smoothed_sample (get_or (first ∷ samples) i 0) (get_or (first ∷ samples) (suc k) 0)
+    (get_or (first ∷ samples) (min (suc k + 1) (length (first ∷ samples) - 1)) 0)) last
+
+-- bytes that have each sample smoothed
+pub smoothed_all : (samples bytes : List ℕ) → length bytes ≡ 2 * length samples
+    → WrittenTo (smoothed_at samples) bytes (length samples) → samples_of bytes ≡ smoothed samples
+smoothed_all samples bytes long all =
+    let many = length-samples_of bytes (length samples) long in
+    ext_get_or 0 (samples_of bytes) (smoothed samples) (many ∙ sym (length-smoothed samples)) (λ k less.
+    let inside : k < length samples = omega (arith, many) in
+    read_each (smoothed_at samples) bytes (length samples) long all k inside ∙ sym (smoothed-read samples k inside))

@@ -21,6 +21,7 @@ use Rattle.vbi_near.specs.declared.said.Stand.{Stand}
 use Rattle.vbi_near.specs.declared.said.Stand.TheVariants.{Alone, Apart, Together}
 use Rattle.vbi_near.specs.LineCodes.{is_beyond_79999}
 use Rattle.vbi_near.specs.Distances.{unit_of}
+use Rattle.vbi_near.specs.Levelled.{levelled_unit}
 use Rattle.vbi_near.specs.Said.{said_if, unless_beyond, recovered_by, first_said, said_in, lone_margins, apart_margins}
 use Rattle.vbi_near.specs.Said.{both_margins}
 use Rattle.vbi_near.specs.Candidates.{Candidates, Row}
@@ -62,9 +63,9 @@ in-within Together unit near both = recovered-within unit both_margins 2 both
 
 by-within : (stands : Stands) (unit : ℕ) (near both : Candidates) → IsWithin (said_by stands unit near both)
 by-within stands unit near both =
-    first-within (said_in stands.levelled unit near.levelled both.levelled)
+    first-within (said_in stands.levelled levelled_unit near.levelled both.levelled)
     (said_in stands.given unit (Some near.given) (Some both.given))
-    (in-within stands.levelled unit near.levelled both.levelled)
+    (in-within stands.levelled levelled_unit near.levelled both.levelled)
     (in-within stands.given unit (Some near.given) (Some both.given))
 
 -- ---- what a line shows
@@ -147,10 +148,10 @@ field-within system slicing rows erased recovered (first, second, third, both, s
 -- ---- lines of one word
 
 -- nor do lines say one that are asked levelled, then as they are
-pub two-within : (unit : ℕ) (margins : Margins) (lines : ℕ) (levelled given : Option Nears) (word : ℕ)
-    → Some word ≡ first_said (recovered_by unit margins lines levelled) (recovered_by unit margins lines given)
+pub two-within : (unit of : ℕ) (margins : Margins) (lines : ℕ) (levelled given : Option Nears) (word : ℕ)
+    → Some word ≡ first_said (recovered_by unit margins lines levelled) (recovered_by of margins lines given)
     → IsBetween 0xF80000 0xFF9999 word → ⊥
-two-within unit margins lines levelled given word e x =
-    let within = first-within (recovered_by unit margins lines levelled) (recovered_by unit margins lines given)
-    (recovered-within unit margins lines levelled) (recovered-within unit margins lines given) in
+two-within unit of margins lines levelled given word e x =
+    let within = first-within (recovered_by unit margins lines levelled) (recovered_by of margins lines given)
+    (recovered-within unit margins lines levelled) (recovered-within of margins lines given) in
     true≢false (sym (digits-beyond word x) ∙ within word (sym e))

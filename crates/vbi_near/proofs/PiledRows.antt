@@ -13,7 +13,7 @@ use Rattle.vbi_near.specs.declared.said.Margins.{Margins}
 use Rattle.vbi_near.specs.Said.{recovered_by, first_said}
 use Rattle.vbi_near.specs.Distances.{unit_of}
 use Rattle.vbi_near.specs.Candidates.{Row, Candidates, swing_in, has_swing, are_alike_by}
-use Rattle.vbi_near.specs.Levelled.{is_swing}
+use Rattle.vbi_near.specs.Levelled.{is_swing, levelled_unit}
 use Rattle.vbi_near.specs.Piled.{row_in, rows_in, are_all_alike, pile_margins, said_together}
 
 -- ---- the next line
@@ -96,7 +96,7 @@ bytes-long system n e = grind (arith, length-take-le, bytes-few, length-replicat
 -- what the first and the second of two tries say, by the steps in which it is found
 pub said-by : (unit u lines n : ℕ) (known : Bool) (margins : Margins) (near : Candidates)
     (first second said : Option ℕ) → u ≡ unit → margins ≡ pile_margins known → n ≡ lines
-    → first ≡ recovered_by u margins n near.levelled → second ≡ recovered_by u margins n (Some near.given)
+    → first ≡ recovered_by levelled_unit margins n near.levelled → second ≡ recovered_by u margins n (Some near.given)
     → said ≡ first_said first second → said ≡ said_together unit known lines near
 said-by unit u lines n known margins near first second said of_unit of_margins of_lines is_first is_second is =
     grind arith

@@ -15,6 +15,7 @@ use Rattle.vbi_near.specs.Stretched.{stretched_length, stretched_picture, IsLeas
 use Rattle.vbi_near.specs.Stretched.{IsStretchedPlace, IsStretched}
 use Rattle.vbi_near.specs.Candidates.{HasNear, Row, Candidates, HasNearIf, AreOf, AreOfBoth, given_samples}
 use Rattle.vbi_near.specs.Candidates.{levelled_samples, has_swing, are_alike}
+use Rattle.vbi_near.specs.Levelled.{levelled_slicing}
 use Rattle.vbi_near.specs.Recovery.{Seen, IsSeen}
 use Rattle.vbi_near.specs.Halved.{halved_far}
 use Rattle.vbi_near.specs.Nearest.{far_from}
@@ -64,7 +65,7 @@ some_near_if system number slicing false lines = (None, refl)
 pub some_candidates : (system : System) (number : ℕ) (slicing : Slicing) (row : Row)
     → (near : Candidates) × AreOf system number slicing row near
 some_candidates system number slicing row =
-    let levelled = some_near_if system number slicing (has_swing system slicing row)
+    let levelled = some_near_if system number levelled_slicing (has_swing system slicing row)
     (levelled_samples system slicing row ∷ []) in
     let given = some_nears system number slicing (given_samples row ∷ []) in
     (record { levelled = levelled.0; given = given.0 }, record { levelled = levelled.1; given = given.1 })
@@ -73,7 +74,7 @@ some_candidates system number slicing row =
 pub some_of_both : (system : System) (number : ℕ) (slicing : Slicing) (row other : Row)
     → (near : Candidates) × AreOfBoth system number slicing row other near
 some_of_both system number slicing row other =
-    let levelled = some_near_if system number slicing (are_alike system slicing row other)
+    let levelled = some_near_if system number levelled_slicing (are_alike system slicing row other)
     (levelled_samples system slicing row ∷ levelled_samples system slicing other ∷ []) in
     let given = some_nears system number slicing (given_samples row ∷ given_samples other ∷ []) in
     (record { levelled = levelled.0; given = given.0 }, record { levelled = levelled.1; given = given.1 })

@@ -8,7 +8,7 @@ use Rattle.vbi_near.specs.Nearest.{IsNearest, IsFirst, IsNearestCode, IsFirstCod
 use Rattle.vbi_near.specs.Longer.{IsLonger}
 use Rattle.vbi_near.specs.Shorter.{IsShorter}
 use Rattle.vbi_near.specs.Halved.{IsHalved}
-use Rattle.vbi_near.specs.Levelled.{filled, swing_of, is_swing, levelled}
+use Rattle.vbi_near.specs.Levelled.{filled, swing_of, is_swing, levelled, levelled_slicing}
 
 -- the nearest word of some lines, the nearest of the codes that may stand on a line of this number, and how far the
 -- lines are from half of each, and from the row of no word
@@ -46,7 +46,7 @@ filled_samples slicing row = filled slicing row.erased (samples_of row.bytes)
 
 -- the samples of the line levelled, but those that are erased
 abbrev pub levelled_samples : System → Slicing → Row → Samples
-levelled_samples system slicing row = known_but row.erased (levelled system slicing (filled_samples slicing row))
+levelled_samples system slicing row = known_but row.erased (levelled system (filled_samples slicing row))
 
 -- the swing of a line
 abbrev pub swing_in : System → Slicing → Row → ℕ
@@ -82,13 +82,13 @@ HasNearIf system number slicing can lines (Some near) = (can ≡ true) × HasNea
 
 -- the candidates of one line
 pub record AreOf (system : System) (number : ℕ) (slicing : Slicing) (row : Row) (candidates : Candidates) : Type 0 where
-  pub levelled : HasNearIf system number slicing (has_swing system slicing row)
+  pub levelled : HasNearIf system number levelled_slicing (has_swing system slicing row)
       (levelled_samples system slicing row ∷ []) candidates.levelled
   pub given : HasNear system number slicing (given_samples row ∷ []) candidates.given
 
 -- those of two lines that have one word
 pub record AreOfBoth (system : System) (number : ℕ) (slicing : Slicing) (row other : Row) (candidates : Candidates)
     : Type 0 where
-  pub levelled : HasNearIf system number slicing (are_alike system slicing row other)
+  pub levelled : HasNearIf system number levelled_slicing (are_alike system slicing row other)
       (levelled_samples system slicing row ∷ levelled_samples system slicing other ∷ []) candidates.levelled
   pub given : HasNear system number slicing (given_samples row ∷ given_samples other ∷ []) candidates.given

@@ -1,7 +1,7 @@
 -- How far some lines are from a drawn row: the sum, over all their samples, of how far each is from the drawn one, or
 -- of the most that a sample counts if that is less. So a column counts once at most in each line, whatever a dropout
 -- leaves there.
-use Rattle.std.specs.Prelude.{◌≡◌, ◌≤◌, ◌<◌, ℕ, suc, ◌+◌, ◌-◌, ◌*◌, min, Bool, true, false, List, [], ◌∷◌, length, map}
+use Rattle.std.specs.Prelude.{◌≡◌, ◌≤◌, ◌<◌, ℕ, suc, ◌+◌, ◌-◌, ◌*◌, ◌/◌, min, Bool, true, false, List, [], ◌∷◌, length, map}
 use Rattle.std.specs.Prelude.{slice_index_or, Option, Some, None}
 use Rattle.std.specs.List.{All, range_with_len}
 use Rattle.std.specs.Int.{abs_diff}
@@ -18,9 +18,10 @@ Samples = List (Option ℕ)
 abbrev pub unit_of : Slicing → ℕ
 unit_of slicing = slicing.white - slicing.black
 
--- as far as a sample counts at most: as far as white is from black
+-- as far as a sample counts at most: seven tenths of how far white is from black, rounded up. So a spike counts for
+-- little more than a sample that noise puts half way between them.
 unfoldable pub most_of : Slicing → ℕ
-most_of slicing = unit_of slicing
+most_of slicing = (7 * unit_of slicing + 9) / 10
 
 -- how far a sample is from a drawn one, or `most` if that is less; an erased one is as far from any
 abbrev pub off_by : ℕ → Option ℕ → ℕ → ℕ

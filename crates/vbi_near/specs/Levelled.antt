@@ -1,6 +1,7 @@
--- Levelled lines: the running mean over six cells is taken off, and what the samples swing about it is made as much as
--- white is above black. So the level of a signal may wander, and the signal may be weak or strong. In place of a mean
--- stands the sum of its window, and what is compared with it is multiplied by the columns of the window.
+-- Levelled lines: the running mean over six cells is taken off, what the samples swing about it is made as much as white
+-- is above black on levels of their own, and the samples are smoothed. So the level of a signal may wander, and the
+-- signal may be weak or strong. In place of a mean stands the sum of its window, and what is compared with it is
+-- multiplied by the columns of the window.
 use Rattle.std.specs.Prelude.{◌≡◌, ◌≤◌, ◌<◌, ℕ, ◌+◌, ◌-◌, ◌*◌, ◌/◌, ◌&&◌, min, max, nat_le, if◌then◌else◌}
 use Rattle.std.specs.Prelude.{Bool, true, false, List, [], ◌∷◌, length, map, take, drop, slice_index}
 use Rattle.std.specs.List.{sum, range_with_len}
@@ -69,30 +70,59 @@ is_swing unit swing = nat_le (3 * unit) (10 * swing) && nat_le (10 * swing) (16 
 
 -- ---- the levelled samples
 
--- half way between black and white, rounded down
-abbrev pub middle_of : Slicing → ℕ
-middle_of slicing = slicing.black + unit_of slicing / 2
+-- how far white is above black on levelled lines, whatever the levels of the samples
+abbrev pub levelled_unit : ℕ
+levelled_unit = 16384
+
+-- their black and white: half way between them lies the middle of the range of samples, and a sample may be beyond
+-- either by one and a half times as much
+abbrev pub levelled_slicing : Slicing
+levelled_slicing = record { black = 24576; white = 40960 }
 
 -- a sample and the mean of its window, both times the same, levelled: the mean becomes the middle, and what `scale` is
 -- becomes as much as white is above black; rounded down, and cut to the range of samples
-unfoldable pub levelled_sample : Slicing → ℕ → ℕ → ℕ → ℕ
-levelled_sample slicing scale own mean =
+unfoldable pub levelled_sample : ℕ → ℕ → ℕ → ℕ
+levelled_sample scale own mean =
     if nat_le mean own
-    then min (middle_of slicing + (own - mean) * unit_of slicing / scale) 65535
-    else middle_of slicing - ((mean - own) * unit_of slicing + (scale - 1)) / scale
+    then min (32768 + (own - mean) * levelled_unit / scale) 65535
+    else 32768 - ((mean - own) * levelled_unit + (scale - 1)) / scale
 
 -- the levelled sample of a column, by the swing times the columns of the window
-abbrev pub levelled_at : System → Slicing → ℕ → List ℕ → ℕ → ℕ
-levelled_at system slicing scale samples column =
-    levelled_sample slicing scale (window_of system * slice_index samples column) (window_sum system samples column)
+abbrev pub levelled_at : System → ℕ → List ℕ → ℕ → ℕ
+levelled_at system scale samples column =
+    levelled_sample scale (window_of system * slice_index samples column) (window_sum system samples column)
 
--- the levelled line
-unfoldable pub levelled : System → Slicing → List ℕ → List ℕ
-levelled system slicing samples =
-    map (levelled_at system slicing (window_of system * swing_of system samples) samples)
+-- the levelled samples of a line
+unfoldable pub levelled_each : System → List ℕ → List ℕ
+levelled_each system samples =
+    map (levelled_at system (window_of system * swing_of system samples) samples)
     (range_with_len 0 (width_of system))
 
+-- a sample smoothed: a quarter of the sum of the one before, twice itself and the one after, rounded down
+abbrev pub smoothed_sample : ℕ → ℕ → ℕ → ℕ
+smoothed_sample before own after = (before + 2 * own + after) / 4
+
+-- samples smoothed that come after this one; what comes after the last is as the last
+unfoldable pub smoothed_after : ℕ → List ℕ → List ℕ
+smoothed_after before [] = []
+smoothed_after before (own ∷ []) = smoothed_sample before own own ∷ []
+smoothed_after before (own ∷ after ∷ samples) =
+    smoothed_sample before own after ∷ smoothed_after own (after ∷ samples)
+
+-- samples smoothed; what comes before the first is as the first
+unfoldable pub smoothed : List ℕ → List ℕ
+smoothed [] = []
+smoothed (first ∷ samples) = smoothed_after first (first ∷ samples)
+
+-- the levelled line
+abbrev pub levelled : System → List ℕ → List ℕ
+levelled system samples = smoothed (levelled_each system samples)
+
 -- ---- erased columns
+
+-- half way between black and white, rounded down
+abbrev pub middle_of : Slicing → ℕ
+middle_of slicing = slicing.black + unit_of slicing / 2
 
 -- the samples of a line, of which the erased ones count as half way between black and white
 abbrev pub filled : Slicing → List Bool → List ℕ → List ℕ

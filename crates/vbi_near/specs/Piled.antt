@@ -10,6 +10,7 @@ use Rattle.vbi_near.specs.Distances.{unit_of}
 use Rattle.vbi_near.specs.Said.{recovered_by, first_said}
 use Rattle.vbi_near.specs.Candidates.{Row, row_of, given_samples, levelled_samples, swing_in, are_alike_by}
 use Rattle.vbi_near.specs.Candidates.{Candidates, HasNear, HasNearIf}
+use Rattle.vbi_near.specs.Levelled.{levelled_unit, levelled_slicing}
 
 -- ---- the rule
 
@@ -28,7 +29,7 @@ are_all_alike system slicing rows = swing_alike (unit_of slicing) (map (swing_in
 -- the word that this many lines say together
 abbrev pub said_together : ℕ → Bool → ℕ → Candidates → Option ℕ
 said_together unit known lines near =
-    first_said (recovered_by unit (pile_margins known) lines near.levelled)
+    first_said (recovered_by levelled_unit (pile_margins known) lines near.levelled)
     (recovered_by unit (pile_margins known) lines (Some near.given))
 
 -- ---- from lines
@@ -36,7 +37,7 @@ said_together unit known lines near =
 -- the candidates of lines that have one word
 pub record AreOfAll (system : System) (number : ℕ) (slicing : Slicing) (rows : List Row) (candidates : Candidates)
     : Type 0 where
-  pub levelled : HasNearIf system number slicing (are_all_alike system slicing rows)
+  pub levelled : HasNearIf system number levelled_slicing (are_all_alike system slicing rows)
       (map (levelled_samples system slicing) rows) candidates.levelled
   pub given : HasNear system number slicing (map given_samples rows) candidates.given
 

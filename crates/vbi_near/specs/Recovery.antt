@@ -18,6 +18,7 @@ use Rattle.vbi_near.specs.Distances.{unit_of}
 use Rattle.vbi_near.specs.Said.{lone_margins, said_if, recovered_by, first_said, is_said, stand_of, said_in}
 use Rattle.vbi_near.specs.Candidates.{Candidates, Row, row_of, given_samples, levelled_samples, has_swing, HasNearIf}
 use Rattle.vbi_near.specs.Candidates.{AreOf, AreOfBoth}
+use Rattle.vbi_near.specs.Levelled.{levelled_unit, levelled_slicing}
 use Rattle.vbi_near.specs.Stretched.{IsStretched}
 
 -- ---- one line
@@ -33,12 +34,12 @@ pub record Seen : Type 0 where
 -- the word that a line says by itself
 abbrev pub said_alone : ℕ → Candidates → Option ℕ
 said_alone unit near =
-    first_said (said_if unit lone_margins 1 near.levelled) (said_if unit lone_margins 1 (Some near.given))
+    first_said (said_if levelled_unit lone_margins 1 near.levelled) (said_if unit lone_margins 1 (Some near.given))
 
 -- the word that is recovered of what the line says by itself
 abbrev pub recovered_alone : ℕ → Candidates → Option ℕ
 recovered_alone unit near =
-    first_said (recovered_by unit lone_margins 1 near.levelled) (recovered_by unit lone_margins 1 (Some near.given))
+    first_said (recovered_by levelled_unit lone_margins 1 near.levelled) (recovered_by unit lone_margins 1 (Some near.given))
 
 -- how far the line is from the nearest row of any other word than this, or of none
 abbrev pub other_than : ℕ → Near → ℕ
@@ -96,7 +97,7 @@ alone = record { levelled = Alone; given = Alone }
 -- two open lines stand so to each other
 abbrev pub stands_by : ℕ → Candidates → Candidates → Candidates → Stands
 stands_by unit second third both = record {
-  levelled = stand_of unit second.levelled third.levelled both.levelled;
+  levelled = stand_of levelled_unit second.levelled third.levelled both.levelled;
   given = stand_of unit (Some second.given) (Some third.given) (Some both.given);
 }
 
@@ -107,7 +108,7 @@ stands_of unit second third both =
 -- the word that an open line says
 abbrev pub said_by : Stands → ℕ → Candidates → Candidates → Option ℕ
 said_by stands unit near both =
-    first_said (said_in stands.levelled unit near.levelled both.levelled)
+    first_said (said_in stands.levelled levelled_unit near.levelled both.levelled)
     (said_in stands.given unit (Some near.given) (Some both.given))
 
 -- a recovered word is of pass 3
@@ -152,7 +153,7 @@ pub record IsSeen (system : System) (number : ℕ) (slicing : Slicing) (row : Ro
 pub record IsLine (system : System) (number : ℕ) (slicing : Slicing) (row : Row) (line : Line) : Type 0 where
   pub reading : line.reading ≡ reading_of system (row_levels slicing row.bytes)
   pub levelled : IsTrue (is_asked line.reading.outcome line.reading.pass)
-      → HasNearIf system number slicing (has_swing system slicing row)
+      → HasNearIf system number levelled_slicing (has_swing system slicing row)
       (levelled_samples system slicing row ∷ []) line.levelled
 
 -- what a line is taken to show by its own levels, by whatever there is of it

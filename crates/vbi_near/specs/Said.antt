@@ -14,39 +14,40 @@ use Rattle.vbi_near.specs.LineCodes.{is_beyond_79999}
 
 -- ---- what one or two lines say
 
--- the columns by which the nearest word of one line has to be ahead: a code that may stand on the line by fewer than
--- another word
+-- A nearest word has to be ahead of any other by some columns, and by a share of what a cell counts on average in the
+-- lines. Noise makes all cells count less, a dropout some of them, and those may say anything. A cell with the other
+-- bit is farther by about twice as much as a black one, so a cell counts about a twelfth of how much nearer the word is
+-- than none, which is 24 of the 288 parts that a share is given in.
+
+-- of one line: a code that may stand on the line, and any other word
 abbrev pub lone_margins : Margins
-lone_margins = record { code = 6; other = 8; code_share = 0; other_share = 0 }
+lone_margins = record { code = 4; other = 5; code_share = 10; other_share = 8 }
 
 -- of one of two lines whose nearest words don't agree: at least one of them is badly worn, or they have two words
 abbrev pub apart_margins : Margins
-apart_margins = record { code = 10; other = 12; code_share = 0; other_share = 0 }
+apart_margins = record { code = 8; other = 10; code_share = 0; other_share = 0 }
 
--- of two lines together: also by a share of what a cell counts there on average, a code by about a third of it, another
--- word by about a quarter. Noise makes all cells count less, a dropout some of them, and those may say anything. A cell
--- with the other bit is farther by about twice as much as a black one, so a cell counts about a twelfth of how much
--- nearer the word is than none. The shares are 144ths of that.
+-- of two lines together
 abbrev pub both_margins : Margins
-both_margins = record { code = 8; other = 9; code_share = 4; other_share = 3 }
+both_margins = record { code = 8; other = 5; code_share = 10; other_share = 7 }
 
 -- any other word is farther by this many columns at least
 abbrev pub is_ahead : ℕ → ℕ → Near → Bool
 is_ahead unit columns near = nat_le (near.distance + columns * unit) near.rival
 
--- it is farther by this many 144ths at least of how much nearer the nearest word is than none, which is this far
+-- it is farther by this many 288ths at least of how much nearer the nearest word is than none, which is this far
 abbrev pub is_ahead_by : ℕ → ℕ → Near → Bool
 is_ahead_by share blank near =
-    nat_le (144 * near.distance + share * blank) (144 * near.rival + share * near.distance)
+    nat_le (288 * near.distance + share * blank) (288 * near.rival + share * near.distance)
 
--- the signal goes on beyond the word: with one more cell the drawn row is nearer by more than four columns in each line
+-- the signal goes on beyond the word: with one more cell the drawn row is nearer by more than two columns in each line
 abbrev pub goes_on : ℕ → ℕ → Near → Bool
-goes_on unit lines near = nat_lt (near.longer + 4 * lines * unit) near.distance
+goes_on unit lines near = nat_lt (near.longer + 2 * lines * unit) near.distance
 
 -- the signal has fewer cells than the word: with its first or its last one or two cells black the drawn row is nearer
--- by more than four columns in each line
+-- by more than two columns in each line
 abbrev pub is_cut : ℕ → ℕ → Near → Bool
-is_cut unit lines near = nat_lt (near.shorter + 4 * lines * unit) near.distance
+is_cut unit lines near = nat_lt (near.shorter + 2 * lines * unit) near.distance
 
 -- each half of the word counts: with its first or its last twelve cells black the row is farther, by a quarter at least
 -- of how much farther none is. Levelled, samples lie half way between black and white where there is nothing, and are
@@ -60,9 +61,9 @@ is_clear unit columns share lines blank halved near =
     is_ahead unit columns near && is_ahead_by share blank near && not (goes_on unit lines near)
     && not (is_cut unit lines near) && is_whole blank halved near
 
--- no word is nearer than the nearest code by more than ten columns
+-- no word is nearer than the nearest code by more than three columns
 abbrev pub is_close : ℕ → Nears → Bool
-is_close unit near = nat_le near.code.distance (near.word.distance + 10 * unit)
+is_close unit near = nat_le near.code.distance (near.word.distance + 3 * unit)
 
 -- the word that this many lines say: the nearest code that may stand on them, if it is so far ahead of any other code
 -- and of none, and no word is much nearer; else the nearest word, if it is so far ahead of any other

@@ -4,13 +4,13 @@ ghost use Rattle.std.specs.Prelude.{◌≡◌, ◌∷◌, [], ◌-◌, ◌^◌, 
 ghost use Rattle.vbi_words.specs.Geometry.{line_bytes, width_of};
 ghost use Rattle.vbi_words.specs.Levels.{samples_of};
 ghost use Rattle.vbi_near.specs.Lines.{row_in, first_in, other_in};
-ghost use Rattle.vbi_near.specs.Levelled.{levelled};
+ghost use Rattle.vbi_near.specs.Levelled.{levelled, levelled_slicing};
 ghost use Rattle.vbi_near.specs.Stretched.{IsStretched};
 ghost use Rattle.vbi_near.specs.Candidates.{HasNear, HasNearIf, row_of, given_samples, filled_samples, swing_in};
 ghost use Rattle.vbi_near.specs.Candidates.{has_swing};
 ghost use Rattle.vbi_near.specs.Candidates.{are_alike, are_alike_by, levelled_samples};
 
-use crate::levelled::{Summed, fill, is_swing, level, sum_samples, swing};
+use crate::levelled::{Summed, fill, is_swing, level, levelled_levels, sum_samples, swing};
 use crate::lines::Nears;
 use crate::near::WIDEST;
 use crate::pile::Pile;
@@ -73,7 +73,7 @@ pub(crate) fn level_row(
     requires out { length out.old ≡ line_bytes system }
     ensures swing { result ≡ swing_in system levels (row_of row.now erased.now) }
     ensures levelled { IsTrue (has_swing system levels (row_of row.now erased.now))
-        → samples_of out.new ≡ levelled system levels (filled_samples levels (row_of row.now erased.now)) }
+        → samples_of out.new ≡ levelled system (filled_samples levels (row_of row.now erased.now)) }
 {
     let mut buffer = [0; 2 * WIDEST];
     let whole = &mut buffer[..row.len()];
@@ -87,14 +87,14 @@ pub(crate) fn level_row(
     };
     let swing = swing(&line);
     if is_swing(unit_of(levels), swing) {
-        level(levels, &line, swing, out);
+        level(&line, swing, out);
     }
     swing
 }
 
 /// The nearest ones of one line levelled, if it swings as one with a word does.
 pub(crate) fn levelled_near_of_one(number: u32, levels: Levels, row: &Row) -> Option<Nears>
-    ensures { HasNearIf row.now.system number levels (has_swing row.now.system levels (row_in row.now))
+    ensures { HasNearIf row.now.system number levelled_slicing (has_swing row.now.system levels (row_in row.now))
         (levelled_samples row.now.system levels (row_in row.now) ∷ []) result }
 {
     let mut buffer = [0; 2 * WIDEST];
@@ -106,7 +106,7 @@ pub(crate) fn levelled_near_of_one(number: u32, levels: Levels, row: &Row) -> Op
             bytes: levelled,
             erased: row.erased,
         };
-        Some(near_of_one(number, levels, &row))
+        Some(near_of_one(number, levelled_levels(), &row))
     } else {
         None
     }
@@ -126,7 +126,7 @@ pub(crate) fn are_alike(unit: u32, swing: u32, other: u32) -> bool
 
 /// The nearest ones of two lines levelled, if both swing alike.
 pub(crate) fn levelled_near_of_two(number: u32, levels: Levels, pair: &Pair) -> Option<Nears>
-    ensures { HasNearIf pair.now.system number levels
+    ensures { HasNearIf pair.now.system number levelled_slicing
         (are_alike pair.now.system levels (first_in pair.now) (other_in pair.now))
         (levelled_samples pair.now.system levels (first_in pair.now)
         ∷ levelled_samples pair.now.system levels (other_in pair.now) ∷ []) result }
@@ -151,7 +151,7 @@ pub(crate) fn levelled_near_of_two(number: u32, levels: Levels, pair: &Pair) -> 
             other_bytes: other_levelled,
             other_erased: pair.other_erased,
         };
-        Some(near_of_two(number, levels, &pair))
+        Some(near_of_two(number, levelled_levels(), &pair))
     } else {
         None
     }

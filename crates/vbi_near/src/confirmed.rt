@@ -5,6 +5,7 @@
 //! words the line has: there is one of each.
 
 ghost use Rattle.std.specs.Prelude.{◌≡◌, ℕ, ◌-◌, ◌∷◌, []};
+ghost use Rattle.vbi_near.specs.Levelled.{levelled_slicing};
 ghost use Rattle.vbi_near.specs.Lines.{row_in};
 ghost use Rattle.vbi_near.specs.Stretched.{IsStretched};
 ghost use Rattle.vbi_near.specs.Candidates.{Candidates, candidates, given_samples, has_swing, levelled_samples};
@@ -13,6 +14,7 @@ ghost use Rattle.vbi_near.specs.Candidates.{AreOf};
 ghost use Rattle.vbi_near.specs.Recovery.{recovered_alone, other_than, is_stretched, is_confirmed};
 
 use crate::candidates::{near_of_one, stretched_of_one, unit_of};
+use crate::levelled::LEVELLED_UNIT;
 use crate::lines::Nears;
 use crate::near::Near;
 use crate::row::Row;
@@ -26,13 +28,13 @@ pub(crate) fn recovered_alone(
     row: &Row,
     levelled: &Option<Nears>,
 ) -> Option<Word24>
-    requires { HasNearIf row.now.system number levels (has_swing row.now.system levels (row_in row.now))
+    requires { HasNearIf row.now.system number levelled_slicing (has_swing row.now.system levels (row_in row.now))
         (levelled_samples row.now.system levels (row_in row.now) ∷ []) levelled.now }
     ensures { (near : Candidates) → AreOf row.now.system number levels (row_in row.now) near
         → result ≡ recovered_alone (levels.white - levels.black) near }
 {
     let unit = unit_of(levels);
-    let said = recovered_by_one(unit, *levelled);
+    let said = recovered_by_one(LEVELLED_UNIT, *levelled);
     if said.is_some() {
         return said;
     }
@@ -70,7 +72,7 @@ fn is_confirmed_by(
     ensures { result ≡ is_confirmed unit (candidates levelled.now given.now) stretched word }
 {
     let said = first_said(
-        said_by_one(unit, *levelled),
+        said_by_one(LEVELLED_UNIT, *levelled),
         said_by_one(unit, Some(*given)),
     );
     is_said(word, said) || is_stretched(unit, stretched, word, &given.word)
@@ -85,14 +87,14 @@ pub(crate) fn is_confirmed(
     levelled: &Option<Nears>,
     word: Word24,
 ) -> bool
-    requires { HasNearIf row.now.system number levels (has_swing row.now.system levels (row_in row.now))
+    requires { HasNearIf row.now.system number levelled_slicing (has_swing row.now.system levels (row_in row.now))
         (levelled_samples row.now.system levels (row_in row.now) ∷ []) levelled.now }
     ensures { (near : Candidates) (stretched : ℕ) → AreOf row.now.system number levels (row_in row.now) near
         → IsStretched row.now.system levels (given_samples (row_in row.now) ∷ []) word stretched
         → result ≡ is_confirmed (levels.white - levels.black) near stretched word }
 {
     let unit = unit_of(levels);
-    if is_said(word, said_by_one(unit, *levelled)) {
+    if is_said(word, said_by_one(LEVELLED_UNIT, *levelled)) {
         return true;
     }
     let given = near_of_one(number, levels, row);

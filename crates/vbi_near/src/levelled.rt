@@ -1,9 +1,10 @@
-//! Lines whose running mean is taken off, and whose swing is made that of white and black.
+//! Lines whose running mean is taken off, whose swing is made that of white and black on levels of their own, and whose
+//! samples are smoothed.
 //!
 //! Each cell of a word is black in one half and white in the other, so the mean of some whole cells is half way
 //! between black and white, wherever the level of the signal wanders and however weak it is. `fill` puts that middle
 //! into erased columns, `sum_samples` and `sum_windows` give each column the sum of a window about it, `swing` is
-//! twice how far the samples are from their means, in the mean of the columns, and `level` writes the line.
+//! twice how far the samples are from their means, in the mean of the columns, and `level` writes the line, by `smooth`.
 //! candidates.rt calls them in this order, and `is_swing` tells between them whether the line swings as one with a
 //! word does.
 //!
@@ -11,6 +12,9 @@
 //! show in its mean, and few enough that the mean follows hum and tilt. No window leaves the columns that a word and
 //! the black about it can have (`first`, `end`). A sum stands for a mean, and what is compared with it is multiplied
 //! by the columns of the window, so that nothing is rounded before the one division (`quotient`).
+//!
+//! Levelled lines have black and white of their own (`levelled_levels`), a quarter of the range of samples from each
+//! other, with room beyond both: a sample that a spike puts beyond white stays what it is, and isn't cut to a good one.
 //!
 //! specs/Levelled.antt has the same numbers, and levelled_laws.rt has worked lines. A change of what a line becomes
 //! changes what fields show, and so the tables of docs/measured.
@@ -22,13 +26,24 @@ ghost use Rattle.vbi_words.specs.Levels.{samples_of};
 ghost use Rattle.vbi_line.specs.Line.{sample_at};
 ghost use Rattle.vbi_near.specs.Levelled.{window_of, first_of, end_of, window_start, sum_from, window_sum, swing_of};
 ghost use Rattle.vbi_near.specs.Levelled.{is_swing};
-ghost use Rattle.vbi_near.specs.Levelled.{middle_of, levelled_sample, levelled, filled, AreSampleSums, AreWindows};
+ghost use Rattle.vbi_near.specs.Levelled.{middle_of, levelled_sample, levelled_each, smoothed_sample, smoothed, levelled};
+ghost use Rattle.vbi_near.specs.Levelled.{levelled_unit, levelled_slicing, filled, AreSampleSums, AreWindows};
 
 use crate::near::WIDEST;
 use vbi_words::{Levels, System};
 
 /// How many sums the longest line has: one before each sample, and that of all.
 pub(crate) const SUMS: usize = 1136;
+
+/// How far white is above black on levelled lines.
+pub(crate) const LEVELLED_UNIT: u32 = 16384;
+
+/// Black and white of levelled lines.
+pub(crate) fn levelled_levels() -> Levels
+    ensures { result ≡ levelled_slicing }
+{
+    Levels::new(24576, 40960).unwrap()
+}
 
 /// A line by its bytes, and the sums of its samples: for each column the sum of those before it.
 #[derive(Clone, Copy)]
@@ -247,24 +262,23 @@ fn quotient(dividend: u64, divisor: u64, inverse: u64) -> u64
 /// A sample, levelled by the mean of its window, both times the columns of the window.
 // One quotient for samples above the mean and below it: with noise a branch would be guessed wrong half the time.
 #[inline(always)]
-fn levelled_sample(levels: Levels, scale: u64, inverse: u64, own: u32, mean: u32) -> u16
+fn levelled_sample(scale: u64, inverse: u64, own: u32, mean: u32) -> u16
     requires some { 0 < scale }
     requires range { scale < 2 ^ 32 }
     requires inverse { inverse ≡ 2 ^ 48 / scale }
-    ensures { result ≡ levelled_sample levels scale own mean }
+    ensures { result ≡ levelled_sample scale own mean }
 {
-    let unit = u64::from(levels.white() - levels.black());
-    let high = u64::from(middle(levels)) * scale + u64::from(own) * unit;
+    let unit = u64::from(LEVELLED_UNIT);
+    let high = 32768 * scale + u64::from(own) * unit;
     quotient(high.saturating_sub(u64::from(mean) * unit), scale, inverse) as u16
 }
 
-/// Writes the levelled line of this swing.
-pub(crate) fn level(levels: Levels, line: &Summed, swing: u32, out: &mut [u8])
+/// Gives each column of a line of this swing its levelled sample.
+fn level_each(line: &Summed, swing: u32, samples: &mut [u16])
     requires swing { swing ≡ swing_of line.now.system (samples_of line.now.row.now) }
     requires some { 0 < swing }
-    requires out { length out.old ≡ line_bytes line.now.system }
-    ensures levelled { samples_of out.new ≡ levelled line.now.system levels (samples_of line.now.row.now) }
-    ensures long { length out.new ≡ length out.old }
+    requires room { length samples.old ≡ width_of line.now.system }
+    ensures { samples.new ≡ levelled_each line.now.system (samples_of line.now.row.now) }
 {
     let system = line.system;
     let scale = u64::from(window(system)) * u64::from(swing);
@@ -274,7 +288,44 @@ pub(crate) fn level(levels: Levels, line: &Summed, swing: u32, out: &mut [u8])
     sum_windows(line, windows);
     for column in 0..system.width() {
         let own = own(system, line.row, column);
-        let sample = levelled_sample(levels, scale, inverse, own, windows[column]);
+        samples[column] = levelled_sample(scale, inverse, own, windows[column]);
+    }
+}
+
+/// A quarter of the sum of the sample before, twice the own one, and the one after.
+#[inline(always)]
+fn smoothed_sample(before: u16, own: u16, after: u16) -> u16
+    ensures { result ≡ smoothed_sample before own after }
+{
+    ((u32::from(before) + 2 * u32::from(own) + u32::from(after)) / 4) as u16
+}
+
+/// Writes samples smoothed.
+fn smooth(samples: &[u16], out: &mut [u8])
+    requires some { 1 < length samples.now }
+    requires room { length out.old ≡ 2 * length samples.now }
+    ensures smoothed { samples_of out.new ≡ smoothed samples.now }
+    ensures long { length out.new ≡ length out.old }
+{
+    let last = samples.len() - 1;
+    put(out, 0, smoothed_sample(samples[0], samples[0], samples[1]));
+    for column in 1..last {
+        let sample = smoothed_sample(samples[column - 1], samples[column], samples[column + 1]);
         put(out, column, sample);
     }
+    put(out, last, smoothed_sample(samples[last - 1], samples[last], samples[last]));
+}
+
+/// Writes the levelled line of this swing.
+pub(crate) fn level(line: &Summed, swing: u32, out: &mut [u8])
+    requires swing { swing ≡ swing_of line.now.system (samples_of line.now.row.now) }
+    requires some { 0 < swing }
+    requires out { length out.old ≡ line_bytes line.now.system }
+    ensures levelled { samples_of out.new ≡ levelled line.now.system (samples_of line.now.row.now) }
+    ensures long { length out.new ≡ length out.old }
+{
+    let mut buffer = [0; WIDEST];
+    let samples = &mut buffer[..line.system.width()];
+    level_each(line, swing, samples);
+    smooth(samples, out);
 }

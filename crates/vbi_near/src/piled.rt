@@ -4,10 +4,12 @@ ghost use Rattle.std.specs.Prelude.{◌≡◌, ◌*◌, ◌≤◌, ◌-◌, leng
 ghost use Rattle.std.specs.List.{list_all};
 ghost use Rattle.vbi_words.specs.Geometry.{line_bytes, width_of};
 ghost use Rattle.vbi_near.specs.Candidates.{HasNear, HasNearIf, are_alike_by, given_samples, levelled_samples};
+ghost use Rattle.vbi_near.specs.Levelled.{levelled_slicing};
 ghost use Rattle.vbi_near.specs.Lines.{rows_of};
 ghost use Rattle.vbi_near.specs.Piled.{pile_margins, swing_alike, are_all_alike, IsSaidTogether, rows_in};
 
 use crate::candidates::{are_alike, level_row, unit_of};
+use crate::levelled::{LEVELLED_UNIT, levelled_levels};
 use crate::lines::Nears;
 use crate::near::WIDEST;
 use crate::pile::Pile;
@@ -66,7 +68,7 @@ fn near_of_all(number: u32, levels: Levels, rows: &Rows) -> Nears
 /// The nearest ones of lines levelled, if these may be levelled together.
 fn levelled_near_of_all(number: u32, levels: Levels, rows: &Rows) -> Option<Nears>
     requires { rows.now.count ≤ 28 }
-    ensures { HasNearIf rows.now.system number levels (are_all_alike rows.now.system levels (rows_of rows.now))
+    ensures { HasNearIf rows.now.system number levelled_slicing (are_all_alike rows.now.system levels (rows_of rows.now))
         (map (levelled_samples rows.now.system levels) (rows_of rows.now)) result }
 {
     let mut swings = [0; MOST_LINES];
@@ -74,7 +76,7 @@ fn levelled_near_of_all(number: u32, levels: Levels, rows: &Rows) -> Option<Near
     let levelled = &mut buffer[..rows.system.line_bytes()];
     let mut darks = [0; WIDEST];
     let mut lights = [0; WIDEST];
-    let mut pile = Pile::new(rows.system, levels, &mut darks, &mut lights);
+    let mut pile = Pile::new(rows.system, levelled_levels(), &mut darks, &mut lights);
     for line in 0..rows.count {
         let row = rows.row(line);
         swings[line] = level_row(rows.system, levels, row.bytes, row.erased, levelled);
@@ -113,7 +115,7 @@ pub fn recover_pile(
     };
     let levelled = levelled_near_of_all(number, levels, &rows);
     let given = near_of_all(number, levels, &rows);
-    let first = recovered_by(unit, &margins, count as u32, levelled);
+    let first = recovered_by(LEVELLED_UNIT, &margins, count as u32, levelled);
     let second = recovered_by(unit, &margins, count as u32, Some(given));
     first_said(first, second)
 }

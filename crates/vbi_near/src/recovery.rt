@@ -23,6 +23,7 @@ ghost use Rattle.vbi_words.specs.Levels.{row_levels};
 ghost use Rattle.vbi_line.specs.OneReading.{reading_of};
 ghost use Rattle.vbi_near.specs.Candidates.{Candidates, has_swing, levelled_samples, HasNearIf, AreOf};
 ghost use Rattle.vbi_near.specs.Candidates.{AreOfBoth};
+ghost use Rattle.vbi_near.specs.Levelled.{levelled_slicing};
 ghost use Rattle.vbi_near.specs.Lines.{row_in, first_in, other_in};
 ghost use Rattle.vbi_near.specs.Recovery.{Seen, own_of, is_open, are_open, stands_by, stands_of, said_by};
 ghost use Rattle.vbi_near.specs.Recovery.{recovered_as, is_asked, IsSeen, IsLine, IsOwn, IsRecovered, IsKept};
@@ -32,6 +33,7 @@ use crate::candidates::{
     levelled_near_of_one, levelled_near_of_two, near_of_one, near_of_two, unit_of,
 };
 use crate::confirmed::{is_confirmed, recovered_alone};
+use crate::levelled::LEVELLED_UNIT;
 use crate::lines::Nears;
 use crate::row::{Pair, Row, Rows};
 use crate::said::{first_said, said_by_pair};
@@ -115,7 +117,7 @@ fn is_asked(outcome: Outcome, pass: u8) -> bool
 /// A line's nearest words levelled, if they are asked for.
 fn levelled_if_asked(number: u32, levels: Levels, row: &Row, reading: &Reading) -> Option<Nears>
     ensures { IsTrue (is_asked reading.now.outcome reading.now.pass)
-        → HasNearIf row.now.system number levels (has_swing row.now.system levels (row_in row.now))
+        → HasNearIf row.now.system number levelled_slicing (has_swing row.now.system levels (row_in row.now))
         (levelled_samples row.now.system levels (row_in row.now) ∷ []) result }
 {
     if is_asked(reading.outcome, reading.pass) {
@@ -159,10 +161,10 @@ fn said_by_both(
     levelled: &Option<Nears>,
     other_levelled: &Option<Nears>,
 ) -> (Option<Word24>, Option<Word24>)
-    requires levelled { HasNearIf pair.now.system 17 levels
+    requires levelled { HasNearIf pair.now.system 17 levelled_slicing
         (has_swing pair.now.system levels (first_in pair.now))
         (levelled_samples pair.now.system levels (first_in pair.now) ∷ []) levelled.now }
-    requires other_levelled { HasNearIf pair.now.system 18 levels
+    requires other_levelled { HasNearIf pair.now.system 18 levelled_slicing
         (has_swing pair.now.system levels (other_in pair.now))
         (levelled_samples pair.now.system levels (other_in pair.now) ∷ []) other_levelled.now }
     ensures { (near again both : Candidates) → AreOf pair.now.system 17 levels (first_in pair.now) near
@@ -174,7 +176,7 @@ fn said_by_both(
 {
     let unit = unit_of(levels);
     let both = levelled_near_of_two(17, levels, pair);
-    let said = said_by_pair(unit, levelled, other_levelled, &both);
+    let said = said_by_pair(LEVELLED_UNIT, levelled, other_levelled, &both);
     if said.0.is_some() && said.1.is_some() {
         return said;
     }

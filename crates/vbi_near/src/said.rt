@@ -26,7 +26,7 @@ use crate::near::Near;
 use vbi_words::{Word24, digit};
 
 /// By how many columns the nearest word has to be ahead of any other: by this many times what white and black are off
-/// from each other. Shares are 144ths of how much nearer the word is than none.
+/// from each other. Shares are 288ths of how much nearer the word is than none.
 #[derive(Clone, Copy)]
 pub struct Margins {
     /// A code that may stand on its line.
@@ -42,17 +42,17 @@ pub struct Margins {
 /// Those of one line. A code may be less ahead than another word, 6 columns and not 8: it is compared with codes alone,
 /// and far fewer of these can be mistaken for it.
 const LONE: Margins = Margins {
-    code: 6,
-    other: 8,
-    code_share: 0,
-    other_share: 0,
+    code: 4,
+    other: 5,
+    code_share: 10,
+    other_share: 8,
 };
 
 /// Those of one of two lines that don't agree: one of them at least is badly worn, so its nearest word is worth less,
 /// and has to be ahead by four columns more than that of a line alone, 10 for 6 and 12 for 8.
 const APART: Margins = Margins {
-    code: 10,
-    other: 12,
+    code: 8,
+    other: 10,
     code_share: 0,
     other_share: 0,
 };
@@ -64,9 +64,9 @@ const APART: Margins = Margins {
 /// lines, would lose three times as many right words.
 const BOTH: Margins = Margins {
     code: 8,
-    other: 9,
-    code_share: 4,
-    other_share: 3,
+    other: 5,
+    code_share: 10,
+    other_share: 7,
 };
 
 /// How lines 17 and 18 stand to each other.
@@ -94,24 +94,24 @@ fn is_ahead_by(share: u8, blank: u32, near: &Near) -> bool
     let share = u64::from(share);
     let distance = u64::from(near.distance);
     let rival = u64::from(near.rival);
-    144 * distance + share * u64::from(blank) <= 144 * rival + share * distance
+    288 * distance + share * u64::from(blank) <= 288 * rival + share * distance
 }
 
-/// Whether the signal of this many lines goes on beyond the word: by more than 4 columns a line, since noise alone
+/// Whether the signal of this many lines goes on beyond the word: by more than 2 columns a line, since noise alone
 /// makes one more cell somewhat nearer.
 fn goes_on(unit: u32, lines: u32, near: &Near) -> bool
     requires { lines ≤ 28 }
     ensures { result ≡ goes_on unit lines near.now }
 {
-    u64::from(near.longer) + 4 * u64::from(lines) * u64::from(unit) < u64::from(near.distance)
+    u64::from(near.longer) + 2 * u64::from(lines) * u64::from(unit) < u64::from(near.distance)
 }
 
-/// Whether the signal of this many lines has fewer cells than the word, by the same 4 columns a line.
+/// Whether the signal of this many lines has fewer cells than the word, by the same 2 columns a line.
 fn is_cut(unit: u32, lines: u32, near: &Near) -> bool
     requires { lines ≤ 28 }
     ensures { result ≡ is_cut unit lines near.now }
 {
-    u64::from(near.shorter) + 4 * u64::from(lines) * u64::from(unit) < u64::from(near.distance)
+    u64::from(near.shorter) + 2 * u64::from(lines) * u64::from(unit) < u64::from(near.distance)
 }
 
 /// Whether each half of the word counts in lines that are so far from none, and from the nearer row of half of it: a
@@ -144,11 +144,11 @@ fn is_clear(unit: u32, columns: u32, share: u8, lines: u32, word: &Nearest) -> b
         && is_whole(word.blank, word.halved, word.near)
 }
 
-/// Whether no word is nearer than the nearest code by more than ten columns.
+/// Whether no word is nearer than the nearest code by more than three columns.
 fn is_close(unit: u32, near: &Nears) -> bool
     ensures { result ≡ is_close unit near.now }
 {
-    u64::from(near.code.distance) <= u64::from(near.word.distance) + 10 * u64::from(unit)
+    u64::from(near.code.distance) <= u64::from(near.word.distance) + 3 * u64::from(unit)
 }
 
 /// The word that this many lines say, if these are their nearest word and their nearest code.

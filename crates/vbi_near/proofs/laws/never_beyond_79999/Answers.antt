@@ -1,5 +1,6 @@
 use Rattle.std.specs.Prelude.{Some, length}
 use Rattle.vbi_near.specs.Distances.{unit_of}
+use Rattle.vbi_near.specs.Levelled.{levelled_unit}
 use Rattle.vbi_near.specs.Piled.{pile_margins}
 use Rattle.vbi_near.proofs.NeverBeyond.{field-within, two-within}
 use Rattle.vbi_near.proofs.laws.never_beyond_79999.Goals as goal
@@ -9,4 +10,4 @@ returns-clause-field c = field-within
 
 pub returns-clause-pile : goal.returns-clause-pile
 returns-clause-pile c system number slicing known rows word (near, are, e) x =
-    two-within (unit_of slicing) (pile_margins known) (length rows) near.levelled (Some near.given) word e x
+    two-within levelled_unit (unit_of slicing) (pile_margins known) (length rows) near.levelled (Some near.given) word e x

@@ -5,4 +5,4 @@ pub returns-clause-swing : goal.returns-clause-swing
 returns-clause-swing c system samples level long = swing-raised system level samples long
 
 pub returns-clause-levelled : goal.returns-clause-levelled
-returns-clause-levelled c system slicing samples level long = levelled-raised system slicing level samples long
+returns-clause-levelled c system samples level long = levelled-raised system level samples long

@@ -5,6 +5,7 @@ use Rattle.vbi_near.specs.Distances.{Samples, known_but, unit_of}
 use Rattle.vbi_near.specs.Candidates.{Row, levelled_samples, swing_in, has_swing}
 use Rattle.vbi_near.specs.Lines.{row_in, row_at}
 use Rattle.vbi_near.specs.Piled.{rows_in, are_all_alike, swing_alike}
+use Rattle.vbi_near.specs.Levelled.{levelled_slicing}
 use Rattle.vbi_near.specs.Pile.{IsPileOf}
 use Rattle.vbi_near.proofs.PiledRows.{rows-next, each-swings}
 use Rattle.vbi_near.proofs.piled.levelled_near_of_all.Goals as goal
@@ -39,11 +40,11 @@ loop-line-preserved c =
           ∙ sym (rows-next (swing_in system levels) system rows.bytes.now rows.erased.now line);
       swings_room = length-set c.loop-line.swings line c.level_row.result ∙ c.loop-line.invariant.swings_room;
       system = c.add.ensures.system ∙ c.loop-line.invariant.system;
-      pile = λ each. subst (λ (lines : List Samples). IsPileOf system levels lines c.add.new.self)
+      pile = λ each. subst (λ (lines : List Samples). IsPileOf system levelled_slicing lines c.add.new.self)
           (ap (λ (l : Samples). map (levelled_samples system levels) (rows_to line) ++ l ∷ [])
           (here (each line (omega arith)))
           ∙ sym (rows-next (levelled_samples system levels) system rows.bytes.now rows.erased.now line))
-          (c.add.ensures.line system levels (map (levelled_samples system levels) (rows_to line))
+          (c.add.ensures.line system levelled_slicing (map (levelled_samples system levels) (rows_to line))
           (c.loop-line.invariant.pile (λ i inside. each i (omega (arith, inside)))));
       count = omega (arith, c.add.ensures.count, c.loop-line.invariant.count);
     }
@@ -62,9 +63,9 @@ returns-then-swing_alike c =
     = ap (λ (list : List ℕ). swing_alike (unit_of levels) list) (sym swings)
     ∙ ap (λ (unit : ℕ). swing_alike unit (take rows.count c.loop-line.swings)) (sym c.unit_of.ensures.value)
     ∙ sym c.swing_alike.ensures ∙ c.if-swing_alike.true in
-    let pile : IsPileOf system levels (map (levelled_samples system levels) (rows_to rows.count)) c.loop-line.pile
+    let pile : IsPileOf system levelled_slicing (map (levelled_samples system levels) (rows_to rows.count)) c.loop-line.pile
     = subst (λ (n : ℕ). ((i : ℕ) → i < n → has_swing system levels (row_at rows i) ≡ true)
-    → IsPileOf system levels (map (levelled_samples system levels) (rows_to n)) c.loop-line.pile) e
+    → IsPileOf system levelled_slicing (map (levelled_samples system levels) (rows_to n)) c.loop-line.pile) e
     c.loop-line.invariant.pile
     (each-swings system levels rows.bytes.now rows.erased.now rows.count alike) in
-    (alike, c.nears.ensures system levels (map (levelled_samples system levels) (rows_to rows.count)) pile)
+    (alike, c.nears.ensures system levelled_slicing (map (levelled_samples system levels) (rows_to rows.count)) pile)

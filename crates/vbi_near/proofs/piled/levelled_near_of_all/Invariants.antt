@@ -3,6 +3,7 @@ use Rattle.vbi_words.specs.Geometry.{line_bytes}
 use Rattle.vbi_near.specs.Candidates.{levelled_samples, has_swing, swing_in}
 use Rattle.vbi_near.specs.Lines.{row_at}
 use Rattle.vbi_near.specs.Piled.{rows_in}
+use Rattle.vbi_near.specs.Levelled.{levelled_slicing}
 use Rattle.vbi_near.specs.Pile.{IsPileOf}
 use Rattle.vbi_near.proofs.piled.levelled_near_of_all.Given as goal
 
@@ -14,7 +15,7 @@ invariant-loop-line l = record {
   swings_room : length l.swings ≡ 28;
   system : l.pile.system ≡ l.rows.system;
   pile : ((i : ℕ) → i < l.line → has_swing l.rows.system l.levels (row_at l.rows i) ≡ true)
-      → IsPileOf l.rows.system l.levels (map (levelled_samples l.rows.system l.levels)
+      → IsPileOf l.rows.system levelled_slicing (map (levelled_samples l.rows.system l.levels)
       (rows_in l.rows.system l.rows.bytes.now l.rows.erased.now l.line)) l.pile;
   count : l.pile.count ≡ l.line;
 }

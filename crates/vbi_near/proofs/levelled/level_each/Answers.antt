@@ -1,20 +1,21 @@
 use Rattle.std.proofs.Common.{◌≡◌, ℕ, ◌*◌, ◌<◌, length, get_or, ap, subst, ◌∙◌, arith}
+use Rattle.std.proofs.lemmas.List.{length-set}
+use Rattle.std.proofs.lemmas.List.FromFn.{fill_by_all}
 use Rattle.vbi_words.specs.Geometry.{width_of}
 use Rattle.vbi_words.specs.Levels.{samples_of}
 use Rattle.vbi_words.proofs.Sizes.{line_bytes-twice}
-use Rattle.vbi_line.specs.Line.{sample_at}
 use Rattle.vbi_near.proofs.Counting.{line-samples}
-use Rattle.vbi_near.specs.Levelled.{window_of, swing_of, levelled_sample, levelled_at, levelled}
-use Rattle.vbi_near.proofs.Levelling.{WrittenTo, written_more, written_all}
+use Rattle.vbi_near.specs.Levelled.{window_of, swing_of, levelled_sample, levelled_at, levelled_each}
+use Rattle.vbi_near.proofs.Levelling.{AreTo, are_more}
 use Rattle.vbi_near.proofs.Swings.{short_bytes, scale_fits}
 use Rattle.vbi_near.proofs.Columns.{width-few}
-use Rattle.vbi_near.proofs.levelled.level.Goals as goal
+use Rattle.vbi_near.proofs.levelled.level_each.Goals as goal
 
 pub slice_bounds-buffer-end : goal.slice_bounds-buffer-end
 slice_bounds-buffer-end c = omega (arith, width-few c.args.line.now.system, c.width.ensures)
 
-pub levelled_sample-sample-requires-clause-range : goal.levelled_sample-sample-requires-clause-range
-levelled_sample-sample-requires-clause-range c =
+pub levelled_sample-requires-clause-range : goal.levelled_sample-requires-clause-range
+levelled_sample-requires-clause-range c =
     let system = c.args.line.now.system in
     let bytes = c.args.line.now.row.now in
     let wide : length bytes ≡ 2 * width_of system = c.args.line.now.whole ∙ line_bytes-twice system in
@@ -31,20 +32,20 @@ loop-column-preserved c =
     let scale = c.from.result * c.from-2.result in
     let less : column < width_of system = omega (arith, c.loop-column-test.true, c.width-column-end.ensures) in
     let mean = c.sum_windows.ensures.windows column less in
-    let here : sample_at c.put.new.line column ≡ levelled_at system c.args.levels scale samples column
-    = c.put.ensures.here ∙ c.levelled_sample-sample.ensures
-    ∙ ap (λ (n : ℕ). levelled_sample c.args.levels scale n
+    let here : c.levelled_sample.result ≡ levelled_at system scale samples column
+    = c.levelled_sample.ensures
+    ∙ ap (λ (n : ℕ). levelled_sample scale n
     (get_or c.sum_windows.new.windows column 0)) c.own-own.ensures
-    ∙ ap (λ (n : ℕ). levelled_sample c.args.levels scale (window_of system * get_or samples column 0) n) mean in
+    ∙ ap (λ (n : ℕ). levelled_sample scale (window_of system * get_or samples column 0) n) mean in
     record {
-      long = c.put.ensures.long ∙ c.loop-column.invariant.long;
-      written = written_more (levelled_at system c.args.levels scale samples) c.loop-column.out c.put.new.line column
-          here c.put.ensures.others c.loop-column.invariant.written;
+      long = length-set c.loop-column.samples column c.levelled_sample.result ∙ c.loop-column.invariant.long;
+      levelled = are_more (levelled_at system scale samples) c.loop-column.samples column c.levelled_sample.result
+          (omega (arith, less, c.loop-column.invariant.long)) here c.loop-column.invariant.levelled;
     }
 
-pub returns-clause-levelled : goal.returns-clause-levelled
-unfolding levelled
-returns-clause-levelled c =
+pub returns : goal.returns
+unfolding levelled_each
+returns c =
     let system = c.args.line.now.system in
     let samples = samples_of c.args.line.now.row.now in
     let end : c.loop-column.column ≡ width_of system
@@ -53,10 +54,8 @@ returns-clause-levelled c =
     let swing : c.from-2.result ≡ swing_of system samples = c.from-2.ensures ∙ c.requires.swing in
     let scale : c.from.result * c.from-2.result ≡ window_of system * swing_of system samples
     = ap (λ (n : ℕ). n * c.from-2.result) window ∙ ap (λ (n : ℕ). window_of system * n) swing in
-    let f : ℕ → ℕ = levelled_at system c.args.levels (window_of system * swing_of system samples) samples in
-    let P : ℕ → Type 0 = λ n.
-    WrittenTo (levelled_at system c.args.levels n samples) c.loop-column.out c.loop-column.column in
-    let all = subst P scale c.loop-column.invariant.written in
-    written_all f c.loop-column.out (width_of system)
-    (c.loop-column.invariant.long ∙ c.requires.out ∙ line_bytes-twice system)
-    (subst (WrittenTo f c.loop-column.out) end all)
+    let f : ℕ → ℕ = levelled_at system (window_of system * swing_of system samples) samples in
+    let P : ℕ → Type 0 = λ n. AreTo (levelled_at system n samples) c.loop-column.samples c.loop-column.column in
+    let all = subst P scale c.loop-column.invariant.levelled in
+    fill_by_all f c.loop-column.samples (width_of system) 0 c.loop-column.invariant.long
+    (subst (AreTo f c.loop-column.samples) end all)
