@@ -60,9 +60,13 @@ is_clear unit columns share lines blank halved near =
     is_ahead unit columns near && is_ahead_by share blank near && not (goes_on unit lines near)
     && not (is_cut unit lines near) && is_whole blank halved near
 
--- no word is nearer than the nearest code by more than ten columns
+-- how far a code may be if this is the nearest word: by ten columns farther
+abbrev pub close_limit : ℕ → Near → ℕ
+close_limit unit word = word.distance + 10 * unit
+
+-- no word is nearer than the nearest code by more than that
 abbrev pub is_close : ℕ → Nears → Bool
-is_close unit near = nat_le near.code.distance (near.word.distance + 10 * unit)
+is_close unit near = nat_le near.code.distance (close_limit unit near.word)
 
 -- the word that this many lines say: the nearest code that may stand on them, if it is so far ahead of any other code
 -- and of none, and no word is much nearer; else the nearest word, if it is so far ahead of any other

@@ -28,6 +28,8 @@ mod row;
 pub mod row_laws;
 pub mod rule_laws;
 mod said;
+mod silent;
+mod sought;
 mod starts;
 mod stretched;
 mod sums;

@@ -15,7 +15,8 @@
 //! changes with a margin.
 
 ghost use Rattle.std.specs.Prelude.{◌≡◌, ◌≤◌};
-ghost use Rattle.vbi_near.specs.Said.{is_ahead, is_ahead_by, goes_on, is_cut, is_whole, is_clear, is_close};
+ghost use Rattle.vbi_near.specs.Said.{is_ahead, is_ahead_by, goes_on, is_cut, is_whole, is_clear};
+ghost use Rattle.vbi_near.specs.Said.{close_limit, is_close};
 ghost use Rattle.vbi_near.specs.Said.{said_of, said_if, first_said, is_said, is_same, is_one, is_borne, have_word};
 ghost use Rattle.vbi_near.specs.Said.{have_code, have_one, do_agree, may_agree, stand_of, said_in, lone_margins};
 ghost use Rattle.vbi_near.specs.Said.{unless_beyond, recovered_by};
@@ -125,15 +126,15 @@ fn is_whole(blank: u32, halved: u32, near: &Near) -> bool
 
 /// A nearest word or code, and how far the lines are from none, and from the nearer row of half of it.
 #[derive(Clone, Copy)]
-struct Nearest<'a> {
-    near: &'a Near,
-    blank: u32,
-    halved: u32,
+pub(crate) struct Nearest<'a> {
+    pub(crate) near: &'a Near,
+    pub(crate) blank: u32,
+    pub(crate) halved: u32,
 }
 
 /// Whether the signal of this many lines begins and ends with the word and has both halves of it, and any other is
 /// farther by this many columns and by such a share.
-fn is_clear(unit: u32, columns: u32, share: u8, lines: u32, word: &Nearest) -> bool
+pub(crate) fn is_clear(unit: u32, columns: u32, share: u8, lines: u32, word: &Nearest) -> bool
     requires { lines ≤ 28 }
     ensures { result ≡ is_clear unit columns share lines word.now.blank word.now.halved word.now.near.now }
 {
@@ -144,11 +145,18 @@ fn is_clear(unit: u32, columns: u32, share: u8, lines: u32, word: &Nearest) -> b
         && is_whole(word.blank, word.halved, word.near)
 }
 
-/// Whether no word is nearer than the nearest code by more than ten columns.
+/// How far a code may be if this is the nearest word: by ten columns farther.
+pub(crate) fn close_limit(unit: u32, word: &Near) -> u64
+    ensures { result ≡ close_limit unit word.now }
+{
+    u64::from(word.distance) + 10 * u64::from(unit)
+}
+
+/// Whether no word is nearer than the nearest code by more than that.
 fn is_close(unit: u32, near: &Nears) -> bool
     ensures { result ≡ is_close unit near.now }
 {
-    u64::from(near.code.distance) <= u64::from(near.word.distance) + 10 * u64::from(unit)
+    u64::from(near.code.distance) <= close_limit(unit, &near.word)
 }
 
 /// The word that this many lines say, if these are their nearest word and their nearest code.
