@@ -1,121 +1,121 @@
 -- What is searched only if it is asked for says the same as what is always searched.
--- is_confirmed, recovered_alone, said_by_both, shown_alone and shown_pair stand on it.
-use Rattle.std.proofs.Common.{◌≡◌, ℕ, Bool, true, false, [], ◌∷◌, refl, sym, ap, ◌∙◌, subst}
-use Rattle.std.specs.Prelude.{Option, Some, None, is_some, IsTrue, if◌then◌else◌, ◌||◌, ◌&&◌}
+-- The functions of confirmed, paired and recovery stand on it.
+use Rattle.std.proofs.Common.{◌≡◌, ℕ, Bool, true, false, List, [], ◌∷◌, refl, sym, ap, ◌∙◌, subst}
+use Rattle.std.specs.Prelude.{◌*◌, nat_le, Option, Some, None, is_some, IsTrue, if◌then◌else◌, ◌||◌, ◌&&◌}
 use Rattle.vbi_words.specs.declared.system.System.{System}
-use Rattle.vbi_words.specs.declared.outcome.Reading.{Reading}
-use Rattle.vbi_words.specs.Levels.{Slicing}
+use Rattle.vbi_words.specs.Levels.{Slicing, samples_of}
 use Rattle.vbi_near.specs.declared.lines.Nears.{Nears}
-use Rattle.vbi_near.specs.declared.recovery.Line.{Line}
+use Rattle.vbi_near.specs.declared.said.Margins.{Margins}
+use Rattle.vbi_near.specs.declared.said.MarginSet.{MarginSet}
+use Rattle.vbi_near.specs.declared.said.Stand.TheVariants.{Apart, Together}
 use Rattle.vbi_near.specs.declared.recovery.Recovered.{Recovered}
-use Rattle.vbi_near.specs.Distances.{unit_of}
-use Rattle.vbi_near.specs.Said.{said_if, recovered_by, said_in, stand_of, first_said, lone_margins, is_said}
-use Rattle.vbi_near.specs.Candidates.{Candidates, Row, HasNear, HasNearIf, has_swing, levelled_samples, given_samples}
-use Rattle.vbi_near.specs.Candidates.{are_alike, AreOf, AreOfBoth}
-use Rattle.vbi_near.specs.Recovery.{recovered_alone, said_by, stands_by, stands_of, alone, is_confirmed}
-use Rattle.vbi_near.specs.Recovery.{IsSeen, IsLine, IsOwn, own_of, is_open, is_asked, are_open, recovered_as, shown_in}
-use Rattle.vbi_near.specs.Recovery.{is_stretched, Seen, Stands}
-use Rattle.vbi_near.proofs.OneSeen.{one_nears, one_near_if, open_asked}
-use Rattle.vbi_near.proofs.SomeSeen.{some_seen}
+use Rattle.vbi_near.specs.Distances.{Samples, unit_of, known_but}
+use Rattle.vbi_near.specs.Said.{said_of, said_if, unless_beyond, said_in, stand_of, may_agree, first_said, is_said}
+use Rattle.vbi_near.specs.Levelled.{levelled, is_swing}
+use Rattle.vbi_near.specs.Candidates.{Candidates, Row, HasNear, HasNearIf, AreOf, AreOfBoth, has_swing, levelled_samples}
+use Rattle.vbi_near.specs.Candidates.{filled_samples, are_alike_by}
+use Rattle.vbi_near.specs.Silent.{HasNearUnlessSilent, HasNearIfUnlessSilent}
+use Rattle.vbi_near.specs.Recovery.{said_by, stands_by, stands_of, alone}
+use Rattle.vbi_near.specs.Recovery.{IsSeen, IsOwn, own_of, is_open, is_asked, are_open, recovered_as, shown_in}
+use Rattle.vbi_near.specs.Recovery.{Seen, Stands}
+use Rattle.vbi_near.proofs.OneSeen.{one_nears, open_asked}
 
 -- ---- what is found first
 
 -- the first says a word, and then it is that of both
-first-says : (a b : Option ℕ) → is_some a ≡ true → a ≡ first_said a b
+pub first-says : (a b : Option ℕ) → is_some a ≡ true → a ≡ first_said a b
 first-says None b some = cc
 first-says (Some w) b some = refl
 
+-- the first says none, and then that of both is the other's
+pub other-says : (a b : Option ℕ) → is_some a ≡ false → b ≡ first_said a b
+other-says None b none = refl
+other-says (Some w) b none = cc
+
 -- a word that the first says is said by both
-is_said-first : (word : ℕ) (a b : Option ℕ) → is_said word a ≡ true → is_said word (first_said a b) ≡ true
+pub is_said-first : (word : ℕ) (a b : Option ℕ) → is_said word a ≡ true → is_said word (first_said a b) ≡ true
 is_said-first word None b is = cc
 is_said-first word (Some w) b is = is
 
--- a line says by itself what its levelled form says, if that says a word
-pub levelled-says : (unit of : ℕ) (levelled : Option Nears) (near : Candidates) (said : Option ℕ)
-    → said ≡ recovered_by unit lone_margins 1 levelled → unit ≡ of → levelled ≡ near.levelled → is_some said ≡ true
-    → said ≡ recovered_alone of near
-levelled-says unit of levelled near said e same is some =
-    first-says said (recovered_by of lone_margins 1 (Some near.given)) some
-    ∙ ap (λ (s : Option ℕ). first_said s (recovered_by of lone_margins 1 (Some near.given)))
-    (e ∙ (λ j. recovered_by (same j) lone_margins 1 (is j)))
+-- ---- lines that may be silent
 
--- and if that says none, what it says as it is
-pub given-says : (unit of : ℕ) (levelled : Option Nears) (given : Nears) (near : Candidates) (said other : Option ℕ)
-    → said ≡ recovered_by unit lone_margins 1 levelled → other ≡ recovered_by unit lone_margins 1 (Some given)
-    → unit ≡ of → levelled ≡ near.levelled → given ≡ near.given → first_said said other ≡ recovered_alone of near
-given-says unit of levelled given near said other e f same is are =
-    (λ j. first_said (e j) (f j))
-    ∙ (λ j. first_said (recovered_by (same j) lone_margins 1 (is j))
-    (recovered_by (same j) lone_margins 1 (Some (are j))))
+-- what they say
+pub heard-says : (system : System) (number : ℕ) (slicing : Slicing) (margins : Margins) (count : ℕ)
+    (lines : List Samples) (found : Option Nears) (near : Nears)
+    → HasNearUnlessSilent system number slicing margins count lines found → HasNear system number slicing lines near
+    → said_if (unit_of slicing) margins count found ≡ said_of (unit_of slicing) margins count near
+heard-says system number slicing margins count lines None near silent has = sym (silent near has)
+heard-says system number slicing margins count lines (Some found) near is has =
+    ap (said_of (unit_of slicing) margins count) (one_nears system number slicing lines found near is has)
 
--- a word that the levelled form says is confirmed
-pub levelled-confirms : (unit of : ℕ) (levelled : Option Nears) (near : Candidates) (stretched word : ℕ)
-    → is_said word (said_if unit lone_margins 1 levelled) ≡ true → unit ≡ of → levelled ≡ near.levelled
-    → true ≡ is_confirmed of near stretched word
-levelled-confirms unit of levelled near stretched word said same is =
-    let e : said_if unit lone_margins 1 levelled ≡ said_if of lone_margins 1 near.levelled =
-    λ j. said_if (same j) lone_margins 1 (is j) in
-    let first = is_said-first word (said_if of lone_margins 1 near.levelled)
-    (said_if of lone_margins 1 (Some near.given)) (subst (λ (s : Option ℕ). is_said word s ≡ true) e said) in
-    ap (λ (b : Bool). b || is_stretched of stretched word near.given.word) (sym first)
+-- lines that may have nearest words say nothing if they are silent, or if they may have none
+pub silent_if : (system : System) (number : ℕ) (slicing : Slicing) (margins : Margins) (count : ℕ) (can : Bool)
+    (lines : List Samples) → (can ≡ true → HasNearUnlessSilent system number slicing margins count lines None)
+    → HasNearIfUnlessSilent system number slicing margins count can lines None
+silent_if system number slicing margins count can lines silent None has = refl
+silent_if system number slicing margins count can lines silent (Some near) (can_be, has) = silent can_be near has
 
--- a line that stands so to another says what its levelled form is found to say, if that says a word
-pub pair-says : (unit of : ℕ) (a b c m : Option Nears) (near other both line : Candidates) (said : Option ℕ)
-    → said ≡ said_in (stand_of unit a b c) unit m c → unit ≡ of → a ≡ near.levelled → b ≡ other.levelled
-    → c ≡ both.levelled → m ≡ line.levelled → is_some said ≡ true
-    → said ≡ said_by (stands_by of near other both) of line both
-pair-says unit of a b c m near other both line said e same is are pair mine some =
-    let stands = stands_by of near other both in
-    let given = said_in stands.given of (Some line.given) (Some both.given) in
-    first-says said given some
-    ∙ ap (λ (s : Option ℕ). first_said s given)
-    (e ∙ (λ j. said_in (stand_of (same j) (is j) (are j) (pair j)) (same j) (mine j) (pair j)))
+-- nearest words that there may be, of lines that are the same if there may be such
+pub same_if : (system : System) (number : ℕ) (slicing : Slicing) (can other : Bool) (lines others : List Samples)
+    (near : Option Nears) → can ≡ other → (other ≡ true → lines ≡ others)
+    → HasNearIf system number slicing can lines near → HasNearIf system number slicing other others near
+same_if system number slicing can other lines others None e same none = sym e ∙ none
+same_if system number slicing can other lines others (Some near) e same (can_be, has) = (
+      sym e ∙ can_be,
+      subst (λ (l : List Samples). HasNear system number slicing l near) (same (sym e ∙ can_be)) has,
+    )
 
--- and if that says none, what they say as they are
-pub pair-says-given : (unit of : ℕ) (a b c m : Option Nears) (p q r n : Nears)
-    (near other both line : Candidates) (said given : Option ℕ) → said ≡ said_in (stand_of unit a b c) unit m c
-    → given ≡ said_in (stand_of unit (Some p) (Some q) (Some r)) unit (Some n) (Some r) → unit ≡ of
-    → a ≡ near.levelled → b ≡ other.levelled → c ≡ both.levelled → m ≡ line.levelled → p ≡ near.given
-    → q ≡ other.given → r ≡ both.given → n ≡ line.given
-    → first_said said given ≡ said_by (stands_by of near other both) of line both
-pair-says-given unit of a b c m p q r n near other both line said given e f same is are pair mine ps qs rs ns =
-    (λ j. first_said (e j) (f j))
-    ∙ (λ j. first_said (said_in (stand_of (same j) (is j) (are j) (pair j)) (same j) (mine j) (pair j))
-    (said_in (stand_of (same j) (Some (ps j)) (Some (qs j)) (Some (rs j))) (same j) (Some (ns j)) (Some (rs j))))
+-- lines that may have no nearest words have none
+pub none_if : (system : System) (number : ℕ) (slicing : Slicing) (can : Bool) (lines : List Samples)
+    (near : Option Nears) → can ≡ false → HasNearIf system number slicing can lines near → near ≡ None
+none_if system number slicing can lines None cannot has = refl
+none_if system number slicing can lines (Some near) cannot (can_be, has) = cc
 
--- ---- nearest words as they are found
+-- what lines say that have some, by what others say that are the same
+pub says_if : (system : System) (number : ℕ) (slicing : Slicing) (margins : Margins) (count : ℕ) (can : Bool)
+    (lines others : List Samples) (near : Option Nears) (said : Option ℕ) → can ≡ true → lines ≡ others
+    → ((n : Nears) → HasNear system number slicing others n → said ≡ said_of (unit_of slicing) margins count n)
+    → HasNearIf system number slicing can lines near → said ≡ said_if (unit_of slicing) margins count near
+says_if system number slicing margins count can lines others None said is same says none = cc
+says_if system number slicing margins count can lines others (Some near) said is same says (can_be, has) =
+    says near (subst (λ (l : List Samples). HasNear system number slicing l near) same has)
 
--- a line's candidates are those that were found
-module _ (system : System) (number : ℕ) (slicing : Slicing) (row : Row) (levelled : Option Nears)
-    (found : HasNearIf system number slicing (has_swing system slicing row) (levelled_samples system slicing row ∷ [])
-    levelled) (near : Candidates) (is : AreOf system number slicing row near) where
-  -- levelled
-  pub levelled-same : levelled ≡ near.levelled
-  levelled-same =
-      one_near_if system number slicing (has_swing system slicing row) (levelled_samples system slicing row ∷ [])
-      levelled near.levelled found is.levelled
+-- ---- levelled rows
 
-  -- as it is
-  pub given-same : (given : Nears) → HasNear system number slicing (given_samples row ∷ []) given → given ≡ near.given
-  given-same given has = one_nears system number slicing (given_samples row ∷ []) given near.given has is.given
+-- each of two that hold together holds
+both-hold : (a b : Bool) → (a && b) ≡ true → IsTrue a × IsTrue b
+both-hold true true is = (refl, refl)
+both-hold true false is = cc
+both-hold false b is = cc
 
--- and so are those of two lines
-module _ (system : System) (number : ℕ) (slicing : Slicing) (row other : Row) (both : Candidates)
-    (is : AreOfBoth system number slicing row other both) where
-  -- levelled
-  pub levelled-both : (levelled : Option Nears) → HasNearIf system number slicing (are_alike system slicing row other)
-      (levelled_samples system slicing row ∷ levelled_samples system slicing other ∷ []) levelled
-      → levelled ≡ both.levelled
-  levelled-both levelled found =
-      one_near_if system number slicing (are_alike system slicing row other)
-      (levelled_samples system slicing row ∷ levelled_samples system slicing other ∷ []) levelled both.levelled found
-      is.levelled
+-- bytes that have the samples of a row levelled if it swings as one with a word does
+pub levelled_as : (system of_system : System) (slicing : Slicing) (row of_row : Row) (bytes : List ℕ)
+    → of_system ≡ system → of_row ≡ row
+    → (has_swing of_system slicing of_row ≡ true → samples_of bytes ≡ levelled of_system (filled_samples slicing of_row))
+    → has_swing system slicing row ≡ true → levelled_samples system slicing row ≡ known_but row.erased (samples_of bytes)
+levelled_as system of_system slicing row of_row bytes is are found swings =
+    let same = found ((λ j. has_swing (is j) slicing (are j)) ∙ swings) in
+    ap (λ (samples : List ℕ). known_but row.erased samples)
+    (sym (same ∙ (λ j. levelled (is j) (filled_samples slicing (are j)))))
 
-  -- as they are
-  pub given-both : (given : Nears) → HasNear system number slicing (given_samples row ∷ given_samples other ∷ []) given
-      → given ≡ both.given
-  given-both given has =
-      one_nears system number slicing (given_samples row ∷ given_samples other ∷ []) given both.given has is.given
+-- two rows that may be levelled together swing so
+pub swing_each : (unit swing other : ℕ) → are_alike_by unit swing other ≡ true
+    → (is_swing unit swing ≡ true) × (is_swing unit other ≡ true)
+swing_each unit swing other alike =
+    both-hold (is_swing unit swing) (is_swing unit other) (both-hold _ (nat_le swing (2 * other)) (both-hold _ _ alike).0).0
+
+-- ---- lines that stand to each other
+
+-- one of two lines says nothing if both together are silent, and it for itself
+pub pair-silent : (margins : MarginSet) (unit : ℕ) (second third both near : Option Nears)
+    → said_if unit margins.both 2 both ≡ None → said_if unit margins.apart 1 near ≡ None
+    → None ≡ said_in margins (stand_of margins unit second third both) unit near both
+pair-silent margins unit second third both near together apart =
+    by_stand (may_agree unit margins.lone.ends second third both)
+  where
+    by_stand : (b : Bool) → None ≡ said_in margins (if b then Together else Apart) unit near both
+    by_stand true = ap unless_beyond (sym together)
+    by_stand false = ap unless_beyond (sym apart)
 
 -- ---- open lines
 
@@ -134,13 +134,7 @@ when-holds : (b : Bool) (x y : Stands) → b ≡ true → x ≡ (if b then x els
 when-holds true x y is = refl
 when-holds false x y is = cc
 
--- each of two that hold together holds
-both-hold : (a b : Bool) → (a && b) ≡ true → IsTrue a × IsTrue b
-both-hold true true is = (refl, refl)
-both-hold true false is = cc
-both-hold false b is = cc
-
--- a line as it is found, and what it shows by its own levels
+-- what a line is found to show by its own levels
 module _ (system : System) (number : ℕ) (slicing : Slicing) (row : Row) (own : Recovered)
     (owns : IsOwn system number slicing row own) where
   -- it is open if it is seen so
@@ -153,16 +147,6 @@ module _ (system : System) (number : ℕ) (slicing : Slicing) (row : Row) (own :
       → AreOf system number slicing row seen.near
   open-near seen is opened =
       is.near (open_asked system number slicing row seen (unit_of slicing) is (seen-open seen is opened))
-
-  -- so they are found levelled
-  pub open-levelled : (line : Line) → IsLine system number slicing row line → IsTrue (is_open own.outcome)
-      → HasNearIf system number slicing (has_swing system slicing row) (levelled_samples system slicing row ∷ [])
-      line.levelled
-  open-levelled line is opened =
-      let seen = some_seen system number slicing row in
-      let asked = open_asked system number slicing row seen.0 (unit_of slicing) seen.1
-      (seen-open seen.0 seen.1 opened) in
-      is.levelled (subst (λ (r : Reading). IsTrue (is_asked r.outcome r.pass)) (seen.1.reading ∙ sym is.reading) asked)
 
   -- an open line shows what it is found to say
   pub open-shows : (stands : Stands) (seen : Seen) (both : Candidates) (said : Option ℕ)

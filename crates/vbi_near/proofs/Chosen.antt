@@ -50,7 +50,7 @@ pub record ArePlaces (system : System) (IsOne : ℕ → Type 0) (IsThere : Optio
 pub word-places : (system : System) → ArePlaces system IsWord (IsPlace system)
 word-places system = grind arith
 
-code-is_word : (ranges : List Range) (w : ℕ) → IsOneOf ranges w → IsWord w
+pub code-is_word : (ranges : List Range) (w : ℕ) → IsOneOf ranges w → IsWord w
 code-is_word [] w none = absurd none
 code-is_word (words ∷ ranges) w (inl one) = one.0
 code-is_word (words ∷ ranges) w (inr one) = code-is_word ranges w one

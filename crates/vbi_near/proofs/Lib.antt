@@ -41,3 +41,4 @@ pub mod Swings
 pub mod Tables
 pub mod DrawnNearest
 pub mod PileOf
+pub mod Unsaid

@@ -137,7 +137,7 @@ to-ranges looks at (words ∷ ranges) s w there = go (to-ranges (look at words �
         → IsSeen looks s w ⊎ ((s ≡ at) × IsOneOf (words ∷ ranges) w)
     go either = grind arith
 
-from-ranges : (looks : List Look) (at : ℕ) (ranges : List Range) (s w : ℕ)
+pub from-ranges : (looks : List Look) (at : ℕ) (ranges : List Range) (s w : ℕ)
     → IsSeen looks s w ⊎ ((s ≡ at) × IsOneOf ranges w) → IsSeen (with_ranges looks at ranges) s w
 from-ranges looks at [] s w (inl there) = there
 from-ranges looks at [] s w (inr (e, none)) = absurd none

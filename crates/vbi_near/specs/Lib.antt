@@ -18,6 +18,9 @@ pub mod Levelled
 pub mod WorkedLevels
 pub mod Said
 pub mod Candidates
+pub mod Sought
+pub mod Silent
+pub mod Paired
 pub mod Recovery
 pub mod Piled
 pub mod Lines

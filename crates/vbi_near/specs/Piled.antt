@@ -14,10 +14,14 @@ use Rattle.vbi_near.specs.Levelled.{levelled_unit, levelled_slicing}
 
 -- ---- the rule
 
--- the columns by which the nearest word has to be ahead: a code that may stand on the lines by fewer than another word,
--- if it is known which columns are erased
+-- by how much the nearest word has to be ahead: a code that may stand on the lines by less than another word, if it is
+-- known which columns are erased
 abbrev pub pile_margins : Bool → Margins
-pile_margins known = record { code = if known then 6 else 10; other = 10; code_share = 0; other_share = 0 }
+pile_margins known = record {
+  code = record { columns = if known then 4 else 8; share = 4 };
+  other = record { columns = 8; share = 3 };
+  ends = 4;
+}
 
 -- lines that swing so may be levelled together: each two of them may
 abbrev pub swing_alike : ℕ → List ℕ → Bool

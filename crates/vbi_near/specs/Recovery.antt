@@ -9,16 +9,16 @@ use Rattle.vbi_words.specs.declared.outcome.Reading.{Reading}
 use Rattle.vbi_words.specs.Geometry.{width_of, line_at}
 use Rattle.vbi_words.specs.Levels.{Slicing, row_levels}
 use Rattle.vbi_line.specs.OneReading.{reading_of, outcome_of}
-use Rattle.vbi_near.specs.declared.recovery.Line.{Line}
 use Rattle.vbi_near.specs.declared.recovery.Recovered.{Recovered}
 use Rattle.vbi_near.specs.declared.near.Near.{Near}
 use Rattle.vbi_near.specs.declared.said.Stand.{Stand}
 use Rattle.vbi_near.specs.declared.said.Stand.TheVariants.{Alone}
 use Rattle.vbi_near.specs.Distances.{unit_of}
-use Rattle.vbi_near.specs.Said.{lone_margins, said_if, recovered_by, first_said, is_said, stand_of, said_in}
-use Rattle.vbi_near.specs.Candidates.{Candidates, Row, row_of, given_samples, levelled_samples, has_swing, HasNearIf}
+use Rattle.vbi_near.specs.Said.{levelled_margins, given_margins, said_if, recovered_by, first_said, is_said, stand_of}
+use Rattle.vbi_near.specs.Said.{said_in}
+use Rattle.vbi_near.specs.Candidates.{Candidates, Row, row_of, given_samples}
 use Rattle.vbi_near.specs.Candidates.{AreOf, AreOfBoth}
-use Rattle.vbi_near.specs.Levelled.{levelled_unit, levelled_slicing}
+use Rattle.vbi_near.specs.Levelled.{levelled_unit}
 use Rattle.vbi_near.specs.Stretched.{IsStretched}
 
 -- ---- one line
@@ -34,12 +34,14 @@ pub record Seen : Type 0 where
 -- the word that a line says by itself
 abbrev pub said_alone : ℕ → Candidates → Option ℕ
 said_alone unit near =
-    first_said (said_if levelled_unit lone_margins 1 near.levelled) (said_if unit lone_margins 1 (Some near.given))
+    first_said (said_if levelled_unit levelled_margins.lone 1 near.levelled)
+    (said_if unit given_margins.lone 1 (Some near.given))
 
 -- the word that is recovered of what the line says by itself
 abbrev pub recovered_alone : ℕ → Candidates → Option ℕ
 recovered_alone unit near =
-    first_said (recovered_by levelled_unit lone_margins 1 near.levelled) (recovered_by unit lone_margins 1 (Some near.given))
+    first_said (recovered_by levelled_unit levelled_margins.lone 1 near.levelled)
+    (recovered_by unit given_margins.lone 1 (Some near.given))
 
 -- how far the line is from the nearest row of any other word than this, or of none
 abbrev pub other_than : ℕ → Near → ℕ
@@ -97,8 +99,8 @@ alone = record { levelled = Alone; given = Alone }
 -- two open lines stand so to each other
 abbrev pub stands_by : ℕ → Candidates → Candidates → Candidates → Stands
 stands_by unit second third both = record {
-  levelled = stand_of levelled_unit second.levelled third.levelled both.levelled;
-  given = stand_of unit (Some second.given) (Some third.given) (Some both.given);
+  levelled = stand_of levelled_margins levelled_unit second.levelled third.levelled both.levelled;
+  given = stand_of given_margins unit (Some second.given) (Some third.given) (Some both.given);
 }
 
 abbrev pub stands_of : ℕ → Seen → Seen → Candidates → Stands
@@ -108,8 +110,8 @@ stands_of unit second third both =
 -- the word that an open line says
 abbrev pub said_by : Stands → ℕ → Candidates → Candidates → Option ℕ
 said_by stands unit near both =
-    first_said (said_in stands.levelled levelled_unit near.levelled both.levelled)
-    (said_in stands.given unit (Some near.given) (Some both.given))
+    first_said (said_in levelled_margins stands.levelled levelled_unit near.levelled both.levelled)
+    (said_in given_margins stands.given unit (Some near.given) (Some both.given))
 
 -- a recovered word is of pass 3
 abbrev pub recovered_as : Recovered → Option ℕ → Recovered
@@ -148,13 +150,6 @@ pub record IsSeen (system : System) (number : ℕ) (slicing : Slicing) (row : Ro
       → IsStretched system slicing (given_samples row ∷ []) word seen.stretched
 
 -- ---- as it is found
-
--- a line as it is read, and its nearest words levelled if they are asked for
-pub record IsLine (system : System) (number : ℕ) (slicing : Slicing) (row : Row) (line : Line) : Type 0 where
-  pub reading : line.reading ≡ reading_of system (row_levels slicing row.bytes)
-  pub levelled : IsTrue (is_asked line.reading.outcome line.reading.pass)
-      → HasNearIf system number levelled_slicing (has_swing system slicing row)
-      (levelled_samples system slicing row ∷ []) line.levelled
 
 -- what a line is taken to show by its own levels, by whatever there is of it
 abbrev pub IsOwn : System → ℕ → Slicing → Row → Recovered → Type 0

@@ -7,29 +7,63 @@ use Rattle.std.specs.Prelude.{ℕ, ◌+◌, ◌*◌, ◌==◌, ◌&&◌, ◌||�
 use Rattle.std.specs.Prelude.{Option, Some, None, if◌then◌else◌}
 use Rattle.vbi_near.specs.declared.near.Near.{Near}
 use Rattle.vbi_near.specs.declared.lines.Nears.{Nears}
+use Rattle.vbi_near.specs.declared.said.Margin.{Margin}
 use Rattle.vbi_near.specs.declared.said.Margins.{Margins}
+use Rattle.vbi_near.specs.declared.said.MarginSet.{MarginSet}
 use Rattle.vbi_near.specs.declared.said.Stand.{Stand}
 use Rattle.vbi_near.specs.declared.said.Stand.TheVariants.{Alone, Apart, Together}
 use Rattle.vbi_near.specs.LineCodes.{is_beyond_79999}
 
--- ---- what one or two lines say
+-- ---- by how much a word has to be ahead
 
 -- A nearest word has to be ahead of any other by some columns, and by a share of what a cell counts on average in the
 -- lines. Noise makes all cells count less, a dropout some of them, and those may say anything. A cell with the other
 -- bit is farther by about twice as much as a black one, so a cell counts about a twelfth of how much nearer the word is
--- than none, which is 24 of the 288 parts that a share is given in.
+-- than none, which is 24 of the 288 parts that a share is given in. The signal may go on beyond the word, or have fewer
+-- cells, by `ends` columns in each line.
 
--- of one line: a code that may stand on the line, and any other word
-abbrev pub lone_margins : Margins
-lone_margins = record { code = 4; other = 5; code_share = 10; other_share = 8 }
+-- on levelled lines: one line, one of two whose nearest words don't agree, so that one of them at least is badly worn or
+-- they have two words, and two lines together
+abbrev pub levelled_margins : MarginSet
+levelled_margins = record {
+  lone = record {
+    code = record { columns = 4; share = 10 };
+    other = record { columns = 5; share = 8 };
+    ends = 2;
+  };
+  apart = record {
+    code = record { columns = 8; share = 0 };
+    other = record { columns = 10; share = 0 };
+    ends = 2;
+  };
+  both = record {
+    code = record { columns = 8; share = 10 };
+    other = record { columns = 5; share = 7 };
+    ends = 2;
+  };
+}
 
--- of one of two lines whose nearest words don't agree: at least one of them is badly worn, or they have two words
-abbrev pub apart_margins : Margins
-apart_margins = record { code = 8; other = 10; code_share = 0; other_share = 0 }
+-- on lines as they are, which aren't smoothed: so noise takes more from what their ends count
+abbrev pub given_margins : MarginSet
+given_margins = record {
+  lone = record {
+    code = record { columns = 6; share = 0 };
+    other = record { columns = 8; share = 0 };
+    ends = 3;
+  };
+  apart = record {
+    code = record { columns = 8; share = 0 };
+    other = record { columns = 10; share = 0 };
+    ends = 3;
+  };
+  both = record {
+    code = record { columns = 8; share = 8 };
+    other = record { columns = 8; share = 6 };
+    ends = 3;
+  };
+}
 
--- of two lines together
-abbrev pub both_margins : Margins
-both_margins = record { code = 8; other = 5; code_share = 10; other_share = 7 }
+-- ---- what one or two lines say
 
 -- any other word is farther by this many columns at least
 abbrev pub is_ahead : ℕ → ℕ → Near → Bool
@@ -40,14 +74,15 @@ abbrev pub is_ahead_by : ℕ → ℕ → Near → Bool
 is_ahead_by share blank near =
     nat_le (288 * near.distance + share * blank) (288 * near.rival + share * near.distance)
 
--- the signal goes on beyond the word: with one more cell the drawn row is nearer by more than two columns in each line
-abbrev pub goes_on : ℕ → ℕ → Near → Bool
-goes_on unit lines near = nat_lt (near.longer + 2 * lines * unit) near.distance
+-- the signal goes on beyond the word: with one more cell the drawn row is nearer by more than so many columns in each
+-- line
+abbrev pub goes_on : ℕ → ℕ → ℕ → Near → Bool
+goes_on unit ends lines near = nat_lt (near.longer + ends * lines * unit) near.distance
 
 -- the signal has fewer cells than the word: with its first or its last one or two cells black the drawn row is nearer
--- by more than two columns in each line
-abbrev pub is_cut : ℕ → ℕ → Near → Bool
-is_cut unit lines near = nat_lt (near.shorter + 2 * lines * unit) near.distance
+-- by more than so many columns in each line
+abbrev pub is_cut : ℕ → ℕ → ℕ → Near → Bool
+is_cut unit ends lines near = nat_lt (near.shorter + ends * lines * unit) near.distance
 
 -- each half of the word counts: with its first or its last twelve cells black the row is farther, by a quarter at least
 -- of how much farther none is. Levelled, samples lie half way between black and white where there is nothing, and are
@@ -56,23 +91,27 @@ abbrev pub is_whole : ℕ → ℕ → Near → Bool
 is_whole blank halved near = nat_le (4 * near.distance + blank) (4 * halved + near.distance)
 
 -- any other word is farther by so much, and the signal begins and ends with this one, and is all there
-abbrev pub is_clear : ℕ → ℕ → ℕ → ℕ → ℕ → ℕ → Near → Bool
-is_clear unit columns share lines blank halved near =
-    is_ahead unit columns near && is_ahead_by share blank near && not (goes_on unit lines near)
-    && not (is_cut unit lines near) && is_whole blank halved near
+abbrev pub is_clear : ℕ → Margin → ℕ → ℕ → ℕ → ℕ → Near → Bool
+is_clear unit margin ends lines blank halved near =
+    is_ahead unit margin.columns near && is_ahead_by margin.share blank near && not (goes_on unit ends lines near)
+    && not (is_cut unit ends lines near) && is_whole blank halved near
 
--- no word is nearer than the nearest code by more than three columns
+-- how far a code may be if this is the nearest word: by three columns farther
+abbrev pub close_limit : ℕ → Near → ℕ
+close_limit unit word = word.distance + 3 * unit
+
+-- no word is nearer than the nearest code by more than that
 abbrev pub is_close : ℕ → Nears → Bool
-is_close unit near = nat_le near.code.distance (near.word.distance + 3 * unit)
+is_close unit near = nat_le near.code.distance (close_limit unit near.word)
 
 -- the word that this many lines say: the nearest code that may stand on them, if it is so far ahead of any other code
 -- and of none, and no word is much nearer; else the nearest word, if it is so far ahead of any other
 abbrev pub said_of : ℕ → Margins → ℕ → Nears → Option ℕ
 said_of unit margins lines near =
     if is_some near.code.word && is_close unit near
-    && is_clear unit margins.code margins.code_share lines near.blank near.code_halved near.code
+    && is_clear unit margins.code margins.ends lines near.blank near.code_halved near.code
     then near.code.word
-    else (if is_clear unit margins.other margins.other_share lines near.blank near.word_halved near.word
+    else (if is_clear unit margins.other margins.ends lines near.blank near.word_halved near.word
     then near.word.word else None)
 
 -- what is said by what there may not be
@@ -134,21 +173,22 @@ abbrev pub have_one : ℕ → Nears → Nears → Nears → Bool
 have_one unit second third both = have_word unit second third both || have_code unit second third both
 
 -- then they agree, unless each of them goes on beyond its nearest word, as two sines do
-abbrev pub do_agree : ℕ → Nears → Nears → Nears → Bool
-do_agree unit second third both =
-    have_one unit second third both && not (goes_on unit 1 second.word && goes_on unit 1 third.word)
+abbrev pub do_agree : ℕ → ℕ → Nears → Nears → Nears → Bool
+do_agree unit ends second third both =
+    have_one unit second third both && not (goes_on unit ends 1 second.word && goes_on unit ends 1 third.word)
 
 -- nor do they if the one or the other has no nearest word, or both together
-abbrev pub may_agree : ℕ → Option Nears → Option Nears → Option Nears → Bool
-may_agree unit (Some second) (Some third) (Some both) = do_agree unit second third both
-may_agree unit second third both = false
+abbrev pub may_agree : ℕ → ℕ → Option Nears → Option Nears → Option Nears → Bool
+may_agree unit ends (Some second) (Some third) (Some both) = do_agree unit ends second third both
+may_agree unit ends second third both = false
 
 -- how two open lines stand to each other
-abbrev pub stand_of : ℕ → Option Nears → Option Nears → Option Nears → Stand
-stand_of unit second third both = if may_agree unit second third both then Together else Apart
+abbrev pub stand_of : MarginSet → ℕ → Option Nears → Option Nears → Option Nears → Stand
+stand_of margins unit second third both =
+    if may_agree unit margins.lone.ends second third both then Together else Apart
 
 -- the word that an open line says by its nearest word, or by that of lines 17 and 18 together
-abbrev pub said_in : Stand → ℕ → Option Nears → Option Nears → Option ℕ
-said_in Alone unit near both = recovered_by unit lone_margins 1 near
-said_in Apart unit near both = recovered_by unit apart_margins 1 near
-said_in Together unit near both = recovered_by unit both_margins 2 both
+abbrev pub said_in : MarginSet → Stand → ℕ → Option Nears → Option Nears → Option ℕ
+said_in margins Alone unit near both = recovered_by unit margins.lone 1 near
+said_in margins Apart unit near both = recovered_by unit margins.apart 1 near
+said_in margins Together unit near both = recovered_by unit margins.both 2 both

@@ -1,21 +1,25 @@
 //! The words that lines may have: those that are nearest to their samples, as they are and levelled.
+//!
+//! `near_of_one` and `near_of_two` search them in any case, `near_unless_silent` and `both_unless_silent` only if lines
+//! may say one by some margins (silent.rt). A levelled row is searched as any other, on the levels of levelled lines.
 
-ghost use Rattle.std.specs.Prelude.{◌≡◌, ◌∷◌, [], ◌-◌, ◌^◌, ◌<◌, length, IsTrue};
-ghost use Rattle.vbi_words.specs.Geometry.{line_bytes, width_of};
+ghost use Rattle.std.specs.Prelude.{◌≡◌, ◌∷◌, [], ◌-◌, ◌^◌, ◌<◌, length, replicate, IsTrue};
+ghost use Rattle.vbi_words.specs.Geometry.{line_bytes};
 ghost use Rattle.vbi_words.specs.Levels.{samples_of};
 ghost use Rattle.vbi_near.specs.Lines.{row_in, first_in, other_in};
-ghost use Rattle.vbi_near.specs.Levelled.{levelled, levelled_slicing};
+ghost use Rattle.vbi_near.specs.Levelled.{levelled};
+ghost use Rattle.vbi_near.specs.Pile.{IsPileOf};
+ghost use Rattle.vbi_near.specs.Silent.{HasNearUnlessSilent};
 ghost use Rattle.vbi_near.specs.Stretched.{IsStretched};
-ghost use Rattle.vbi_near.specs.Candidates.{HasNear, HasNearIf, row_of, given_samples, filled_samples, swing_in};
-ghost use Rattle.vbi_near.specs.Candidates.{has_swing};
-ghost use Rattle.vbi_near.specs.Candidates.{are_alike, are_alike_by, levelled_samples};
+ghost use Rattle.vbi_near.specs.Candidates.{HasNear, given_samples, filled_samples, swing_in, has_swing, are_alike_by};
 
-use crate::levelled::{Summed, fill, is_swing, level, levelled_levels, sum_samples, swing};
+use crate::levelled::{Summed, fill, is_swing, level, sum_samples, swing};
 use crate::lines::Nears;
 use crate::near::WIDEST;
 use crate::pile::Pile;
 use crate::row::{Pair, Row};
-use vbi_words::{Levels, System, Word24};
+use crate::said::Margins;
+use vbi_words::{Levels, Word24};
 
 /// How far white is from black.
 pub(crate) fn unit_of(levels: Levels) -> u32
@@ -25,15 +29,62 @@ pub(crate) fn unit_of(levels: Levels) -> u32
     u32::from(levels.white() - levels.black())
 }
 
+/// One line, with room for what its columns cost.
+fn pile_of_one<'a>(
+    levels: Levels,
+    row: &Row,
+    darks: &'a mut [u32; WIDEST],
+    lights: &'a mut [u32; WIDEST],
+) -> Pile<'a>
+    requires { (darks.old ≡ replicate 1135 0) × (lights.old ≡ replicate 1135 0) }
+    ensures pile { IsPileOf row.now.system levels (given_samples (row_in row.now) ∷ []) result }
+    ensures one { result.count ≡ 1 }
+{
+    let mut pile = Pile::new(row.system, levels, darks, lights);
+    pile.add(row.bytes, row.erased);
+    pile
+}
+
+/// Two lines that have one word, with room for what their columns cost.
+fn pile_of_two<'a>(
+    levels: Levels,
+    pair: &Pair,
+    darks: &'a mut [u32; WIDEST],
+    lights: &'a mut [u32; WIDEST],
+) -> Pile<'a>
+    requires { (darks.old ≡ replicate 1135 0) × (lights.old ≡ replicate 1135 0) }
+    ensures pile { IsPileOf pair.now.system levels (given_samples (first_in pair.now)
+        ∷ given_samples (other_in pair.now) ∷ []) result }
+    ensures two { result.count ≡ 2 }
+{
+    let mut pile = Pile::new(pair.system, levels, darks, lights);
+    pile.add(pair.bytes, pair.erased);
+    pile.add(pair.other_bytes, pair.other_erased);
+    pile
+}
+
 /// The nearest ones of one line, by its bytes and which of its columns are erased.
 pub(crate) fn near_of_one(number: u32, levels: Levels, row: &Row) -> Nears
     ensures { HasNear row.now.system number levels (given_samples (row_in row.now) ∷ []) result }
 {
     let mut darks = [0; WIDEST];
     let mut lights = [0; WIDEST];
-    let mut pile = Pile::new(row.system, levels, &mut darks, &mut lights);
-    pile.add(row.bytes, row.erased);
-    pile.nears(number)
+    pile_of_one(levels, row, &mut darks, &mut lights).nears(number)
+}
+
+/// The same, or none if the line says nothing by these margins.
+pub(crate) fn near_unless_silent(
+    number: u32,
+    levels: Levels,
+    margins: &Margins,
+    row: &Row,
+) -> Option<Nears>
+    ensures { HasNearUnlessSilent row.now.system number levels margins.now 1 (given_samples (row_in row.now) ∷ [])
+        result }
+{
+    let mut darks = [0; WIDEST];
+    let mut lights = [0; WIDEST];
+    pile_of_one(levels, row, &mut darks, &mut lights).nears_if(number, margins)
 }
 
 /// The nearest ones of two lines that have one word.
@@ -43,10 +94,22 @@ pub(crate) fn near_of_two(number: u32, levels: Levels, pair: &Pair) -> Nears
 {
     let mut darks = [0; WIDEST];
     let mut lights = [0; WIDEST];
-    let mut pile = Pile::new(pair.system, levels, &mut darks, &mut lights);
-    pile.add(pair.bytes, pair.erased);
-    pile.add(pair.other_bytes, pair.other_erased);
-    pile.nears(number)
+    pile_of_two(levels, pair, &mut darks, &mut lights).nears(number)
+}
+
+/// The same, or none if the two say nothing together by these margins.
+pub(crate) fn both_unless_silent(
+    number: u32,
+    levels: Levels,
+    margins: &Margins,
+    pair: &Pair,
+) -> Option<Nears>
+    ensures { HasNearUnlessSilent pair.now.system number levels margins.now 2 (given_samples (first_in pair.now)
+        ∷ given_samples (other_in pair.now) ∷ []) result }
+{
+    let mut darks = [0; WIDEST];
+    let mut lights = [0; WIDEST];
+    pile_of_two(levels, pair, &mut darks, &mut lights).nears_if(number, margins)
 }
 
 /// How far a line is from the nearest row of this word on cells that are somewhat longer or shorter.
@@ -55,33 +118,24 @@ pub(crate) fn stretched_of_one(levels: Levels, row: &Row, word: Word24) -> u32
 {
     let mut darks = [0; WIDEST];
     let mut lights = [0; WIDEST];
-    let mut pile = Pile::new(row.system, levels, &mut darks, &mut lights);
-    pile.add(row.bytes, row.erased);
-    pile.stretched(word)
+    pile_of_one(levels, row, &mut darks, &mut lights).stretched(word)
 }
 
 /// Levels a line, if it swings as one with a word does, and answers its swing.
-pub(crate) fn level_row(
-    system: System,
-    levels: Levels,
-    row: &[u8],
-    erased: &[bool],
-    out: &mut [u8],
-) -> u32
-    requires row { length row.now ≡ line_bytes system }
-    requires erased { length erased.now ≡ width_of system }
-    requires out { length out.old ≡ line_bytes system }
-    ensures swing { result ≡ swing_in system levels (row_of row.now erased.now) }
-    ensures levelled { IsTrue (has_swing system levels (row_of row.now erased.now))
-        → samples_of out.new ≡ levelled system (filled_samples levels (row_of row.now erased.now)) }
+pub(crate) fn level_row(levels: Levels, row: &Row, out: &mut [u8]) -> u32
+    requires { length out.old ≡ line_bytes row.now.system }
+    ensures swing { result ≡ swing_in row.now.system levels (row_in row.now) }
+    ensures levelled { IsTrue (has_swing row.now.system levels (row_in row.now))
+        → samples_of out.new ≡ levelled row.now.system (filled_samples levels (row_in row.now)) }
+    ensures long { length out.new ≡ length out.old }
 {
     let mut buffer = [0; 2 * WIDEST];
-    let whole = &mut buffer[..row.len()];
-    fill(levels, row, erased, whole);
+    let whole = &mut buffer[..row.bytes.len()];
+    fill(levels, row.bytes, row.erased, whole);
     let mut sums = [0; WIDEST + 1];
-    sum_samples(system, whole, &mut sums);
+    sum_samples(row.system, whole, &mut sums);
     let line = Summed {
-        system,
+        system: row.system,
         row: whole,
         sums: &sums,
     };
@@ -90,26 +144,6 @@ pub(crate) fn level_row(
         level(&line, swing, out);
     }
     swing
-}
-
-/// The nearest ones of one line levelled, if it swings as one with a word does.
-pub(crate) fn levelled_near_of_one(number: u32, levels: Levels, row: &Row) -> Option<Nears>
-    ensures { HasNearIf row.now.system number levelled_slicing (has_swing row.now.system levels (row_in row.now))
-        (levelled_samples row.now.system levels (row_in row.now) ∷ []) result }
-{
-    let mut buffer = [0; 2 * WIDEST];
-    let levelled = &mut buffer[..row.bytes.len()];
-    let swing = level_row(row.system, levels, row.bytes, row.erased, levelled);
-    if is_swing(unit_of(levels), swing) {
-        let row = Row {
-            system: row.system,
-            bytes: levelled,
-            erased: row.erased,
-        };
-        Some(near_of_one(number, levelled_levels(), &row))
-    } else {
-        None
-    }
 }
 
 /// Whether two lines that swing so may be levelled together: neither swings more than twice as much as the other.
@@ -122,37 +156,4 @@ pub(crate) fn are_alike(unit: u32, swing: u32, other: u32) -> bool
         && is_swing(unit, other)
         && u64::from(swing) <= 2 * u64::from(other)
         && u64::from(other) <= 2 * u64::from(swing)
-}
-
-/// The nearest ones of two lines levelled, if both swing alike.
-pub(crate) fn levelled_near_of_two(number: u32, levels: Levels, pair: &Pair) -> Option<Nears>
-    ensures { HasNearIf pair.now.system number levelled_slicing
-        (are_alike pair.now.system levels (first_in pair.now) (other_in pair.now))
-        (levelled_samples pair.now.system levels (first_in pair.now)
-        ∷ levelled_samples pair.now.system levels (other_in pair.now) ∷ []) result }
-{
-    let mut buffer = [0; 2 * WIDEST];
-    let mut other_buffer = [0; 2 * WIDEST];
-    let levelled = &mut buffer[..pair.bytes.len()];
-    let other_levelled = &mut other_buffer[..pair.other_bytes.len()];
-    let swing = level_row(pair.system, levels, pair.bytes, pair.erased, levelled);
-    let other_swing = level_row(
-        pair.system,
-        levels,
-        pair.other_bytes,
-        pair.other_erased,
-        other_levelled,
-    );
-    if are_alike(unit_of(levels), swing, other_swing) {
-        let pair = Pair {
-            system: pair.system,
-            bytes: levelled,
-            erased: pair.erased,
-            other_bytes: other_levelled,
-            other_erased: pair.other_erased,
-        };
-        Some(near_of_two(number, levelled_levels(), &pair))
-    } else {
-        None
-    }
 }

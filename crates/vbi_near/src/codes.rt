@@ -10,7 +10,7 @@
 //! of all words is as near there. Of words that are as near, the one that begins first is kept, and of these the least
 //! (order.rt), whatever the order of the search.
 
-ghost use Rattle.std.specs.Prelude.{◌≡◌, ℕ, suc, ◌+◌, ◌*◌, ◌^◌, ◌≤◌, ◌<◌, List};
+ghost use Rattle.std.specs.Prelude.{◌≡◌, ℕ, suc, ◌+◌, ◌*◌, ◌^◌, ◌≤◌, ◌<◌, List, []};
 ghost use Rattle.std.specs.Prelude.{length, slice_index, slice_index_or};
 ghost use Rattle.vbi_words.specs.Geometry.{width_of};
 ghost use Rattle.vbi_words.specs.Codes.{digit_of};
@@ -213,8 +213,21 @@ fn codes_on(system: System, line: u32) -> &'static [Words]
     }
 }
 
+/// None, before anything was looked at.
+pub(crate) fn none(sums: &Sums) -> Found
+    ensures lead { IsLead (code_cost_by sums.now) (IsSeen []) result }
+    ensures few { IsFew result }
+{
+    Found {
+        word: 0,
+        start: 0,
+        distance: sums.blank(),
+        rival: u32::MAX,
+    }
+}
+
 /// The nearer of what was found and of the codes of a line that begin at this column.
-fn with_start(sums: &Sums, line: u32, start: usize, found: Found) -> Found
+pub(crate) fn with_start(sums: &Sums, line: u32, start: usize, found: Found) -> Found
     requires { start + word_length sums.now.system ≤ width_of sums.now.system }
     ensures lead { (looks : List Look) → IsLead (code_cost_by sums.now) (IsSeen looks) found
         → IsLead (code_cost_by sums.now) (IsSeen (with_ranges looks start (codes_of sums.now.system line))) result }
@@ -251,13 +264,7 @@ pub(crate) fn nearest_code(sums: &Sums, line: u32, first: usize, bounds: &[u32])
         result }
     ensures close { IsClose result }
 {
-    let none = Found {
-        word: 0,
-        start: 0,
-        distance: sums.blank(),
-        rival: u32::MAX,
-    };
-    let mut best = with_start(sums, line, first, none);
+    let mut best = with_start(sums, line, first, none(sums));
     for start in 0..bounds.len() {
         best = with_start_by(sums, line, start, bounds[start], best);
     }

@@ -10,10 +10,9 @@ ghost use Rattle.vbi_near.specs.Longer.{IsLonger};
 ghost use Rattle.vbi_near.specs.Shorter.{IsShorter};
 
 use crate::bits::MOST_STARTS;
-use crate::found::{nearest_word, start_count};
-use crate::halved::halved_distance;
-use crate::near::{Near, near_word};
-use crate::near_code::near_code;
+use crate::found::start_count;
+use crate::near::Near;
+use crate::sought::Sought;
 use crate::sums::{ROOM, Sums};
 use vbi_words::System;
 
@@ -48,20 +47,9 @@ pub fn nears_of(system: System, number: u32, darks: &[u32], lights: &[u32]) -> N
 {
     let mut dark = [0; ROOM];
     let mut light = [0; ROOM];
+    let mut bounds = [0; MOST_STARTS];
     let sums = Sums::of(system, darks, lights, &mut dark, &mut light);
-    let mut all_bounds = [0; MOST_STARTS];
-    let bounds = &mut all_bounds[..start_count(system)];
-    let found = nearest_word(&sums, bounds);
-    let word = near_word(&sums, found);
-    // No word is nearer than the nearest one, so the search of codes begins where that begins.
-    let code = near_code(&sums, number, found.start, bounds);
-    Nears {
-        word,
-        code,
-        blank: sums.blank(),
-        word_halved: halved_distance(&sums, &word),
-        code_halved: halved_distance(&sums, &code),
-    }
+    Sought::of(sums, &mut bounds[..start_count(system)]).nears(number)
 }
 
 /// Of the codes that may stand on a line of this number the one that is nearest to some lines, or none, by how far

@@ -11,10 +11,17 @@ ghost use Rattle.vbi_near.specs.Nearest.{IsNearest, IsFirst};
 ghost use Rattle.vbi_near.specs.Longer.{IsLonger};
 ghost use Rattle.vbi_near.specs.Shorter.{IsShorter};
 
+use crate::bits::MOST_STARTS;
+use crate::candidates::unit_of;
+use crate::found::start_count;
 use crate::lines::{Nears, nears_of};
 use crate::near::{Near, WIDEST, nearest};
 use crate::row::line_of;
+use crate::said::Margins;
+use crate::silent::{Terms, nears_if};
+use crate::sought::Sought;
 use crate::stretched::stretched_distance;
+use crate::sums::{ROOM, Sums};
 use vbi_words::{Levels, System, Word24};
 
 /// A line's sample in a column.
@@ -88,6 +95,7 @@ impl<'a> Pile<'a> {
     ghost use Rattle.vbi_near.specs.Stretched.{IsStretched};
     ghost use Rattle.vbi_near.specs.Rows.{IsNearWord};
     ghost use Rattle.vbi_near.specs.Pile.{IsPileOf};
+    ghost use Rattle.vbi_near.specs.Silent.{HasNearUnlessSilent};
 
     /// That of no lines, with room for the costs of the longest ones.
     pub(crate) fn new(
@@ -130,6 +138,24 @@ impl<'a> Pile<'a> {
             → HasNear system number slicing lines result }
     {
         nears_of(self.system, number, self.darks, self.lights)
+    }
+
+    /// The nearest words of the lines, or none if they say nothing by these margins.
+    pub(crate) fn nears_if(&self, number: u32, margins: &Margins) -> Option<Nears>
+        ensures { (system : System) (slicing : Slicing) (lines : List Samples) → IsPileOf system slicing lines self.now
+            → HasNearUnlessSilent system number slicing margins.now self.now.count lines result }
+    {
+        let mut dark = [0; ROOM];
+        let mut light = [0; ROOM];
+        let mut bounds = [0; MOST_STARTS];
+        let sums = Sums::of(self.system, self.darks, self.lights, &mut dark, &mut light);
+        let terms = Terms {
+            unit: unit_of(self.levels),
+            margins,
+            lines: self.count as u32,
+        };
+        let sought = Sought::of(sums, &mut bounds[..start_count(self.system)]);
+        nears_if(&sought, number, &terms)
     }
 
     /// How far the lines are from the nearest row of this word on cells that are somewhat longer or shorter.

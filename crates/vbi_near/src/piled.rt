@@ -14,23 +14,29 @@ use crate::lines::Nears;
 use crate::near::WIDEST;
 use crate::pile::Pile;
 use crate::row::Rows;
-use crate::said::{Margins, first_said, recovered_by};
+use crate::said::{Margin, Margins, first_said, recovered_by};
 use vbi_words::{Levels, System, Word24};
 
 /// This many lines at most: the sums of more could pass 32 bits.
 const MOST_LINES: usize = 28;
 
-/// By how many columns the nearest word has to be ahead, by whether the erased columns are known. If they are, no
-/// dropout is left in what is summed up, and a code needs the 6 columns that it needs on one line. Else a dropout at
-/// one place of all lines may turn a code into another one, so it needs as many as any other word, 10.
+/// By how much the nearest word has to be ahead, by whether the erased columns are known. If they are, no dropout is
+/// left in what is summed up, and a code needs the 4 columns that it needs on one line. Else a dropout at one place of
+/// all lines may turn a code into another one, so it needs as many as any other word, 8. The shares keep back what many
+/// lines say that have hardly anything left in common.
 fn pile_margins(known: bool) -> Margins
     ensures { result ≡ pile_margins known }
 {
     Margins {
-        code: if known { 6 } else { 10 },
-        other: 10,
-        code_share: 0,
-        other_share: 0,
+        code: Margin {
+            columns: if known { 4 } else { 8 },
+            share: 4,
+        },
+        other: Margin {
+            columns: 8,
+            share: 3,
+        },
+        ends: 4,
     }
 }
 
@@ -79,7 +85,7 @@ fn levelled_near_of_all(number: u32, levels: Levels, rows: &Rows) -> Option<Near
     let mut pile = Pile::new(rows.system, levelled_levels(), &mut darks, &mut lights);
     for line in 0..rows.count {
         let row = rows.row(line);
-        swings[line] = level_row(rows.system, levels, row.bytes, row.erased, levelled);
+        swings[line] = level_row(levels, &row, levelled);
         pile.add(levelled, row.erased);
     }
     if swing_alike(unit_of(levels), &swings[..rows.count]) {
@@ -106,7 +112,6 @@ pub fn recover_pile(
     ensures { IsSaidTogether system number levels known (rows_in system lines.now erased.now count) result }
 {
     let unit = unit_of(levels);
-    let margins = pile_margins(known);
     let rows = Rows {
         system,
         bytes: lines,
@@ -115,6 +120,7 @@ pub fn recover_pile(
     };
     let levelled = levelled_near_of_all(number, levels, &rows);
     let given = near_of_all(number, levels, &rows);
+    let margins = pile_margins(known);
     let first = recovered_by(LEVELLED_UNIT, &margins, count as u32, levelled);
     let second = recovered_by(unit, &margins, count as u32, Some(given));
     first_said(first, second)

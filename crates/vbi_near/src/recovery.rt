@@ -1,8 +1,8 @@
 //! The words of a field's three lines, by their readings and the words that they may have.
 //!
 //! `said.rt` has what a nearest word says, `candidates.rt` finds the nearest words of a line and of two, as they are
-//! and levelled (`levelled.rt`), `confirmed.rt` has what a line says by itself. Here a line's reading, its candidates
-//! and those of lines 17 and 18 together become what the line shows. The definitions of `specs/Recovery.antt`,
+//! and levelled (`levelled.rt`), `confirmed.rt` has what a line says by itself, and `paired.rt` what lines 17 and 18
+//! say. Here a line's reading and what it says become what it shows. The definitions of `specs/Recovery.antt`,
 //! `Said.antt`, `Candidates.antt` and `Levelled.antt` go with them.
 //!
 //! What a line shows is decided in this order, and a change of the order changes what a field shows:
@@ -17,26 +17,20 @@
 //! As in `confirmed.rt`, lines as they are are searched only if the levelled ones say no word, and the contracts say
 //! that a call answers as the definitions do by whatever nearest words the lines have: there is one of each.
 
-ghost use Rattle.std.specs.Prelude.{◌≡◌, ℕ, ◌+◌, ◌*◌, ◌-◌, ◌<◌, ◌^◌, ◌&&◌, List, ◌∷◌, [], length, take, drop, IsTrue};
+ghost use Rattle.std.specs.Prelude.{◌≡◌, ℕ, ◌+◌, ◌*◌, ◌-◌, ◌&&◌, List, ◌∷◌, [], length, IsTrue};
 ghost use Rattle.vbi_words.specs.Geometry.{line_bytes, width_of};
 ghost use Rattle.vbi_words.specs.Levels.{row_levels};
 ghost use Rattle.vbi_line.specs.OneReading.{reading_of};
-ghost use Rattle.vbi_near.specs.Candidates.{Candidates, has_swing, levelled_samples, HasNearIf, AreOf};
-ghost use Rattle.vbi_near.specs.Candidates.{AreOfBoth};
-ghost use Rattle.vbi_near.specs.Levelled.{levelled_slicing};
+ghost use Rattle.vbi_near.specs.Candidates.{Candidates, AreOf, AreOfBoth};
 ghost use Rattle.vbi_near.specs.Lines.{row_in, first_in, other_in};
 ghost use Rattle.vbi_near.specs.Recovery.{Seen, own_of, is_open, are_open, stands_by, stands_of, said_by};
-ghost use Rattle.vbi_near.specs.Recovery.{recovered_as, is_asked, IsSeen, IsLine, IsOwn, IsRecovered, IsKept};
+ghost use Rattle.vbi_near.specs.Recovery.{recovered_as, IsSeen, IsOwn, IsRecovered, IsKept};
 ghost use Rattle.vbi_near.specs.Recovery.{row_at, row_reading, alone, shown_in};
 
-use crate::candidates::{
-    levelled_near_of_one, levelled_near_of_two, near_of_one, near_of_two, unit_of,
-};
 use crate::confirmed::{is_confirmed, recovered_alone};
-use crate::levelled::LEVELLED_UNIT;
-use crate::lines::Nears;
+use crate::paired::{Asked, levelled_said, pair_said};
 use crate::row::{Pair, Row, Rows};
-use crate::said::{first_said, said_by_pair};
+use crate::said::{GIVEN, first_said};
 use vbi_line::{read_bytes_twice, read_packed, slice_bytes};
 use vbi_words::{Levels, Outcome, Reading, System, Word24};
 
@@ -49,36 +43,34 @@ pub struct Recovered {
     pub pass: u8,
 }
 
-/// A line as it was read, and its nearest words levelled.
-#[derive(Clone, Copy)]
-struct Line {
-    /// Its reading.
-    reading: Reading,
-    /// If the rule asks for them, and the line swings as one with a word does, its nearest words levelled.
-    levelled: Option<Nears>,
-}
-
-/// What a line of this reading is taken to show by its own levels.
-fn own(number: u32, levels: Levels, row: &Row, line: &Line) -> Recovered
-    requires { IsLine row.now.system number levels (row_in row.now) line.now }
-    ensures { (seen : Seen) → IsSeen row.now.system number levels (row_in row.now) seen
-        → result ≡ own_of (levels.white - levels.black) seen }
+/// What a line that is read so is taken to show by its own levels.
+fn own_as_read(number: u32, levels: Levels, row: &Row, reading: &Reading) -> Recovered
+    requires { reading.now ≡ reading_of row.now.system (row_levels levels row.now.bytes.now) }
+    ensures { IsOwn row.now.system number levels (row_in row.now) result }
 {
     let read = Recovered {
-        outcome: line.reading.outcome,
-        pass: line.reading.pass,
+        outcome: reading.outcome,
+        pass: reading.pass,
     };
-    let word = match line.reading.outcome {
+    let word = match reading.outcome {
         Outcome::Word(word) => word,
         _ => return read,
     };
-    if line.reading.pass != 2 || is_confirmed(number, levels, row, &line.levelled, word) {
+    if reading.pass != 2 || is_confirmed(number, levels, row, word) {
         return read;
     }
     Recovered {
         outcome: read_packed(&slice_bytes(row.bytes, row.system, levels), row.system),
         pass: 0,
     }
+}
+
+/// What a line is taken to show by its own levels.
+fn own(number: u32, levels: Levels, row: &Row) -> Recovered
+    ensures { IsOwn row.now.system number levels (row_in row.now) result }
+{
+    let reading = read_bytes_twice(row.bytes, row.system, levels);
+    own_as_read(number, levels, row, &reading)
 }
 
 /// Whether a line has no word and isn't blank.
@@ -104,69 +96,22 @@ fn recovered_as(own: Recovered, said: Option<Word24>) -> Recovered
     }
 }
 
-/// Whether the rule asks for the nearest word of a line that is read so.
-fn is_asked(outcome: Outcome, pass: u8) -> bool
-    ensures { result ≡ is_asked outcome pass }
-{
-    match outcome {
-        Outcome::Blank => false,
-        _ => pass != 1,
-    }
-}
-
-/// A line's nearest words levelled, if they are asked for.
-fn levelled_if_asked(number: u32, levels: Levels, row: &Row, reading: &Reading) -> Option<Nears>
-    ensures { IsTrue (is_asked reading.now.outcome reading.now.pass)
-        → HasNearIf row.now.system number levelled_slicing (has_swing row.now.system levels (row_in row.now))
-        (levelled_samples row.now.system levels (row_in row.now) ∷ []) result }
-{
-    if is_asked(reading.outcome, reading.pass) {
-        levelled_near_of_one(number, levels, row)
-    } else {
-        None
-    }
-}
-
-/// A line as it is read, and its nearest words levelled.
-fn line_in(number: u32, levels: Levels, row: &Row) -> Line
-    ensures { IsLine row.now.system number levels (row_in row.now) result }
-{
-    let reading = read_bytes_twice(row.bytes, row.system, levels);
-    Line {
-        reading,
-        levelled: levelled_if_asked(number, levels, row, &reading),
-    }
-}
-
 /// What a line shows that has no other beside it.
-fn shown_alone(number: u32, levels: Levels, row: &Row, line: &Line, own: Recovered) -> Recovered
-    requires line { IsLine row.now.system number levels (row_in row.now) line.now }
-    requires own { IsOwn row.now.system number levels (row_in row.now) own }
+fn shown_alone(number: u32, levels: Levels, row: &Row, own: Recovered) -> Recovered
+    requires { IsOwn row.now.system number levels (row_in row.now) own }
     ensures { (seen : Seen) (both : Candidates) → IsSeen row.now.system number levels (row_in row.now) seen
         → result ≡ shown_in alone (levels.white - levels.black) seen both }
 {
     if is_open(own.outcome) {
-        let said = recovered_alone(number, levels, row, &line.levelled);
-        recovered_as(own, said)
+        recovered_as(own, recovered_alone(number, levels, row))
     } else {
         own
     }
 }
 
-/// The words that lines 17 and 18 say if both are open. They are searched as they are only if one of them
-/// says none levelled.
-fn said_by_both(
-    levels: Levels,
-    pair: &Pair,
-    levelled: &Option<Nears>,
-    other_levelled: &Option<Nears>,
-) -> (Option<Word24>, Option<Word24>)
-    requires levelled { HasNearIf pair.now.system 17 levelled_slicing
-        (has_swing pair.now.system levels (first_in pair.now))
-        (levelled_samples pair.now.system levels (first_in pair.now) ∷ []) levelled.now }
-    requires other_levelled { HasNearIf pair.now.system 18 levelled_slicing
-        (has_swing pair.now.system levels (other_in pair.now))
-        (levelled_samples pair.now.system levels (other_in pair.now) ∷ []) other_levelled.now }
+/// The words that lines 17 and 18 say if both are open. They are asked as they are only if one of them says none
+/// levelled.
+fn said_by_both(levels: Levels, pair: &Pair) -> (Option<Word24>, Option<Word24>)
     ensures { (near again both : Candidates) → AreOf pair.now.system 17 levels (first_in pair.now) near
         → AreOf pair.now.system 18 levels (other_in pair.now) again
         → AreOfBoth pair.now.system 17 levels (first_in pair.now) (other_in pair.now) both
@@ -174,26 +119,16 @@ fn said_by_both(
         (result.0 ≡ said_by stands (levels.white - levels.black) near both)
         × (result.1 ≡ said_by stands (levels.white - levels.black) again both) }
 {
-    let unit = unit_of(levels);
-    let both = levelled_near_of_two(17, levels, pair);
-    let said = said_by_pair(LEVELLED_UNIT, levelled, other_levelled, &both);
+    let said = levelled_said(levels, pair);
     if said.0.is_some() && said.1.is_some() {
         return said;
     }
-    let row = Row {
-        system: pair.system,
-        bytes: pair.bytes,
-        erased: pair.erased,
+    let asked = Asked {
+        second: true,
+        third: true,
+        both: true,
     };
-    let other = Row {
-        system: pair.system,
-        bytes: pair.other_bytes,
-        erased: pair.other_erased,
-    };
-    let near = Some(near_of_one(17, levels, &row));
-    let other_near = Some(near_of_one(18, levels, &other));
-    let both_near = Some(near_of_two(17, levels, pair));
-    let given = said_by_pair(unit, &near, &other_near, &both_near);
+    let given = pair_said(&GIVEN, levels, asked, pair);
     (first_said(said.0, given.0), first_said(said.1, given.1))
 }
 
@@ -215,30 +150,20 @@ fn shown_pair(levels: Levels, pair: &Pair) -> (Recovered, Recovered)
         (result.0 ≡ shown_in stands (levels.white - levels.black) second both)
         × (result.1 ≡ shown_in stands (levels.white - levels.black) third both) }
 {
-    let second = Row {
-        system: pair.system,
-        bytes: pair.bytes,
-        erased: pair.erased,
-    };
-    let third = Row {
-        system: pair.system,
-        bytes: pair.other_bytes,
-        erased: pair.other_erased,
-    };
-    let near = line_in(17, levels, &second);
-    let other = line_in(18, levels, &third);
-    let own_near = own(17, levels, &second, &near);
-    let own_other = own(18, levels, &third, &other);
-    if are_both_open(own_near.outcome, own_other.outcome) {
-        let said = said_by_both(levels, pair, &near.levelled, &other.levelled);
+    let second = pair.first();
+    let third = pair.other();
+    let own_second = own(17, levels, &second);
+    let own_third = own(18, levels, &third);
+    if are_both_open(own_second.outcome, own_third.outcome) {
+        let said = said_by_both(levels, pair);
         return (
-            recovered_as(own_near, said.0),
-            recovered_as(own_other, said.1),
+            recovered_as(own_second, said.0),
+            recovered_as(own_third, said.1),
         );
     }
     (
-        shown_alone(17, levels, &second, &near, own_near),
-        shown_alone(18, levels, &third, &other, own_other),
+        shown_alone(17, levels, &second, own_second),
+        shown_alone(18, levels, &third, own_third),
     )
 }
 
@@ -248,9 +173,8 @@ fn shown_first(levels: Levels, row: &Row) -> Recovered
         → IsSeen row.now.system 16 levels (row_in row.now) seen
         → result ≡ shown_in alone (levels.white - levels.black) seen both }
 {
-    let line = line_in(16, levels, row);
-    let own = own(16, levels, row, &line);
-    shown_alone(16, levels, row, &line, own)
+    let own = own(16, levels, row);
+    shown_alone(16, levels, row, own)
 }
 
 /// What lines 16, 17 and 18 of a field show, by the bytes of their rows, which lie one after the other, as do the

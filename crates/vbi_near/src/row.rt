@@ -29,6 +29,34 @@ pub(crate) struct Pair<'a> {
     ghost other_columns: { length other_erased.now ≡ width_of system },
 }
 
+impl<'a> Pair<'a> {
+    ghost use Rattle.vbi_near.specs.Lines.{row_in, first_in, other_in};
+
+    /// The first one.
+    pub(crate) fn first(&self) -> Row<'a>
+        ensures system { result.system ≡ self.now.system }
+        ensures row { row_in result ≡ first_in self.now }
+    {
+        Row {
+            system: self.system,
+            bytes: self.bytes,
+            erased: self.erased,
+        }
+    }
+
+    /// The other one.
+    pub(crate) fn other(&self) -> Row<'a>
+        ensures system { result.system ≡ self.now.system }
+        ensures row { row_in result ≡ other_in self.now }
+    {
+        Row {
+            system: self.system,
+            bytes: self.other_bytes,
+            erased: self.other_erased,
+        }
+    }
+}
+
 /// Lines of one system that lie one after the other, as do the marks of their erased columns.
 #[derive(Clone, Copy)]
 pub(crate) struct Rows<'a> {

@@ -7,17 +7,18 @@
 //! tells whether these two do, and `said_in` by which margins they speak then. A picture number of 80,000 or more that
 //! is said is never recovered (`unless_beyond`), but confirms a word of pass 2 (confirmed.rt).
 //!
-//! A column counts what white is from black. A word with one bit turned is farther by the columns of a cell, which are
-//! 28 in NTSC and 35 in PAL, and each column of that cell that is turned over takes away two. So in NTSC a margin of 6
-//! columns bears 11 of them, one of 8 bears 10, one of 10 bears 9, and one of 12 bears 8.
+//! A sample counts at most seven tenths of what white is from black (pile.rt), so in a column a word with another level
+//! is farther by that, and at most twice as much is taken away by a dropout there: a cell of NTSC has 28 columns, one of
+//! PAL 35. `MarginSet` has what each kind of lines needs: levelled ones, and those as they are.
 //!
 //! specs/Said.antt has the same numbers, and rule_laws.rt has words at their limits. CONTRIBUTING.md says what else
 //! changes with a margin.
 
-ghost use Rattle.std.specs.Prelude.{◌≡◌, ◌≤◌};
-ghost use Rattle.vbi_near.specs.Said.{is_ahead, is_ahead_by, goes_on, is_cut, is_whole, is_clear, is_close};
+ghost use Rattle.std.specs.Prelude.{◌≡◌, ◌*◌, ◌^◌, ◌≤◌, ◌<◌};
+ghost use Rattle.vbi_near.specs.Said.{is_ahead, is_ahead_by, goes_on, is_cut, is_whole, is_clear};
+ghost use Rattle.vbi_near.specs.Said.{close_limit, is_close};
 ghost use Rattle.vbi_near.specs.Said.{said_of, said_if, first_said, is_said, is_same, is_one, is_borne, have_word};
-ghost use Rattle.vbi_near.specs.Said.{have_code, have_one, do_agree, may_agree, stand_of, said_in, lone_margins};
+ghost use Rattle.vbi_near.specs.Said.{have_code, have_one, do_agree, may_agree, stand_of, said_in};
 ghost use Rattle.vbi_near.specs.Said.{unless_beyond, recovered_by};
 ghost use Rattle.vbi_near.specs.LineCodes.{is_beyond_79999};
 
@@ -25,48 +26,115 @@ use crate::lines::Nears;
 use crate::near::Near;
 use vbi_words::{Word24, digit};
 
-/// By how many columns the nearest word has to be ahead of any other: by this many times what white and black are off
-/// from each other. Shares are 288ths of how much nearer the word is than none.
+/// By how much a nearest word has to be ahead of any other.
+#[derive(Clone, Copy)]
+pub struct Margin {
+    /// By this many times what white and black are off from each other.
+    pub columns: u32,
+    /// By a share of how much nearer the word is than none, in 288ths.
+    pub share: u8,
+}
+
+/// What a nearest word has to meet to be said.
 #[derive(Clone, Copy)]
 pub struct Margins {
     /// A code that may stand on its line.
-    pub code: u32,
+    pub code: Margin,
     /// Any other word.
-    pub other: u32,
-    /// The share by which a code has to be ahead.
-    pub code_share: u8,
-    /// That of any other word.
-    pub other_share: u8,
+    pub other: Margin,
+    /// By how many columns of each line its signal may go on beyond it, or have fewer cells.
+    pub ends: u8,
 }
 
-/// Those of one line. A code may be less ahead than another word, 6 columns and not 8: it is compared with codes alone,
-/// and far fewer of these can be mistaken for it.
-const LONE: Margins = Margins {
-    code: 4,
-    other: 5,
-    code_share: 10,
-    other_share: 8,
+/// The margins of lines that are asked in one way.
+#[derive(Clone, Copy)]
+pub struct MarginSet {
+    /// Those of one line.
+    pub lone: Margins,
+    /// Those of one of two lines that don't agree.
+    pub apart: Margins,
+    /// Those of two lines together.
+    pub both: Margins,
+}
+
+/// Those of levelled lines, chosen on simulated lines of worn discs so that few words are wrong and none are lost.
+///
+/// A cell counts about a twelfth of how much nearer the word is than none, so a share of 10 is five twelfths of what a
+/// cell counts, one of 8 a third, and one of 7 somewhat less than a third. The shares keep words back that a dropout
+/// leaves of a line without noise, the columns those of a line of which hardly anything is left. One of two lines that
+/// don't agree is badly worn, so its nearest word is worth less.
+pub(crate) const LEVELLED: MarginSet = MarginSet {
+    lone: Margins {
+        code: Margin {
+            columns: 4,
+            share: 10,
+        },
+        other: Margin {
+            columns: 5,
+            share: 8,
+        },
+        ends: 2,
+    },
+    apart: Margins {
+        code: Margin {
+            columns: 8,
+            share: 0,
+        },
+        other: Margin {
+            columns: 10,
+            share: 0,
+        },
+        ends: 2,
+    },
+    both: Margins {
+        code: Margin {
+            columns: 8,
+            share: 10,
+        },
+        other: Margin {
+            columns: 5,
+            share: 7,
+        },
+        ends: 2,
+    },
 };
 
-/// Those of one of two lines that don't agree: one of them at least is badly worn, so its nearest word is worth less,
-/// and has to be ahead by four columns more than that of a line alone, 10 for 6 and 12 for 8.
-const APART: Margins = Margins {
-    code: 8,
-    other: 10,
-    code_share: 0,
-    other_share: 0,
-};
-
-/// Those of two lines together. With 6 columns in place of 8 a noisy time code on both is taken for a code five times
-/// as often. Wear that they share, as noise that makes all cells count less, grows with both: so they have to be ahead
-/// by a share of what a cell counts, too. A cell counts about a twelfth of how much nearer the word is than none, so 4
-/// and 3 of 144 parts are a third and a quarter of a cell. Columns alone, enough for a dropout at one place of both
-/// lines, would lose three times as many right words.
-const BOTH: Margins = Margins {
-    code: 8,
-    other: 5,
-    code_share: 10,
-    other_share: 7,
+/// Those of lines as they are, which are asked if the levelled ones say nothing. They aren't smoothed, so noise makes a
+/// row with one cell more or less nearer by more columns.
+pub(crate) const GIVEN: MarginSet = MarginSet {
+    lone: Margins {
+        code: Margin {
+            columns: 6,
+            share: 0,
+        },
+        other: Margin {
+            columns: 8,
+            share: 0,
+        },
+        ends: 3,
+    },
+    apart: Margins {
+        code: Margin {
+            columns: 8,
+            share: 0,
+        },
+        other: Margin {
+            columns: 10,
+            share: 0,
+        },
+        ends: 3,
+    },
+    both: Margins {
+        code: Margin {
+            columns: 8,
+            share: 8,
+        },
+        other: Margin {
+            columns: 8,
+            share: 6,
+        },
+        ends: 3,
+    },
 };
 
 /// How lines 17 and 18 stand to each other.
@@ -97,21 +165,31 @@ fn is_ahead_by(share: u8, blank: u32, near: &Near) -> bool
     288 * distance + share * u64::from(blank) <= 288 * rival + share * distance
 }
 
-/// Whether the signal of this many lines goes on beyond the word: by more than 2 columns a line, since noise alone
-/// makes one more cell somewhat nearer.
-fn goes_on(unit: u32, lines: u32, near: &Near) -> bool
+/// How much so many columns in each of this many lines count.
+fn columns_of_each(unit: u32, columns: u8, lines: u32) -> u64
     requires { lines ≤ 28 }
-    ensures { result ≡ goes_on unit lines near.now }
+    ensures value { result ≡ columns * lines * unit }
+    ensures range { result < 2 ^ 45 }
 {
-    u64::from(near.longer) + 2 * u64::from(lines) * u64::from(unit) < u64::from(near.distance)
+    let columns = u32::from(columns) * lines;
+    u64::from(columns) * u64::from(unit)
 }
 
-/// Whether the signal of this many lines has fewer cells than the word, by the same 2 columns a line.
-fn is_cut(unit: u32, lines: u32, near: &Near) -> bool
+/// Whether the signal of this many lines goes on beyond the word: by more than so many columns a line, since noise alone
+/// makes one more cell somewhat nearer.
+fn goes_on(unit: u32, ends: u8, lines: u32, near: &Near) -> bool
     requires { lines ≤ 28 }
-    ensures { result ≡ is_cut unit lines near.now }
+    ensures { result ≡ goes_on unit ends lines near.now }
 {
-    u64::from(near.shorter) + 2 * u64::from(lines) * u64::from(unit) < u64::from(near.distance)
+    u64::from(near.longer) + columns_of_each(unit, ends, lines) < u64::from(near.distance)
+}
+
+/// Whether the signal of this many lines has fewer cells than the word, by more than so many columns a line.
+fn is_cut(unit: u32, ends: u8, lines: u32, near: &Near) -> bool
+    requires { lines ≤ 28 }
+    ensures { result ≡ is_cut unit ends lines near.now }
+{
+    u64::from(near.shorter) + columns_of_each(unit, ends, lines) < u64::from(near.distance)
 }
 
 /// Whether each half of the word counts in lines that are so far from none, and from the nearer row of half of it: a
@@ -125,30 +203,37 @@ fn is_whole(blank: u32, halved: u32, near: &Near) -> bool
 
 /// A nearest word or code, and how far the lines are from none, and from the nearer row of half of it.
 #[derive(Clone, Copy)]
-struct Nearest<'a> {
-    near: &'a Near,
-    blank: u32,
-    halved: u32,
+pub(crate) struct Nearest<'a> {
+    pub(crate) near: &'a Near,
+    pub(crate) blank: u32,
+    pub(crate) halved: u32,
 }
 
 /// Whether the signal of this many lines begins and ends with the word and has both halves of it, and any other is
-/// farther by this many columns and by such a share.
-fn is_clear(unit: u32, columns: u32, share: u8, lines: u32, word: &Nearest) -> bool
+/// farther by this margin.
+pub(crate) fn is_clear(unit: u32, margin: Margin, ends: u8, lines: u32, word: &Nearest) -> bool
     requires { lines ≤ 28 }
-    ensures { result ≡ is_clear unit columns share lines word.now.blank word.now.halved word.now.near.now }
+    ensures { result ≡ is_clear unit margin ends lines word.now.blank word.now.halved word.now.near.now }
 {
-    is_ahead(unit, columns, word.near)
-        && is_ahead_by(share, word.blank, word.near)
-        && !goes_on(unit, lines, word.near)
-        && !is_cut(unit, lines, word.near)
+    is_ahead(unit, margin.columns, word.near)
+        && is_ahead_by(margin.share, word.blank, word.near)
+        && !goes_on(unit, ends, lines, word.near)
+        && !is_cut(unit, ends, lines, word.near)
         && is_whole(word.blank, word.halved, word.near)
 }
 
-/// Whether no word is nearer than the nearest code by more than three columns.
+/// How far a code may be if this is the nearest word: by three columns farther.
+pub(crate) fn close_limit(unit: u32, word: &Near) -> u64
+    ensures { result ≡ close_limit unit word.now }
+{
+    u64::from(word.distance) + 3 * u64::from(unit)
+}
+
+/// Whether no word is nearer than the nearest code by more than that.
 fn is_close(unit: u32, near: &Nears) -> bool
     ensures { result ≡ is_close unit near.now }
 {
-    u64::from(near.code.distance) <= u64::from(near.word.distance) + 3 * u64::from(unit)
+    u64::from(near.code.distance) <= close_limit(unit, &near.word)
 }
 
 /// The word that this many lines say, if these are their nearest word and their nearest code.
@@ -168,10 +253,10 @@ fn said_of(unit: u32, margins: &Margins, lines: u32, near: &Nears) -> Option<Wor
     };
     if near.code.word.is_some()
         && is_close(unit, near)
-        && is_clear(unit, margins.code, margins.code_share, lines, &code)
+        && is_clear(unit, margins.code, margins.ends, lines, &code)
     {
         near.code.word
-    } else if is_clear(unit, margins.other, margins.other_share, lines, &word) {
+    } else if is_clear(unit, margins.other, margins.ends, lines, &word) {
         near.word.word
     } else {
         None
@@ -179,7 +264,7 @@ fn said_of(unit: u32, margins: &Margins, lines: u32, near: &Nears) -> Option<Wor
 }
 
 /// The word that this many lines say, if they have a nearest word and a nearest code.
-fn said_if(unit: u32, margins: &Margins, lines: u32, near: Option<Nears>) -> Option<Word24>
+pub(crate) fn said_if(unit: u32, margins: &Margins, lines: u32, near: Option<Nears>) -> Option<Word24>
     requires { lines ≤ 28 }
     ensures { result ≡ said_if unit margins.now lines near }
 {
@@ -203,7 +288,7 @@ fn is_beyond_79999(word: Word24) -> bool
 }
 
 /// What is said, but no picture number of 80,000 or more.
-fn unless_beyond(said: Option<Word24>) -> Option<Word24>
+pub(crate) fn unless_beyond(said: Option<Word24>) -> Option<Word24>
     ensures { result ≡ unless_beyond said }
 {
     match said {
@@ -223,20 +308,6 @@ pub(crate) fn recovered_by(
     ensures { result ≡ recovered_by unit margins.now lines near }
 {
     unless_beyond(said_if(unit, margins, lines, near))
-}
-
-/// The word that one line says for itself.
-pub(crate) fn said_by_one(unit: u32, near: Option<Nears>) -> Option<Word24>
-    ensures { result ≡ said_if unit lone_margins 1 near }
-{
-    said_if(unit, &LONE, 1, near)
-}
-
-/// The word that is recovered of what one line says for itself.
-pub(crate) fn recovered_by_one(unit: u32, near: Option<Nears>) -> Option<Word24>
-    ensures { result ≡ recovered_by unit lone_margins 1 near }
-{
-    unless_beyond(said_by_one(unit, near))
 }
 
 /// The word of the first that says one.
@@ -314,28 +385,40 @@ fn have_one(unit: u32, second: &Nears, third: &Nears, both: &Nears) -> bool
 }
 
 /// Whether two lines agree: they have one word, and not each of them goes on beyond its own.
-fn do_agree(unit: u32, second: &Nears, third: &Nears, both: &Nears) -> bool
-    ensures { result ≡ do_agree unit second.now third.now both.now }
+fn do_agree(unit: u32, ends: u8, second: &Nears, third: &Nears, both: &Nears) -> bool
+    ensures { result ≡ do_agree unit ends second.now third.now both.now }
 {
     have_one(unit, second, third, both)
-        && !(goes_on(unit, 1, &second.word) && goes_on(unit, 1, &third.word))
+        && !(goes_on(unit, ends, 1, &second.word) && goes_on(unit, ends, 1, &third.word))
 }
 
 /// Whether two lines agree, if each has a nearest word, and both together.
-fn may_agree(unit: u32, second: Option<Nears>, third: Option<Nears>, both: Option<Nears>) -> bool
-    ensures { result ≡ may_agree unit second third both }
+fn may_agree(
+    unit: u32,
+    ends: u8,
+    second: Option<Nears>,
+    third: Option<Nears>,
+    both: Option<Nears>,
+) -> bool
+    ensures { result ≡ may_agree unit ends second third both }
 {
     match (second, third, both) {
-        (Some(second), Some(third), Some(both)) => do_agree(unit, &second, &third, &both),
+        (Some(second), Some(third), Some(both)) => do_agree(unit, ends, &second, &third, &both),
         _ => false,
     }
 }
 
 /// How two open lines stand to each other.
-fn stand_of(unit: u32, second: Option<Nears>, third: Option<Nears>, both: Option<Nears>) -> Stand
-    ensures { result ≡ stand_of unit second third both }
+fn stand_of(
+    margins: &MarginSet,
+    unit: u32,
+    second: Option<Nears>,
+    third: Option<Nears>,
+    both: Option<Nears>,
+) -> Stand
+    ensures { result ≡ stand_of margins.now unit second third both }
 {
-    if may_agree(unit, second, third, both) {
+    if may_agree(unit, margins.lone.ends, second, third, both) {
         Stand::Together
     } else {
         Stand::Apart
@@ -343,29 +426,38 @@ fn stand_of(unit: u32, second: Option<Nears>, third: Option<Nears>, both: Option
 }
 
 /// The word that an open line says by its nearest word, or by that of lines 17 and 18 together.
-fn said_in(stand: Stand, unit: u32, near: Option<Nears>, both: Option<Nears>) -> Option<Word24>
-    ensures { result ≡ said_in stand unit near both }
+fn said_in(
+    margins: &MarginSet,
+    stand: Stand,
+    unit: u32,
+    near: Option<Nears>,
+    both: Option<Nears>,
+) -> Option<Word24>
+    ensures { result ≡ said_in margins.now stand unit near both }
 {
     match stand {
-        Stand::Alone => recovered_by(unit, &LONE, 1, near),
-        Stand::Apart => recovered_by(unit, &APART, 1, near),
-        Stand::Together => recovered_by(unit, &BOTH, 2, both),
+        Stand::Alone => recovered_by(unit, &margins.lone, 1, near),
+        Stand::Apart => recovered_by(unit, &margins.apart, 1, near),
+        Stand::Together => recovered_by(unit, &margins.both, 2, both),
     }
 }
 
 /// The words that two open lines say by their nearest words and by those of both together.
 pub(crate) fn said_by_pair(
+    margins: &MarginSet,
     unit: u32,
     second: &Option<Nears>,
     third: &Option<Nears>,
     both: &Option<Nears>,
 ) -> (Option<Word24>, Option<Word24>)
-    ensures second { result.0 ≡ said_in (stand_of unit second.now third.now both.now) unit second.now both.now }
-    ensures third { result.1 ≡ said_in (stand_of unit second.now third.now both.now) unit third.now both.now }
+    ensures second { result.0 ≡ said_in margins.now (stand_of margins.now unit second.now third.now both.now) unit
+        second.now both.now }
+    ensures third { result.1 ≡ said_in margins.now (stand_of margins.now unit second.now third.now both.now) unit
+        third.now both.now }
 {
-    let stand = stand_of(unit, *second, *third, *both);
+    let stand = stand_of(margins, unit, *second, *third, *both);
     (
-        said_in(stand, unit, *second, *both),
-        said_in(stand, unit, *third, *both),
+        said_in(margins, stand, unit, *second, *both),
+        said_in(margins, stand, unit, *third, *both),
     )
 }

@@ -1,6 +1,4 @@
-use Rattle.std.proofs.Common.{[]}
 use Rattle.vbi_near.proofs.candidates.near_of_two.Goals as goal
 
 pub returns : goal.returns
-returns c =
-    c.nears.ensures _ _ _ (c.add-2.ensures.line _ _ _ (c.add.ensures.line _ _ [] c.new-pile.ensures.empty))
+returns c = c.nears.ensures _ _ _ c.pile_of_two.ensures.pile

@@ -1,31 +1,22 @@
-use Rattle.std.proofs.Common.{◌≡◌, true, ◌∙◌, rules}
-use Rattle.vbi_near.specs.Said.{is_said, said_if, lone_margins}
-use Rattle.vbi_near.specs.Candidates.{given_samples, candidates}
-use Rattle.vbi_near.specs.Recovery.{is_confirmed}
-use Rattle.std.proofs.Common.{[], ◌∷◌}
+use Rattle.std.proofs.Common.{◌≡◌, ◌∙◌, [], ◌∷◌}
+use Rattle.std.specs.Prelude.{◌||◌, Some}
+use Rattle.vbi_near.specs.Said.{said_if, first_said, is_said, given_margins}
 use Rattle.vbi_near.specs.Lines.{row_in}
-use Rattle.vbi_near.proofs.OneSeen.{one_stretched}
-use Rattle.vbi_near.proofs.Asked.{levelled-confirms, levelled-same, given-same}
+use Rattle.vbi_near.specs.Candidates.{given_samples}
+use Rattle.vbi_near.specs.Recovery.{is_stretched}
+use Rattle.vbi_near.proofs.OneSeen.{one_nears, one_stretched}
 use Rattle.vbi_near.proofs.confirmed.is_confirmed.Goals as goal
-
-pub returns-then-is_said : goal.returns-then-is_said
-returns-then-is_said c near stretched is far =
-    let said : is_said c.args.word (said_if c.unit_of-unit.result lone_margins 1 c.args.levelled.now) ≡ true =
-    search rules in
-    levelled-confirms _ _ c.args.levelled.now near stretched c.args.word said c.unit_of-unit.ensures.value
-    (levelled-same c.args.row.now.system c.args.number c.args.levels (row_in c.args.row.now)
-    c.args.levelled.now c.requires near is)
 
 pub returns : goal.returns
 returns c near stretched is far =
-    let row = row_in c.args.row.now in
+    let lines = given_samples (row_in c.args.row.now) ∷ [] in
     let unit = c.unit_of-unit.ensures.value in
-    let levelled = levelled-same c.args.row.now.system c.args.number c.args.levels row c.args.levelled.now
-    c.requires near is in
-    let given = given-same c.args.row.now.system c.args.number c.args.levels row c.args.levelled.now c.requires near is
-    c.near_of_one-given.result c.near_of_one-given.ensures in
-    let near_to = one_stretched c.args.row.now.system c.args.levels
-    (given_samples (row_in c.args.row.now) ∷ []) c.args.word _ _
+    let levelled = c.said_levelled-levelled.ensures near.levelled is.levelled in
+    let given = one_nears c.args.row.now.system c.args.number c.args.levels lines c.near_of_one-near.result near.given
+    c.near_of_one-near.ensures is.given in
+    let near_to = one_stretched c.args.row.now.system c.args.levels lines c.args.word _ _
     c.stretched_of_one-stretched.ensures far in
     c.is_confirmed_by.ensures
-    ∙ (λ j. is_confirmed (unit j) (candidates (levelled j) (given j)) (near_to j) c.args.word)
+    ∙ (λ j. is_said c.args.word
+    (first_said (levelled j) (said_if (unit j) given_margins.lone 1 (Some (given j))))
+    || is_stretched (unit j) (near_to j) c.args.word (given j).word)

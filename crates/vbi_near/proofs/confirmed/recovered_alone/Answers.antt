@@ -1,22 +1,23 @@
-use Rattle.std.proofs.Common.{◌≡◌, true, ◌∙◌, rules}
-use Rattle.std.specs.Prelude.{is_some}
-use Rattle.vbi_near.specs.Lines.{row_in}
-use Rattle.vbi_near.proofs.Asked.{levelled-says, given-says, levelled-same, given-same}
+use Rattle.std.proofs.Common.{◌≡◌, ℕ, true, false, ap, ◌∙◌, rules}
+use Rattle.std.specs.Prelude.{Option, Some, is_some}
+use Rattle.vbi_near.specs.Distances.{unit_of}
+use Rattle.vbi_near.specs.Said.{given_margins, unless_beyond, recovered_by, first_said}
+use Rattle.vbi_near.proofs.Asked.{first-says, other-says}
 use Rattle.vbi_near.proofs.confirmed.recovered_alone.Goals as goal
 
 pub returns-then-is_some : goal.returns-then-is_some
 returns-then-is_some c near is =
-    let some : is_some c.recovered_by_one-said.result ≡ true = search rules in
-    levelled-says _ _ c.args.levelled.now near _ c.recovered_by_one-said.ensures c.unit_of-unit.ensures.value
-    (levelled-same c.args.row.now.system c.args.number c.args.levels (row_in c.args.row.now)
-    c.args.levelled.now c.requires near is) some
+    let some : is_some c.unless_beyond-said.result ≡ true = search rules in
+    let given : Option ℕ = recovered_by (unit_of c.args.levels) given_margins.lone 1 (Some near.given) in
+    first-says c.unless_beyond-said.result given some
+    ∙ ap (λ (s : Option ℕ). first_said s given) (c.unless_beyond-said.ensures
+    ∙ ap unless_beyond (c.said_levelled.ensures near.levelled is.levelled))
 
 pub returns : goal.returns
 returns c near is =
-    let row = row_in c.args.row.now in
-    c.first_said.ensures
-    ∙ given-says _ _ c.args.levelled.now c.near_of_one-given.result near _ _ c.recovered_by_one-said.ensures
-    c.recovered_by_one.ensures c.unit_of-unit.ensures.value
-    (levelled-same c.args.row.now.system c.args.number c.args.levels row c.args.levelled.now c.requires near is)
-    (given-same c.args.row.now.system c.args.number c.args.levels row c.args.levelled.now c.requires near is
-    c.near_of_one-given.result c.near_of_one-given.ensures)
+    let none : is_some c.unless_beyond-said.result ≡ false = search rules in
+    let given : Option ℕ = recovered_by (unit_of c.args.levels) given_margins.lone 1 (Some near.given) in
+    c.unless_beyond.ensures ∙ ap unless_beyond (c.said_as.ensures near.given is.given)
+    ∙ other-says c.unless_beyond-said.result given none
+    ∙ ap (λ (s : Option ℕ). first_said s given) (c.unless_beyond-said.ensures
+    ∙ ap unless_beyond (c.said_levelled.ensures near.levelled is.levelled))

@@ -2,21 +2,14 @@ use Rattle.std.proofs.Common.{◌∙◌, rules}
 use Rattle.std.specs.Prelude.{IsTrue}
 use Rattle.vbi_near.specs.Recovery.{is_open, alone}
 use Rattle.vbi_near.specs.Lines.{row_in}
-use Rattle.vbi_near.proofs.Asked.{open-levelled, open-near, open-shows}
+use Rattle.vbi_near.proofs.Asked.{open-near, open-shows}
 use Rattle.vbi_near.proofs.recovery.shown_alone.Goals as goal
-
-pub recovered_alone-said-requires : goal.recovered_alone-said-requires
-recovered_alone-said-requires c =
-    let opened : IsTrue (is_open c.args.own.outcome) = search rules in
-    open-levelled c.args.row.now.system c.args.number c.args.levels (row_in c.args.row.now) c.args.own
-    c.requires.own c.args.line.now c.requires.line opened
 
 pub returns-then-is_open : goal.returns-then-is_open
 returns-then-is_open c seen both is =
     let row = row_in c.args.row.now in
     let opened : IsTrue (is_open c.args.own.outcome) = search rules in
-    let near = open-near c.args.row.now.system c.args.number c.args.levels row c.args.own c.requires.own seen is
-    opened in
+    let near = open-near c.args.row.now.system c.args.number c.args.levels row c.args.own c.requires seen is opened in
     c.recovered_as.ensures
-    ∙ open-shows c.args.row.now.system c.args.number c.args.levels row c.args.own c.requires.own alone seen both
-    c.recovered_alone-said.result is opened (c.recovered_alone-said.ensures seen.near near)
+    ∙ open-shows c.args.row.now.system c.args.number c.args.levels row c.args.own c.requires alone seen both
+    c.recovered_alone.result is opened (c.recovered_alone.ensures seen.near near)

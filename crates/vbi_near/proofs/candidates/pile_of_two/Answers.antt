@@ -1,0 +1,5 @@
+use Rattle.std.proofs.Common.{[]}
+use Rattle.vbi_near.proofs.candidates.pile_of_two.Goals as goal
+
+pub returns-clause-pile : goal.returns-clause-pile
+returns-clause-pile c = c.add-2.ensures.line _ _ _ (c.add.ensures.line _ _ [] c.new-pile.ensures.empty)
