@@ -1,11 +1,12 @@
--- Lines that say nothing, whatever their nearest code is. is_silent stands on it.
-use Rattle.std.proofs.Common.{◌≡◌, ℕ, ◌<◌, false, List, sym, arith}
+-- Lines that say nothing, whatever their nearest code is. nears_if stands on it.
+use Rattle.std.proofs.Common.{◌≡◌, ℕ, ◌<◌, false, List, sym, subst, arith}
 use Rattle.std.specs.Prelude.{Option, Some, None, ◌&&◌, is_some}
 use Rattle.vbi_words.specs.declared.system.System.{System}
 use Rattle.vbi_words.specs.Levels.{Slicing}
 use Rattle.vbi_near.specs.declared.near.Near.{Near}
 use Rattle.vbi_near.specs.declared.lines.Nears.{Nears}
 use Rattle.vbi_near.specs.declared.said.Margins.{Margins}
+use Rattle.vbi_near.specs.declared.sought.Sought.{Sought}
 use Rattle.vbi_near.specs.declared.sums.Sums.{Sums}
 use Rattle.vbi_near.specs.Distances.{Samples, Shades, unit_of}
 use Rattle.vbi_near.specs.Nearest.{far_from}
@@ -13,7 +14,7 @@ use Rattle.vbi_near.specs.LineCodes.{codes_of, IsCodePlace}
 use Rattle.vbi_near.specs.Rows.{shades_of, IsRowOf}
 use Rattle.vbi_near.specs.Candidates.{HasNear}
 use Rattle.vbi_near.specs.Said.{close_limit, is_close, said_of}
-use Rattle.vbi_near.specs.Sought.{HasWord}
+use Rattle.vbi_near.specs.Sought.{HasWord, IsSought}
 use Rattle.vbi_near.specs.Silent.{says_word, AreBeyond, AreSilent}
 use Rattle.vbi_near.proofs.Columns.{word-fits}
 use Rattle.vbi_near.proofs.Costs.{word-cost}
@@ -53,12 +54,18 @@ module _ (system : System) (number : ℕ) (slicing : Slicing) (margins : Margins
       → said_of (unit_of slicing) margins count near ≡ None
   silent_by not = grind (arith, same, none_close)
 
--- lines whose nearest word isn't said, and from which each code is farther than one that is said may be
-pub silent : (system : System) (number : ℕ) (slicing : Slicing) (margins : Margins) (count : ℕ) (lines : List Samples)
-    (word : Near) (blank halved : ℕ) → HasWord system slicing lines word blank halved
-    → ((w s : ℕ) → IsCodePlace (codes_of system number) system (Some w) s
-    → close_limit (unit_of slicing) word < far_from system slicing lines (Some w) s)
-    → says_word (unit_of slicing) margins count blank halved word ≡ false
-    → AreSilent system number slicing margins count lines
-silent system number slicing margins count lines word blank halved has far not near is =
-    silent_by system number slicing margins count lines word blank halved has far near is not
+-- lines whose nearest word isn't said, and for which each code costs more than one that is said may
+pub silent : (sought : Sought) (number unit count : ℕ) (margins : Margins) (slicing : Slicing) (lines : List Samples)
+    (costs : Shades) → IsSought sought → unit ≡ unit_of slicing → IsRowOf sought.sums slicing lines costs
+    → says_word unit margins count sought.blank sought.halved sought.word ≡ false
+    → AreBeyond sought.sums number (close_limit unit sought.word)
+    → AreSilent sought.sums.system number slicing margins count lines
+silent sought number unit count margins slicing lines costs is same row not beyond near has =
+    silent_by sought.sums.system number slicing margins count lines sought.word sought.blank sought.halved
+    (is.word slicing lines costs row)
+    (λ w s place. omega (
+      arith,
+      same,
+      far_beyond sought.sums number (close_limit unit sought.word) slicing lines costs row beyond w s place,
+    )) near has
+    (subst (λ (u : ℕ). says_word u margins count sought.blank sought.halved sought.word ≡ false) same not)

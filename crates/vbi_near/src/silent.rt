@@ -14,8 +14,9 @@ ghost use Rattle.vbi_near.specs.LineCodes.{codes_of, IsOneOf};
 ghost use Rattle.vbi_near.specs.Best.{AreBounds};
 ghost use Rattle.vbi_near.specs.Leads.{Look, IsSeen, IsLead};
 ghost use Rattle.vbi_near.specs.Rows.{word_cost_by, IsRowOf};
+ghost use Rattle.vbi_near.specs.Said.{close_limit};
 ghost use Rattle.vbi_near.specs.Sought.{IsSought};
-ghost use Rattle.vbi_near.specs.Silent.{says_word, AreBeyond, AreSilent, HasNearUnlessSilent};
+ghost use Rattle.vbi_near.specs.Silent.{says_word, AreBeyond, HasNearUnlessSilent};
 
 use crate::codes::{none, with_start};
 use crate::found::Found;
@@ -96,10 +97,10 @@ fn says_word(sought: &Sought, terms: &Terms) -> bool
 
 /// Whether lines of this number say nothing: not their nearest word, and no code is close enough.
 fn is_silent(sought: &Sought, number: u32, terms: &Terms) -> bool
-    requires { IsSought sought.now }
-    ensures { (slicing : Slicing) (lines : List Samples) (costs : Shades) → IsTrue result
-        → terms.now.unit ≡ unit_of slicing → IsRowOf sought.now.sums slicing lines costs
-        → AreSilent sought.now.sums.system number slicing terms.now.margins.now terms.now.lines lines }
+    ensures word { IsTrue result → says_word terms.now.unit terms.now.margins.now terms.now.lines sought.now.blank
+        sought.now.halved sought.now.word ≡ false }
+    ensures code { IsTrue result
+        → AreBeyond sought.now.sums number (close_limit terms.now.unit sought.now.word) }
 {
     let limit = close_limit(terms.unit, &sought.word);
     !says_word(sought, terms) && !is_code_within(&sought.sums, number, limit, sought.bounds)
@@ -107,6 +108,7 @@ fn is_silent(sought: &Sought, number: u32, terms: &Terms) -> bool
 
 /// The nearest word of some lines, and the nearest of the codes that may stand on a line of this number, or none if they
 /// say nothing.
+#[tactic(auto, using(crate::proofs::Unsaid::silent))]
 pub(crate) fn nears_if(sought: &Sought, number: u32, terms: &Terms) -> Option<Nears>
     requires { IsSought sought.now }
     ensures { (slicing : Slicing) (lines : List Samples) (costs : Shades)
