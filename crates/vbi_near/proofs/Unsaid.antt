@@ -1,6 +1,6 @@
 -- Lines that say nothing, whatever the search of all codes would find. may_say_code, nearest_within, code_within and
 -- nears_if stand on it.
-use Rattle.std.proofs.Common.{◌≡◌, ◌≢◌, ℕ, ◌≤◌, ◌<◌, ◌+◌, ◌^◌, ◌⊎◌, inl, inr, false, List, refl, sym, ap, subst}
+use Rattle.std.proofs.Common.{◌≡◌, ◌≢◌, ℕ, ◌≤◌, ◌<◌, ◌+◌, ◌^◌, ◌⊎◌, inl, inr, false, List, [], refl, sym, ap, subst}
 use Rattle.std.proofs.Common.{◌∙◌, arith}
 use Rattle.std.proofs.lemmas.Bool.{cases_eq, cases_lt}
 use Rattle.std.specs.Prelude.{Option, Some, None, is_some, IsTrue}
@@ -31,6 +31,25 @@ use Rattle.vbi_near.proofs.OneNear.{one_near}
 
 -- ---- what was looked at
 
+-- the first start
+pub lead_first : (sums : Sums) (line limit first : ℕ) (lead : Found) → first < starts sums.system
+    → IsLead (code_cost_by sums) (IsSeen (with_ranges [] first (codes_of sums.system line))) lead → IsClose lead
+    → IsLeadWithin sums line limit 0 lead
+lead_first sums line limit first lead inside leads close = record {
+  looks = with_ranges [] first ranges;
+  is = leads;
+  are = λ s w there. from s w (to-ranges [] first ranges s w there);
+  rest = λ s w before one. absurd (omega (arith, before));
+  close = close;
+}
+  where
+    ranges : List Range
+    ranges = codes_of sums.system line
+
+    from : (s w : ℕ) → IsSeen [] s w ⊎ ((s ≡ first) × IsOneOf ranges w) → all_codes ranges sums.system s w
+    from s w (inl none) = inl none
+    from s w (inr (e, one)) = inr (omega (arith, e, inside), one)
+
 -- a start more that was passed
 pub lead_passing : (sums : Sums) (line limit n : ℕ) (lead : Found)
     → ((w : ℕ) → IsWord w → limit < word_cost_by sums n w) → IsLeadWithin sums line limit n lead
@@ -40,7 +59,7 @@ lead_passing sums line limit n lead far is = record {
   is = is.is;
   are = is.are;
   rest = λ s w before one. go s w one (cases_lt s n) before;
-  few = is.few;
+  close = is.close;
 }
   where
     go : (s w : ℕ) → IsOneOf (codes_of sums.system line) w → (s < n) ⊎ (n ≤ s) → s < n + 1
@@ -61,7 +80,7 @@ lead_looking sums line limit n lead more is inside leads close = record {
   is = leads;
   are = λ s w there. from s w (to-ranges is.looks n ranges s w there);
   rest = λ s w before one. go s w one (cases_lt s n) before;
-  few = (close.0, close.1, inl close.2);
+  close = close;
 }
   where
     ranges : List Range
@@ -171,7 +190,7 @@ module _ (sums : Sums) (line limit : ℕ) (lead : Found) (is : IsLeadWithin sums
       where
         go : (2 ^ 31 ≤ lead.rival) ⊎ ((s : ℕ) × (v : ℕ) × IsSeen is.looks s v × (v ≢ lead.word)
             × (cost s v ≡ lead.rival)) → (lead.word ≡ w) ⊎ (lead.word ≡ w → ⊥) → near.rival ≤ lead.rival
-        go (inl wide) either = absurd (omega (arith, wide, is.few, some_leads))
+        go (inl wide) either = absurd (omega (arith, wide, is.close))
         go (inr (s, v, there, differs, costs)) (inl one) =
             omega (arith, rival s v (is.are s v there) (λ f. differs (f ∙ ap number e ∙ sym one)), costs)
         go (inr other) (inr differs) =

@@ -11,7 +11,7 @@ use Rattle.vbi_near.specs.declared.said.Margins.{Margins}
 use Rattle.vbi_near.specs.declared.sums.Sums.{Sums}
 use Rattle.vbi_near.specs.Distances.{Samples, Shades, unit_of}
 use Rattle.vbi_near.specs.LineCodes.{codes_of, IsOneOf}
-use Rattle.vbi_near.specs.Leads.{Look, IsSeen, all_codes, IsLead, IsFew}
+use Rattle.vbi_near.specs.Leads.{Look, IsSeen, all_codes, IsLead, IsClose}
 use Rattle.vbi_near.specs.Rows.{word_cost_by, code_cost_by, IsRowOf, IsNearCode}
 use Rattle.vbi_near.specs.Candidates.{HasNear}
 use Rattle.vbi_near.specs.Said.{is_ahead, is_clear, said_of}
@@ -38,14 +38,14 @@ says_word unit margins lines blank halved near =
 abbrev pub may_say : ℕ → ℕ → ℕ → Near → Bool
 may_say unit columns limit code = is_some code.word && nat_le code.distance limit && is_ahead unit columns code
 
--- of the codes on a line that begin before column n those were looked at that may be within a limit, and this leads
+-- of the codes on a line that begin before column n those that may be within a limit were looked at, and this leads
 pub record IsLeadWithin (sums : Sums) (line limit n : ℕ) (lead : Found) : Type 0 where
   pub looks : List Look
   pub is : IsLead (code_cost_by sums) (IsSeen looks) lead
   pub are : (start word : ℕ) → IsSeen looks start word → all_codes (codes_of sums.system line) sums.system start word
   pub rest : (start word : ℕ) → start < n → IsOneOf (codes_of sums.system line) word
       → IsSeen looks start word ⊎ (limit < word_cost_by sums start word)
-  pub few : IsFew lead
+  pub close : IsClose lead
 
 -- if the nearest code is within the limit, this one is as near, and no less far ahead of any other
 abbrev pub StandsFor : ℕ → Near → Near → Type 0

@@ -10,20 +10,18 @@ ghost use Rattle.std.specs.Prelude.{◌≡◌, ◌≤◌, false, length, List, I
 ghost use Rattle.vbi_words.specs.Levels.{Slicing};
 ghost use Rattle.vbi_near.specs.Pictures.{starts};
 ghost use Rattle.vbi_near.specs.Distances.{Samples, Shades, unit_of};
-ghost use Rattle.vbi_near.specs.Best.{AreBounds};
-ghost use Rattle.vbi_near.specs.Rows.{word_cost_by, IsRowOf, IsNearCode};
+ghost use Rattle.vbi_near.specs.Rows.{IsRowOf, IsNearCode};
 ghost use Rattle.vbi_near.specs.Said.{close_limit};
 ghost use Rattle.vbi_near.specs.Sought.{IsSought};
 ghost use Rattle.vbi_near.specs.Silent.{says_word, IsLeadWithin, StandsFor, IsUnsaid, HasNearUnlessSilent};
 
-use crate::codes::{none, with_start};
+use crate::codes::{none, with_start, with_start_by};
 use crate::found::Found;
 use crate::lines::Nears;
 use crate::near::Near;
 use crate::near_code::code_or_none;
 use crate::said::{Margins, Nearest, close_limit, is_ahead, is_clear};
 use crate::sought::Sought;
-use crate::sums::Sums;
 
 /// By what some lines say their nearest word or code.
 #[derive(Clone, Copy)]
@@ -37,31 +35,28 @@ pub(crate) struct Terms<'a> {
     ghost few: { lines ≤ 28 },
 }
 
-/// The nearest of the codes on this line that begin where a word may be within a limit, or none. `bounds` has for each
-/// start how near the nearest of all words that begin there is.
-fn nearest_within(sums: &Sums, line: u32, limit: u64, bounds: &[u32]) -> Found
-    requires bounds { length bounds.now ≡ starts sums.now.system }
-    requires far { AreBounds (word_cost_by sums.now) (starts sums.now.system) bounds.now }
-    ensures { IsLeadWithin sums.now line limit (starts sums.now.system) result }
+/// The nearest of the codes on this line that begin at the first start, or where a word may be within a limit, or none.
+fn nearest_within(sought: &Sought, line: u32, limit: u64) -> Found
+    ensures { IsLeadWithin sought.now.sums line limit (starts sought.now.sums.system) result }
 {
-    let mut best = none(sums);
-    for start in 0..bounds.len() {
-        if u64::from(bounds[start]) <= limit {
-            best = with_start(sums, line, start, best);
+    let sums = &sought.sums;
+    let mut best = with_start(sums, line, sought.first, none(sums));
+    for start in 0..sought.bounds.len() {
+        let bound = sought.bounds[start];
+        if u64::from(bound) <= limit {
+            best = with_start_by(sums, line, start, bound, best);
         }
     }
     best
 }
 
 /// The nearest code of the lines, if it is within a limit; else another one, or none.
-fn code_within(sums: &Sums, line: u32, limit: u64, bounds: &[u32]) -> Near
-    requires bounds { length bounds.now ≡ starts sums.now.system }
-    requires far { AreBounds (word_cost_by sums.now) (starts sums.now.system) bounds.now }
+fn code_within(sought: &Sought, line: u32, limit: u64) -> Near
     ensures { (slicing : Slicing) (lines : List Samples) (costs : Shades) (near : Near)
-        → IsRowOf sums.now slicing lines costs → IsNearCode sums.now.system line slicing lines near
-        → StandsFor limit near result }
+        → IsRowOf sought.now.sums slicing lines costs
+        → IsNearCode sought.now.sums.system line slicing lines near → StandsFor limit near result }
 {
-    code_or_none(nearest_within(sums, line, limit, bounds), 0, 0)
+    code_or_none(nearest_within(sought, line, limit), 0, 0)
 }
 
 /// Whether the nearest word of some lines is said if no code is.
@@ -92,7 +87,7 @@ fn may_say_code(sought: &Sought, number: u32, terms: &Terms) -> bool
         (close_limit terms.now.unit sought.now.word) }
 {
     let limit = close_limit(terms.unit, &sought.word);
-    let code = code_within(&sought.sums, number, limit, sought.bounds);
+    let code = code_within(sought, number, limit);
     code.word.is_some()
         && u64::from(code.distance) <= limit
         && is_ahead(terms.unit, terms.margins.code, &code)

@@ -3,5 +3,5 @@ use Rattle.vbi_near.proofs.silent.code_within.Goals as goal
 
 pub returns : goal.returns
 returns c slicing lines costs near row are =
-    stands_for c.args.sums.now c.args.line c.args.limit c.nearest_within.result c.nearest_within.ensures slicing lines
-    costs near row are c.code_or_none.result c.code_or_none.ensures
+    stands_for c.args.sought.now.sums c.args.line c.args.limit c.nearest_within.result c.nearest_within.ensures slicing
+    lines costs near row are c.code_or_none.result c.code_or_none.ensures
