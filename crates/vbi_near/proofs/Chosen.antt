@@ -1,5 +1,5 @@
 -- The nearest word or none, and the nearest code or none, by the best of what was looked at: one proof for the
--- drawn rows at any places. near_word and near_code stand on it; OneNear and SomeNear take the places.
+-- drawn rows at any places. near_word and near_code stand on it; OneNear, SomeNear and Unsaid take the places.
 use Rattle.std.proofs.Common.{◌≡◌, ◌≢◌, ℕ, ◌≤◌, ◌<◌, ◌+◌, ◌^◌, min, Option, List, [], ◌∷◌, ◌⊎◌, inl, inr, refl, arith}
 use Rattle.std.proofs.Common.{ap, sym, subst, ◌∙◌}
 use Rattle.std.specs.Prelude.{Some, None, false}
@@ -32,7 +32,7 @@ use Rattle.vbi_near.proofs.Priced.{code-word}
 -- ---- places
 
 -- a word's number, and 0 for none
-abbrev number : Option ℕ → ℕ
+abbrev pub number : Option ℕ → ℕ
 number None = 0
 number (Some w) = w
 
@@ -68,7 +68,7 @@ module _ (system : System) (IsOne : ℕ → Type 0) (IsThere : Option ℕ → �
   looked : (word : Option ℕ) (s : ℕ) → IsThere word s → all_of IsOne system s (number word)
   looked word s there = grind arith
 
-  placed : (s w : ℕ) → all_of IsOne system s w → (word : Option ℕ) × IsThere word s × (number word ≡ w)
+  pub placed : (s w : ℕ) → all_of IsOne system s w → (word : Option ℕ) × IsThere word s × (number word ≡ w)
   placed s w (inl (e, none)) = (None, subst (IsThere None) (sym e) are.none, sym none)
   placed s w (inr (l, one)) = (Some w, are.some w s one (omega (arith, word-fits system)), refl)
 
@@ -118,6 +118,22 @@ record Shows (IsThere : Option ℕ → ℕ → Type 0) (lead : Found) (near : Ne
   pub distance : near.distance ≡ lead.distance
   pub rival : near.rival ≡ lead.rival
 
+-- a drawn row is as far as it costs
+pub cost-at : (sums : Sums) (slicing : Slicing) (lines : List Samples) (costs : Shades)
+    → IsRowOf sums slicing lines costs → (word : Option ℕ) (s : ℕ) → IsPlace sums.system word s
+    → far_from sums.system slicing lines word s ≡ code_cost_by sums s (number word)
+cost-at sums slicing lines costs row word s place =
+    sym (far-same sums.system slicing lines costs row.pile word s place) ∙ priced word place
+  where
+    priced : (word : Option ℕ) → IsPlace sums.system word s
+        → distance_from costs 0 (picture_of sums.system word s) ≡ code_cost_by sums s (number word)
+    priced None e =
+        ap (λ (k : ℕ). distance_from costs 0 (picture_of sums.system None k)) e
+        ∙ blank-cost costs (shades_of sums) sums.system row.both
+    priced (Some w) (word, room) =
+        word-cost costs (shades_of sums) sums.system row.both s room w
+        ∙ sym (code-word (shades_of sums) sums.system s w word)
+
 module _ (sums : Sums) (slicing : Slicing) (lines : List Samples) (costs : Shades)
     (row : IsRowOf sums slicing lines costs) (IsOne : ℕ → Type 0) (IsThere : Option ℕ → ℕ → Type 0)
     (are : ArePlaces sums.system IsOne IsThere) (lead : Found)
@@ -128,18 +144,7 @@ module _ (sums : Sums) (slicing : Slicing) (lines : List Samples) (costs : Shade
 
   cost-of : (word : Option ℕ) (s : ℕ) → IsThere word s
       → far_from sums.system slicing lines word s ≡ code_cost_by sums s (number word)
-  cost-of word s there =
-      sym (far-same sums.system slicing lines costs row.pile word s (are.place word s there))
-      ∙ priced word (are.place word s there)
-    where
-      priced : (word : Option ℕ) → IsPlace sums.system word s
-          → distance_from costs 0 (picture_of sums.system word s) ≡ code_cost_by sums s (number word)
-      priced None e =
-          ap (λ (k : ℕ). distance_from costs 0 (picture_of sums.system None k)) e
-          ∙ blank-cost costs (shades_of sums) sums.system row.both
-      priced (Some w) (word, room) =
-          word-cost costs (shades_of sums) sums.system row.both s room w
-          ∙ sym (code-word (shades_of sums) sums.system s w word)
+  cost-of word s there = cost-at sums slicing lines costs row word s (are.place word s there)
 
   shown : (longer shorter : ℕ) (near : Near) → IsCodeChosen lead longer shorter near → Shows IsThere lead near
   shown longer shorter near chosen = go chosen (begun sums.system IsOne IsThere are (code_cost_by sums) lead is)

@@ -1,5 +1,5 @@
 -- The code that leads: the nearer of two leads, what was looked at, and what needs no look.
--- nearer_lead, nearest_code, with_codes and with_start_by stand on it.
+-- nearer_lead, nearest_code, with_codes and with_start_by stand on it, and Unsaid.
 use Rattle.std.proofs.Common.{cond, eqb, ◌≡◌, ◌≢◌, ℕ, ◌≤◌, ◌<◌, ◌^◌, min, ◌⊎◌, inl, inr, arith, sym, ◌∙◌, zero, suc}
 use Rattle.std.proofs.Common.{List, [], ◌∷◌, length, get_or, take, refl, ap, subst}
 use Rattle.std.proofs.Math.Nat.{min-le_left, min-le_right}
@@ -128,7 +128,7 @@ passed-ranges cost looks at (words ∷ ranges) lead far after is =
     (λ s w there. subst (λ (k : ℕ). cost k w ≡ lead.distance → IsBefore lead.start lead.word k w) (sym there.0)
     (after w there.1.0)) is))
 
-to-ranges : (looks : List Look) (at : ℕ) (ranges : List Range) (s w : ℕ) → IsSeen (with_ranges looks at ranges) s w
+pub to-ranges : (looks : List Look) (at : ℕ) (ranges : List Range) (s w : ℕ) → IsSeen (with_ranges looks at ranges) s w
     → IsSeen looks s w ⊎ ((s ≡ at) × IsOneOf ranges w)
 to-ranges looks at [] s w there = inl there
 to-ranges looks at (words ∷ ranges) s w there = go (to-ranges (look at words ∷ looks) at ranges s w there)

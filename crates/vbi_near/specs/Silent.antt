@@ -1,18 +1,20 @@
 -- Lines that say nothing, known before their nearest code is: their nearest word isn't said, and each code is farther
--- than one that is said may be.
-use Rattle.std.specs.Prelude.{◌≡◌, ◌<◌, ℕ, ◌&&◌, Bool, is_some, List, Option, Some, None}
+-- than one that is said may be, or not far enough ahead of another.
+use Rattle.std.specs.Prelude.{◌≡◌, ◌≤◌, ◌<◌, ◌⊎◌, ℕ, ◌&&◌, Bool, false, IsTrue, is_some, nat_le}
+use Rattle.std.specs.Prelude.{List, Option, Some, None}
 use Rattle.vbi_words.specs.declared.system.System.{System}
 use Rattle.vbi_words.specs.Levels.{Slicing}
+use Rattle.vbi_near.specs.declared.found.Found.{Found}
 use Rattle.vbi_near.specs.declared.near.Near.{Near}
 use Rattle.vbi_near.specs.declared.lines.Nears.{Nears}
 use Rattle.vbi_near.specs.declared.said.Margins.{Margins}
 use Rattle.vbi_near.specs.declared.sums.Sums.{Sums}
-use Rattle.vbi_near.specs.Pictures.{starts}
-use Rattle.vbi_near.specs.Distances.{Samples, unit_of}
+use Rattle.vbi_near.specs.Distances.{Samples, Shades, unit_of}
 use Rattle.vbi_near.specs.LineCodes.{codes_of, IsOneOf}
-use Rattle.vbi_near.specs.Rows.{word_cost_by}
+use Rattle.vbi_near.specs.Leads.{Look, IsSeen, all_codes, IsLead, IsClose}
+use Rattle.vbi_near.specs.Rows.{word_cost_by, code_cost_by, IsRowOf, IsNearCode}
 use Rattle.vbi_near.specs.Candidates.{HasNear, HasNearIf}
-use Rattle.vbi_near.specs.Said.{is_clear, said_of, said_if}
+use Rattle.vbi_near.specs.Said.{is_ahead, is_clear, said_of, said_if}
 
 -- whatever nearest words lines have, they say none
 abbrev pub AreSilent : System → ℕ → Slicing → Margins → ℕ → List Samples → Type 0
@@ -21,7 +23,8 @@ AreSilent system number slicing margins count lines = (near : Nears) → HasNear
 
 -- the nearest words of this many lines, or none if they say nothing by these margins
 abbrev pub HasNearUnlessSilent : System → ℕ → Slicing → Margins → ℕ → List Samples → Option Nears → Type 0
-HasNearUnlessSilent system number slicing margins count lines None = AreSilent system number slicing margins count lines
+HasNearUnlessSilent system number slicing margins count lines None =
+    AreSilent system number slicing margins count lines
 HasNearUnlessSilent system number slicing margins count lines (Some near) = HasNear system number slicing lines near
 
 -- the same of lines that may have none
@@ -38,7 +41,26 @@ abbrev pub says_word : ℕ → Margins → ℕ → ℕ → ℕ → Near → Bool
 says_word unit margins lines blank halved near =
     is_some near.word && is_clear unit margins.other margins.ends lines blank halved near
 
--- each code that may stand on a line costs more than this, wherever it begins
-abbrev pub AreBeyond : Sums → ℕ → ℕ → Type 0
-AreBeyond sums line limit = (start word : ℕ) → start < starts sums.system → IsOneOf (codes_of sums.system line) word
-    → limit < word_cost_by sums start word
+-- this may be a code that is said: it is within the limit, and so far ahead of any other code
+abbrev pub may_say : ℕ → ℕ → ℕ → Near → Bool
+may_say unit columns limit code = is_some code.word && nat_le code.distance limit && is_ahead unit columns code
+
+-- of the codes on a line that begin before column n those that may be within a limit were looked at, and this leads
+pub record IsLeadWithin (sums : Sums) (line limit n : ℕ) (lead : Found) : Type 0 where
+  pub looks : List Look
+  pub is : IsLead (code_cost_by sums) (IsSeen looks) lead
+  pub are : (start word : ℕ) → IsSeen looks start word → all_codes (codes_of sums.system line) sums.system start word
+  pub rest : (start word : ℕ) → start < n → IsOneOf (codes_of sums.system line) word
+      → IsSeen looks start word ⊎ (limit < word_cost_by sums start word)
+  pub close : IsClose lead
+
+-- if the nearest code is within the limit, this one is as near, and no less far ahead of any other
+abbrev pub StandsFor : ℕ → Near → Near → Type 0
+StandsFor limit near code = IsTrue (is_some near.word) → near.distance ≤ limit
+    → IsTrue (is_some code.word) × (code.distance ≡ near.distance) × (near.rival ≤ code.rival)
+
+-- the nearest code of lines with these sums isn't said
+abbrev pub IsUnsaid : Sums → ℕ → ℕ → ℕ → ℕ → Type 0
+IsUnsaid sums line unit columns limit = (slicing : Slicing) (lines : List Samples) (costs : Shades) (near : Near)
+    → IsRowOf sums slicing lines costs → IsNearCode sums.system line slicing lines near
+    → may_say unit columns limit near ≡ false

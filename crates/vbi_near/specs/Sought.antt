@@ -11,11 +11,11 @@ use Rattle.vbi_near.specs.Halved.{IsHalved}
 use Rattle.vbi_near.specs.Rows.{IsRowOf, IsNearWord}
 
 -- the nearest word of some lines, how far they are from the row of no word, and from the nearer row of half of it
-pub record HasWord (system : System) (slicing : Slicing) (lines : List Samples) (word : Near) (blank halved : ℕ) : Type 0
-  where
-    pub nearest : IsNearWord system slicing lines word
-    pub none : blank ≡ far_from system slicing lines None 0
-    pub half : IsHalved system slicing lines word halved
+pub record HasWord (system : System) (slicing : Slicing) (lines : List Samples) (word : Near) (blank halved : ℕ)
+    : Type 0 where
+  pub nearest : IsNearWord system slicing lines word
+  pub none : blank ≡ far_from system slicing lines None 0
+  pub half : IsHalved system slicing lines word halved
 
 -- the nearest word of the lines with these sums was found
 pub record IsSought (sought : Sought) : Type 0 where

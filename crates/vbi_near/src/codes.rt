@@ -239,7 +239,7 @@ pub(crate) fn with_start(sums: &Sums, line: u32, start: usize, found: Found) -> 
 }
 
 /// The same if no word that begins there is nearer than this bound.
-fn with_start_by(sums: &Sums, line: u32, start: usize, bound: u32, found: Found) -> Found
+pub(crate) fn with_start_by(sums: &Sums, line: u32, start: usize, bound: u32, found: Found) -> Found
     requires start { start + word_length sums.now.system ≤ width_of sums.now.system }
     requires bound { (word : ℕ) → IsWord word → bound ≤ word_cost_by sums.now start word }
     ensures lead { (looks : List Look) → IsLead (code_cost_by sums.now) (IsSeen looks) found

@@ -17,7 +17,7 @@ use crate::sums::Sums;
 use crate::within::shorter_distance;
 
 /// The code found, or none.
-fn code_or_none(found: Found, longer: u32, shorter: u32) -> Near
+pub(crate) fn code_or_none(found: Found, longer: u32, shorter: u32) -> Near
     requires { (found.word ≡ 0) ⊎ IsWord found.word }
     ensures { IsCodeChosen found longer shorter result }
 {

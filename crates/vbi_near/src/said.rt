@@ -149,7 +149,7 @@ pub enum Stand {
 }
 
 /// Whether any other word is farther by this many columns.
-fn is_ahead(unit: u32, columns: u32, near: &Near) -> bool
+pub(crate) fn is_ahead(unit: u32, columns: u32, near: &Near) -> bool
     ensures { result ≡ is_ahead unit columns near.now }
 {
     u64::from(near.distance) + u64::from(columns) * u64::from(unit) <= u64::from(near.rival)

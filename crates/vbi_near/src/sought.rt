@@ -23,7 +23,7 @@ pub(crate) struct Sought<'a> {
     /// How far they are from the nearer row of half the word.
     pub(crate) halved: u32,
     /// The column at which the nearest of all words begins, also if none is nearer.
-    first: usize,
+    pub(crate) first: usize,
     /// How near the nearest of the words is that begin at each column.
     pub(crate) bounds: &'a [u32],
     ghost inside: { first < starts sums.system },
