@@ -176,7 +176,7 @@ pub fn worked_near()
     ensures starts { (starts Ntsc ≡ 224) × (starts Pal ≡ 285) }
     ensures apart { (differences (picture_of Ntsc (Some 0x800000) 223) (picture_of Ntsc (Some 0xA00000) 223) ≡ 28)
         × (differences (picture_of Pal (Some 0x800000) 0) (picture_of Pal (Some 0xC00000) 0) ≡ 35) }
-    ensures most { most_of (record { black = 16384; white = 51200 }) ≡ 34816 }
+    ensures most { most_of (record { black = 16384; white = 51200 }) ≡ 24372 }
     ensures samples { drawn_as (record { black = 16384; white = 51200 }) (false ∷ true ∷ true ∷ [])
         ≡ 16384 ∷ 51200 ∷ 51200 ∷ [] }
     ensures distance { distance_of 34816 (map known ((16384 ∷ 51000 ∷ 60000 ∷ []) ∷ (16000 ∷ 51200 ∷ 65535 ∷ []) ∷ []))
