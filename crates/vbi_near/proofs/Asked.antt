@@ -83,7 +83,7 @@ says_if system number slicing margins count can lines others (Some near) said is
 -- ---- levelled rows
 
 -- each of two that hold together holds
-both-hold : (a b : Bool) → (a && b) ≡ true → IsTrue a × IsTrue b
+pub both-hold : (a b : Bool) → (a && b) ≡ true → IsTrue a × IsTrue b
 both-hold true true is = (refl, refl)
 both-hold true false is = cc
 both-hold false b is = cc

@@ -87,7 +87,7 @@ either-few true x y few less = few
 either-few false x y few less = less
 
 -- so is what a line shows by its own levels
-own-few : (system : System) (number : ℕ) (slicing : Slicing) (row : Row) (seen : Seen) (unit : ℕ)
+pub own-few : (system : System) (number : ℕ) (slicing : Slicing) (row : Row) (seen : Seen) (unit : ℕ)
     → IsSeen system number slicing row seen → (own_of unit seen).pass ≤ 2
 own-few system number slicing row seen unit is =
     let levels = row_levels slicing row.bytes in
