@@ -11,8 +11,8 @@ use Rattle.vbi_words.specs.Outcomes.{word_of}
 use Rattle.vbi_words.specs.Levels.{Slicing}
 use Rattle.vbi_near.specs.declared.near.Near.{Near}
 use Rattle.vbi_near.specs.declared.lines.Nears.{Nears}
-use Rattle.vbi_near.specs.declared.said.Margins.{Margins}
-use Rattle.vbi_near.specs.declared.said.MarginSet.{MarginSet}
+use Rattle.vbi_near.specs.declared.margins.Margins.{Margins}
+use Rattle.vbi_near.specs.declared.margins.MarginSet.{MarginSet}
 use Rattle.vbi_near.specs.declared.said.Stand.{Stand}
 use Rattle.vbi_near.specs.declared.said.Stand.TheVariants.{Alone, Apart, Together}
 use Rattle.vbi_near.specs.declared.recovery.Recovered.{Recovered}
@@ -22,7 +22,8 @@ use Rattle.vbi_near.specs.LineCodes.{codes_of, IsCodePlace, is_beyond_79999}
 use Rattle.vbi_near.specs.Nearest.{IsNearestBy, far_from}
 use Rattle.vbi_near.specs.Levelled.{levelled_unit, levelled_slicing}
 use Rattle.vbi_near.specs.Said.{said_of, unless_beyond, recovered_by, first_said, said_in, is_ahead, is_clear}
-use Rattle.vbi_near.specs.Said.{is_close, levelled_margins, given_margins}
+use Rattle.vbi_near.specs.Margins.{levelled_margins, given_margins}
+use Rattle.vbi_near.specs.Said.{is_close}
 use Rattle.vbi_near.specs.Candidates.{HasNear, HasNearIf, Candidates, Row, AreOf, AreOfBoth, has_swing, are_alike}
 use Rattle.vbi_near.specs.Candidates.{given_samples, levelled_samples}
 use Rattle.vbi_near.specs.Recovery.{Seen, IsSeen, Stands, alone, own_of, is_open, said_by, recovered_as, shown_in}
@@ -61,8 +62,9 @@ code-ahead : (system : System) (number : ℕ) (slicing : Slicing) (lines : List 
     (columns word : ℕ) → HasNear system number slicing lines near → near.code.word ≡ Some word
     → is_ahead (unit_of slicing) columns near.code ≡ true → IsAhead system number slicing lines columns word
 code-ahead system number slicing lines near columns word is e ahead =
-    nearest-ahead system number slicing lines (IsCodePlace (codes_of system number) system) near.code columns word is.code
-    e (λ start place. code-place (codes_of system number) system (Some word) start place) (λ other at place. place) ahead
+    nearest-ahead system number slicing lines (IsCodePlace (codes_of system number) system) near.code columns word
+    is.code e (λ start place. code-place (codes_of system number) system (Some word) start place)
+    (λ other at place. place) ahead
 
 -- and so is the nearest word
 word-ahead : (system : System) (number : ℕ) (slicing : Slicing) (lines : List Samples) (near : Nears)
@@ -169,8 +171,8 @@ alone-ahead system number slicing row near both word are says = go (first-of _ _
         inl (recovered-ahead system number levelled_slicing (has_swing system slicing row) levelled_margins.lone 1
         (levelled_samples system slicing row ∷ []) near.levelled 4 word (omega arith) (omega arith) are.levelled e)
     go (inr e) =
-        inr (recovered-ahead system number slicing true given_margins.lone 1 (given_samples row ∷ []) (Some near.given) 4
-        word (omega arith) (omega arith) (refl, are.given) e)
+        inr (recovered-ahead system number slicing true given_margins.lone 1 (given_samples row ∷ [])
+        (Some near.given) 4 word (omega arith) (omega arith) (refl, are.given) e)
 
 -- what one of two lines says, levelled or as they are: by its own nearest words, or by those of both together
 in-ahead : (system : System) (number : ℕ) (slicing : Slicing) (margins : MarginSet) (stand : Stand) (can could : Bool)

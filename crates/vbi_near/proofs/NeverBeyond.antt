@@ -16,15 +16,16 @@ use Rattle.vbi_words.specs.Readings.{Reads}
 use Rattle.vbi_line.proofs.OneReading.{is_reading}
 use Rattle.vbi_near.specs.declared.lines.Nears.{Nears}
 use Rattle.vbi_near.specs.declared.recovery.Recovered.{Recovered}
-use Rattle.vbi_near.specs.declared.said.Margins.{Margins}
-use Rattle.vbi_near.specs.declared.said.MarginSet.{MarginSet}
+use Rattle.vbi_near.specs.declared.margins.Margins.{Margins}
+use Rattle.vbi_near.specs.declared.margins.MarginSet.{MarginSet}
 use Rattle.vbi_near.specs.declared.said.Stand.{Stand}
 use Rattle.vbi_near.specs.declared.said.Stand.TheVariants.{Alone, Apart, Together}
 use Rattle.vbi_near.specs.LineCodes.{is_beyond_79999}
 use Rattle.vbi_near.specs.Distances.{unit_of}
 use Rattle.vbi_near.specs.Levelled.{levelled_unit}
-use Rattle.vbi_near.specs.Said.{said_if, unless_beyond, recovered_by, first_said, said_in, levelled_margins}
-use Rattle.vbi_near.specs.Said.{given_margins}
+use Rattle.vbi_near.specs.Margins.{levelled_margins}
+use Rattle.vbi_near.specs.Said.{said_if, unless_beyond, recovered_by, first_said, said_in}
+use Rattle.vbi_near.specs.Margins.{given_margins}
 use Rattle.vbi_near.specs.Candidates.{Candidates, Row}
 use Rattle.vbi_near.specs.Recovery.{Seen, IsSeen, Stands, alone, own_of, is_open, is_confirmed, stands_of, said_by}
 use Rattle.vbi_near.specs.Recovery.{stays, recovered_as, shown_in, IsRecovered, row_at}

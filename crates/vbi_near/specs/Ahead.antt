@@ -2,7 +2,7 @@
 use Rattle.std.specs.Prelude.{◌≢◌, ◌≤◌, ◌⊎◌, ℕ, ◌+◌, ◌*◌, List, [], ◌∷◌, Some}
 use Rattle.vbi_words.specs.declared.system.System.{System}
 use Rattle.vbi_words.specs.Levels.{Slicing}
-use Rattle.vbi_near.specs.declared.said.Margins.{Margins}
+use Rattle.vbi_near.specs.declared.margins.Margins.{Margins}
 use Rattle.vbi_near.specs.Pictures.{IsPlace}
 use Rattle.vbi_near.specs.Distances.{Samples, unit_of}
 use Rattle.vbi_near.specs.LineCodes.{codes_of, IsCodePlace}
@@ -33,6 +33,6 @@ IsAheadOn system number slicing row columns word =
 -- or two lines together are
 abbrev pub IsAheadOnBoth : System → Slicing → Row → Row → ℕ → ℕ → Type 0
 IsAheadOnBoth system slicing row other columns word =
-    IsAhead system 17 levelled_slicing (levelled_samples system slicing row ∷ levelled_samples system slicing other ∷ [])
-    columns word
+    IsAhead system 17 levelled_slicing
+    (levelled_samples system slicing row ∷ levelled_samples system slicing other ∷ []) columns word
     ⊎ IsAhead system 17 slicing (given_samples row ∷ given_samples other ∷ []) columns word

@@ -16,6 +16,7 @@ pub mod Pile
 pub mod Priced
 pub mod Levelled
 pub mod WorkedLevels
+pub mod Margins
 pub mod Said
 pub mod Candidates
 pub mod Sought

@@ -22,7 +22,7 @@ ghost use Rattle.vbi_near.specs.Shorter.{IsShorter};
 ghost use Rattle.vbi_near.specs.Apart.{picture_distance};
 ghost use Rattle.vbi_near.specs.LineCodes.{IsOneOf, codes_of, is_beyond_79999};
 ghost use Rattle.vbi_near.specs.declared.recovery.Recovered.{Recovered};
-ghost use Rattle.vbi_near.specs.declared.said.Margins.{Margins};
+ghost use Rattle.vbi_near.specs.declared.margins.Margins.{Margins};
 ghost use Rattle.vbi_near.specs.declared.lines.Nears.{Nears};
 ghost use Rattle.vbi_near.specs.Said.{said_of};
 ghost use Rattle.vbi_near.specs.Candidates.{Row, HasNear};

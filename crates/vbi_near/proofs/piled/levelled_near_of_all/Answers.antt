@@ -63,7 +63,8 @@ returns-then-swing_alike c =
     = ap (λ (list : List ℕ). swing_alike (unit_of levels) list) (sym swings)
     ∙ ap (λ (unit : ℕ). swing_alike unit (take rows.count c.loop-line.swings)) (sym c.unit_of.ensures.value)
     ∙ sym c.swing_alike.ensures ∙ c.if-swing_alike.true in
-    let pile : IsPileOf system levelled_slicing (map (levelled_samples system levels) (rows_to rows.count)) c.loop-line.pile
+    let pile : IsPileOf system levelled_slicing (map (levelled_samples system levels) (rows_to rows.count))
+    c.loop-line.pile
     = subst (λ (n : ℕ). ((i : ℕ) → i < n → has_swing system levels (row_at rows i) ≡ true)
     → IsPileOf system levelled_slicing (map (levelled_samples system levels) (rows_to n)) c.loop-line.pile) e
     c.loop-line.invariant.pile
