@@ -1,7 +1,7 @@
 -- What is searched only if it is asked for says the same as what is always searched.
 -- The functions of confirmed, paired and recovery stand on it.
-use Rattle.std.proofs.Common.{◌≡◌, ℕ, Bool, true, false, List, [], ◌∷◌, refl, sym, ap, ◌∙◌, subst}
-use Rattle.std.specs.Prelude.{◌*◌, nat_le, Option, Some, None, is_some, IsTrue, if◌then◌else◌, ◌||◌, ◌&&◌}
+use Rattle.std.proofs.Common.{◌≡◌, ℕ, Bool, true, false, List, refl, sym, ap, ◌∙◌, subst}
+use Rattle.std.specs.Prelude.{◌*◌, nat_le, Option, Some, None, is_some, IsTrue, if◌then◌else◌, ◌&&◌}
 use Rattle.vbi_words.specs.declared.system.System.{System}
 use Rattle.vbi_words.specs.Levels.{Slicing, samples_of}
 use Rattle.vbi_near.specs.declared.lines.Nears.{Nears}
@@ -12,11 +12,11 @@ use Rattle.vbi_near.specs.declared.recovery.Recovered.{Recovered}
 use Rattle.vbi_near.specs.Distances.{Samples, unit_of, known_but}
 use Rattle.vbi_near.specs.Said.{said_of, said_if, unless_beyond, said_in, stand_of, may_agree, first_said, is_said}
 use Rattle.vbi_near.specs.Levelled.{levelled, is_swing}
-use Rattle.vbi_near.specs.Candidates.{Candidates, Row, HasNear, HasNearIf, AreOf, AreOfBoth, has_swing, levelled_samples}
+use Rattle.vbi_near.specs.Candidates.{Candidates, Row, HasNear, HasNearIf, AreOf, has_swing, levelled_samples}
 use Rattle.vbi_near.specs.Candidates.{filled_samples, are_alike_by}
 use Rattle.vbi_near.specs.Silent.{HasNearUnlessSilent, HasNearIfUnlessSilent}
 use Rattle.vbi_near.specs.Recovery.{said_by, stands_by, stands_of, alone}
-use Rattle.vbi_near.specs.Recovery.{IsSeen, IsOwn, own_of, is_open, is_asked, are_open, recovered_as, shown_in}
+use Rattle.vbi_near.specs.Recovery.{IsSeen, IsOwn, own_of, is_open, are_open, recovered_as, shown_in}
 use Rattle.vbi_near.specs.Recovery.{Seen, Stands}
 use Rattle.vbi_near.proofs.OneSeen.{one_nears, open_asked}
 
@@ -61,9 +61,9 @@ pub same_if : (system : System) (number : ℕ) (slicing : Slicing) (can other : 
     → HasNearIf system number slicing can lines near → HasNearIf system number slicing other others near
 same_if system number slicing can other lines others None e same none = sym e ∙ none
 same_if system number slicing can other lines others (Some near) e same (can_be, has) = (
-      sym e ∙ can_be,
-      subst (λ (l : List Samples). HasNear system number slicing l near) (same (sym e ∙ can_be)) has,
-    )
+  sym e ∙ can_be,
+  subst (λ (l : List Samples). HasNear system number slicing l near) (same (sym e ∙ can_be)) has,
+)
 
 -- lines that may have no nearest words have none
 pub none_if : (system : System) (number : ℕ) (slicing : Slicing) (can : Bool) (lines : List Samples)
@@ -83,7 +83,7 @@ says_if system number slicing margins count can lines others (Some near) said is
 -- ---- levelled rows
 
 -- each of two that hold together holds
-both-hold : (a b : Bool) → (a && b) ≡ true → IsTrue a × IsTrue b
+pub both-hold : (a b : Bool) → (a && b) ≡ true → IsTrue a × IsTrue b
 both-hold true true is = (refl, refl)
 both-hold true false is = cc
 both-hold false b is = cc

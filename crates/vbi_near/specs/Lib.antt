@@ -21,6 +21,7 @@ pub mod Candidates
 pub mod Sought
 pub mod Silent
 pub mod Paired
+pub mod Ahead
 pub mod Recovery
 pub mod Piled
 pub mod Lines

@@ -313,7 +313,11 @@ fn smooth(samples: &[u16], out: &mut [u8])
         let sample = smoothed_sample(samples[column - 1], samples[column], samples[column + 1]);
         put(out, column, sample);
     }
-    put(out, last, smoothed_sample(samples[last - 1], samples[last], samples[last]));
+    put(
+        out,
+        last,
+        smoothed_sample(samples[last - 1], samples[last], samples[last]),
+    );
 }
 
 /// Writes the levelled line of this swing.

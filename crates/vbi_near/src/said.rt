@@ -264,7 +264,12 @@ fn said_of(unit: u32, margins: &Margins, lines: u32, near: &Nears) -> Option<Wor
 }
 
 /// The word that this many lines say, if they have a nearest word and a nearest code.
-pub(crate) fn said_if(unit: u32, margins: &Margins, lines: u32, near: Option<Nears>) -> Option<Word24>
+pub(crate) fn said_if(
+    unit: u32,
+    margins: &Margins,
+    lines: u32,
+    near: Option<Nears>,
+) -> Option<Word24>
     requires { lines ≤ 28 }
     ensures { result ≡ said_if unit margins.now lines near }
 {

@@ -71,13 +71,7 @@ fn says_word(sought: &Sought, terms: &Terms) -> bool
         halved: sought.halved,
     };
     sought.word.word.is_some()
-        && is_clear(
-            terms.unit,
-            margins.other,
-            margins.ends,
-            terms.lines,
-            &word,
-        )
+        && is_clear(terms.unit, margins.other, margins.ends, terms.lines, &word)
 }
 
 /// Whether the nearest code of lines of this number may be said: whether it is close enough, and ahead of the others.

@@ -1,4 +1,4 @@
-use Rattle.std.proofs.Common.{◌≡◌, ◌∙◌, [], ◌∷◌}
+use Rattle.std.proofs.Common.{◌∙◌, [], ◌∷◌}
 use Rattle.std.specs.Prelude.{◌||◌, Some}
 use Rattle.vbi_near.specs.Said.{said_if, first_said, is_said, given_margins}
 use Rattle.vbi_near.specs.Lines.{row_in}

@@ -2,7 +2,7 @@ use Rattle.std.proofs.Common.{◌≡◌, [], ◌∷◌, sym, ◌∙◌, subst, r
 use Rattle.std.specs.Prelude.{Option, None}
 use Rattle.vbi_words.specs.declared.system.System.{System}
 use Rattle.vbi_near.specs.declared.lines.Nears.{Nears}
-use Rattle.vbi_near.specs.Distances.{Samples, unit_of}
+use Rattle.vbi_near.specs.Distances.{unit_of}
 use Rattle.vbi_near.specs.Lines.{row_in, first_in, other_in}
 use Rattle.vbi_near.specs.Candidates.{Row, HasNearIf, given_samples}
 use Rattle.vbi_near.specs.Silent.{HasNearIfUnlessSilent}
