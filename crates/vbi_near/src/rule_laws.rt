@@ -11,7 +11,7 @@ ghost use Rattle.vbi_near.specs.Said.{said_of, unless_beyond};
 ghost use Rattle.vbi_near.specs.Recovery.{recovered_of};
 ghost use Rattle.vbi_near.specs.WorkedRules.{near_with, cut_at, as_code, as_other, beside, from_none, ten_ahead};
 ghost use Rattle.vbi_near.specs.WorkedRules.{code_halved_at, other_halved_at, code_ahead, other_ahead};
-ghost use Rattle.vbi_near.specs.WorkedRules.{close_code_ahead};
+ghost use Rattle.vbi_near.specs.WorkedRules.{close_code_ahead, far_from_none};
 ghost use Rattle.vbi_near.specs.WorkedRules.{as_given, levelled_as, worn_by, worn};
 ghost use Rattle.vbi_near.specs.WorkedRules.{smoothed_by, smoothed_at, smoothed, read_as, both_at, together_at, Shows};
 
@@ -25,6 +25,8 @@ pub fn worked_margins()
         ≡ Some 0xF12345 ∷ None ∷ [] }
     ensures apart_other { map (λ n. said_of 100 levelled_margins.apart 1 (other_ahead n)) (1000 ∷ 999 ∷ [])
         ≡ Some 0xF1234A ∷ None ∷ [] }
+    ensures apart_no_share { (said_of 100 levelled_margins.apart 1 (far_from_none (code_ahead 800)) ≡ Some 0xF12345)
+        × (said_of 100 levelled_margins.apart 1 (far_from_none (other_ahead 1000)) ≡ Some 0xF1234A) }
     ensures both_code { map (λ n. said_of 100 levelled_margins.both 2 (close_code_ahead n)) (800 ∷ 799 ∷ [])
         ≡ Some 0xF12345 ∷ None ∷ [] }
     ensures both_other { map (λ n. said_of 100 levelled_margins.both 2 (other_ahead n)) (500 ∷ 499 ∷ [])
@@ -70,6 +72,10 @@ pub fn worked_given_margins()
         ≡ Some 0xF12345 ∷ None ∷ [] }
     ensures apart_other { map (λ n. said_of 100 given_margins.apart 1 (other_ahead n)) (1000 ∷ 999 ∷ [])
         ≡ Some 0xF1234A ∷ None ∷ [] }
+    ensures no_share { (said_of 100 given_margins.lone 1 (far_from_none (code_ahead 600)) ≡ Some 0xF12345)
+        × (said_of 100 given_margins.lone 1 (far_from_none (other_ahead 800)) ≡ Some 0xF1234A) }
+    ensures apart_no_share { (said_of 100 given_margins.apart 1 (far_from_none (code_ahead 800)) ≡ Some 0xF12345)
+        × (said_of 100 given_margins.apart 1 (far_from_none (other_ahead 1000)) ≡ Some 0xF1234A) }
     ensures both_code { map (λ n. said_of 100 given_margins.both 2 (close_code_ahead n)) (800 ∷ 799 ∷ [])
         ≡ Some 0xF12345 ∷ None ∷ [] }
     ensures both_other { map (λ n. said_of 100 given_margins.both 2 (other_ahead n)) (800 ∷ 799 ∷ [])
