@@ -6,12 +6,12 @@ from ldvbi import Near, Stream, line_bytes, nearest
 from ldvbi.codes import LINES
 
 
-BEYOND = 4  # columns of a line by which a longer word may be nearer, as for recovered words
+BEYOND = 3  # columns of a line by which a longer word may be nearer, as for recovered words
 
 
 class Measured(NamedTuple):
-    """The nearest word of a line, or None, its distance and that of its rival, in hundredths of a column, rounded down.
-    A column with the other level is 100."""
+    """The nearest word of a line, or None, its distance and that of its rival, in hundredths of what white is from black
+    in one column, rounded down. A column with the other level is 70."""
     word: Optional[int]
     distance: int
     rival: int

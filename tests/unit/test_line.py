@@ -80,11 +80,12 @@ def test_what_a_line_shows(setup, text, said, digits, marked):
 
 
 @pytest.mark.parametrize("text, row, said, count", [
-    (PLAIN, Row(0x82CFFF, 151), "82CFFF; the row of 82CFFF from column 151 on is 42.0 columns away", 42),
-    (PLAIN, Row(0x82CFFE, 150), "82CFFF; the row of 82CFFE from column 150 on is 29.0 columns away", 29),
-    (CHANGED, Row(0x82CFFF, 150), "no word: change 170; the row of 82CFFF from column 150 on is 5.0 columns away", 5)])
+    (PLAIN, Row(0x82CFFF, 151), "82CFFF; the row of 82CFFF from column 151 on is 29.4 columns away", 42),
+    (PLAIN, Row(0x82CFFE, 150), "82CFFF; the row of 82CFFE from column 150 on is 20.3 columns away", 29),
+    (CHANGED, Row(0x82CFFF, 150), "no word: change 170; the row of 82CFFF from column 150 on is 3.5 columns away", 5)])
 def test_the_row_of_a_word(text, row, said, count):
-    """82CFFF changes its level in 42 columns, and 82CFFE is another word in the 29 columns of its last cell."""
+    """82CFFF changes its level in 42 columns, and 82CFFE is another word in the 29 columns of its last cell. Each counts
+    seven tenths."""
     drawn = Drawn(described(text), row=row)
     assert (drawn.said, drawn.digits, len(drawn.marked), drawn.outside) == (said, "%06X" % row.word, count, [])
 
