@@ -145,8 +145,8 @@ LDVBI_RESULT uint32_t ldvbi_read_fields(uint32_t system, uint32_t black, uint32_
  *
  * A word can be drawn from each column that leaves room for it: from 224 columns on NTSC, from 285 on PAL. Each drawn
  * word is a row of samples, and no word is a row too, which is black. How far a row is from some lines is a sum over
- * their samples: how far each is from the row's, but at most seven tenths of (white - black), rounded up, which is one
- * column with the other level in one line. The nearest of all rows has the least distance.
+ * their samples: how far each is from the row's, but at most seven tenths of (white - black), rounded up. That is what
+ * one column with the other level counts in one line. The nearest of all rows has the least distance.
  *
  * This is proved: no row, of any word or of none, is nearer to the lines than the one that is answered, and no row of
  * another word, or of none, is nearer than `rival`. So if another word was recorded, the samples are off by `rival` or
@@ -170,18 +170,20 @@ LDVBI_RESULT LDVBI_POINTER(6) uint32_t ldvbi_nearest(uint32_t system, uint32_t b
     const void *samples, size_t length, LdvbiNear *near);
 
 /* Reads lines 16, 17 and 18 as ldvbi_read_rows does, and recovers the words of worn lines, as pass 3. A line that shows
- * no word and isn't blank gets the nearest code that may stand on it if this is ahead of the other codes, and no word is
- * nearer by more than 3 columns, of (white - black) each; else it gets its nearest word if that is ahead of the other
- * words. All this is asked first of the levelled lines, then, if they say nothing, of the lines as they are. The margin
- * has to be at least this many columns, and this share, in 288ths, of how much nearer the word is than none:
+ * no word and isn't blank gets the nearest code that may stand on it if no word is nearer by more than 3 columns, of
+ * (white - black) each; else it gets its nearest word. Any other code, or else any other word, has to be farther by at
+ * least this many columns, and by at least this share, in 288ths, of how much nearer the word is than none:
  *
- *                                           a code that may stand on the line   any other word
- *     levelled: one line                               4, 10/288                   5, 8/288
- *         lines 17 and 18 together                     8, 10/288                   5, 7/288
- *         either, if they don't agree                  8                          10
- *     as it is: one line                               6                           8
- *         lines 17 and 18 together                     8, 8/288                    8, 6/288
- *         either, if they don't agree                  8                          10
+ *                                        a code that may stand on the line     any other word
+ *                                              columns     share              columns     share
+ *     levelled lines
+ *         one line                                4          10                  5           8
+ *         either, if they don't agree             8           0                 10           0
+ *         lines 17 and 18 together                8          10                  5           7
+ *     lines as they are
+ *         one line                                6           0                  8           0
+ *         either, if they don't agree             8           0                 10           0
+ *         lines 17 and 18 together                8           8                  8           6
  *
  * Lines 17 and 18 are taken together if neither shows a word that stays, neither is blank, they agree, and each bears
  * the common word or code. They agree if each has the same nearest word or code, or if the common one is at most 30
@@ -190,22 +192,21 @@ LDVBI_RESULT LDVBI_POINTER(6) uint32_t ldvbi_nearest(uint32_t system, uint32_t b
  * the other.
  *
  * Nothing is recovered if the row with one more cell (`longer`), or with one or two cells black at an end, is nearer by
- * more than 3 columns in each line, or 2 of a levelled one; nor unless the row with twelve cells black at an end is
- * farther by a quarter of how much farther none is. Two lines aren't taken together if, for each by itself, the row with
- * one more cell is nearer by more than so many columns.
+ * more than 2 columns in each levelled line, or 3 in each line as it is; nor unless the row with twelve cells black at
+ * an end is farther by a quarter of how much farther none is. Two lines aren't taken together if, for each by itself,
+ * the row with one more cell is nearer by more than so many columns.
  *
- * A picture number of 80,000 or more is never recovered, since no disc is known to have one. Its word is one of 0xF80000
- * to 0xFF9999 whose last four digits are decimal: the first digit of the number has its top bit. It counts as no code
- * here. If lines would say it as their nearest word, they say nothing.
+ * A picture number of 80,000 or more is never recovered, since no disc is known to have one. Its word is one of
+ * 0xF80000 to 0xFF9999 whose last four digits are decimal: the first digit of the number has its top bit. It counts as
+ * no code here. If lines would say it as their nearest word, they say nothing.
  *
- * To level a line, the mean of six cells is taken off, the rest is made to swing from black to white, which are 24,576
- * and 40,960 there, and each sample becomes a quarter of the sum of the one before it, twice itself, and the one after.
- * This is done if the rest swings by 3 to 16 tenths of (white - black), and if of two lines neither swings more than
- * twice as much as the other.
- *
- * A word of pass 2 stays only if its line by itself says it in this way, or if a row of it whose cells have 98 to 102
- * hundredths of their length is nearer than that of any other word by 8 columns. A picture number of 80,000 or more
- * stays, too, if its line says it as a word that is no code.
+ * All this is asked first of the levelled lines, then, if they say nothing, of the lines as they are. To level a line,
+ * the mean of six cells is taken off, and the rest is made to swing from black to white on levels of its own, which
+ * leave room beyond both. Then each sample becomes a quarter of the sum of the one before, twice itself and the one
+ * after. This is done if the rest swings by 3 to 16 tenths of (white - black), and if of two lines neither swings more
+ * than twice as much as the other. A word of pass 2 stays only if its line by itself says it in this way, or if a row
+ * of it whose cells have 98 to 102 hundredths of their length is nearer than that of any other word by 8 columns. A
+ * picture number of 80,000 or more stays, too, if its line says it as a word that is no code.
  *
  * This is proved: the answer is that of this rule, a word of pass 1 stays as it is, a blank line stays blank, and no
  * word of pass 3 is a picture number of 80,000 or more. It isn't proved that a recovered word is the recorded one: this
@@ -254,9 +255,10 @@ LDVBI_RESULT LDVBI_POINTER(9) uint32_t ldvbi_recovered_record(uint32_t system, u
  * may be of several fields or captures. `erased` lists columns that count for nothing. In its entries `field` is the
  * place of the line among these lines, counted from 0, and `line` is their number.
  *
- * The rule is that of ldvbi_recover_rows for two lines, with other margins. A code that may stand on the line has to be
- * ahead by 4 columns if dropouts are known (`known` is 1), else (`known` is 0) by 8, and by 4/288; any other word by 8
- * columns, and 3/288. The row with more cells or fewer may be nearer by 4 columns in each line. The levelled lines are
+ * The rule is that of ldvbi_recover_rows for two lines, with other margins, the same for levelled lines and for lines
+ * as they are. A code that may stand on the line has to be ahead by 4 columns if dropouts are known (`known` is 1),
+ * else (`known` is 0) by 8, and by a share of 4/288. Any other word has to be ahead by 8 columns, and by 3/288. The row
+ * with one more cell, or with one or two cells fewer, may be nearer by 4 columns in each line. The levelled lines are
  * asked first if each of them swings as much as said there, and none more than twice as much as another.
  *
  * This is proved: the answer is that of this rule, no picture number of 80,000 or more, and just the columns that an

@@ -136,7 +136,10 @@ def faults():
 
 
 SIDE, SAID = "crates/vbi_side/specs/", "crates/vbi_near/specs/Said.antt"
-TWO = r"_margins = record \{ code = (\d+); other = (\d+);"
+PILED = "crates/vbi_near/specs/Piled.antt"
+# The margins of one line, of either of two and of both, each those of a code and of another word: columns, and a share
+SIX = "_margins = " + 6 * r"[^#]*?columns = (\d+); share = (\d+)"
+ROWS = "one line # # # # either, if they don't agree # # # # lines 17 and 18 together # # # #"
 # Where numbers stand in the source, and sentences with the same ones, in which # stands for each in turn, or for one;
 # of the order of bytes it stands for a word
 NUMBERS = (
@@ -154,11 +157,18 @@ NUMBERS = (
     ("crates/vbi_c/specs/Seeking.antt", r"^looked_most = (\d+)$", "[Aa]t most # fields (?:are|as) read",
      "at most # fields, as"),
     ("python/ldvbi/near.py", r"^MOST_LINES = (\d+) ", "of 1 to # lines", "that 1 to # lines", "be 1 to # times"),
-    (SAID, "^lone" + TWO, "one line # #"),
-    (SAID, "^apart" + TWO, "either, if they don't agree # #"),
-    (SAID, "^both" + TWO, "lines 17 and 18 together # #"),
-    (SAID, r"^both_margins = record \{ code = (\d+);", "Two lines need # columns"),
-    (SAID, r"^both_margins = .* code_share = (\d+); other_share = (\d+) ", "at least #/144 for a code, and #/144 for"),
+    (SAID, "^levelled" + SIX, "levelled lines " + ROWS),
+    (SAID, "^given" + SIX, "lines as they are " + ROWS),
+    (SAID, r"^levelled_margins = [^#]*?ends = (\d+)", "by more than # columns in each levelled line"),
+    (SAID, r"^given_margins = [^#]*?ends = (\d+)", "or # in each line as it is"),
+    (SAID, r"^levelled_margins = [^#]*?both = [^#]*?columns = (\d+)", "Two lines need # columns"),
+    (SAID, r"^close_limit unit word = word.distance \+ (\d+) ", "no word is nearer by more than # columns"),
+    (PILED, r"columns = if known then (\d+) else (\d+); share",
+     "ahead of any other(?: code)? by # columns[,;] else by #",
+     r"ahead by # columns if dropouts are known \(`known` is 1\), else \(`known` is 0\) by #"),
+    (PILED, r"else \d+; share = (\d+) \};\s+other = record \{ columns = (\d+); share = (\d+) ",
+     "by a share of #/288. Any other word has to be ahead by # columns, and by #/288"),
+    (PILED, r"ends = (\d+)", "may be nearer by # columns in each line"),
     (SIDE + "Lines.antt", r"nat_lt minutes (\d+) ", "Minute #, PAL picture", "shows it, as minute #"),
     ("crates/vbi_words/specs/Levels.antt", r"^samples_of \((\w+) ∷ \w+ ∷ bytes\) = \(\1 [+] 256 ",
      "(?:the|samples,|samples of 16 bits,) # byte first"),

@@ -12,12 +12,12 @@ from .samples import Samples
 
 
 class Near(NamedTuple):
-    """The nearest word of some lines. Distances are sums of samples, of which each counts seven tenths of white - black
-    at most, rounded up: that is one column with the other level, in one line. `word` is None if no word is nearer than
-    the row of none, which is black. `start` is the column, counted from 0, at which the drawn word begins, or 0.
-    `distance` is how far its row is from the lines, `rival` the least distance of a row of another word, or of none.
-    `longer` is the least distance of this row with one more cell before or after the 24 of the word. If `longer` is far
-    below `distance`, the signal goes on beyond the word, so it is no word."""
+    """The nearest word of some lines. Distances are sums of samples, each of which counts seven tenths of white - black
+    at most, as one with the other level does. `word` is None if no word is nearer than the row of none, which is black.
+    `start` is the column, counted from 0, at which the drawn word begins, or 0. `distance` is how far its row is from
+    the lines, `rival` the least distance of a row of another word, or of none. `longer` is the least distance of this
+    row with one more cell before or after the 24 of the word. If `longer` is far below `distance`, the signal goes on
+    beyond the word, so it is no word."""
     word: Optional[int]
     start: int
     distance: int
@@ -50,8 +50,8 @@ def recover_pile(lines: Any, system: AnySystem, black: int, white: int, line: in
     """The word that 1 to 28 lines say together, or None if they say none. They all have the same word, such as one
     line of several captures. `line` is the number of all these lines, 16, 17 or 18. Columns of `dropouts` count for
     nothing. Each is given by the place of its line among these, its first column and its last, counted from 0. If
-    `dropouts` are given, even none, they are known: then a code has to be ahead of any other by 4 times white -
-    black, else by 8 times that."""
+    `dropouts` are given, even none, they are known: then a code has to be ahead of any other by 4 columns, else by
+    8."""
     call = later_call("ldvbi_recover_pile")
     setup, number = setup_of(system, black, white), number_of("line", line)
     word = ctypes.c_uint32()

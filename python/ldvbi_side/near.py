@@ -6,12 +6,12 @@ from ldvbi import Near, Stream, line_bytes, nearest
 from ldvbi.codes import LINES
 
 
-BEYOND = 3  # columns of a line by which a longer word may be nearer, as for recovered words
+BEYOND = 4  # columns of a line by which a longer word may be nearer
 
 
 class Measured(NamedTuple):
-    """The nearest word of a line, or None, its distance and that of its rival, in hundredths of what white is from black
-    in one column, rounded down. A column with the other level is 70."""
+    """The nearest word of a line, or None, its distance and that of its rival, in hundredths of a column, rounded down.
+    A column is white - black, and a sample counts 70 at most, as one with the other level does."""
     word: Optional[int]
     distance: int
     rival: int

@@ -2,9 +2,9 @@
 //!
 //! Most lines of noise or of a picture have a nearest word that isn't clear, and seeking their nearest code takes as
 //! long as all the rest. But a code is said only if it is close: hardly farther than the nearest word (said.rt). So the
-//! starts are gone over once before, and only those are looked at whose bound is within that limit: of noise few. If no
-//! code is within it there, or one that isn't far enough ahead of another, nothing is said, whatever the search of all
-//! starts would find. Noise often has a code within the limit, but then it has several.
+//! starts are gone over once before, and none is looked at whose bound is beyond that limit: of noise few are left. If
+//! no code is within the limit, or the nearest one isn't far enough ahead of another, no code is said, whatever the
+//! search of all starts would find. Noise often has a code within the limit, but then it has several.
 
 ghost use Rattle.std.specs.Prelude.{◌≡◌, ◌≤◌, false, length, List, IsTrue};
 ghost use Rattle.vbi_words.specs.Levels.{Slicing};
@@ -35,7 +35,7 @@ pub(crate) struct Terms<'a> {
     ghost few: { lines ≤ 28 },
 }
 
-/// The nearest of the codes on this line that begin at the first start, or where a word may be within a limit, or none.
+/// The nearest code among those that begin at the first start, or where a word may be within a limit; or none.
 fn nearest_within(sought: &Sought, line: u32, limit: u64) -> Found
     ensures { IsLeadWithin sought.now.sums line limit (starts sought.now.sums.system) result }
 {

@@ -214,8 +214,8 @@ def _draw_row(plot, line, row):
             plot.box(column, column + 1, MARKED, class_="marked")
     drawn = [line.white if level else line.black for level in levels]
     plot.steps(drawn, stroke="#16a34a", stroke_width=3)
-    unit = line.white - line.black
-    most = -(-7 * unit // 10)  # that a sample counts
-    distance = sum(min(abs(sample - other), most) for sample, other in zip(line.samples, drawn)) / unit
+    column = line.white - line.black
+    most = (7 * column + 9) // 10  # as ldvbi_nearest counts
+    distance = sum(min(abs(sample - other), most) for sample, other in zip(line.samples, drawn)) / column
     return "%s%s; the row of %06X from column %d on is %.1f columns away" % (
         "" if line.reading.word else "no word: ", shown_text(line.reading), row.word, row.start, distance)
