@@ -118,8 +118,8 @@ def test_each_call(room, setup):
 def test_erased_columns_cost_nothing(room):
     """Of 13 and 16 columns, each of which counts 70. A row of another word differs in 28 columns of a line, one with a
     cell more in 14. Of cell 5 half of the 28 columns are turned, 297 among them: another word is as near. A signal goes
-    on for one more cell after the word: this row is nearer by 14 columns, without 10 of them by 4, which are 2.8, and
-    without 9 by 3.5. Up to 3 it is the word's."""
+    on for one more cell after the word: this row is nearer by 14 columns, without 9 of them by 5, which count 3.5, and
+    without 8 by 4.2. Up to 4 the nearest word counts."""
     write_stream(room.path, NTSC, [[0, worn(NTSC), worn(NTSC)], [0, worn(NTSC), 0]])
     with ldvbi.Stream(room.path, *NTSC, True, [(0, 17, 411, 414), (0, 17, 413, 417), (0, 18, 838, 2000)]) as side:
         assert [measured(side, *place) for place in ((1, 17), (1, 18), (2, 17))] == [
@@ -128,7 +128,7 @@ def test_erased_columns_cost_nothing(room):
     assert ldvbi.nearest(2 * line_with(WORD, NTSC, [(0, 0, True)]), *NTSC) == (
         WORD, 150, 2 * column, 58 * column, 30 * column)
     half = ((500, 520), None), ((297, 298), WORD), ((296, 297), None), ((295, 297), WORD ^ 0x40000)
-    goes_on = ((500, 540), None), ((837, 846), WORD), ((837, 845), None)
+    goes_on = ((500, 540), None), ((837, 845), WORD), ((837, 844), None)
     odd = ("NTSC", 16384, 51201)
     for setup, line, rows in ((NTSC, worn_line(WORD, NTSC, 5, 14), half), (odd, worn_line(WORD, odd, 5, 14), half),
                               (NTSC, line_with(WORD, NTSC, [(837, 850, True)]), goes_on)):
