@@ -1,5 +1,5 @@
 /* The nearest word of a line as one writes it from its definition: start by start, by sums of what the columns before
-   each column cost. A column costs as much as white is from black at most. */
+   each column cost. A column costs seven tenths of what white is from black at most, rounded up. */
 
 enum { CELLS = 24, WIDEST = 1135 };
 
@@ -64,14 +64,15 @@ static PlainNear plain_nearest(const PlainSystem *system, int black, int white, 
 {
     uint32_t bounds[2 * CELLS + 1], width = system->samples;
     uint64_t dark[WIDEST + 1] = {0}, light[WIDEST + 1] = {0};
+    int most = (7 * (white - black) + 9) / 10;
 
     for (uint32_t half = 0; half <= 2 * CELLS; half++)
         bounds[half] = (uint32_t)(half * (uint64_t)system->numerator / system->denominator);
     for (uint32_t column = 0; column < width; column++) {
         int sample = line[2 * column] | line[2 * column + 1] << 8;
 
-        dark[column + 1] = dark[column] + plain_cost(sample, black, white - black);
-        light[column + 1] = light[column] + plain_cost(sample, white, white - black);
+        dark[column + 1] = dark[column] + plain_cost(sample, black, most);
+        light[column + 1] = light[column] + plain_cost(sample, white, most);
     }
     PlainNear best = {0, 0, dark[width], UINT64_MAX};
 
