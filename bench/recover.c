@@ -1,4 +1,4 @@
-/* Times ldvbi_recover_rows on fields of words, of which nothing has to be recovered, beside ldvbi_read_rows on the same;
+/* Times ldvbi_recover_rows on fields of words, of which none has to be recovered, beside ldvbi_read_rows on the same;
    and on fields whose lines 17 and 18 are worn, noise, or video, beside ldvbi_nearest on their line 17, in turn. Noise
    is of 90 % of white - black on worn lines, of 80 % about grey, and of 5 % on video.
    usage: recover */
