@@ -135,8 +135,8 @@ def faults():
     yield [*map(len, drawn)] == [most, most + 1], f"FORMATS.md draws gaps of {drawn}: a glitch has up to {most} columns"
 
 
-SIDE, SAID = "crates/vbi_side/specs/", "crates/vbi_near/specs/Said.antt"
-PILED = "crates/vbi_near/specs/Piled.antt"
+SIDE, NEAR = "crates/vbi_side/specs/", "crates/vbi_near/specs/"
+MARGINS, PILED = NEAR + "Margins.antt", NEAR + "Piled.antt"
 # The margins of one line, of either of two and of both, each those of a code and of another word: columns, and a share
 SIX = "_margins = " + 6 * r"[^#]*?columns = (\d+); share = (\d+)"
 ROWS = "one line # # # # either, if they don't agree # # # # lines 17 and 18 together # # # #"
@@ -157,12 +157,12 @@ NUMBERS = (
     ("crates/vbi_c/specs/Seeking.antt", r"^looked_most = (\d+)$", "[Aa]t most # fields (?:are|as) read",
      "at most # fields, as"),
     ("python/ldvbi/near.py", r"^MOST_LINES = (\d+) ", "of 1 to # lines", "that 1 to # lines", "be 1 to # times"),
-    (SAID, "^levelled" + SIX, "levelled lines " + ROWS),
-    (SAID, "^given" + SIX, "lines as they are " + ROWS),
-    (SAID, r"^levelled_margins = [^#]*?ends = (\d+)", "by more than # columns in each levelled line"),
-    (SAID, r"^given_margins = [^#]*?ends = (\d+)", "or # in each line as it is"),
-    (SAID, r"^levelled_margins = [^#]*?both = [^#]*?columns = (\d+)", "Two lines need # columns"),
-    (SAID, r"^close_limit unit word = word.distance \+ (\d+) ", "no word is nearer by more than # columns"),
+    (MARGINS, "^levelled" + SIX, "levelled lines " + ROWS),
+    (MARGINS, "^given" + SIX, "lines as they are " + ROWS),
+    (MARGINS, r"^levelled_margins = [^#]*?ends = (\d+)", "by more than # columns in each levelled line"),
+    (MARGINS, r"^given_margins = [^#]*?ends = (\d+)", "or # in each line as it is"),
+    (MARGINS, r"^levelled_margins = [^#]*?both = [^#]*?columns = (\d+)", "Two lines need # columns"),
+    (NEAR + "Said.antt", r"^close_limit unit word = word.distance \+ (\d+) ", "no word is nearer by more than # columns"),
     (PILED, r"columns = if known then (\d+) else (\d+); share",
      "ahead of any other(?: code)? by # columns[,;] else by #",
      r"ahead by # columns if dropouts are known \(`known` is 1\), else \(`known` is 0\) by #"),
@@ -191,7 +191,7 @@ def numbers():
 
 
 # What MEASURED.md says of how was measured, and the sums that it has of several rows or files
-KNOWN = {"400", "2000", "2350", "12000", "180000", "670", "714", "772", "3270", "25329"}
+KNOWN = {"400", "2000", "2350", "12000", "180000", "670", "681", "725", "3270", "25329"}
 
 
 def figures(text):

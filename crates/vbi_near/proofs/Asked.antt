@@ -1,22 +1,22 @@
 -- What is searched only if it is asked for says the same as what is always searched.
 -- The functions of confirmed, paired and recovery stand on it.
-use Rattle.std.proofs.Common.{◌≡◌, ℕ, Bool, true, false, List, [], ◌∷◌, refl, sym, ap, ◌∙◌, subst}
-use Rattle.std.specs.Prelude.{◌*◌, nat_le, Option, Some, None, is_some, IsTrue, if◌then◌else◌, ◌||◌, ◌&&◌}
+use Rattle.std.proofs.Common.{◌≡◌, ℕ, Bool, true, false, List, refl, sym, ap, ◌∙◌, subst}
+use Rattle.std.specs.Prelude.{◌*◌, nat_le, Option, Some, None, is_some, IsTrue, if◌then◌else◌, ◌&&◌}
 use Rattle.vbi_words.specs.declared.system.System.{System}
 use Rattle.vbi_words.specs.Levels.{Slicing, samples_of}
 use Rattle.vbi_near.specs.declared.lines.Nears.{Nears}
-use Rattle.vbi_near.specs.declared.said.Margins.{Margins}
-use Rattle.vbi_near.specs.declared.said.MarginSet.{MarginSet}
+use Rattle.vbi_near.specs.declared.margins.Margins.{Margins}
+use Rattle.vbi_near.specs.declared.margins.MarginSet.{MarginSet}
 use Rattle.vbi_near.specs.declared.said.Stand.TheVariants.{Apart, Together}
 use Rattle.vbi_near.specs.declared.recovery.Recovered.{Recovered}
 use Rattle.vbi_near.specs.Distances.{Samples, unit_of, known_but}
 use Rattle.vbi_near.specs.Said.{said_of, said_if, unless_beyond, said_in, stand_of, may_agree, first_said, is_said}
 use Rattle.vbi_near.specs.Levelled.{levelled, is_swing}
-use Rattle.vbi_near.specs.Candidates.{Candidates, Row, HasNear, HasNearIf, AreOf, AreOfBoth, has_swing, levelled_samples}
+use Rattle.vbi_near.specs.Candidates.{Candidates, Row, HasNear, HasNearIf, AreOf, has_swing, levelled_samples}
 use Rattle.vbi_near.specs.Candidates.{filled_samples, are_alike_by}
 use Rattle.vbi_near.specs.Silent.{HasNearUnlessSilent, HasNearIfUnlessSilent}
 use Rattle.vbi_near.specs.Recovery.{said_by, stands_by, stands_of, alone}
-use Rattle.vbi_near.specs.Recovery.{IsSeen, IsOwn, own_of, is_open, is_asked, are_open, recovered_as, shown_in}
+use Rattle.vbi_near.specs.Recovery.{IsSeen, IsOwn, own_of, is_open, are_open, recovered_as, shown_in}
 use Rattle.vbi_near.specs.Recovery.{Seen, Stands}
 use Rattle.vbi_near.proofs.OneSeen.{one_nears, open_asked}
 
@@ -61,9 +61,9 @@ pub same_if : (system : System) (number : ℕ) (slicing : Slicing) (can other : 
     → HasNearIf system number slicing can lines near → HasNearIf system number slicing other others near
 same_if system number slicing can other lines others None e same none = sym e ∙ none
 same_if system number slicing can other lines others (Some near) e same (can_be, has) = (
-      sym e ∙ can_be,
-      subst (λ (l : List Samples). HasNear system number slicing l near) (same (sym e ∙ can_be)) has,
-    )
+  sym e ∙ can_be,
+  subst (λ (l : List Samples). HasNear system number slicing l near) (same (sym e ∙ can_be)) has,
+)
 
 -- lines that may have no nearest words have none
 pub none_if : (system : System) (number : ℕ) (slicing : Slicing) (can : Bool) (lines : List Samples)
@@ -80,10 +80,18 @@ says_if system number slicing margins count can lines others None said is same s
 says_if system number slicing margins count can lines others (Some near) said is same says (can_be, has) =
     says near (subst (λ (l : List Samples). HasNear system number slicing l near) same has)
 
+-- ---- lines by what is known of them
+
+-- what holds of a line of a system holds of the same line of the same system
+pub same_line : (Holds : System → Row → Type 0) (system other : System) (row is : Row) → other ≡ system → is ≡ row
+    → Holds other is → Holds system row
+same_line Holds system other row is e f holds =
+    subst (λ (r : Row). Holds system r) f (subst (λ (s : System). Holds s is) e holds)
+
 -- ---- levelled rows
 
 -- each of two that hold together holds
-both-hold : (a b : Bool) → (a && b) ≡ true → IsTrue a × IsTrue b
+pub both-hold : (a b : Bool) → (a && b) ≡ true → IsTrue a × IsTrue b
 both-hold true true is = (refl, refl)
 both-hold true false is = cc
 both-hold false b is = cc
@@ -91,8 +99,10 @@ both-hold false b is = cc
 -- bytes that have the samples of a row levelled if it swings as one with a word does
 pub levelled_as : (system of_system : System) (slicing : Slicing) (row of_row : Row) (bytes : List ℕ)
     → of_system ≡ system → of_row ≡ row
-    → (has_swing of_system slicing of_row ≡ true → samples_of bytes ≡ levelled of_system (filled_samples slicing of_row))
-    → has_swing system slicing row ≡ true → levelled_samples system slicing row ≡ known_but row.erased (samples_of bytes)
+    → (has_swing of_system slicing of_row ≡ true
+    → samples_of bytes ≡ levelled of_system (filled_samples slicing of_row))
+    → has_swing system slicing row ≡ true
+    → levelled_samples system slicing row ≡ known_but row.erased (samples_of bytes)
 levelled_as system of_system slicing row of_row bytes is are found swings =
     let same = found ((λ j. has_swing (is j) slicing (are j)) ∙ swings) in
     ap (λ (samples : List ℕ). known_but row.erased samples)
@@ -102,7 +112,8 @@ levelled_as system of_system slicing row of_row bytes is are found swings =
 pub swing_each : (unit swing other : ℕ) → are_alike_by unit swing other ≡ true
     → (is_swing unit swing ≡ true) × (is_swing unit other ≡ true)
 swing_each unit swing other alike =
-    both-hold (is_swing unit swing) (is_swing unit other) (both-hold _ (nat_le swing (2 * other)) (both-hold _ _ alike).0).0
+    both-hold (is_swing unit swing) (is_swing unit other)
+    (both-hold _ (nat_le swing (2 * other)) (both-hold _ _ alike).0).0
 
 -- ---- lines that stand to each other
 

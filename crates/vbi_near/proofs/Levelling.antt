@@ -231,7 +231,8 @@ are_more f samples i v inside is before k less = grind (arith, get_or, get_or-se
 -- and after the last the last
 abbrev pub smoothed_at : List ℕ → ℕ → ℕ
 smoothed_at samples k =
-    smoothed_sample (get_or samples (k - 1) 0) (get_or samples k 0) (get_or samples (min (k + 1) (length samples - 1)) 0)
+    smoothed_sample (get_or samples (k - 1) 0) (get_or samples k 0)
+    (get_or samples (min (k + 1) (length samples - 1)) 0)
 
 length-smoothed_after : (before : ℕ) (samples : List ℕ) → length (smoothed_after before samples) ≡ length samples
 unfolding smoothed_after

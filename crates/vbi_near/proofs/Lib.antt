@@ -32,6 +32,7 @@ pub mod Stretches
 pub mod LeastAt
 pub mod OneSeen
 pub mod Asked
+pub mod Ahead
 pub mod Kept
 pub mod SomeSeen
 pub mod OneRecovered

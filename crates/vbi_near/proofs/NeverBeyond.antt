@@ -16,14 +16,16 @@ use Rattle.vbi_words.specs.Readings.{Reads}
 use Rattle.vbi_line.proofs.OneReading.{is_reading}
 use Rattle.vbi_near.specs.declared.lines.Nears.{Nears}
 use Rattle.vbi_near.specs.declared.recovery.Recovered.{Recovered}
-use Rattle.vbi_near.specs.declared.said.Margins.{Margins}
+use Rattle.vbi_near.specs.declared.margins.Margins.{Margins}
+use Rattle.vbi_near.specs.declared.margins.MarginSet.{MarginSet}
 use Rattle.vbi_near.specs.declared.said.Stand.{Stand}
 use Rattle.vbi_near.specs.declared.said.Stand.TheVariants.{Alone, Apart, Together}
 use Rattle.vbi_near.specs.LineCodes.{is_beyond_79999}
 use Rattle.vbi_near.specs.Distances.{unit_of}
 use Rattle.vbi_near.specs.Levelled.{levelled_unit}
-use Rattle.vbi_near.specs.Said.{said_if, unless_beyond, recovered_by, first_said, said_in, lone_margins, apart_margins}
-use Rattle.vbi_near.specs.Said.{both_margins}
+use Rattle.vbi_near.specs.Margins.{levelled_margins}
+use Rattle.vbi_near.specs.Said.{said_if, unless_beyond, recovered_by, first_said, said_in}
+use Rattle.vbi_near.specs.Margins.{given_margins}
 use Rattle.vbi_near.specs.Candidates.{Candidates, Row}
 use Rattle.vbi_near.specs.Recovery.{Seen, IsSeen, Stands, alone, own_of, is_open, is_confirmed, stands_of, said_by}
 use Rattle.vbi_near.specs.Recovery.{stays, recovered_as, shown_in, IsRecovered, row_at}
@@ -56,17 +58,18 @@ first-within None b is are = are
 first-within (Some w) b is are = is
 
 -- what an open line says
-in-within : (stand : Stand) (unit : ℕ) (near both : Option Nears) → IsWithin (said_in stand unit near both)
-in-within Alone unit near both = recovered-within unit lone_margins 1 near
-in-within Apart unit near both = recovered-within unit apart_margins 1 near
-in-within Together unit near both = recovered-within unit both_margins 2 both
+in-within : (margins : MarginSet) (stand : Stand) (unit : ℕ) (near both : Option Nears)
+    → IsWithin (said_in margins stand unit near both)
+in-within margins Alone unit near both = recovered-within unit margins.lone 1 near
+in-within margins Apart unit near both = recovered-within unit margins.apart 1 near
+in-within margins Together unit near both = recovered-within unit margins.both 2 both
 
 by-within : (stands : Stands) (unit : ℕ) (near both : Candidates) → IsWithin (said_by stands unit near both)
 by-within stands unit near both =
-    first-within (said_in stands.levelled levelled_unit near.levelled both.levelled)
-    (said_in stands.given unit (Some near.given) (Some both.given))
-    (in-within stands.levelled levelled_unit near.levelled both.levelled)
-    (in-within stands.given unit (Some near.given) (Some both.given))
+    first-within (said_in levelled_margins stands.levelled levelled_unit near.levelled both.levelled)
+    (said_in given_margins stands.given unit (Some near.given) (Some both.given))
+    (in-within levelled_margins stands.levelled levelled_unit near.levelled both.levelled)
+    (in-within given_margins stands.given unit (Some near.given) (Some both.given))
 
 -- ---- what a line shows
 
@@ -85,7 +88,7 @@ either-few true x y few less = few
 either-few false x y few less = less
 
 -- so is what a line shows by its own levels
-own-few : (system : System) (number : ℕ) (slicing : Slicing) (row : Row) (seen : Seen) (unit : ℕ)
+pub own-few : (system : System) (number : ℕ) (slicing : Slicing) (row : Row) (seen : Seen) (unit : ℕ)
     → IsSeen system number slicing row seen → (own_of unit seen).pass ≤ 2
 own-few system number slicing row seen unit is =
     let levels = row_levels slicing row.bytes in

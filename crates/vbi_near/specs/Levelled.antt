@@ -1,6 +1,6 @@
--- Levelled lines: the running mean over six cells is taken off, what the samples swing about it is made as much as white
--- is above black on levels of their own, and the samples are smoothed. So the level of a signal may wander, and the
--- signal may be weak or strong. In place of a mean stands the sum of its window, and what is compared with it is
+-- Levelled lines: the running mean over six cells is taken off, what the samples swing about it is made as much as
+-- white is above black on levels of their own, and the samples are smoothed. So the level of a signal may wander, and
+-- the signal may be weak or strong. In place of a mean stands the sum of its window, and what is compared with it is
 -- multiplied by the columns of the window.
 use Rattle.std.specs.Prelude.{◌≡◌, ◌≤◌, ◌<◌, ℕ, ◌+◌, ◌-◌, ◌*◌, ◌/◌, ◌&&◌, min, max, nat_le, if◌then◌else◌}
 use Rattle.std.specs.Prelude.{Bool, true, false, List, [], ◌∷◌, length, map, take, drop, slice_index}

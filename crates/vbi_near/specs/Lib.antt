@@ -16,11 +16,13 @@ pub mod Pile
 pub mod Priced
 pub mod Levelled
 pub mod WorkedLevels
+pub mod Margins
 pub mod Said
 pub mod Candidates
 pub mod Sought
 pub mod Silent
 pub mod Paired
+pub mod Ahead
 pub mod Recovery
 pub mod Piled
 pub mod Lines

@@ -14,7 +14,8 @@ use Rattle.vbi_near.specs.declared.near.Near.{Near}
 use Rattle.vbi_near.specs.declared.said.Stand.{Stand}
 use Rattle.vbi_near.specs.declared.said.Stand.TheVariants.{Alone}
 use Rattle.vbi_near.specs.Distances.{unit_of}
-use Rattle.vbi_near.specs.Said.{levelled_margins, given_margins, said_if, recovered_by, first_said, is_said, stand_of}
+use Rattle.vbi_near.specs.Margins.{levelled_margins, given_margins}
+use Rattle.vbi_near.specs.Said.{said_if, recovered_by, first_said, is_said, stand_of}
 use Rattle.vbi_near.specs.Said.{said_in}
 use Rattle.vbi_near.specs.Candidates.{Candidates, Row, row_of, given_samples}
 use Rattle.vbi_near.specs.Candidates.{AreOf, AreOfBoth}

@@ -7,61 +7,12 @@ use Rattle.std.specs.Prelude.{ℕ, ◌+◌, ◌*◌, ◌==◌, ◌&&◌, ◌||�
 use Rattle.std.specs.Prelude.{Option, Some, None, if◌then◌else◌}
 use Rattle.vbi_near.specs.declared.near.Near.{Near}
 use Rattle.vbi_near.specs.declared.lines.Nears.{Nears}
-use Rattle.vbi_near.specs.declared.said.Margin.{Margin}
-use Rattle.vbi_near.specs.declared.said.Margins.{Margins}
-use Rattle.vbi_near.specs.declared.said.MarginSet.{MarginSet}
+use Rattle.vbi_near.specs.declared.margins.Margin.{Margin}
+use Rattle.vbi_near.specs.declared.margins.Margins.{Margins}
+use Rattle.vbi_near.specs.declared.margins.MarginSet.{MarginSet}
 use Rattle.vbi_near.specs.declared.said.Stand.{Stand}
 use Rattle.vbi_near.specs.declared.said.Stand.TheVariants.{Alone, Apart, Together}
 use Rattle.vbi_near.specs.LineCodes.{is_beyond_79999}
-
--- ---- by how much a word has to be ahead
-
--- A nearest word has to be ahead of any other by some columns, and by a share of what a cell counts on average in the
--- lines. Noise makes all cells count less, a dropout some of them, and those may say anything. A cell with the other
--- bit is farther by about twice as much as a black one, so a cell counts about a twelfth of how much nearer the word is
--- than none, which is 24 of the 288 parts that a share is given in. The signal may go on beyond the word, or have fewer
--- cells, by `ends` columns in each line.
-
--- on levelled lines: one line, one of two whose nearest words don't agree, so that one of them at least is badly worn or
--- they have two words, and two lines together
-abbrev pub levelled_margins : MarginSet
-levelled_margins = record {
-  lone = record {
-    code = record { columns = 4; share = 10 };
-    other = record { columns = 5; share = 8 };
-    ends = 2;
-  };
-  apart = record {
-    code = record { columns = 8; share = 0 };
-    other = record { columns = 10; share = 0 };
-    ends = 2;
-  };
-  both = record {
-    code = record { columns = 8; share = 10 };
-    other = record { columns = 5; share = 7 };
-    ends = 2;
-  };
-}
-
--- on lines as they are, which aren't smoothed: so noise takes more from what their ends count
-abbrev pub given_margins : MarginSet
-given_margins = record {
-  lone = record {
-    code = record { columns = 6; share = 0 };
-    other = record { columns = 8; share = 0 };
-    ends = 3;
-  };
-  apart = record {
-    code = record { columns = 8; share = 0 };
-    other = record { columns = 10; share = 0 };
-    ends = 3;
-  };
-  both = record {
-    code = record { columns = 8; share = 8 };
-    other = record { columns = 8; share = 6 };
-    ends = 3;
-  };
-}
 
 -- ---- what one or two lines say
 

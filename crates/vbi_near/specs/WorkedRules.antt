@@ -1,11 +1,13 @@
--- Nearest words written down, with the numbers of the rule at their limits. White is 100 above black.
-use Rattle.std.specs.Prelude.{ℕ, ◌≡◌, ◌+◌, List, map, Option, Some, None}
+-- Nearest words written down, with the numbers of the rule at their limits. White is 100 above black, and what is
+-- written down of levelled lines is in hundredths of theirs, too.
+use Rattle.std.specs.Prelude.{ℕ, ◌≡◌, ◌+◌, ◌*◌, ◌/◌, List, map, Option, Some, None}
 use Rattle.vbi_words.specs.declared.outcome.Outcome.{Outcome}
 use Rattle.vbi_words.specs.declared.outcome.Outcome.TheVariants.{Word, Unfinished, Change}
 use Rattle.vbi_words.specs.Outcomes.{word_of}
 use Rattle.vbi_near.specs.declared.near.Near.{Near}
 use Rattle.vbi_near.specs.declared.lines.Nears.{Nears}
 use Rattle.vbi_near.specs.declared.recovery.Recovered.{Recovered}
+use Rattle.vbi_near.specs.Levelled.{levelled_unit}
 use Rattle.vbi_near.specs.Candidates.{Candidates}
 use Rattle.vbi_near.specs.Recovery.{Seen}
 
@@ -79,12 +81,35 @@ beyond_at distance rival = record (picture_at distance rival) { word = Some 0xF9
 abbrev pub beyond_beside : ℕ → ℕ → ℕ → Nears
 beyond_beside other distance rival = record (beside distance rival) { word = beyond_at 10000 other }
 
+-- a distance in hundredths of what white is above black, on levelled lines
+abbrev pub hundredths : ℕ → ℕ
+hundredths distance = distance * levelled_unit / 100
+
+abbrev pub near_on_levelled : Near → Near
+near_on_levelled near = record {
+  word = near.word;
+  start = near.start;
+  distance = hundredths near.distance;
+  rival = hundredths near.rival;
+  longer = hundredths near.longer;
+  shorter = hundredths near.shorter;
+}
+
+abbrev pub on_levelled : Nears → Nears
+on_levelled near = record {
+  word = near_on_levelled near.word;
+  code = near_on_levelled near.code;
+  blank = hundredths near.blank;
+  word_halved = hundredths near.word_halved;
+  code_halved = hundredths near.code_halved;
+}
+
 -- nearest words of lines as they are, which can't be levelled; and of lines that can
 abbrev pub as_given : Nears → Candidates
 as_given near = record { levelled = None; given = near }
 
 abbrev pub levelled_as : Nears → Nears → Candidates
-levelled_as near given = record { levelled = Some near; given = given }
+levelled_as near given = record { levelled = Some (on_levelled near); given = given }
 
 -- a line that is read as unfinished, and a line whose smoothed levels alone show a word
 abbrev pub worn_by : Candidates → Seen
@@ -134,7 +159,7 @@ from_none blank near = record near { blank = blank }
 
 -- a code, half of which is so far
 abbrev pub code_halved_at : ℕ → Nears
-code_halved_at halved = record (beside 10500 12000) { code_halved = halved }
+code_halved_at halved = record (beside 10300 12000) { code_halved = halved }
 
 -- a word that is no code, half of which is so far
 abbrev pub other_halved_at : ℕ → Nears
@@ -143,6 +168,17 @@ other_halved_at halved = record (as_other (near_with 0xF1234A 20000 10000)) { wo
 -- a word that is no code, ten columns ahead of any other, of lines that are this far from the row of no word
 abbrev pub ten_ahead : ℕ → Nears
 ten_ahead blank = from_none blank (as_other (near_with 0xF1234A 11000 10000))
+
+-- a code so far ahead of any other word, and a word that is no code; of lines that are hardly farther from no word
+abbrev pub code_ahead : ℕ → Nears
+code_ahead ahead = from_none 12000 (as_code (near_with 0xF12345 (10000 + ahead) 10000))
+
+abbrev pub other_ahead : ℕ → Nears
+other_ahead ahead = from_none 12000 (as_other (near_with 0xF1234A (10000 + ahead) 10000))
+
+-- a code so far ahead of any other, beside a nearest word that isn't it
+abbrev pub close_code_ahead : ℕ → Nears
+close_code_ahead ahead = from_none 12000 (beside 10300 (10300 + ahead))
 
 -- the words and the passes of lines
 abbrev pub words_of : List Recovered → List (Option ℕ)

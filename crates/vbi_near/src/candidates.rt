@@ -15,10 +15,10 @@ ghost use Rattle.vbi_near.specs.Candidates.{HasNear, given_samples, filled_sampl
 
 use crate::levelled::{Summed, fill, is_swing, level, sum_samples, swing};
 use crate::lines::Nears;
+use crate::margins::Margins;
 use crate::near::WIDEST;
 use crate::pile::Pile;
 use crate::row::{Pair, Row};
-use crate::said::Margins;
 use vbi_words::{Levels, Word24};
 
 /// How far white is from black.

@@ -8,7 +8,8 @@ ghost use Rattle.std.specs.Prelude.{◌≡◌, ℕ, ◌-◌, ◌∷◌, [], ◌|
 ghost use Rattle.vbi_near.specs.declared.lines.Nears.{Nears};
 ghost use Rattle.vbi_near.specs.Lines.{row_in};
 ghost use Rattle.vbi_near.specs.Levelled.{levelled_unit, levelled_slicing};
-ghost use Rattle.vbi_near.specs.Said.{said_of, said_if, first_said, is_said, levelled_margins, given_margins};
+ghost use Rattle.vbi_near.specs.Margins.{levelled_margins, given_margins};
+ghost use Rattle.vbi_near.specs.Said.{said_of, said_if, first_said, is_said};
 ghost use Rattle.vbi_near.specs.Stretched.{IsStretched};
 ghost use Rattle.vbi_near.specs.Candidates.{Candidates, given_samples, has_swing, levelled_samples, HasNear, HasNearIf};
 ghost use Rattle.vbi_near.specs.Candidates.{AreOf};
@@ -17,9 +18,10 @@ ghost use Rattle.vbi_near.specs.Recovery.{recovered_alone, other_than, is_stretc
 use crate::candidates::{level_row, near_of_one, near_unless_silent, stretched_of_one, unit_of};
 use crate::levelled::{is_swing, levelled_levels};
 use crate::lines::Nears;
+use crate::margins::{GIVEN, LEVELLED, Margins};
 use crate::near::{Near, WIDEST};
 use crate::row::Row;
-use crate::said::{GIVEN, LEVELLED, Margins, first_said, is_said, said_if, unless_beyond};
+use crate::said::{first_said, is_said, said_if, unless_beyond};
 use vbi_words::{Levels, Word24};
 
 /// The word that a line says by these margins.
@@ -83,8 +85,8 @@ fn is_stretched(unit: u32, stretched: u32, word: Word24, near: &Near) -> bool
     u64::from(stretched) + 8 * u64::from(unit) <= u64::from(other_than(word, near))
 }
 
-/// Whether a word of pass 2 is confirmed by the word that its line says levelled, and by the nearest ones of the line as
-/// it is.
+/// Whether a word of pass 2 is confirmed by the word that its line says levelled, or by the nearest ones of the line
+/// as it is.
 fn is_confirmed_by(
     unit: u32,
     levelled: &Option<Word24>,

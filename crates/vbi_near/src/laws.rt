@@ -1,6 +1,6 @@
 //! Laws of the definitions in `specs/`. A function here does nothing: its contract is a law, which holds of all lines.
 
-ghost use Rattle.std.specs.Prelude.{◌≡◌, ◌≢◌, ℕ, ◌*◌, ◌-◌, ◌≤◌, ◌<◌, Bool, true, false, List, [], ◌∷◌, length};
+ghost use Rattle.std.specs.Prelude.{◌≡◌, ◌≢◌, ◌⊎◌, ℕ, ◌*◌, ◌-◌, ◌≤◌, ◌<◌, Bool, true, false, List, [], ◌∷◌, length};
 ghost use Rattle.std.specs.Prelude.{map, replicate, Option, Some, None, ◌↔◌, IsTrue, ◌&&◌, not};
 ghost use Rattle.std.specs.List.{All};
 ghost use Rattle.vbi_words.specs.declared.system.System.{System};
@@ -15,15 +15,19 @@ ghost use Rattle.vbi_words.specs.Drawn.{drawn_row_of};
 ghost use Rattle.vbi_near.specs.declared.near.Near.{Near};
 ghost use Rattle.vbi_words.specs.WorkedLines.{changing};
 ghost use Rattle.vbi_near.specs.Pictures.{IsPlace, starts, picture_of, drawn_as};
-ghost use Rattle.vbi_near.specs.Distances.{Samples, most_of, known, known_but, row_distance, distance_of};
+ghost use Rattle.vbi_near.specs.Distances.{Samples, unit_of, most_of, known, known_but, row_distance, distance_of};
 ghost use Rattle.vbi_near.specs.Nearest.{IsNearest, IsFirst, IsNearestCode, IsFirstCode};
 ghost use Rattle.vbi_near.specs.Longer.{begun_earlier, ended_later, IsLonger};
 ghost use Rattle.vbi_near.specs.Shorter.{IsShorter};
 ghost use Rattle.vbi_near.specs.Apart.{picture_distance};
 ghost use Rattle.vbi_near.specs.LineCodes.{IsOneOf, codes_of, is_beyond_79999};
 ghost use Rattle.vbi_near.specs.declared.recovery.Recovered.{Recovered};
-ghost use Rattle.vbi_near.specs.Candidates.{Row};
-ghost use Rattle.vbi_near.specs.Recovery.{IsRecovered};
+ghost use Rattle.vbi_near.specs.declared.margins.Margins.{Margins};
+ghost use Rattle.vbi_near.specs.declared.lines.Nears.{Nears};
+ghost use Rattle.vbi_near.specs.Said.{said_of};
+ghost use Rattle.vbi_near.specs.Candidates.{Row, HasNear};
+ghost use Rattle.vbi_near.specs.Ahead.{IsAheadBy, IsAheadOn, IsAheadOnBoth};
+ghost use Rattle.vbi_near.specs.Recovery.{IsRecovered, row_at};
 ghost use Rattle.vbi_near.specs.Piled.{IsSaidTogether};
 
 /// If another word than the one answered was recorded, the samples of the lines are off by `rival` or more in sum.
@@ -95,6 +99,32 @@ pub fn one_recovered()
 pub fn some_recovered()
     ensures { (system : System) (slicing : Slicing) (rows : List ℕ) (erased : List Bool)
         → (recovered : List Recovered) × IsRecovered system slicing rows erased recovered }
+{}
+
+/// If lines say a word by their samples, and another code that may stand on them was recorded, the samples are off from
+/// a row of that code, wherever it begins, by a margin more than from one of the word said: by that of a code, or by
+/// that of any other word.
+pub fn recovered_costs()
+    ensures lines { (system : System) (number : ℕ) (slicing : Slicing) (margins : Margins) (count : ℕ)
+        (lines : List Samples) (near : Nears) (word : ℕ) → HasNear system number slicing lines near
+        → said_of (unit_of slicing) margins count near ≡ Some word
+        → IsAheadBy system number slicing lines margins word }
+
+    // Lines levelled or as they are: of one line by 4 columns at least, of two together by 5.
+    ensures first { (system : System) (slicing : Slicing) (rows : List ℕ) (erased : List Bool)
+        (second third : Recovered) (word : ℕ) → IsRecovered system slicing rows erased
+        (record { outcome = Word word; pass = 3 } ∷ second ∷ third ∷ [])
+        → IsAheadOn system 16 slicing (row_at system rows erased 0) 4 word }
+    ensures second { (system : System) (slicing : Slicing) (rows : List ℕ) (erased : List Bool)
+        (first third : Recovered) (word : ℕ) → IsRecovered system slicing rows erased
+        (first ∷ record { outcome = Word word; pass = 3 } ∷ third ∷ [])
+        → IsAheadOn system 17 slicing (row_at system rows erased 1) 4 word
+        ⊎ IsAheadOnBoth system slicing (row_at system rows erased 1) (row_at system rows erased 2) 5 word }
+    ensures third { (system : System) (slicing : Slicing) (rows : List ℕ) (erased : List Bool)
+        (first second : Recovered) (word : ℕ) → IsRecovered system slicing rows erased
+        (first ∷ second ∷ record { outcome = Word word; pass = 3 } ∷ [])
+        → IsAheadOn system 18 slicing (row_at system rows erased 2) 4 word
+        ⊎ IsAheadOnBoth system slicing (row_at system rows erased 1) (row_at system rows erased 2) 5 word }
 {}
 
 /// Recovery says no picture number of 80,000 or more: no line of a field shows one in pass 3, and no pile of lines says
@@ -176,7 +206,7 @@ pub fn worked_near()
     ensures starts { (starts Ntsc ≡ 224) × (starts Pal ≡ 285) }
     ensures apart { (differences (picture_of Ntsc (Some 0x800000) 223) (picture_of Ntsc (Some 0xA00000) 223) ≡ 28)
         × (differences (picture_of Pal (Some 0x800000) 0) (picture_of Pal (Some 0xC00000) 0) ≡ 35) }
-    ensures most { most_of (record { black = 16384; white = 51200 }) ≡ 34816 }
+    ensures most { most_of (record { black = 16384; white = 51200 }) ≡ 24372 }
     ensures samples { drawn_as (record { black = 16384; white = 51200 }) (false ∷ true ∷ true ∷ [])
         ≡ 16384 ∷ 51200 ∷ 51200 ∷ [] }
     ensures distance { distance_of 34816 (map known ((16384 ∷ 51000 ∷ 60000 ∷ []) ∷ (16000 ∷ 51200 ∷ 65535 ∷ []) ∷ []))

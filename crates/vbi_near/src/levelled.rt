@@ -4,7 +4,7 @@
 //! Each cell of a word is black in one half and white in the other, so the mean of some whole cells is half way
 //! between black and white, wherever the level of the signal wanders and however weak it is. `fill` puts that middle
 //! into erased columns, `sum_samples` and `sum_windows` give each column the sum of a window about it, `swing` is
-//! twice how far the samples are from their means, in the mean of the columns, and `level` writes the line, by `smooth`.
+//! twice how far the samples are from their means, in the mean of the columns, and `level` writes the line smoothed.
 //! candidates.rt calls them in this order, and `is_swing` tells between them whether the line swings as one with a
 //! word does.
 //!
@@ -26,7 +26,8 @@ ghost use Rattle.vbi_words.specs.Levels.{samples_of};
 ghost use Rattle.vbi_line.specs.Line.{sample_at};
 ghost use Rattle.vbi_near.specs.Levelled.{window_of, first_of, end_of, window_start, sum_from, window_sum, swing_of};
 ghost use Rattle.vbi_near.specs.Levelled.{is_swing};
-ghost use Rattle.vbi_near.specs.Levelled.{middle_of, levelled_sample, levelled_each, smoothed_sample, smoothed, levelled};
+ghost use Rattle.vbi_near.specs.Levelled.{middle_of, levelled_sample, levelled_each, smoothed_sample, smoothed};
+ghost use Rattle.vbi_near.specs.Levelled.{levelled};
 ghost use Rattle.vbi_near.specs.Levelled.{levelled_unit, levelled_slicing, filled, AreSampleSums, AreWindows};
 
 use crate::near::WIDEST;
@@ -313,7 +314,11 @@ fn smooth(samples: &[u16], out: &mut [u8])
         let sample = smoothed_sample(samples[column - 1], samples[column], samples[column + 1]);
         put(out, column, sample);
     }
-    put(out, last, smoothed_sample(samples[last - 1], samples[last], samples[last]));
+    put(
+        out,
+        last,
+        smoothed_sample(samples[last - 1], samples[last], samples[last]),
+    );
 }
 
 /// Writes the levelled line of this swing.

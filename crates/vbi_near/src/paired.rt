@@ -10,7 +10,8 @@ ghost use Rattle.vbi_near.specs.declared.lines.Nears.{Nears};
 ghost use Rattle.vbi_near.specs.Lines.{row_in, first_in, other_in};
 ghost use Rattle.vbi_near.specs.Distances.{unit_of};
 ghost use Rattle.vbi_near.specs.Levelled.{levelled_unit, levelled_slicing};
-ghost use Rattle.vbi_near.specs.Said.{said_in, stand_of, levelled_margins};
+ghost use Rattle.vbi_near.specs.Margins.{levelled_margins};
+ghost use Rattle.vbi_near.specs.Said.{said_in, stand_of};
 ghost use Rattle.vbi_near.specs.Silent.{HasNearIfUnlessSilent};
 ghost use Rattle.vbi_near.specs.Candidates.{HasNearIf, given_samples, levelled_samples, has_swing, are_alike};
 ghost use Rattle.vbi_near.specs.Paired.{HaveNear, SayInPair};
@@ -20,9 +21,10 @@ use crate::candidates::{
 };
 use crate::levelled::{is_swing, levelled_levels};
 use crate::lines::Nears;
+use crate::margins::{LEVELLED, MarginSet, Margins};
 use crate::near::WIDEST;
 use crate::row::{Pair, Row};
-use crate::said::{LEVELLED, MarginSet, Margins, said_by_pair};
+use crate::said::said_by_pair;
 use vbi_words::{Levels, Word24};
 
 /// Which nearest words two lines may have: line 17, line 18, and both together.

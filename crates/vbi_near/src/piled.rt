@@ -11,10 +11,11 @@ ghost use Rattle.vbi_near.specs.Piled.{pile_margins, swing_alike, are_all_alike,
 use crate::candidates::{are_alike, level_row, unit_of};
 use crate::levelled::{LEVELLED_UNIT, levelled_levels};
 use crate::lines::Nears;
+use crate::margins::{Margin, Margins};
 use crate::near::WIDEST;
 use crate::pile::Pile;
 use crate::row::Rows;
-use crate::said::{Margin, Margins, first_said, recovered_by};
+use crate::said::{first_said, recovered_by};
 use vbi_words::{Levels, System, Word24};
 
 /// This many lines at most: the sums of more could pass 32 bits.
@@ -74,7 +75,8 @@ fn near_of_all(number: u32, levels: Levels, rows: &Rows) -> Nears
 /// The nearest ones of lines levelled, if these may be levelled together.
 fn levelled_near_of_all(number: u32, levels: Levels, rows: &Rows) -> Option<Nears>
     requires { rows.now.count ≤ 28 }
-    ensures { HasNearIf rows.now.system number levelled_slicing (are_all_alike rows.now.system levels (rows_of rows.now))
+    ensures { HasNearIf rows.now.system number levelled_slicing
+        (are_all_alike rows.now.system levels (rows_of rows.now))
         (map (levelled_samples rows.now.system levels) (rows_of rows.now)) result }
 {
     let mut swings = [0; MOST_LINES];

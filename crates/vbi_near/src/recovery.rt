@@ -28,9 +28,10 @@ ghost use Rattle.vbi_near.specs.Recovery.{recovered_as, IsSeen, IsOwn, IsRecover
 ghost use Rattle.vbi_near.specs.Recovery.{row_at, row_reading, alone, shown_in};
 
 use crate::confirmed::{is_confirmed, recovered_alone};
+use crate::margins::GIVEN;
 use crate::paired::{Asked, levelled_said, pair_said};
 use crate::row::{Pair, Row, Rows};
-use crate::said::{GIVEN, first_said};
+use crate::said::first_said;
 use vbi_line::{read_bytes_twice, read_packed, slice_bytes};
 use vbi_words::{Levels, Outcome, Reading, System, Word24};
 

@@ -6,47 +6,90 @@ ghost use Rattle.vbi_near.specs.Piled.{said_together};
 ghost use Rattle.vbi_near.specs.Candidates.{are_alike_by};
 ghost use Rattle.vbi_near.specs.WorkedRules.{code_beside, beyond_at, beyond_beside};
 ghost use Rattle.vbi_words.specs.declared.outcome.Outcome.TheVariants.{Word, Blank, Change};
-ghost use Rattle.vbi_near.specs.Said.{said_of, unless_beyond, lone_margins, apart_margins, both_margins};
+ghost use Rattle.vbi_near.specs.Margins.{levelled_margins, given_margins};
+ghost use Rattle.vbi_near.specs.Said.{said_of, unless_beyond};
 ghost use Rattle.vbi_near.specs.Recovery.{recovered_of};
 ghost use Rattle.vbi_near.specs.WorkedRules.{near_with, cut_at, as_code, as_other, beside, from_none, ten_ahead};
-ghost use Rattle.vbi_near.specs.WorkedRules.{code_halved_at, other_halved_at};
+ghost use Rattle.vbi_near.specs.WorkedRules.{code_halved_at, other_halved_at, code_ahead, other_ahead};
+ghost use Rattle.vbi_near.specs.WorkedRules.{close_code_ahead};
 ghost use Rattle.vbi_near.specs.WorkedRules.{as_given, levelled_as, worn_by, worn};
 ghost use Rattle.vbi_near.specs.WorkedRules.{smoothed_by, smoothed_at, smoothed, read_as, both_at, together_at, Shows};
 
-/// By how much a nearest word has to be ahead: the least of each kind is said, and one less isn't.
+/// By how much a nearest word of levelled lines has to be ahead: the least of each kind is said, and one less isn't.
 pub fn worked_margins()
-    ensures code { (said_of 100 lone_margins 1 (as_code (near_with 0xF12345 10600 10000)) ≡ Some 0xF12345)
-        × (said_of 100 lone_margins 1 (as_code (near_with 0xF12345 10599 10000)) ≡ None) }
-    ensures other { (said_of 100 lone_margins 1 (as_other (near_with 0xF1234A 10800 10000)) ≡ Some 0xF1234A)
-        × (said_of 100 lone_margins 1 (as_other (near_with 0xF1234A 10799 10000)) ≡ None) }
-    ensures line { said_of 100 lone_margins 1 (as_other (near_with 0xF12345 10799 10000)) ≡ None }
-    ensures close { (said_of 100 lone_margins 1 (beside 11000 11600) ≡ Some 0xF12345)
-        × (said_of 100 lone_margins 1 (beside 11000 11599) ≡ None)
-        × (said_of 100 lone_margins 1 (beside 11001 19999) ≡ None) }
-    ensures apart_code { (said_of 100 apart_margins 1 (as_code (near_with 0xF12345 11000 10000)) ≡ Some 0xF12345)
-        × (said_of 100 apart_margins 1 (as_code (near_with 0xF12345 10999 10000)) ≡ None) }
-    ensures apart_other { (said_of 100 apart_margins 1 (as_other (near_with 0xF1234A 11200 10000)) ≡ Some 0xF1234A)
-        × (said_of 100 apart_margins 1 (as_other (near_with 0xF1234A 11199 10000)) ≡ None) }
-    ensures both_code { (said_of 100 both_margins 2 (as_code (near_with 0xF12345 10800 10000)) ≡ Some 0xF12345)
-        × (said_of 100 both_margins 2 (as_code (near_with 0xF12345 10799 10000)) ≡ None) }
-    ensures both_other { (said_of 100 both_margins 2 (as_other (near_with 0xF1234A 10900 10000)) ≡ Some 0xF1234A)
-        × (said_of 100 both_margins 2 (as_other (near_with 0xF1234A 10899 10000)) ≡ None) }
-    ensures code_share { (said_of 100 both_margins 2 (from_none 47000 (beside 11000 12000)) ≡ Some 0xF12345)
-        × (said_of 100 both_margins 2 (from_none 47001 (beside 11000 12000)) ≡ None) }
-    ensures other_share { (said_of 100 both_margins 2 (ten_ahead 58000) ≡ Some 0xF1234A)
-        × (said_of 100 both_margins 2 (ten_ahead 58001) ≡ None) }
-    ensures code_halved { (said_of 100 lone_margins 1 (code_halved_at 15375) ≡ Some 0xF12345)
-        × (said_of 100 lone_margins 1 (code_halved_at 15374) ≡ None) }
-    ensures other_halved { (said_of 100 lone_margins 1 (other_halved_at 15000) ≡ Some 0xF1234A)
-        × (said_of 100 lone_margins 1 (other_halved_at 14999) ≡ None) }
-    ensures longer { (said_of 100 lone_margins 1 (as_code (near_with 0xF12345 20000 9600)) ≡ Some 0xF12345)
-        × (said_of 100 lone_margins 1 (as_code (near_with 0xF12345 20000 9599)) ≡ None) }
-    ensures longer_of_two { (said_of 100 both_margins 2 (as_code (near_with 0xF12345 20000 9200)) ≡ Some 0xF12345)
-        × (said_of 100 both_margins 2 (as_code (near_with 0xF12345 20000 9199)) ≡ None) }
-    ensures shorter { (said_of 100 lone_margins 1 (as_code (cut_at 9600)) ≡ Some 0xF12345)
-        × (said_of 100 lone_margins 1 (as_code (cut_at 9599)) ≡ None) }
-    ensures shorter_of_two { (said_of 100 both_margins 2 (as_code (cut_at 9200)) ≡ Some 0xF12345)
-        × (said_of 100 both_margins 2 (as_code (cut_at 9199)) ≡ None) }
+    ensures code { map (λ n. said_of 100 levelled_margins.lone 1 (code_ahead n)) (400 ∷ 399 ∷ [])
+        ≡ Some 0xF12345 ∷ None ∷ [] }
+    ensures other { map (λ n. said_of 100 levelled_margins.lone 1 (other_ahead n)) (500 ∷ 499 ∷ [])
+        ≡ Some 0xF1234A ∷ None ∷ [] }
+    ensures apart_code { map (λ n. said_of 100 levelled_margins.apart 1 (code_ahead n)) (800 ∷ 799 ∷ [])
+        ≡ Some 0xF12345 ∷ None ∷ [] }
+    ensures apart_other { map (λ n. said_of 100 levelled_margins.apart 1 (other_ahead n)) (1000 ∷ 999 ∷ [])
+        ≡ Some 0xF1234A ∷ None ∷ [] }
+    ensures both_code { map (λ n. said_of 100 levelled_margins.both 2 (close_code_ahead n)) (800 ∷ 799 ∷ [])
+        ≡ Some 0xF12345 ∷ None ∷ [] }
+    ensures both_other { map (λ n. said_of 100 levelled_margins.both 2 (other_ahead n)) (500 ∷ 499 ∷ [])
+        ≡ Some 0xF1234A ∷ None ∷ [] }
+    ensures code_share { map (λ blank. said_of 100 levelled_margins.lone 1 (from_none blank (beside 10300 11300)))
+        (39100 ∷ 39101 ∷ []) ≡ Some 0xF12345 ∷ None ∷ [] }
+    ensures other_share { map (λ blank. said_of 100 levelled_margins.lone 1 (ten_ahead blank)) (46000 ∷ 46001 ∷ [])
+        ≡ Some 0xF1234A ∷ None ∷ [] }
+    ensures both_code_share { map (λ blank. said_of 100 levelled_margins.both 2 (from_none blank (beside 10300 11300)))
+        (39100 ∷ 39101 ∷ []) ≡ Some 0xF12345 ∷ None ∷ [] }
+    ensures both_other_share { map (λ blank. said_of 100 levelled_margins.both 2 (ten_ahead blank)) (51142 ∷ 51143 ∷ [])
+        ≡ Some 0xF1234A ∷ None ∷ [] }
+    ensures longer { map (λ n. said_of 100 levelled_margins.lone 1 (as_code (near_with 0xF12345 20000 n)))
+        (9800 ∷ 9799 ∷ []) ≡ Some 0xF12345 ∷ None ∷ [] }
+    ensures shorter { map (λ n. said_of 100 levelled_margins.lone 1 (as_code (cut_at n))) (9800 ∷ 9799 ∷ [])
+        ≡ Some 0xF12345 ∷ None ∷ [] }
+    ensures apart_longer { map (λ n. said_of 100 levelled_margins.apart 1 (as_code (near_with 0xF12345 20000 n)))
+        (9800 ∷ 9799 ∷ []) ≡ Some 0xF12345 ∷ None ∷ [] }
+    ensures apart_shorter { map (λ n. said_of 100 levelled_margins.apart 1 (as_code (cut_at n))) (9800 ∷ 9799 ∷ [])
+        ≡ Some 0xF12345 ∷ None ∷ [] }
+    ensures both_longer { map (λ n. said_of 100 levelled_margins.both 2 (as_code (near_with 0xF12345 20000 n)))
+        (9600 ∷ 9599 ∷ []) ≡ Some 0xF12345 ∷ None ∷ [] }
+    ensures both_shorter { map (λ n. said_of 100 levelled_margins.both 2 (as_code (cut_at n))) (9600 ∷ 9599 ∷ [])
+        ≡ Some 0xF12345 ∷ None ∷ [] }
+    ensures line { said_of 100 levelled_margins.lone 1 (from_none 12000 (as_other (near_with 0xF12345 10499 10000)))
+        ≡ None }
+    ensures close { (said_of 100 levelled_margins.lone 1 (beside 10300 10985) ≡ Some 0xF12345)
+        × (said_of 100 levelled_margins.lone 1 (beside 10300 10984) ≡ None)
+        × (said_of 100 levelled_margins.lone 1 (beside 10301 19999) ≡ None) }
+    ensures code_halved { (said_of 100 levelled_margins.lone 1 (code_halved_at 15225) ≡ Some 0xF12345)
+        × (said_of 100 levelled_margins.lone 1 (code_halved_at 15224) ≡ None) }
+    ensures other_halved { (said_of 100 levelled_margins.lone 1 (other_halved_at 15000) ≡ Some 0xF1234A)
+        × (said_of 100 levelled_margins.lone 1 (other_halved_at 14999) ≡ None) }
+{}
+
+/// The same of lines as they are.
+pub fn worked_given_margins()
+    ensures code { map (λ n. said_of 100 given_margins.lone 1 (code_ahead n)) (600 ∷ 599 ∷ [])
+        ≡ Some 0xF12345 ∷ None ∷ [] }
+    ensures other { map (λ n. said_of 100 given_margins.lone 1 (other_ahead n)) (800 ∷ 799 ∷ [])
+        ≡ Some 0xF1234A ∷ None ∷ [] }
+    ensures apart_code { map (λ n. said_of 100 given_margins.apart 1 (code_ahead n)) (800 ∷ 799 ∷ [])
+        ≡ Some 0xF12345 ∷ None ∷ [] }
+    ensures apart_other { map (λ n. said_of 100 given_margins.apart 1 (other_ahead n)) (1000 ∷ 999 ∷ [])
+        ≡ Some 0xF1234A ∷ None ∷ [] }
+    ensures both_code { map (λ n. said_of 100 given_margins.both 2 (close_code_ahead n)) (800 ∷ 799 ∷ [])
+        ≡ Some 0xF12345 ∷ None ∷ [] }
+    ensures both_other { map (λ n. said_of 100 given_margins.both 2 (other_ahead n)) (800 ∷ 799 ∷ [])
+        ≡ Some 0xF1234A ∷ None ∷ [] }
+    ensures both_code_share { map (λ blank. said_of 100 given_margins.both 2 (from_none blank (beside 10300 11300)))
+        (46300 ∷ 46301 ∷ []) ≡ Some 0xF12345 ∷ None ∷ [] }
+    ensures both_other_share { map (λ blank. said_of 100 given_margins.both 2 (ten_ahead blank)) (58000 ∷ 58001 ∷ [])
+        ≡ Some 0xF1234A ∷ None ∷ [] }
+    ensures longer { map (λ n. said_of 100 given_margins.lone 1 (as_code (near_with 0xF12345 20000 n)))
+        (9700 ∷ 9699 ∷ []) ≡ Some 0xF12345 ∷ None ∷ [] }
+    ensures shorter { map (λ n. said_of 100 given_margins.lone 1 (as_code (cut_at n))) (9700 ∷ 9699 ∷ [])
+        ≡ Some 0xF12345 ∷ None ∷ [] }
+    ensures apart_longer { map (λ n. said_of 100 given_margins.apart 1 (as_code (near_with 0xF12345 20000 n)))
+        (9700 ∷ 9699 ∷ []) ≡ Some 0xF12345 ∷ None ∷ [] }
+    ensures apart_shorter { map (λ n. said_of 100 given_margins.apart 1 (as_code (cut_at n))) (9700 ∷ 9699 ∷ [])
+        ≡ Some 0xF12345 ∷ None ∷ [] }
+    ensures both_longer { map (λ n. said_of 100 given_margins.both 2 (as_code (near_with 0xF12345 20000 n)))
+        (9400 ∷ 9399 ∷ []) ≡ Some 0xF12345 ∷ None ∷ [] }
+    ensures both_shorter { map (λ n. said_of 100 given_margins.both 2 (as_code (cut_at n))) (9400 ∷ 9399 ∷ [])
+        ≡ Some 0xF12345 ∷ None ∷ [] }
 {}
 
 /// Fields written down, NTSC with white 100 above black: which words their lines show, and in which pass.
@@ -62,8 +105,8 @@ pub fn worked_fields()
     ensures no_more { Shows (recovered_of 100 (read_as Blank 0) (worn (as_code (near_with 0xF12345 10900 10000)))
         (worn (as_code (near_with 0xF12346 12000 10000))) (together_at 23000 23799))
         (None ∷ None ∷ None ∷ []) (0 ∷ 0 ∷ 0 ∷ []) }
-    ensures apart { Shows (recovered_of 100 (read_as Blank 0) (worn (as_code (near_with 0xF12345 10999 10000)))
-        (worn (as_code (near_with 0xF12346 11000 10000))) (together_at 23001 29999))
+    ensures apart { Shows (recovered_of 100 (read_as Blank 0) (worn (as_code (near_with 0xF12345 10799 10000)))
+        (worn (as_code (near_with 0xF12346 10800 10000))) (together_at 23001 29999))
         (None ∷ None ∷ Some 0xF12346 ∷ []) (0 ∷ 0 ∷ 3 ∷ []) }
 
     // Each of them has to bear the common word: that is nearer to both, by 20 columns, than the word of one line to it
@@ -80,11 +123,11 @@ pub fn worked_fields()
         (None ∷ Some 0xF12345 ∷ None ∷ []) (0 ∷ 3 ∷ 0 ∷ []) }
 
     // If each of the two goes on beyond its nearest word, they don't agree; if one does, they may.
-    ensures go_on { Shows (recovered_of 100 (read_as Blank 0) (worn (as_code (near_with 0xF12345 20000 9599)))
-        (worn (as_code (near_with 0xF12345 20000 9599))) (together_at 20000 29999))
+    ensures go_on { Shows (recovered_of 100 (read_as Blank 0) (worn (as_code (near_with 0xF12345 20000 9699)))
+        (worn (as_code (near_with 0xF12345 20000 9699))) (together_at 20000 29999))
         (None ∷ None ∷ None ∷ []) (0 ∷ 0 ∷ 0 ∷ []) }
-    ensures goes_on { Shows (recovered_of 100 (read_as Blank 0) (worn (as_code (near_with 0xF12345 20000 9599)))
-        (worn (as_code (near_with 0xF12345 20000 9600))) (together_at 20000 29999))
+    ensures goes_on { Shows (recovered_of 100 (read_as Blank 0) (worn (as_code (near_with 0xF12345 20000 9699)))
+        (worn (as_code (near_with 0xF12345 20000 9700))) (together_at 20000 29999))
         (None ∷ Some 0xF12345 ∷ Some 0xF12345 ∷ []) (0 ∷ 3 ∷ 3 ∷ []) }
 
     // Beside a word that stays, a line is alone. A word of pass 2 stays if the line's nearest word says it.
@@ -110,8 +153,8 @@ pub fn worked_fields()
 pub fn worked_levels()
     // Line 16 says the word of its levelled samples, line 17 that of its own, since the levelled ones have no margin.
     ensures first { Shows (recovered_of 100
-        (worn_by (levelled_as (as_code (near_with 0x8AE000 10600 10000)) (as_code (near_with 0x8AE001 10600 10000))))
-        (worn_by (levelled_as (as_code (near_with 0xF12345 10599 10000)) (as_code (near_with 0xF12346 10600 10000))))
+        (worn_by (levelled_as (as_code (near_with 0x8AE000 10556 10000)) (as_code (near_with 0x8AE001 10600 10000))))
+        (worn_by (levelled_as (as_code (near_with 0xF12345 10555 10000)) (as_code (near_with 0xF12346 10600 10000))))
         (read_as Blank 0) (as_given (both_at 0 0)))
         (Some 0x8AE000 ∷ Some 0xF12346 ∷ None ∷ []) (3 ∷ 3 ∷ 0 ∷ []) }
 
@@ -122,21 +165,33 @@ pub fn worked_levels()
         (levelled_as (both_at 23000 23800) (both_at 90000 90000)))
         (None ∷ Some 0xF12345 ∷ Some 0xF12345 ∷ []) (0 ∷ 3 ∷ 3 ∷ []) }
     ensures unlike { Shows (recovered_of 100 (read_as Blank 0)
-        (worn_by (levelled_as (as_code (near_with 0xF12347 10999 10000)) (as_code (near_with 0xF12345 10100 10000))))
-        (worn_by (levelled_as (as_code (near_with 0xF12347 11000 10000)) (as_code (near_with 0xF12345 10100 10000))))
+        (worn_by (levelled_as (as_code (near_with 0xF12347 10799 10000)) (as_code (near_with 0xF12345 10100 10000))))
+        (worn_by (levelled_as (as_code (near_with 0xF12347 10800 10000)) (as_code (near_with 0xF12345 10100 10000))))
         (as_given (both_at 23000 23800)))
         (None ∷ Some 0xF12345 ∷ Some 0xF12347 ∷ []) (0 ∷ 3 ∷ 3 ∷ []) }
     ensures apart { Shows (recovered_of 100 (read_as Blank 0)
-        (worn_by (levelled_as (as_code (near_with 0xF12345 10999 10000)) (as_code (near_with 0xF12347 11000 10000))))
-        (worn_by (levelled_as (as_code (near_with 0xF12346 11000 10000)) (as_code (near_with 0xF12348 11000 10000))))
+        (worn_by (levelled_as (as_code (near_with 0xF12345 10799 10000)) (as_code (near_with 0xF12347 10800 10000))))
+        (worn_by (levelled_as (as_code (near_with 0xF12346 10800 10000)) (as_code (near_with 0xF12348 10800 10000))))
         (levelled_as (both_at 23001 29999) (both_at 23001 29999)))
         (None ∷ Some 0xF12347 ∷ Some 0xF12346 ∷ []) (0 ∷ 3 ∷ 3 ∷ []) }
 
+    // If each of the two goes on beyond its nearest word levelled, they don't agree so; if one does, they may.
+    ensures go_on { Shows (recovered_of 100 (read_as Blank 0)
+        (worn_by (levelled_as (as_code (near_with 0xF12345 20000 9799)) (as_code (near_with 0xF12346 10100 10000))))
+        (worn_by (levelled_as (as_code (near_with 0xF12345 20000 9799)) (as_code (near_with 0xF12346 10100 10000))))
+        (levelled_as (both_at 20000 29999) (both_at 90000 90000)))
+        (None ∷ None ∷ None ∷ []) (0 ∷ 0 ∷ 0 ∷ []) }
+    ensures goes_on { Shows (recovered_of 100 (read_as Blank 0)
+        (worn_by (levelled_as (as_code (near_with 0xF12345 20000 9799)) (as_code (near_with 0xF12346 10100 10000))))
+        (worn_by (levelled_as (as_code (near_with 0xF12345 20000 9800)) (as_code (near_with 0xF12346 10100 10000))))
+        (levelled_as (both_at 20000 29999) (both_at 90000 90000)))
+        (None ∷ Some 0xF12345 ∷ Some 0xF12345 ∷ []) (0 ∷ 3 ∷ 3 ∷ []) }
+
     // A word of pass 2 stays if one of both says it first.
     ensures stays { Shows (recovered_of 100
-        (smoothed_by 0x8DC000 (levelled_as (as_code (near_with 0x8DC000 10600 10000))
+        (smoothed_by 0x8DC000 (levelled_as (as_code (near_with 0x8DC000 10556 10000))
         (as_code (near_with 0x8DC001 10600 10000))))
-        (smoothed_by 0xF12345 (levelled_as (as_code (near_with 0xF12345 10599 10000))
+        (smoothed_by 0xF12345 (levelled_as (as_code (near_with 0xF12345 10555 10000))
         (as_code (near_with 0xF12345 10600 10000))))
         (read_as (Word 0xF12345) 1) (as_given (both_at 0 0)))
         (Some 0x8DC000 ∷ Some 0xF12345 ∷ Some 0xF12345 ∷ []) (2 ∷ 2 ∷ 1 ∷ []) }
@@ -161,9 +216,9 @@ pub fn worked_stretched()
 
     // Another word may be nearer levelled: the line as it is counts.
     ensures beside_as_it_is { Shows (recovered_of 100
-        (smoothed_at 9200 0x8DC000 (levelled_as (as_code (near_with 0x8DC000 10599 10000))
+        (smoothed_at 9200 0x8DC000 (levelled_as (as_code (near_with 0x8DC000 10555 10000))
         (as_code (near_with 0x8AE000 10100 10000))))
-        (smoothed_at 9201 0x8DC000 (levelled_as (as_code (near_with 0x8DC000 10599 10000))
+        (smoothed_at 9201 0x8DC000 (levelled_as (as_code (near_with 0x8DC000 10555 10000))
         (as_code (near_with 0x8AE000 10100 10000))))
         (read_as Blank 0) (as_given (both_at 0 0)))
         (Some 0x8DC000 ∷ None ∷ None ∷ []) (2 ∷ 0 ∷ 0 ∷ []) }
@@ -171,24 +226,30 @@ pub fn worked_stretched()
 
 /// Two lines agree by their words or by their codes, and go on by their words; what several lines say together.
 pub fn worked_together()
-    ensures by_codes { Shows (recovered_of 100 (read_as Blank 0) (worn (code_beside 0xF1234A 10000 9600 11000 11500))
-        (worn (code_beside 0xF1234B 10000 9600 11000 11500))
-        (as_given (from_none 60000 (code_beside 0xF1234C 23300 23300 24000 29000))))
+    ensures by_codes { Shows (recovered_of 100 (read_as Blank 0) (worn (code_beside 0xF1234A 10000 9700 11000 11500))
+        (worn (code_beside 0xF1234B 10000 9700 11000 11500))
+        (as_given (from_none 60000 (code_beside 0xF1234C 23100 23100 23400 29000))))
         (None ∷ Some 0xF12345 ∷ Some 0xF12345 ∷ []) (0 ∷ 3 ∷ 3 ∷ []) }
-    ensures words_go_on { Shows (recovered_of 100 (read_as Blank 0) (worn (code_beside 0xF1234A 10000 9599 11000 11500))
-        (worn (code_beside 0xF1234B 10000 9599 11000 11500))
-        (as_given (from_none 60000 (code_beside 0xF1234C 23300 23300 24000 29000))))
+    ensures words_go_on { Shows (recovered_of 100 (read_as Blank 0) (worn (code_beside 0xF1234A 10000 9699 11000 11500))
+        (worn (code_beside 0xF1234B 10000 9699 11000 11500))
+        (as_given (from_none 60000 (code_beside 0xF1234C 23100 23100 23400 29000))))
         (None ∷ None ∷ None ∷ []) (0 ∷ 0 ∷ 0 ∷ []) }
     ensures levelled_first { said_together 100 true 2 (levelled_as (as_code (near_with 0xF12345 11000 10000))
         (as_code (near_with 0xF12346 11000 10000))) ≡ Some 0xF12345 }
-    ensures given_next { said_together 100 true 2 (levelled_as (as_code (near_with 0xF12345 10599 10000))
-        (as_code (near_with 0xF12346 10600 10000))) ≡ Some 0xF12346 }
+    ensures given_next { said_together 100 true 2 (levelled_as (as_code (near_with 0xF12345 10399 10000))
+        (as_code (near_with 0xF12346 10400 10000))) ≡ Some 0xF12346 }
     ensures known { map (λ rival. said_together 100 true 2 (as_given (as_code (near_with 0xF12345 rival 10000))))
-        (10599 ∷ 10600 ∷ []) ≡ None ∷ Some 0xF12345 ∷ [] }
+        (10399 ∷ 10400 ∷ []) ≡ None ∷ Some 0xF12345 ∷ [] }
     ensures unknown { map (λ rival. said_together 100 false 2 (as_given (as_code (near_with 0xF12345 rival 10000))))
-        (10999 ∷ 11000 ∷ []) ≡ None ∷ Some 0xF12345 ∷ [] }
+        (10799 ∷ 10800 ∷ []) ≡ None ∷ Some 0xF12345 ∷ [] }
     ensures other { map (λ rival. said_together 100 true 2 (as_given (as_other (near_with 0xF1234A rival 10000))))
-        (10999 ∷ 11000 ∷ []) ≡ None ∷ Some 0xF1234A ∷ [] }
+        (10799 ∷ 10800 ∷ []) ≡ None ∷ Some 0xF1234A ∷ [] }
+    ensures code_share { map (λ blank. said_together 100 true 2 (as_given (from_none blank (beside 10300 11300))))
+        (82300 ∷ 82301 ∷ []) ≡ Some 0xF12345 ∷ None ∷ [] }
+    ensures other_share { map (λ blank. said_together 100 true 2 (as_given (ten_ahead blank))) (106000 ∷ 106001 ∷ [])
+        ≡ Some 0xF1234A ∷ None ∷ [] }
+    ensures longer { map (λ longer. said_together 100 true 2 (as_given (as_code (near_with 0xF12345 20000 longer))))
+        (9199 ∷ 9200 ∷ []) ≡ None ∷ Some 0xF12345 ∷ [] }
     ensures alike { map (are_alike_by 100 100) (49 ∷ 50 ∷ 160 ∷ []) ≡ false ∷ true ∷ true ∷ [] }
     ensures alike_least { map (are_alike_by 100 60) (29 ∷ 30 ∷ 120 ∷ 121 ∷ []) ≡ false ∷ true ∷ true ∷ false ∷ [] }
 {}
@@ -200,20 +261,20 @@ pub fn worked_beyond()
     ensures limits { map (λ word. unless_beyond (Some word)) (0xF79999 ∷ 0xF80000 ∷ 0xF92345 ∷ 0xFF9999 ∷ 0xF8DD00
         ∷ 0xF9999A ∷ []) ≡ Some 0xF79999 ∷ None ∷ None ∷ None ∷ Some 0xF8DD00 ∷ Some 0xF9999A ∷ [] }
 
-    // The code 12345 is recovered beside it, up to 10 columns farther, and nothing if it is farther.
-    ensures code { Shows (recovered_of 100 (read_as Blank 0) (worn (beyond_beside 10800 11000 11600))
+    // The code 12345 is recovered beside it, up to 3 columns farther, and nothing if it is farther.
+    ensures code { Shows (recovered_of 100 (read_as Blank 0) (worn (beyond_beside 10800 10300 10900))
         (read_as (Word 0xF12345) 1) (together_at 0 0)) (None ∷ Some 0xF12345 ∷ Some 0xF12345 ∷ []) (0 ∷ 3 ∷ 1 ∷ []) }
-    ensures nothing { Shows (recovered_of 100 (read_as Blank 0) (worn (beyond_beside 10800 11001 19999))
+    ensures nothing { Shows (recovered_of 100 (read_as Blank 0) (worn (beyond_beside 10800 10301 19999))
         (read_as (Word 0xF12345) 1) (together_at 0 0)) (None ∷ None ∷ Some 0xF12345 ∷ []) (0 ∷ 0 ∷ 1 ∷ []) }
 
     // Levelled lines that would say it say nothing, so lines as they are are asked next.
     ensures given_next { Shows (recovered_of 100 (read_as Blank 0)
-        (worn_by (levelled_as (beyond_beside 10800 11001 19999) (as_code (near_with 0xF12345 10600 10000))))
+        (worn_by (levelled_as (beyond_beside 10800 10301 19999) (as_code (near_with 0xF12345 10600 10000))))
         (read_as (Word 0xF12345) 1) (together_at 0 0)) (None ∷ Some 0xF12345 ∷ Some 0xF12345 ∷ []) (0 ∷ 3 ∷ 1 ∷ []) }
 
     // Neither do two lines that don't agree, two lines together, or a pile.
-    ensures apart { Shows (recovered_of 100 (read_as Blank 0) (worn (beyond_beside 11200 12000 19999))
-        (worn (as_code (near_with 0xF12346 11000 10000))) (together_at 25001 29999))
+    ensures apart { Shows (recovered_of 100 (read_as Blank 0) (worn (beyond_beside 11000 12000 19999))
+        (worn (as_code (near_with 0xF12346 10800 10000))) (together_at 25001 29999))
         (None ∷ None ∷ Some 0xF12346 ∷ []) (0 ∷ 0 ∷ 3 ∷ []) }
     ensures together { Shows (recovered_of 100 (read_as Blank 0) (worn (beyond_beside 10800 11001 19999))
         (worn (beyond_beside 10800 11001 19999)) (as_given (as_other (beyond_at 20000 30000))))

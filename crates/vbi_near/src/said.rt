@@ -7,12 +7,8 @@
 //! tells whether these two do, and `said_in` by which margins they speak then. A picture number of 80,000 or more that
 //! is said is never recovered (`unless_beyond`), but confirms a word of pass 2 (confirmed.rt).
 //!
-//! A sample counts at most seven tenths of what white is from black (pile.rt), so in a column a word with another level
-//! is farther by that, and at most twice as much is taken away by a dropout there: a cell of NTSC has 28 columns, one of
-//! PAL 35. `MarginSet` has what each kind of lines needs: levelled ones, and those as they are.
-//!
-//! specs/Said.antt has the same numbers, and rule_laws.rt has words at their limits. CONTRIBUTING.md says what else
-//! changes with a margin.
+//! margins.rt has by how much a word has to be ahead. specs/Said.antt has the same rule, and rule_laws.rt has words at
+//! its limits. CONTRIBUTING.md says what else changes with it.
 
 ghost use Rattle.std.specs.Prelude.{◌≡◌, ◌*◌, ◌^◌, ◌≤◌, ◌<◌};
 ghost use Rattle.vbi_near.specs.Said.{is_ahead, is_ahead_by, goes_on, is_cut, is_whole, is_clear};
@@ -23,119 +19,9 @@ ghost use Rattle.vbi_near.specs.Said.{unless_beyond, recovered_by};
 ghost use Rattle.vbi_near.specs.LineCodes.{is_beyond_79999};
 
 use crate::lines::Nears;
+use crate::margins::{Margin, MarginSet, Margins};
 use crate::near::Near;
 use vbi_words::{Word24, digit};
-
-/// By how much a nearest word has to be ahead of any other.
-#[derive(Clone, Copy)]
-pub struct Margin {
-    /// By this many times what white and black are off from each other.
-    pub columns: u32,
-    /// By a share of how much nearer the word is than none, in 288ths.
-    pub share: u8,
-}
-
-/// What a nearest word has to meet to be said.
-#[derive(Clone, Copy)]
-pub struct Margins {
-    /// A code that may stand on its line.
-    pub code: Margin,
-    /// Any other word.
-    pub other: Margin,
-    /// By how many columns of each line its signal may go on beyond it, or have fewer cells.
-    pub ends: u8,
-}
-
-/// The margins of lines that are asked in one way.
-#[derive(Clone, Copy)]
-pub struct MarginSet {
-    /// Those of one line.
-    pub lone: Margins,
-    /// Those of one of two lines that don't agree.
-    pub apart: Margins,
-    /// Those of two lines together.
-    pub both: Margins,
-}
-
-/// Those of levelled lines, chosen on simulated lines of worn discs so that few words are wrong and none are lost.
-///
-/// A cell counts about a twelfth of how much nearer the word is than none, so a share of 10 is five twelfths of what a
-/// cell counts, one of 8 a third, and one of 7 somewhat less than a third. The shares keep words back that a dropout
-/// leaves of a line without noise, the columns those of a line of which hardly anything is left. One of two lines that
-/// don't agree is badly worn, so its nearest word is worth less.
-pub(crate) const LEVELLED: MarginSet = MarginSet {
-    lone: Margins {
-        code: Margin {
-            columns: 4,
-            share: 10,
-        },
-        other: Margin {
-            columns: 5,
-            share: 8,
-        },
-        ends: 2,
-    },
-    apart: Margins {
-        code: Margin {
-            columns: 8,
-            share: 0,
-        },
-        other: Margin {
-            columns: 10,
-            share: 0,
-        },
-        ends: 2,
-    },
-    both: Margins {
-        code: Margin {
-            columns: 8,
-            share: 10,
-        },
-        other: Margin {
-            columns: 5,
-            share: 7,
-        },
-        ends: 2,
-    },
-};
-
-/// Those of lines as they are, which are asked if the levelled ones say nothing. They aren't smoothed, so noise makes a
-/// row with one cell more or less nearer by more columns.
-pub(crate) const GIVEN: MarginSet = MarginSet {
-    lone: Margins {
-        code: Margin {
-            columns: 6,
-            share: 0,
-        },
-        other: Margin {
-            columns: 8,
-            share: 0,
-        },
-        ends: 3,
-    },
-    apart: Margins {
-        code: Margin {
-            columns: 8,
-            share: 0,
-        },
-        other: Margin {
-            columns: 10,
-            share: 0,
-        },
-        ends: 3,
-    },
-    both: Margins {
-        code: Margin {
-            columns: 8,
-            share: 8,
-        },
-        other: Margin {
-            columns: 8,
-            share: 6,
-        },
-        ends: 3,
-    },
-};
 
 /// How lines 17 and 18 stand to each other.
 #[derive(Clone, Copy)]
@@ -175,8 +61,8 @@ fn columns_of_each(unit: u32, columns: u8, lines: u32) -> u64
     u64::from(columns) * u64::from(unit)
 }
 
-/// Whether the signal of this many lines goes on beyond the word: by more than so many columns a line, since noise alone
-/// makes one more cell somewhat nearer.
+/// Whether the signal of this many lines goes on beyond the word: by more than so many columns a line, since noise
+/// alone makes one more cell somewhat nearer.
 fn goes_on(unit: u32, ends: u8, lines: u32, near: &Near) -> bool
     requires { lines ≤ 28 }
     ensures { result ≡ goes_on unit ends lines near.now }
@@ -264,7 +150,12 @@ fn said_of(unit: u32, margins: &Margins, lines: u32, near: &Nears) -> Option<Wor
 }
 
 /// The word that this many lines say, if they have a nearest word and a nearest code.
-pub(crate) fn said_if(unit: u32, margins: &Margins, lines: u32, near: Option<Nears>) -> Option<Word24>
+pub(crate) fn said_if(
+    unit: u32,
+    margins: &Margins,
+    lines: u32,
+    near: Option<Nears>,
+) -> Option<Word24>
     requires { lines ≤ 28 }
     ensures { result ≡ said_if unit margins.now lines near }
 {

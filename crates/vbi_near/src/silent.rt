@@ -18,9 +18,10 @@ ghost use Rattle.vbi_near.specs.Silent.{says_word, IsLeadWithin, StandsFor, IsUn
 use crate::codes::{none, with_start, with_start_by};
 use crate::found::Found;
 use crate::lines::Nears;
+use crate::margins::Margins;
 use crate::near::Near;
 use crate::near_code::code_or_none;
-use crate::said::{Margins, Nearest, close_limit, is_ahead, is_clear};
+use crate::said::{Nearest, close_limit, is_ahead, is_clear};
 use crate::sought::Sought;
 
 /// By what some lines say their nearest word or code.
@@ -71,13 +72,7 @@ fn says_word(sought: &Sought, terms: &Terms) -> bool
         halved: sought.halved,
     };
     sought.word.word.is_some()
-        && is_clear(
-            terms.unit,
-            margins.other,
-            margins.ends,
-            terms.lines,
-            &word,
-        )
+        && is_clear(terms.unit, margins.other, margins.ends, terms.lines, &word)
 }
 
 /// Whether the nearest code of lines of this number may be said: whether it is close enough, and ahead of the others.

@@ -1,6 +1,6 @@
 use Rattle.std.proofs.Common.{ℕ, [], ◌∷◌, subst}
 use Rattle.vbi_near.specs.Candidates.{given_samples}
-use Rattle.vbi_near.specs.Lines.{row_in, first_in, other_in}
+use Rattle.vbi_near.specs.Lines.{row_in}
 use Rattle.vbi_near.specs.Silent.{HasNearUnlessSilent}
 use Rattle.vbi_near.proofs.candidates.near_unless_silent.Goals as goal
 

@@ -1,6 +1,7 @@
-use Rattle.std.proofs.Common.{◌≡◌, ◌∙◌, [], ◌∷◌}
+use Rattle.std.proofs.Common.{◌∙◌, [], ◌∷◌}
 use Rattle.std.specs.Prelude.{◌||◌, Some}
-use Rattle.vbi_near.specs.Said.{said_if, first_said, is_said, given_margins}
+use Rattle.vbi_near.specs.Margins.{given_margins}
+use Rattle.vbi_near.specs.Said.{said_if, first_said, is_said}
 use Rattle.vbi_near.specs.Lines.{row_in}
 use Rattle.vbi_near.specs.Candidates.{given_samples}
 use Rattle.vbi_near.specs.Recovery.{is_stretched}

@@ -1,10 +1,9 @@
-use Rattle.std.proofs.Common.{◌≡◌, ℕ, Bool, true, false, [], ◌∷◌, List, sym, ap, ◌∙◌, subst, rules}
-use Rattle.std.specs.Prelude.{Option}
+use Rattle.std.proofs.Common.{◌≡◌, ℕ, true, false, [], ◌∷◌, List, sym, ap, ◌∙◌, subst}
 use Rattle.vbi_words.specs.Levels.{Slicing, samples_of}
-use Rattle.vbi_near.specs.declared.lines.Nears.{Nears}
 use Rattle.vbi_near.specs.Distances.{Samples, known_but, unit_of}
 use Rattle.vbi_near.specs.Levelled.{levelled_unit, levelled_slicing, is_swing}
-use Rattle.vbi_near.specs.Said.{said_of, said_if, levelled_margins}
+use Rattle.vbi_near.specs.Margins.{levelled_margins}
+use Rattle.vbi_near.specs.Said.{said_of, said_if}
 use Rattle.vbi_near.specs.Lines.{row_in}
 use Rattle.vbi_near.specs.Candidates.{HasNear, levelled_samples, has_swing}
 use Rattle.vbi_near.proofs.Asked.{none_if, says_if}

@@ -10,4 +10,5 @@ returns-clause-field c = field-within
 
 pub returns-clause-pile : goal.returns-clause-pile
 returns-clause-pile c system number slicing known rows word (near, are, e) x =
-    two-within levelled_unit (unit_of slicing) (pile_margins known) (length rows) near.levelled (Some near.given) word e x
+    two-within levelled_unit (unit_of slicing) (pile_margins known) (length rows) near.levelled (Some near.given) word
+    e x

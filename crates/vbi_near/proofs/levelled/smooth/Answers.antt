@@ -1,4 +1,4 @@
-use Rattle.std.proofs.Common.{◌≡◌, ℕ, ◌+◌, ◌-◌, ◌*◌, ◌<◌, min, length, get_or, ap, ◌∙◌, subst, arith}
+use Rattle.std.proofs.Common.{◌≡◌, ℕ, ◌+◌, ◌-◌, min, length, get_or, ap, ◌∙◌, subst, arith}
 use Rattle.vbi_line.specs.Line.{sample_at}
 use Rattle.vbi_near.specs.Levelled.{smoothed_sample}
 use Rattle.vbi_near.proofs.Levelling.{WrittenTo, smoothed_at, written_more, smoothed_all}

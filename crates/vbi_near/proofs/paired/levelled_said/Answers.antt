@@ -1,11 +1,10 @@
-use Rattle.std.proofs.Common.{◌≡◌, ℕ, Bool, true, [], ◌∷◌, List, sym, ◌∙◌, ap, subst}
-use Rattle.std.specs.Prelude.{Option}
+use Rattle.std.proofs.Common.{◌≡◌, true, [], ◌∷◌, sym, ◌∙◌, ap, subst}
 use Rattle.vbi_words.specs.Levels.{Slicing, samples_of}
 use Rattle.vbi_near.specs.Distances.{Samples, known_but, unit_of}
 use Rattle.vbi_near.specs.Levelled.{levelled_slicing, is_swing}
-use Rattle.vbi_near.specs.Said.{levelled_margins}
+use Rattle.vbi_near.specs.Margins.{levelled_margins}
 use Rattle.vbi_near.specs.Lines.{first_in, other_in}
-use Rattle.vbi_near.specs.Candidates.{HasNearIf, has_swing, swing_in, are_alike, are_alike_by, levelled_samples}
+use Rattle.vbi_near.specs.Candidates.{has_swing, swing_in, are_alike, are_alike_by, levelled_samples}
 use Rattle.vbi_near.specs.Paired.{HaveNear, SayInPair}
 use Rattle.vbi_near.proofs.Asked.{same_if, levelled_as, swing_each}
 use Rattle.vbi_near.proofs.paired.levelled_said.Goals as goal
@@ -18,7 +17,8 @@ returns c second third both has other_has both_have =
     let other = other_in c.args.pair.now in
     let unit = sym c.unit_of-unit.ensures.value in
     let swing : swing_in system levels row ≡ c.level_row-swing.result
-    = sym (c.level_row-swing.ensures.swing ∙ (λ j. swing_in (c.first.ensures.system j) levels (c.first.ensures.row j))) in
+    = sym (c.level_row-swing.ensures.swing
+    ∙ (λ j. swing_in (c.first.ensures.system j) levels (c.first.ensures.row j))) in
     let other_swing : swing_in system levels other ≡ c.level_row-other_swing.result
     = sym (c.level_row-other_swing.ensures.swing
     ∙ (λ j. swing_in (c.other.ensures.system j) levels (c.other.ensures.row j))) in

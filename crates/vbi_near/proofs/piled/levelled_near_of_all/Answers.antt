@@ -8,6 +8,7 @@ use Rattle.vbi_near.specs.Piled.{rows_in, are_all_alike, swing_alike}
 use Rattle.vbi_near.specs.Levelled.{levelled_slicing}
 use Rattle.vbi_near.specs.Pile.{IsPileOf}
 use Rattle.vbi_near.proofs.PiledRows.{rows-next, each-swings}
+use Rattle.vbi_near.proofs.Asked.{levelled_as}
 use Rattle.vbi_near.proofs.piled.levelled_near_of_all.Goals as goal
 
 pub loop-line-preserved : goal.loop-line-preserved
@@ -21,10 +22,9 @@ loop-line-preserved c =
     let here : has_swing system levels (row_at rows line) ≡ true
     → known_but c.row-row.result.erased.now (samples_of c.level_row.new.out)
     ≡ levelled_samples system levels (row_at rows line)
-    = λ swings. ap (λ (samples : List ℕ). known_but c.row-row.result.erased.now samples)
-    (c.level_row.ensures.levelled
-    (subst (λ (r : Row). has_swing system levels r ≡ true) (sym c.row-row.ensures.row) swings))
-    ∙ ap (λ (r : Row). levelled_samples system levels r) c.row-row.ensures.row in
+    = λ swings. ap (λ (r : Row). known_but r.erased (samples_of c.level_row.new.out)) c.row-row.ensures.row
+    ∙ sym (levelled_as system _ levels (row_at rows line) _ c.level_row.new.out c.row-row.ensures.system
+    c.row-row.ensures.row c.level_row.ensures.levelled swings) in
     record {
       levelled_room = c.level_row.auto.out ∙ c.loop-line.invariant.levelled_room;
       swings = take_more_set c.loop-line.swings line c.level_row.result (omega (
@@ -36,7 +36,7 @@ loop-line-preserved c =
       ))
           ∙ ap (λ (some : List ℕ). some ++ c.level_row.result ∷ []) c.loop-line.invariant.swings
           ∙ ap (λ (swing : ℕ). map (swing_in system levels) (rows_to line) ++ swing ∷ []) (c.level_row.ensures.swing
-          ∙ ap (λ (r : Row). swing_in system levels r) c.row-row.ensures.row)
+          ∙ (λ j. swing_in (c.row-row.ensures.system j) levels (c.row-row.ensures.row j)))
           ∙ sym (rows-next (swing_in system levels) system rows.bytes.now rows.erased.now line);
       swings_room = length-set c.loop-line.swings line c.level_row.result ∙ c.loop-line.invariant.swings_room;
       system = c.add.ensures.system ∙ c.loop-line.invariant.system;
@@ -63,7 +63,8 @@ returns-then-swing_alike c =
     = ap (λ (list : List ℕ). swing_alike (unit_of levels) list) (sym swings)
     ∙ ap (λ (unit : ℕ). swing_alike unit (take rows.count c.loop-line.swings)) (sym c.unit_of.ensures.value)
     ∙ sym c.swing_alike.ensures ∙ c.if-swing_alike.true in
-    let pile : IsPileOf system levelled_slicing (map (levelled_samples system levels) (rows_to rows.count)) c.loop-line.pile
+    let pile : IsPileOf system levelled_slicing (map (levelled_samples system levels) (rows_to rows.count))
+    c.loop-line.pile
     = subst (λ (n : ℕ). ((i : ℕ) → i < n → has_swing system levels (row_at rows i) ≡ true)
     → IsPileOf system levelled_slicing (map (levelled_samples system levels) (rows_to n)) c.loop-line.pile) e
     c.loop-line.invariant.pile

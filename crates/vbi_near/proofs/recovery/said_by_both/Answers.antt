@@ -1,8 +1,8 @@
-use Rattle.std.proofs.Common.{◌≡◌, ℕ, true, refl, sym, ap, ◌∙◌, rules}
+use Rattle.std.proofs.Common.{◌≡◌, ℕ, true, refl, ap, ◌∙◌, rules}
 use Rattle.std.specs.Prelude.{Option, Some, is_some}
 use Rattle.vbi_near.specs.Distances.{unit_of}
-use Rattle.vbi_near.specs.Said.{said_in, stand_of, first_said, given_margins, levelled_margins}
-use Rattle.vbi_near.specs.Levelled.{levelled_unit}
+use Rattle.vbi_near.specs.Margins.{given_margins}
+use Rattle.vbi_near.specs.Said.{said_in, stand_of, first_said}
 use Rattle.vbi_near.proofs.Asked.{first-says}
 use Rattle.vbi_near.proofs.recovery.said_by_both.Goals as goal
 

@@ -1,11 +1,9 @@
-use Rattle.std.proofs.Common.{◌≡◌, true, false, ◌∙◌, ap, sym, subst, rules}
+use Rattle.std.proofs.Common.{◌≡◌, true, false, ◌∙◌, ap, sym, rules}
 use Rattle.std.specs.Prelude.{◌&&◌}
-use Rattle.vbi_words.specs.declared.system.System.{System}
 use Rattle.vbi_near.specs.Distances.{unit_of}
-use Rattle.vbi_near.specs.Lines.{row_in, first_in, other_in}
-use Rattle.vbi_near.specs.Candidates.{Row}
+use Rattle.vbi_near.specs.Lines.{first_in, other_in}
 use Rattle.vbi_near.specs.Recovery.{is_open, Stands, shown_in, IsOwn, IsSeen}
-use Rattle.vbi_near.proofs.Asked.{pair-open, pair-shows, stands-alone}
+use Rattle.vbi_near.proofs.Asked.{pair-open, pair-shows, stands-alone, same_line}
 use Rattle.vbi_near.proofs.recovery.shown_pair.Goals as goal
 
 pub returns-then-are_both_open : goal.returns-then-are_both_open
@@ -14,14 +12,10 @@ returns-then-are_both_open c second third both is are pair =
     let levels = c.args.levels in
     let row = first_in c.args.pair.now in
     let other = other_in c.args.pair.now in
-    let own : IsOwn system 17 levels row c.own-own_second.result
-    = subst (λ (r : Row). IsOwn system 17 levels r c.own-own_second.result) c.first-second.ensures.row
-    (subst (λ (s : System). IsOwn s 17 levels (row_in c.first-second.result) c.own-own_second.result)
-    c.first-second.ensures.system c.own-own_second.ensures) in
-    let beside : IsOwn system 18 levels other c.own-own_third.result
-    = subst (λ (r : Row). IsOwn system 18 levels r c.own-own_third.result) c.other-third.ensures.row
-    (subst (λ (s : System). IsOwn s 18 levels (row_in c.other-third.result) c.own-own_third.result)
-    c.other-third.ensures.system c.own-own_third.ensures) in
+    let own = same_line (λ s r. IsOwn s 17 levels r c.own-own_second.result) system _ row _
+    c.first-second.ensures.system c.first-second.ensures.row c.own-own_second.ensures in
+    let beside = same_line (λ s r. IsOwn s 18 levels r c.own-own_third.result) system _ other _
+    c.other-third.ensures.system c.other-third.ensures.row c.own-own_third.ensures in
     let opened : (is_open c.own-own_second.result.outcome && is_open c.own-own_third.result.outcome) ≡ true =
     search rules in
     let common = pair (pair-open system levels row other c.own-own_second.result c.own-own_third.result own beside
@@ -37,20 +31,14 @@ returns c second third both is are pair =
     let levels = c.args.levels in
     let row = first_in c.args.pair.now in
     let other = other_in c.args.pair.now in
-    let own : IsOwn system 17 levels row c.own-own_second.result
-    = subst (λ (r : Row). IsOwn system 17 levels r c.own-own_second.result) c.first-second.ensures.row
-    (subst (λ (s : System). IsOwn s 17 levels (row_in c.first-second.result) c.own-own_second.result)
-    c.first-second.ensures.system c.own-own_second.ensures) in
-    let beside : IsOwn system 18 levels other c.own-own_third.result
-    = subst (λ (r : Row). IsOwn system 18 levels r c.own-own_third.result) c.other-third.ensures.row
-    (subst (λ (s : System). IsOwn s 18 levels (row_in c.other-third.result) c.own-own_third.result)
-    c.other-third.ensures.system c.own-own_third.ensures) in
-    let seen : IsSeen c.first-second.result.system 17 levels (row_in c.first-second.result) second
-    = subst (λ (s : System). IsSeen s 17 levels (row_in c.first-second.result) second) (sym c.first-second.ensures.system)
-    (subst (λ (r : Row). IsSeen system 17 levels r second) (sym c.first-second.ensures.row) is) in
-    let other_seen : IsSeen c.other-third.result.system 18 levels (row_in c.other-third.result) third
-    = subst (λ (s : System). IsSeen s 18 levels (row_in c.other-third.result) third) (sym c.other-third.ensures.system)
-    (subst (λ (r : Row). IsSeen system 18 levels r third) (sym c.other-third.ensures.row) are) in
+    let own = same_line (λ s r. IsOwn s 17 levels r c.own-own_second.result) system _ row _
+    c.first-second.ensures.system c.first-second.ensures.row c.own-own_second.ensures in
+    let beside = same_line (λ s r. IsOwn s 18 levels r c.own-own_third.result) system _ other _
+    c.other-third.ensures.system c.other-third.ensures.row c.own-own_third.ensures in
+    let seen = same_line (λ s r. IsSeen s 17 levels r second) _ system _ row (sym c.first-second.ensures.system)
+    (sym c.first-second.ensures.row) is in
+    let other_seen = same_line (λ s r. IsSeen s 18 levels r third) _ system _ other (sym c.other-third.ensures.system)
+    (sym c.other-third.ensures.row) are in
     let closed : (is_open c.own-own_second.result.outcome && is_open c.own-own_third.result.outcome) ≡ false =
     search rules in
     let stands = stands-alone system levels row other c.own-own_second.result c.own-own_third.result own beside second
