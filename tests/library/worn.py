@@ -16,10 +16,9 @@ RECORD = layout("Record")
 # aren't, or another word that is recovered. Of a cell of 29 columns it is one more, and of PAL's 35 four more. So n
 # leave the word nearer than the one with this bit turned by 28 - 2n columns, or 27 - 2n, each of which counts seven
 # tenths: 6 by 11.2 or 10.5, 7 by 9.8 or 9.1, 8 by 8.4 or 7.7, 9 by 7.0 or 6.3, 10 by 5.6 or 4.9; 14 leave two words as
-# near, or all but. On levelled lines the edges of the cell take away half a column or more of this, and a share is
-# needed of how much nearer the word is than none, of 218 columns (PAL: 271): 10 in 288 of a code, 7.6 (9.4), and 8 in
-# 288 of any other word, 6.1 (7.5). So the code of one line is said as it is, by 6 columns, and another word levelled,
-# or as it is, by 8.
+# near, or all but. On levelled lines the smoothed edges of the cell take away half a column or more of this, and the
+# nearest word, which may be a code, needs 8 in 288 of how much nearer it is than none, of some 218 columns (PAL: 271):
+# 6.1 (7.5). So the code of one line is said as it is, by 6 columns, and another word levelled, or as it is, by 8.
 # Then for which line which columns are erased: those that are turned over on this row, one by one ("turned"), or of a
 # line that is longer ("beyond"); or in one piece the whole cell in which they lie ("cell"), or all from there on
 # ("rest"). Without the columns that are turned over, 14 or more of the cell leave the word ahead by 9.8 or more;
@@ -180,12 +179,20 @@ LEVELLED = (
     (((90, 122), None), 0, (3, 0)), (((90, 118), None), 0, (0, 0)),
     (((52, 207), None), 0, (3, 0)), (((52, 217), None), 0, (0, 0)),
     (((75, 115), (75, 153)), 13, (3, 3)), (((75, 115), (75, 157)), 13, (0, 0)),
-    (((75, 153), (75, 115)), 13, (3, 3)), (((75, 157), (75, 115)), 13, (0, 0)))
+    (((75, 153), (75, 115)), 13, (3, 3)), (((75, 157), (75, 115)), 13, (0, 0)),
+    # two lines together, whose cells turn over one another: of 17 their word is 13 columns ahead or more, of 21 not
+    # even 10 (PAL: 12.6), where 7 in 288 of some 425 are needed, 10.3, or of 526, 12.8
+    (((90, 140), (90, 140)), 17, (3, 3)), (((90, 140), (90, 140)), 21, (0, 0)))
+# Of one line how many columns may be turned over. Three edges of cell 9, at its begin and in its middle, take away a
+# quarter of a column each: 8 leave the word ahead by 7.7 less 0.75, 9 by 6.3 less 0.75, where 6.1 are needed. In PAL 7
+# leave it ahead by 9.1 less 0.75, and 8 by 7.7 less 0.75, where 7.5 are needed.
+MOST_TURNED = {NTSC: 8, PAL: 7}
 
 
 def test_levelled(tv):
-    tv = tv._replace(black=8000, white=28000)
-    for levels, turned, passes in LEVELLED:
+    most, tv = MOST_TURNED[tv], tv._replace(black=8000, white=28000)
+    limits = tuple((((90, 140), None), columns, (3 * (columns == most), 0)) for columns in (most, most + 1))
+    for levels, turned, passes in LEVELLED + limits:
         lines, words = [drawn(tv, 0)], [0]
         for row, between in enumerate(levels, 1):
             low, high = (8000 + 200 * level for level in between or (0, 0))
