@@ -12,7 +12,7 @@
 //! gaps.rt has the pass and gap.rt the test whether two numbers go on; clock.rt says what each clock leaves out.
 //! Another bound, or a clock more, changes `specs/ClocksFound.antt` and the contract of `find_clock`.
 
-ghost use Rattle.std.specs.Prelude.{◌≡◌, ◌+◌, ◌*◌, ◌<◌, ◌≤◌, ◌^◌, ◌↔◌, ◌⊎◌, true, length, List};
+ghost use Rattle.std.specs.Prelude.{◌≡◌, ◌+◌, ◌*◌, ◌<◌, ◌≤◌, ◌^◌, ◌↔◌, ◌⊎◌, true, false, length, List};
 ghost use Rattle.vbi_side.specs.declared.clock.Clock.TheVariants.{DropFrame, OneIn};
 ghost use Rattle.vbi_side.specs.declared.number.Number.{Number};
 ghost use Rattle.vbi_side.specs.Paces.{nearly};
@@ -225,6 +225,7 @@ pub fn find_clock(numbers: &[Number], rule: Rule) -> Clock
         ⊎ (IsProper result × IsClockTold result rule.pace rule.slack numbers.now) }
     ensures drop { has_clock rule.numbering ≡ true → ExplainsMost DropFrame rule.pace rule.slack numbers.now
         → result ≡ DropFrame }
+    ensures none { has_clock rule.numbering ≡ false → result ≡ rule.numbering.clock }
 {
     if !rule.numbering.has_clock() {
         return rule.numbering.clock;
