@@ -14,6 +14,7 @@ pub mod Piling
 pub mod Seeking
 pub mod Searches
 pub mod Chapters
+pub mod Clocks
 pub mod Stops
 pub mod Ends
 pub mod WholeSides
