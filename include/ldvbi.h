@@ -625,7 +625,7 @@ typedef struct LdvbiClock {
 
 /* Finds the clock that the believed numbers of a side tell. `pace` and `both` are as for ldvbi_judge_side. Three clocks
  * are tried: LDVBI_DROP_FRAME, and LDVBI_ONE_IN with the periods 1,000 and 1,001. Of these two the phase is that of
- * more than half of the places at which just one number is missing; if none has so many, neither is found. Two
+ * more than half of the places at which just one number is missing; if none has so many, any of theirs. Two
  * neighbouring numbers speak for a clock if they go on by it and not without, and against it if they go on without it
  * and not by it. A clock needs three such pairs or more for it, and at least twice as many as against it. The one that
  * most speak for is answered: LDVBI_DROP_FRAME if as many speak for another one, but LDVBI_PLAIN if as many speak for

@@ -105,6 +105,13 @@ impl Siding {
             numbering: self.numbering,
         }
     }
+
+    /// The clock that the believed numbers tell, or its own.
+    fn clock(self, both: u32, numbers: &[Number]) -> Clock
+        ensures { IsClockFound self.pace (slack_by self.pace both numbers.now) self.numbering numbers.now result }
+    {
+        find_clock(numbers, self.rule(both, numbers))
+    }
 }
 
 /// The clock to which the believed numbers of a side keep.
@@ -125,7 +132,7 @@ pub extern "C" fn ldvbi_find_clock(
 {
     match siding_of(system, counted, pace, Some(Clock::Plain), true) {
         Ok(siding) => {
-            *clock = clock_for_c(find_clock(numbers, siding.rule(both, numbers)));
+            *clock = clock_for_c(siding.clock(both, numbers));
             DONE
         }
         Err(refusal) => refusal.status(),
