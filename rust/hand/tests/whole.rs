@@ -143,7 +143,9 @@ fn the_clock_of_a_disc() {
     // Around the first three minutes 0:00:59.29 and the like are followed by 0:01:00.02.
     let minute = |at: u32| [times(1800 * at - 10, 1800 * at - 1), times(1800 * at + 2, 1800 * at + 12)].concat();
     let rows = [minute(1), minute(2), minute(3)].concat();
-    let thousand: Rows = (1..=3).flat_map(|at| [times(1000 * at - 10, 1000 * at - 1), times(1000 * at + 1, 1000 * at + 10)].concat()).collect();
+    let thousand: Rows = (1..=3)
+        .flat_map(|at| [times(1000 * at - 10, 1000 * at - 1), times(1000 * at + 1, 1000 * at + 10)].concat())
+        .collect();
     let (options, found) = (cut_off(Counted::Times), |rows: &Rows, options| {
         let bytes = draw(System::Ntsc, rows);
         Side::new(&bytes, System::Ntsc, levels()).unwrap().find_clock(options)
