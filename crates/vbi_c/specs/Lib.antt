@@ -18,6 +18,7 @@ pub mod Clocks
 pub mod Stops
 pub mod Ends
 pub mod WholeSides
+pub mod CalledWhole
 pub mod Telling
 pub mod Leads
 pub mod Completing

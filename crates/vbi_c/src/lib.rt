@@ -39,6 +39,7 @@ mod sizes;
 mod status;
 mod stops;
 mod version;
+pub mod whole_laws;
 mod whole_side;
 mod word;
 
