@@ -8,12 +8,13 @@ set -eu
 top=$(cd "$(dirname "$0")/.." && pwd)
 work=$(mktemp -d "${DISK:-/var/tmp}/ldvbi.XXXXXX")
 trap 'rm -rf "$work"' EXIT
-for part in library near judge mapped; do
+for part in library near recover judge mapped; do
     "${CC:-cc}" -std=c11 -O2 -Wall -Wno-unused-function -o "$work/$part" -I"$top/include" "$top/bench/$part.c" \
         "$top/libldvbi.a"
 done
 "$work/library"
 "$work/near"
+"$work/recover"
 "$work/judge"
 "$work/mapped" draw "$work/side.tbc" "${1:-2240}"
 "$work/mapped" stream "$work/side.tbc" cold 9

@@ -54,30 +54,15 @@ static void find_pal_plainly(void)
         find_plainly(&plain_pal, pal_lines[i]);
 }
 
-/* Adds noise to each sample: a sum of four random numbers, which is nearly normal, of 50 % of white - black. */
-static void wear(uint8_t *line, size_t line_bytes)
-{
-    for (size_t at = 0; at < line_bytes; at += 2) {
-        int sample = line[at] | line[at + 1] << 8, noise = 0;
-
-        for (size_t i = 0; i < 4; i++)
-            noise += (int)(random_word() % 60001) - 30000;
-        sample += noise / 2;
-        sample = sample < 0 ? 0 : sample > 65535 ? 65535 : sample;
-        line[at] = (uint8_t)sample;
-        line[at + 1] = (uint8_t)(sample >> 8);
-    }
-}
-
 int main(void)
 {
     for (size_t i = 0; i < LINES; i++) {
         uint32_t word = random_word();
 
         draw(word, lines[i]);
-        wear(lines[i], LINE);
+        add_noise(lines[i], LINE, 50);
         done(ldvbi_draw_line(LDVBI_PAL, 16384, 51200, word, pal_lines[i], PAL_LINE));
-        wear(pal_lines[i], PAL_LINE);
+        add_noise(pal_lines[i], PAL_LINE, 50);
     }
     compare("the nearest word", LINES, find_ntsc, find_ntsc_plainly);
     compare("the nearest word, PAL", LINES, find_pal, find_pal_plainly);

@@ -52,6 +52,28 @@ static double median(double *numbers, size_t count)
     return numbers[count / 2];
 }
 
+/* ---- Noise */
+
+static void put_sample(uint8_t *bytes, int sample)
+{
+    sample = sample < 0 ? 0 : sample > 65535 ? 65535 : sample;
+    bytes[0] = (uint8_t)sample;
+    bytes[1] = (uint8_t)(sample >> 8);
+}
+
+/* Adds noise to each sample: a sum of four random numbers, which is nearly normal, of so many hundredths of white -
+   black. */
+static void add_noise(uint8_t *line, size_t line_bytes, int hundredths)
+{
+    for (size_t at = 0; at < line_bytes; at += 2) {
+        int noise = 0;
+
+        for (size_t i = 0; i < 4; i++)
+            noise += (int)(random_word() % 60001) - 30000;
+        put_sample(line + at, (line[at] | line[at + 1] << 8) + noise * hundredths / 100);
+    }
+}
+
 /* ---- The plain reader: the word that a line shows, or 0, with the same tolerances, and no cause */
 
 typedef struct {

@@ -1,5 +1,5 @@
 /* The nearest word of a line as one writes it from its definition: start by start, by sums of what the columns before
-   each column cost. A column costs seven tenths of what white is from black at most. */
+   each column cost. A column costs seven tenths of what white is from black at most, rounded up. */
 
 enum { CELLS = 24, WIDEST = 1135 };
 

@@ -115,7 +115,7 @@ def test_rates():
     expect(cause != 0 and word == 0, "13.5 MHz as PAL")
 
 
-# ---- The nearest word, off by what is counted on paper, in columns, each of which costs white - black
+# ---- The nearest word, off by what is counted on paper, in columns, each of which costs seven tenths of white - black
 
 # Of 48 half cells of NTSC 15 have 15 columns and the others 14, the first two 14 each; of those of PAL 13 have 17, the
 # first of all among them, and the others 18. No cell has two of the rarer ones. So many columns may be a word's first;
@@ -124,11 +124,16 @@ def test_rates():
 NEARS = ((NTSC, 224, 28, 14, 14, 24 * 14, 15 * 15 + 9 * 14), (PAL, 285, 35, 17, 18, 12 * 17 + 12 * 18, 24 * 18))
 
 
+def far(tv):
+    """What a sample of the other level costs: seven tenths, rounded up."""
+    return -(-7 * (tv.white - tv.black) // 10)
+
+
 def test_near(tv, starts, cell, shorter, longer, fewest, most):
     def near(samples, tv=tv):
         return NEAR.unpack(answered("nearest", tv[:3], samples, NEAR.size))
 
-    column = tv.white - tv.black
+    column = far(tv)
     # Another word differs by one cell, a longer one by one half cell. The level of the second changes at each edge.
     for start, word in [(start, word) for start in range(starts) for word in (0xF12345, 0xFFFFFF)]:
         found = near(drawn(tv._replace(start=start * tv.over), word))
@@ -144,9 +149,15 @@ def test_near(tv, starts, cell, shorter, longer, fewest, most):
         expect(near(first + one * (count - 1)) == wanted, tv.system, count, "lines")
         expect(near(blank * count) == (0, 0, 0, count * fewest * column, 0), tv.system, count, "black lines")
     # White lines, whose sums are greatest: several words have the most high columns.
-    found = near(array("H", [65535]) * tv.samples * MOST_LINES, tv._replace(black=0, white=65535))
-    off = MOST_LINES * (tv.samples - most) * 65535
-    expect(found[0] >= 0x800000 and found[2:] == (off, off, off - MOST_LINES * longer * 65535), tv.system, found)
+    whole = tv._replace(black=0, white=65535)
+    found, column = near(array("H", [65535]) * tv.samples * MOST_LINES, whole), MOST_LINES * far(whole)
+    off = (tv.samples - most) * column
+    expect(found[0] >= 0x800000 and found[2:] == (off, off, off - longer * column), tv.system, found)
+    # A sample 0.69 of the way from white counts so much, one that is black no more than seven tenths.
+    for off in (69 * (tv.white - tv.black) // 100, tv.white - tv.black):
+        line = one[:]
+        line[start + shorter] -= off
+        expect(near(line)[:3] == (0x82CFFF, start, min(off, far(tv))), tv.system, "a sample is off by", off)
 
 
 # ---- Fields of which the pages of rows 15 to 17 alone can be read: a call that looks at any other ends Python by a

@@ -205,7 +205,7 @@ def test_causes_and_passes(room, setup):
     for part in ("word", "blank", "unfinished", "change ", "hold ", "change %d" % last):
         assert '"' + part in text
     assert '"vbiPass":[1,2,0]' in text
-    text = compare(room, setup, [*fields, [0, 0xF12345, worn_line(0xF12345, setup, 9, 11)]], 7, is_recovered=True)
+    text = compare(room, setup, [*fields, [0, 0xF12345, worn_line(0xF12345, setup, 9, 10)]], 7, is_recovered=True)
     assert '"vbiPass":[0,1,3],"vbiNear":[null,null,{"word":15803205,' in text
     for count, rest in ((0, 0), (64, 0), (129, 0), (0, 1), (64, ldvbi.field_bytes(setup[0]) - 1)):
         for is_recovered in (False, True):

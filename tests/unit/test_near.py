@@ -20,7 +20,8 @@ from streams import line_with, NTSC, PAL, pictures, worn_line, write_stream
 
 WORD = 0xF12345
 # Of the 29 columns of cell 9 (PAL: 35) 13 (16) are turned over: those in its first half cell, and in the second. So the
-# word is 13 (16) off, and the one with this bit turned 16 (19). It is recovered where it is ahead by 6.
+# word is 13 (16) columns off, and the one with this bit turned 16 (19). Each counts seven tenths, so the word is ahead
+# by 2.1. It is recovered where it is ahead by 6, as it is by 6.3 without six of those that are turned over.
 TURNED = {"NTSC": (13, (411, 417), (426, 431)), "PAL": (16, (513, 520), (530, 537))}
 
 
@@ -73,8 +74,8 @@ def test_times():
 
 @pytest.mark.parametrize("setup", (NTSC, PAL))
 def test_samples(room, setup):
-    """Of 20 pictures picture 5 has this line alone, which shows no word. It is ahead by 2 or 3 columns, which are too
-    few to recover it where no number is due."""
+    """Of 20 pictures picture 5 has this line alone, which shows no word. It is ahead by 2.1 columns, which are too few
+    to recover it where no number is due."""
     fields = [field for number in range(1, 21) for field in ([0, picture(number), 0], [0, 0x800DDD, 0x800DDD])]
     fields[8] = [0, worn(setup, 0xF00005), 0]
     write_stream(room.path, setup, fields)
@@ -87,17 +88,18 @@ def test_samples(room, setup):
 
 @pytest.mark.parametrize("setup", (NTSC, PAL))
 def test_each_call(room, setup):
-    """The last of 100 fields. Line 16 is recovered without dropouts: its word is 11 columns off (PAL: 14), another one
-    17 or more. On line 17 three of the turned columns are enough; dropouts come in any order, and may be far beyond.
+    """The last of 100 fields. Line 16 is recovered without dropouts: its word is 9 columns off (PAL: 12), another one
+    19 or more, so it is ahead by 7. On line 17 six of the turned columns are enough, and five, by which the word is
+    ahead by 5.6, aren't; dropouts come in any order, and may be far beyond.
     Fields are read in blocks of 64, each with its own dropouts: so the last one of the first block is recovered by
     those that it has, and the first one of the second block isn't."""
     _, (begin, end), (second, last) = TURNED[setup[0]]
-    lines = [worn_line(0x85D0A1, setup, 5, 11 + 3 * (setup == PAL)), worn(setup), line_with(0xF54321, setup)]
+    lines = [worn_line(0x85D0A1, setup, 5, 9 + 3 * (setup == PAL)), worn(setup), line_with(0xF54321, setup)]
     write_stream(room.path, setup, [[]] * 63 + [lines, lines] + [[]] * 34 + [lines])
     field = room.read("side.tbc")[-ldvbi.field_bytes(setup[0]):]
     for recover, dropouts, is_found in ((False, None, False), (True, None, False), *((True, *row) for row in (
             ([], False), ([(17, second, last), (17, begin, end)], True),
-            ([(17, begin, begin + 1)], False), ([(17, begin, begin + 2)], True),
+            ([(17, begin, begin + 4)], False), ([(17, begin, begin + 5)], True),
             ([(17, begin, begin)] * 9, False), ([(16, begin, end), (18, begin, last)], False),
             ([(17, 1050, 2 ** 40), (17, begin, end), (17, 0, 5)], True), ([(17, 0, 2 ** 40)], False)))):
         others = [(0, 17, 0, 5), (63, 17, begin, end), (64, 17, 0, 5)] if dropouts else []
@@ -114,18 +116,19 @@ def test_each_call(room, setup):
 
 
 def test_erased_columns_cost_nothing(room):
-    """Of 13 and 16 columns, in hundredths. A row of another word differs in 28 columns of a line, one with a cell more
-    in 14. Of cell 5 half of the 28 columns are turned, 297 among them: another word is as near. A signal goes on for
-    one more cell after the word: this row is nearer by 14 columns."""
+    """Of 13 and 16 columns, each of which counts 70. A row of another word differs in 28 columns of a line, one with a
+    cell more in 14. Of cell 5 half of the 28 columns are turned, 297 among them: another word is as near. A signal goes
+    on for one more cell after the word: this row is nearer by 14 columns, without 9 of them by 5, which count 3.5, and
+    without 8 by 4.2. Up to 4 the nearest word counts."""
     write_stream(room.path, NTSC, [[0, worn(NTSC), worn(NTSC)], [0, worn(NTSC), 0]])
     with ldvbi.Stream(room.path, *NTSC, True, [(0, 17, 411, 414), (0, 17, 413, 417), (0, 18, 838, 2000)]) as side:
         assert [measured(side, *place) for place in ((1, 17), (1, 18), (2, 17))] == [
-            (WORD, 600, 1600), (WORD, 1300, 1600), (WORD, 1300, 1600)]
-    column = NTSC[2] - NTSC[1]
+            (WORD, 420, 1120), (WORD, 910, 1120), (WORD, 910, 1120)]
+    column = 24372  # seven tenths of white - black, rounded up
     assert ldvbi.nearest(2 * line_with(WORD, NTSC, [(0, 0, True)]), *NTSC) == (
         WORD, 150, 2 * column, 58 * column, 30 * column)
     half = ((500, 520), None), ((297, 298), WORD), ((296, 297), None), ((295, 297), WORD ^ 0x40000)
-    goes_on = ((500, 540), None), ((837, 846), WORD), ((837, 845), None)
+    goes_on = ((500, 540), None), ((837, 845), WORD), ((837, 844), None)
     odd = ("NTSC", 16384, 51201)
     for setup, line, rows in ((NTSC, worn_line(WORD, NTSC, 5, 14), half), (odd, worn_line(WORD, odd, 5, 14), half),
                               (NTSC, line_with(WORD, NTSC, [(837, 850, True)]), goes_on)):
@@ -195,9 +198,9 @@ def test_they_are_used(drawn):
     assert drawn.printed("side.tbc", "--document") == drawn.extracted("side.tbc")
     found = drawn.printed("side.tbc", "--document", "--recovered").split(b"\n")[12]
     assert b'"vbiData":[0,%d,0]' % WORD in found
-    assert b'"vbiNear":[null,{"word":%d,"distance":600,"rival":1600},null]' % WORD in found
+    assert b'"vbiNear":[null,{"word":%d,"distance":420,"rival":1120},null]' % WORD in found
     row = drawn.printed("side.tbc", "--bad-lines").decode().split("\n")[1].split(",")
-    assert [*row[:2], *row[4:]] == ["12", "17", "F12345", "600", "1600"]
+    assert [*row[:2], *row[4:]] == ["12", "17", "F12345", "420", "1120"]
     drawn.printed("side.tbc", "--into", "copy.json", "--recovered", "--as-read")
     assert json.loads(drawn.read("copy.json"))["fields"][11] == {
         "isFirstField": True, **told, "vbi": {"vbiData": [0, WORD, 0]}}

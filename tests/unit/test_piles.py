@@ -85,10 +85,11 @@ def test_whose_lines_are_asked(room):
 
 @pytest.mark.parametrize("dropouts, wanted", ((None, "neighbours"), ([(39, 18, 0, 5)], "together")))
 def test_a_copy_of_a_capture(room, dropouts, wanted):
-    """In one capture the word with a bit of cell 9 turned is nearer by a column, in the other one it is farther by 9.
-    These are 8, and with a copy of that 17. Where dropouts are known in all, somewhere, 6 are enough."""
+    """In one capture the word with a bit of cell 9 turned is nearer by a column, in the other one it is farther by 11.
+    These are 10, which count 7.0 by seven tenths, and with a copy of that 14.7: 8 are needed. Where dropouts are known
+    in all, somewhere, 4 are enough, and a share of 4 in 288 of some 450, as much nearer the word is than none: 6.3."""
     one = capture(room, "a", NTSC, {5: [worn_line(picture(5), NTSC, 9, 15), 0]}, dropouts)
-    other, copy, unknown = (capture(room, name, NTSC, {5: [worn_line(picture(5), NTSC, 5, 14, 9, 10), 0]}, known) for
+    other, copy, unknown = (capture(room, name, NTSC, {5: [worn_line(picture(5), NTSC, 5, 14, 9, 9), 0]}, known) for
                             name, known in (("b", dropouts), ("c", dropouts), ("d", None)))
     assert (how(one, other), how(one, other, copy)) == ({5: wanted}, {5: wanted})
     assert how(one, unknown) == {5: "neighbours"}
@@ -114,10 +115,11 @@ def test_times(room):
 
 
 def test_their_columns_count_for_nothing(room):
-    """In cell 9 another word is nearer by a column in each capture. Without three that are wrong it is farther by two,
-    and by six in three captures."""
-    for dropouts, wanted in (([(8, 17, 411, 413)], "together"), ([(8, 17, 411, 411)], "neighbours"),
-                             ([(8, 18, 411, 413)], "neighbours"), ([(9, 17, 411, 413)], "neighbours")):
+    """In cell 9 another word is nearer by a column in each capture. Without five that are wrong it is farther by four,
+    by 12 in three captures, which count 8.4 by seven tenths; without four by 9, which count 6.3. The word is nearer than
+    none by some 660: as a code it needs 4 in 288 of that, 9.2, or as any word 8, and 3 in 288, 6.9."""
+    for dropouts, wanted in (([(8, 17, 411, 415)], "together"), ([(8, 17, 411, 414)], "neighbours"),
+                             ([(8, 18, 411, 415)], "neighbours"), ([(9, 17, 411, 415)], "neighbours")):
         ones = [capture(room, str(cell), NTSC, {5: [worn_line(picture(5), NTSC, 9, 15, cell, 15), 0]}, dropouts)
                 for cell in (5, 12, 19)]
         assert how(*ones) == {5: wanted}

@@ -2,7 +2,7 @@
 //!
 //! A torn line has five columns of another level, in a cell of 28 columns (NTSC) or 35 (PAL). So its word's row is 5
 //! columns off, and that of the word with this cell's bit turned over is 23 or 30 columns off. No row of another word
-//! is nearer, since rows of two words differ in 28 columns at least, or 35.
+//! is nearer, since rows of two words differ in 28 columns at least, or 35. Each column counts 70 hundredths.
 
 use crate::fields::Line::{Black, Run, Scratched, Torn, Word};
 use crate::fields::{Lines, config, field, front, push_field};
@@ -27,13 +27,13 @@ const WORN: Lines = [Torn(0x82CFFF), Word(0xF12345), Torn(0xF12345)];
 
 const WORN_RECORD: &str = "{\"seqNo\":1,\"vbi\":{\"vbiData\":[8572927,15803205,15803205]},\
     \"vbiCause\":[\"change 210\",\"word\",\"change 210\"],\"vbiPass\":[3,1,3],\
-    \"vbiNear\":[{\"word\":8572927,\"distance\":500,\"rival\":2300},null,\
-    {\"word\":15803205,\"distance\":500,\"rival\":2300}]}";
+    \"vbiNear\":[{\"word\":8572927,\"distance\":350,\"rival\":1610},null,\
+    {\"word\":15803205,\"distance\":350,\"rival\":1610}]}";
 
 const PAL_WORN_RECORD: &str = "{\"seqNo\":1,\"vbi\":{\"vbiData\":[8572927,15803205,15803205]},\
     \"vbiCause\":[\"change 299\",\"word\",\"change 299\"],\"vbiPass\":[3,1,3],\
-    \"vbiNear\":[{\"word\":8572927,\"distance\":500,\"rival\":3000},null,\
-    {\"word\":15803205,\"distance\":500,\"rival\":3000}]}";
+    \"vbiNear\":[{\"word\":8572927,\"distance\":350,\"rival\":2100},null,\
+    {\"word\":15803205,\"distance\":350,\"rival\":2100}]}";
 
 /// A system, the lines 16, 17 and 18 of a field, its record, and its part of the report.
 static FIELDS: [(System, Lines, &str, &str); 7] = [
@@ -45,8 +45,8 @@ static FIELDS: [(System, Lines, &str, &str); 7] = [
         [Black, Torn(0xF12345), Torn(0xF12345)],
         "{\"seqNo\":1,\"vbi\":{\"vbiData\":[0,15803205,15803205]},\
         \"vbiCause\":[\"blank\",\"change 210\",\"change 210\"],\"vbiPass\":[0,3,3],\
-        \"vbiNear\":[null,{\"word\":15803205,\"distance\":500,\"rival\":2300},\
-        {\"word\":15803205,\"distance\":500,\"rival\":2300}]}",
+        \"vbiNear\":[null,{\"word\":15803205,\"distance\":350,\"rival\":1610},\
+        {\"word\":15803205,\"distance\":350,\"rival\":1610}]}",
         "field 1 cav\n16 none blank\n17 F12345 picture 12345 (recovered)\n\
         18 F12345 picture 12345 (recovered)\n",
     ),
@@ -56,8 +56,8 @@ static FIELDS: [(System, Lines, &str, &str); 7] = [
         [Black, Torn(0x87FFFF), Torn(0xF0DD00)],
         "{\"seqNo\":1,\"vbi\":{\"vbiData\":[0,8912895,15785216]},\
         \"vbiCause\":[\"blank\",\"change 299\",\"change 299\"],\"vbiPass\":[0,3,3],\
-        \"vbiNear\":[null,{\"word\":8912895,\"distance\":500,\"rival\":3000},\
-        {\"word\":15785216,\"distance\":500,\"rival\":3000}]}",
+        \"vbiNear\":[null,{\"word\":8912895,\"distance\":350,\"rival\":2100},\
+        {\"word\":15785216,\"distance\":350,\"rival\":2100}]}",
         "field 1 clv\n16 none blank\n17 87FFFF clv (recovered)\n18 F0DD00 time 0:00 (recovered)\n",
     ),
     // What is sure stays, and nothing is recovered of runs.
@@ -131,7 +131,7 @@ fn each_field_has_the_words_of_its_own_rows(rt: HostRuntime) -> Result<(), Fail>
     push_field(&mut stream, &config, [Black, Torn(0x801DDD), Black])?;
     let second = ",\n{\"seqNo\":2,\"vbi\":{\"vbiData\":[0,8396253,0]},\
         \"vbiCause\":[\"blank\",\"change 210\",\"blank\"],\"vbiPass\":[0,3,0],\
-        \"vbiNear\":[null,{\"word\":8396253,\"distance\":500,\"rival\":2300},null]}";
+        \"vbiNear\":[null,{\"word\":8396253,\"distance\":350,\"rival\":1610},null]}";
     let texts = [RECOVERED_HEAD, WORN_RECORD, second, TAIL];
     let ended = whole(2, None, 6 * 910);
     recovers(&rt, &config, stream.as_slice(), ended, &texts)

@@ -70,8 +70,8 @@ fn a_drawn_stop_is_near_itself() -> Result<(), Fail> {
     let levels = levels_of(System::Ntsc);
     let mut line = [0; 1820];
     draw_stop(System::Ntsc, levels, &mut line);
-    // Another word differs by a cell, of 28 columns at least.
-    let rival = 28 * (51200 - 16384);
+    // Another word differs by a cell, of 28 columns at least, each of which counts seven tenths, rounded up.
+    let rival = 28 * 24372;
     let found = [
         sure_word(System::Ntsc, levels, &line, rival).is_some(),
         sure_word(System::Ntsc, levels, &line, rival + 1).is_some(),

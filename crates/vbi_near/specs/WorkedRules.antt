@@ -176,6 +176,10 @@ code_ahead ahead = from_none 12000 (as_code (near_with 0xF12345 (10000 + ahead) 
 abbrev pub other_ahead : ℕ → Nears
 other_ahead ahead = from_none 12000 (as_other (near_with 0xF1234A (10000 + ahead) 10000))
 
+-- nearest words of lines that are so far from no word that a share of 1 would be more than any margin here
+abbrev pub far_from_none : Nears → Nears
+far_from_none near = from_none 360000 near
+
 -- a code so far ahead of any other, beside a nearest word that isn't it
 abbrev pub close_code_ahead : ℕ → Nears
 close_code_ahead ahead = from_none 12000 (beside 10300 (10300 + ahead))

@@ -17,6 +17,7 @@ pub mod laws;
 mod levelled;
 pub mod levelled_laws;
 mod lines;
+pub mod margin_laws;
 mod margins;
 mod near;
 mod near_code;

@@ -11,44 +11,12 @@ ghost use Rattle.vbi_near.specs.Said.{said_of, unless_beyond};
 ghost use Rattle.vbi_near.specs.Recovery.{recovered_of};
 ghost use Rattle.vbi_near.specs.WorkedRules.{near_with, cut_at, as_code, as_other, beside, from_none, ten_ahead};
 ghost use Rattle.vbi_near.specs.WorkedRules.{code_halved_at, other_halved_at, code_ahead, other_ahead};
-ghost use Rattle.vbi_near.specs.WorkedRules.{close_code_ahead};
+ghost use Rattle.vbi_near.specs.WorkedRules.{close_code_ahead, far_from_none};
 ghost use Rattle.vbi_near.specs.WorkedRules.{as_given, levelled_as, worn_by, worn};
 ghost use Rattle.vbi_near.specs.WorkedRules.{smoothed_by, smoothed_at, smoothed, read_as, both_at, together_at, Shows};
 
-/// By how much a nearest word of levelled lines has to be ahead: the least of each kind is said, and one less isn't.
-pub fn worked_margins()
-    ensures code { map (λ n. said_of 100 levelled_margins.lone 1 (code_ahead n)) (400 ∷ 399 ∷ [])
-        ≡ Some 0xF12345 ∷ None ∷ [] }
-    ensures other { map (λ n. said_of 100 levelled_margins.lone 1 (other_ahead n)) (500 ∷ 499 ∷ [])
-        ≡ Some 0xF1234A ∷ None ∷ [] }
-    ensures apart_code { map (λ n. said_of 100 levelled_margins.apart 1 (code_ahead n)) (800 ∷ 799 ∷ [])
-        ≡ Some 0xF12345 ∷ None ∷ [] }
-    ensures apart_other { map (λ n. said_of 100 levelled_margins.apart 1 (other_ahead n)) (1000 ∷ 999 ∷ [])
-        ≡ Some 0xF1234A ∷ None ∷ [] }
-    ensures both_code { map (λ n. said_of 100 levelled_margins.both 2 (close_code_ahead n)) (800 ∷ 799 ∷ [])
-        ≡ Some 0xF12345 ∷ None ∷ [] }
-    ensures both_other { map (λ n. said_of 100 levelled_margins.both 2 (other_ahead n)) (500 ∷ 499 ∷ [])
-        ≡ Some 0xF1234A ∷ None ∷ [] }
-    ensures code_share { map (λ blank. said_of 100 levelled_margins.lone 1 (from_none blank (beside 10300 11300)))
-        (39100 ∷ 39101 ∷ []) ≡ Some 0xF12345 ∷ None ∷ [] }
-    ensures other_share { map (λ blank. said_of 100 levelled_margins.lone 1 (ten_ahead blank)) (46000 ∷ 46001 ∷ [])
-        ≡ Some 0xF1234A ∷ None ∷ [] }
-    ensures both_code_share { map (λ blank. said_of 100 levelled_margins.both 2 (from_none blank (beside 10300 11300)))
-        (39100 ∷ 39101 ∷ []) ≡ Some 0xF12345 ∷ None ∷ [] }
-    ensures both_other_share { map (λ blank. said_of 100 levelled_margins.both 2 (ten_ahead blank)) (51142 ∷ 51143 ∷ [])
-        ≡ Some 0xF1234A ∷ None ∷ [] }
-    ensures longer { map (λ n. said_of 100 levelled_margins.lone 1 (as_code (near_with 0xF12345 20000 n)))
-        (9800 ∷ 9799 ∷ []) ≡ Some 0xF12345 ∷ None ∷ [] }
-    ensures shorter { map (λ n. said_of 100 levelled_margins.lone 1 (as_code (cut_at n))) (9800 ∷ 9799 ∷ [])
-        ≡ Some 0xF12345 ∷ None ∷ [] }
-    ensures apart_longer { map (λ n. said_of 100 levelled_margins.apart 1 (as_code (near_with 0xF12345 20000 n)))
-        (9800 ∷ 9799 ∷ []) ≡ Some 0xF12345 ∷ None ∷ [] }
-    ensures apart_shorter { map (λ n. said_of 100 levelled_margins.apart 1 (as_code (cut_at n))) (9800 ∷ 9799 ∷ [])
-        ≡ Some 0xF12345 ∷ None ∷ [] }
-    ensures both_longer { map (λ n. said_of 100 levelled_margins.both 2 (as_code (near_with 0xF12345 20000 n)))
-        (9600 ∷ 9599 ∷ []) ≡ Some 0xF12345 ∷ None ∷ [] }
-    ensures both_shorter { map (λ n. said_of 100 levelled_margins.both 2 (as_code (cut_at n))) (9600 ∷ 9599 ∷ [])
-        ≡ Some 0xF12345 ∷ None ∷ [] }
+/// What a nearest word has to be beside that: close to the nearest word if it is a code, and all there.
+pub fn worked_said()
     ensures line { said_of 100 levelled_margins.lone 1 (from_none 12000 (as_other (near_with 0xF12345 10499 10000)))
         ≡ None }
     ensures close { (said_of 100 levelled_margins.lone 1 (beside 10300 10985) ≡ Some 0xF12345)
@@ -58,38 +26,6 @@ pub fn worked_margins()
         × (said_of 100 levelled_margins.lone 1 (code_halved_at 15224) ≡ None) }
     ensures other_halved { (said_of 100 levelled_margins.lone 1 (other_halved_at 15000) ≡ Some 0xF1234A)
         × (said_of 100 levelled_margins.lone 1 (other_halved_at 14999) ≡ None) }
-{}
-
-/// The same of lines as they are.
-pub fn worked_given_margins()
-    ensures code { map (λ n. said_of 100 given_margins.lone 1 (code_ahead n)) (600 ∷ 599 ∷ [])
-        ≡ Some 0xF12345 ∷ None ∷ [] }
-    ensures other { map (λ n. said_of 100 given_margins.lone 1 (other_ahead n)) (800 ∷ 799 ∷ [])
-        ≡ Some 0xF1234A ∷ None ∷ [] }
-    ensures apart_code { map (λ n. said_of 100 given_margins.apart 1 (code_ahead n)) (800 ∷ 799 ∷ [])
-        ≡ Some 0xF12345 ∷ None ∷ [] }
-    ensures apart_other { map (λ n. said_of 100 given_margins.apart 1 (other_ahead n)) (1000 ∷ 999 ∷ [])
-        ≡ Some 0xF1234A ∷ None ∷ [] }
-    ensures both_code { map (λ n. said_of 100 given_margins.both 2 (close_code_ahead n)) (800 ∷ 799 ∷ [])
-        ≡ Some 0xF12345 ∷ None ∷ [] }
-    ensures both_other { map (λ n. said_of 100 given_margins.both 2 (other_ahead n)) (800 ∷ 799 ∷ [])
-        ≡ Some 0xF1234A ∷ None ∷ [] }
-    ensures both_code_share { map (λ blank. said_of 100 given_margins.both 2 (from_none blank (beside 10300 11300)))
-        (46300 ∷ 46301 ∷ []) ≡ Some 0xF12345 ∷ None ∷ [] }
-    ensures both_other_share { map (λ blank. said_of 100 given_margins.both 2 (ten_ahead blank)) (58000 ∷ 58001 ∷ [])
-        ≡ Some 0xF1234A ∷ None ∷ [] }
-    ensures longer { map (λ n. said_of 100 given_margins.lone 1 (as_code (near_with 0xF12345 20000 n)))
-        (9700 ∷ 9699 ∷ []) ≡ Some 0xF12345 ∷ None ∷ [] }
-    ensures shorter { map (λ n. said_of 100 given_margins.lone 1 (as_code (cut_at n))) (9700 ∷ 9699 ∷ [])
-        ≡ Some 0xF12345 ∷ None ∷ [] }
-    ensures apart_longer { map (λ n. said_of 100 given_margins.apart 1 (as_code (near_with 0xF12345 20000 n)))
-        (9700 ∷ 9699 ∷ []) ≡ Some 0xF12345 ∷ None ∷ [] }
-    ensures apart_shorter { map (λ n. said_of 100 given_margins.apart 1 (as_code (cut_at n))) (9700 ∷ 9699 ∷ [])
-        ≡ Some 0xF12345 ∷ None ∷ [] }
-    ensures both_longer { map (λ n. said_of 100 given_margins.both 2 (as_code (near_with 0xF12345 20000 n)))
-        (9400 ∷ 9399 ∷ []) ≡ Some 0xF12345 ∷ None ∷ [] }
-    ensures both_shorter { map (λ n. said_of 100 given_margins.both 2 (as_code (cut_at n))) (9400 ∷ 9399 ∷ [])
-        ≡ Some 0xF12345 ∷ None ∷ [] }
 {}
 
 /// Fields written down, NTSC with white 100 above black: which words their lines show, and in which pass.

@@ -232,7 +232,7 @@ fn is_same(word: Option<Word24>, other: Option<Word24>) -> bool
 }
 
 /// Whether two lines have one word, by that of each and that of both: it is the same, or the common one is little
-/// farther. 30 columns are somewhat more than a cell of NTSC, and less than one of PAL.
+/// farther. 30 columns are somewhat more than what a cell counts: 20 columns in NTSC and 25 in PAL, without noise.
 fn is_one(unit: u32, second: &Near, third: &Near, both: &Near) -> bool
     ensures { result ≡ is_one unit second.now third.now both.now }
 {
@@ -241,7 +241,7 @@ fn is_one(unit: u32, second: &Near, third: &Near, both: &Near) -> bool
 }
 
 /// Whether the common word is nearer to two lines than the word of the one to that, and none to the other, which is
-/// this far: a line of noise agrees with any word beside it. 10 or 30 columns do as well as 20.
+/// this far: a line of noise agrees with any word beside it.
 fn is_borne(unit: u32, near: &Near, blank: u32, both: &Near) -> bool
     ensures { result ≡ is_borne unit near.now blank both.now }
 {

@@ -308,7 +308,8 @@ fn seeks_where_a_capture_goes_back() {
     }
 }
 
-/// Makes so many samples of a line as low as a sample can be: each counts as much as one that is black.
+/// Makes so many samples of a line as low as a sample can be: each counts as much as one that is black, which is seven
+/// tenths of white - black, rounded up.
 fn drop_out(line: &mut [u8], column: usize, count: usize) {
     line[2 * column..2 * (column + count)].fill(0);
 }
@@ -326,7 +327,7 @@ fn recovers_a_worn_line() {
         let recovered = Reading { outcome: Outcome::Word(word), pass: 3 };
         assert_eq!(side.fields().next(), Some([BLANK, recovered, BLANK]));
         let near = side.nearest(&bytes[row]).unwrap();
-        assert_eq!((near.word, near.start, near.distance), (Some(word), start as usize, 6 * (51200 - 16384)));
+        assert_eq!((near.word, near.start, near.distance), (Some(word), start as usize, 6 * 24372));
         assert!(near.rival > near.distance && near.longer > near.distance);
         let blank = Near { word: None, start: 0, distance: 0, rival: near.rival, longer: 0, shorter: 0 };
         let black = draw(system, &[[0; 3]]);
