@@ -15,9 +15,9 @@ use Rattle.vbi_c.specs.declared.whole_side.Siding.{Siding}
 use Rattle.vbi_c.specs.Judging.{AreJudged}
 use Rattle.vbi_c.specs.WholeSides.{slack_by}
 
--- the numbers are what ldvbi_judge answers at the pace by which the side is judged, the side is called whole, its fields
--- stand in the disc's order, its first and last number are 48 fields or more apart, and the words misread near each of
--- the two weigh less than 10
+-- the numbers are what ldvbi_judge answers at the pace by which the side is judged, the side is called whole, its
+-- fields stand in the disc's order, its first and last number are 48 fields or more apart, and the words misread near
+-- each of the two weigh less than 10
 pub record IsCalledWhole (disc : ℕ → Option ℕ) (place : ℕ → ℕ) (judging : Judging) (readings : List LdvbiFieldReadings)
     (seen : List Sightings) (numbers : List Number) (siding : Siding) (both : ℕ) (side : Finding) : Type 0 where
   pub judged : AreJudged judging readings seen numbers siding.pace

@@ -189,9 +189,10 @@ pub fn worked_sides()
 /// last; and by none a side is judged as by the call without a clock.
 pub fn worked_clocks()
     ensures given { map clock_given (clock_as 0 0 0 ∷ clock_as 0 7 9 ∷ clock_as 1 0 0 ∷ clock_as 2 1000 999
-        ∷ clock_as 2 1 0 ∷ []) ≡ Some Plain ∷ Some Plain ∷ Some DropFrame ∷ Some (OneIn 1000 999) ∷ Some (OneIn 1 0) ∷ [] }
-    ensures none_given { map clock_given (clock_as 2 1000 1000 ∷ clock_as 2 0 0 ∷ clock_as 3 1000 0 ∷ clock_as 256 0 0 ∷ [])
-        ≡ None ∷ None ∷ None ∷ None ∷ [] }
+        ∷ clock_as 2 1 0 ∷ [])
+        ≡ Some Plain ∷ Some Plain ∷ Some DropFrame ∷ Some (OneIn 1000 999) ∷ Some (OneIn 1 0) ∷ [] }
+    ensures none_given { map clock_given (clock_as 2 1000 1000 ∷ clock_as 2 0 0 ∷ clock_as 3 1000 0 ∷ clock_as 256 0 0
+        ∷ []) ≡ None ∷ None ∷ None ∷ None ∷ [] }
     ensures answered { map clock_for_c (Plain ∷ DropFrame ∷ OneIn 1001 7 ∷ [])
         ≡ clock_as 0 0 0 ∷ clock_as 1 0 0 ∷ clock_as 2 1001 7 ∷ [] }
     ensures taken_again { (clock : clocks.Clock) → IsProper clock → clock_given (clock_for_c clock) ≡ Some clock }

@@ -1,8 +1,8 @@
 //! What the calls that judge a whole side say together. A function here does nothing: its contract is a law.
 //!
-//! `vbi_side` has these laws of its judge (`gap_laws`), with the numbers of a rule. Here they speak of what C hands over
-//! and is answered: by `ldvbi_judge`, and then by `ldvbi_judge_side_by_clock`, or by `ldvbi_judge_side` (the clauses
-//! `plain`).
+//! `vbi_side` has these laws of its judge (`gap_laws`), with the numbers of a rule. Here they speak of what C hands
+//! over and is answered: by `ldvbi_judge`, and then by `ldvbi_judge_side_by_clock`, or by `ldvbi_judge_side` (the
+//! clauses `plain`).
 
 ghost use Rattle.std.specs.Prelude.{◌≡◌, ℕ, ◌+◌, ◌*◌, ◌-◌, ◌≤◌, true, false, List, Option, Some, Ok};
 ghost use Rattle.vbi_side.specs.declared.clock.Clock.TheVariants.{Plain};

@@ -7,8 +7,8 @@ ghost use Rattle.vbi_side.specs.Verdicts.{IsFinding};
 ghost use Rattle.vbi_c.specs.Clocks.{clock_given, clock_for_c, IsClockFound};
 ghost use Rattle.vbi_c.specs.Judging.{counted_of, with_lengths};
 ghost use Rattle.vbi_c.specs.Setups.{system_of};
-ghost use Rattle.vbi_c.specs.WholeSides.{pace_given, siding_of, siding_by, numbering_of, with_given, both_by, both_for_c};
-ghost use Rattle.vbi_c.specs.WholeSides.{slack_by, may_end_by};
+ghost use Rattle.vbi_c.specs.WholeSides.{pace_given, siding_of, siding_by, numbering_of, with_given, both_by};
+ghost use Rattle.vbi_c.specs.WholeSides.{both_for_c, slack_by, may_end_by};
 ghost use Rattle.vbi_c.specs.Statuses.{status_of};
 
 use crate::clock::{LdvbiClock, PLAIN, clock_for_c, clock_given};

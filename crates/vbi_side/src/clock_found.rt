@@ -218,8 +218,8 @@ fn even_clock(rule: Rule, first: Even, second: Even) -> Clock
 /// The clock that explains most of the places at which the numbers of an NTSC CLV disc don't go on, of those that
 /// explain at least three, and at least twice as many as they speak against. If drop-frame explains as much as one
 /// number in 1,000 or 1,001 it is drop-frame; if these two explain as much it is neither. The phase of one in 1,000 or
-/// 1,001 is that of more than half of the places at which just one number is missing; if none has so many, it may be any
-/// of theirs, or one that is passed over. Else, and of another disc, it is the clock of the rule.
+/// 1,001 is that of more than half of the places at which just one number is missing; if none has so many, it may be
+/// any of theirs. Else, and of another disc, it is the clock of the rule.
 pub fn find_clock(numbers: &[Number], rule: Rule) -> Clock
     ensures told { (result ≡ rule.numbering.clock)
         ⊎ (IsProper result × IsClockTold result rule.pace rule.slack numbers.now) }
