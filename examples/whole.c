@@ -66,13 +66,15 @@ int main(int count, char **words) {
     check(ldvbi_recover_fields(system, black, white, side, fields * bytes, read, fields));
     check(ldvbi_judge_ends(read, fields, ends, fields));
     LdvbiGap gaps[ROOM];
+    LdvbiClock clock;
     LdvbiSide found;
     found.reasons = LDVBI_NO_NUMBERS;
     for (uint32_t counted = LDVBI_PICTURES; counted <= LDVBI_TIMES && found.reasons == LDVBI_NO_NUMBERS; counted++) {
         check(ldvbi_find_pace(system, counted, read, fields, seen, fields, &pace));
         check(ldvbi_judge(system, counted, pace, read, fields, seen, fields, numbers, fields));
-        check(ldvbi_judge_side(system, counted, pace, LDVBI_FIND_BOTH, (uint32_t)may_end, seen, fields, numbers,
-                               fields, ends, fields, gaps, ROOM, &found));
+        check(ldvbi_find_clock(system, counted, pace, LDVBI_FIND_BOTH, numbers, fields, &clock));
+        check(ldvbi_judge_side_by_clock(system, counted, pace, LDVBI_FIND_BOTH, (uint32_t)may_end, &clock, seen,
+                                        fields, numbers, fields, ends, fields, gaps, ROOM, &found));
     }
     return print(&found, gaps);
 }

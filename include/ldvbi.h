@@ -98,7 +98,8 @@ enum LdvbiStatus {
     LDVBI_BAD_PACE = 6,    /* `pace` is none of LDVBI_VIDEO, LDVBI_FILM and LDVBI_FIND_PACE */
     LDVBI_BAD_ERASED = 7,  /* a list of LdvbiErased isn't sorted, or an entry isn't as that struct says */
     LDVBI_BAD_LINE = 8,    /* `line` is none of 16, 17 and 18; tested before a list */
-    LDVBI_BAD_KNOWN = 9    /* `known` is neither 0 nor 1; tested before a list */
+    LDVBI_BAD_KNOWN = 9,   /* `known` is neither 0 nor 1; tested before a list */
+    LDVBI_BAD_CLOCK = 10   /* a clock is of none of the kinds 0 to 2, or its phase isn't below its period */
 };
 
 /* ---- Reading. A line shows a word, or the first of the causes below for which it shows none. Column c is hopeless if
@@ -492,7 +493,7 @@ LDVBI_RESULT uint32_t ldvbi_judge_stops(const LdvbiFieldReadings *readings, size
  *
  * Some faults go unseen. Lost fields and as many doubled ones leave no gap if no number between is believed. Swapped
  * fields go unseen if their numbers weren't read, on film, and with numbers on both fields. And a disc whose own
- * numbers leave some out looks as if fields were lost. */
+ * numbers leave some out looks as if fields were lost, except by the clock that says which (below). */
 enum LdvbiGapKind {
     LDVBI_LOST = 1,   /* fields of the disc are lost */
     LDVBI_HELD = 2,   /* there are more fields than the numbers count to */
@@ -585,6 +586,67 @@ LDVBI_RESULT LDVBI_POINTER(14) uint32_t ldvbi_judge_side(uint32_t system, uint32
     uint32_t both, uint32_t may_end, const LdvbiSightings *seen, size_t seen_count, const LdvbiNumber *numbers,
     size_t number_count, const uint32_t *ends, size_t end_count, LdvbiGap *gaps, size_t gap_room, LdvbiSide *side);
 
+/* ---- The clock of an NTSC CLV disc
+ *
+ * NTSC counts 30 pictures to a second, which has 29.97. To keep to the clock, CLV discs leave out numbers: there no
+ * field is missing, only a number. ldvbi_judge_side knows nothing of this. It takes each of these places for a gap,
+ * which is LDVBI_OPEN, so it can't tell whether the side is whole. With numbers on both fields of a picture it may take
+ * it for LDVBI_LOST. ldvbi_judge_side_by_clock is given the clock: it counts all numbers without those that are left
+ * out, and finds no gap there. By LDVBI_PLAIN both calls answer the same.
+ *
+ * A disc counts on by a clock if any two of its numbers lie as many fields apart as the numbers between that the clock
+ * doesn't leave out count to. By a clock no gap of video is LDVBI_OPEN, and LDVBI_BEGINS_LATE and LDVBI_IS_OFF count by
+ * it, too.
+ *
+ * This is proved: what the clock leaves out is never counted as lost, undecided or unread. If each field of the capture
+ * stands later on the disc than the one before it, the disc counts on by the clock, and has a number on one field of
+ * each picture, the capture is LDVBI_WHOLE, `last` is 2 * LDVBI_REACH fields or more after `first`, and the words
+ * misread within LDVBI_REACH fields of each of the two weigh less than 10, then no field of video is lost from
+ * LDVBI_REACH fields after `first` to as many before `last`, provided the clock leaves out none of the 12 numbers
+ * before the number of either field, nor of the 12 from it on. If it leaves out some of these, at most two fields for
+ * each of them are lost between a field that near to `first` and one that near to `last`: at most eight by drop-frame,
+ * and four by one in 1,000 or 1,001. What is said above of numbers on both fields, of film, and of gaps holds with the
+ * same two conditions on numbers near their ends and on the order of fields; what is said of `tally.lost` holds as it
+ * stands.
+ *
+ * Of a disc that keeps to another clock, or to none, this says nothing. By a wrong clock sound places are gaps, and
+ * lost fields go unseen where it leaves out a number. */
+enum LdvbiClockKind {
+    LDVBI_PLAIN = 0,      /* the disc leaves out no number, or it isn't known which */
+    LDVBI_DROP_FRAME = 1, /* the first two of each minute but each tenth: 0:00:59.29 is followed by 0:01:00.02 */
+    LDVBI_ONE_IN = 2      /* one in `period`: those that leave the remainder `phase` */
+};
+
+typedef struct LdvbiClock {
+    uint32_t kind;   /* of enum LdvbiClockKind */
+    uint32_t period; /* of LDVBI_ONE_IN; else 0 is answered, and what is given isn't read */
+    uint32_t phase;  /* below `period`, of LDVBI_ONE_IN; else the same */
+} LdvbiClock;
+
+/* Finds the clock that the believed numbers of a side tell. `pace` and `both` are as for ldvbi_judge_side. Three clocks
+ * are tried: LDVBI_DROP_FRAME, and LDVBI_ONE_IN with the periods 1,000 and 1,001. Of these two the phase is that of
+ * more than half of the places at which just one number is missing; if none has so many, any of theirs. Two
+ * neighbouring numbers speak for a clock if they go on by it and not without, and against it if they go on without it
+ * and not by it. A clock needs three such pairs or more for it, and at least twice as many as against it. The one that
+ * most speak for is answered: LDVBI_DROP_FRAME if as many speak for another one, but LDVBI_PLAIN if as many speak for
+ * 1,000 as for 1,001.
+ *
+ * This is proved: the clock is LDVBI_PLAIN, or one for which, and against which, as many speak as it needs. It is
+ * LDVBI_PLAIN if the system isn't LDVBI_NTSC or pictures are counted. It is LDVBI_DROP_FRAME if that has what it needs,
+ * and no other clock that has has more.
+ *
+ * It isn't proved that the clock is the disc's: a device that loses a picture each 1,000 looks like one. And a side has
+ * to show three of the places: the first three minutes of a disc don't tell drop-frame, nor its first 2,000 to 3,000
+ * pictures one in 1,000 or 1,001. */
+LDVBI_RESULT LDVBI_POINTER(7) uint32_t ldvbi_find_clock(uint32_t system, uint32_t counted, uint32_t pace,
+    uint32_t both, const LdvbiNumber *numbers, size_t number_count, LdvbiClock *clock);
+
+/* Judges a whole side as ldvbi_judge_side does, of a disc that keeps to this clock. */
+LDVBI_RESULT LDVBI_POINTER(6) LDVBI_POINTER(15) uint32_t ldvbi_judge_side_by_clock(uint32_t system, uint32_t counted,
+    uint32_t pace, uint32_t both, uint32_t may_end, const LdvbiClock *clock, const LdvbiSightings *seen,
+    size_t seen_count, const LdvbiNumber *numbers, size_t number_count, const uint32_t *ends, size_t end_count,
+    LdvbiGap *gaps, size_t gap_room, LdvbiSide *side);
+
 /* ---- Drawing. Writes the samples of a line that shows the word in black and white. For 0 the line is blank. `length`
  * has to be ldvbi_line_bytes(system). */
 LDVBI_RESULT uint32_t ldvbi_draw_line(uint32_t system, uint32_t black, uint32_t white, uint32_t word, void *samples,
@@ -599,8 +661,9 @@ static inline const char *ldvbi_status_text(uint32_t status) {
         "length does not fit the system", "number is no code word", "neither pictures nor times are counted",
         "pace is neither that of video nor of film, nor to be found",
         "list of erased columns is not sorted, or has columns of no line", "line is none of 16, 17 and 18",
-        "whether dropouts are known is neither 0 nor 1"};
-    return status <= LDVBI_BAD_KNOWN ? texts[status] : "unknown";
+        "whether dropouts are known is neither 0 nor 1",
+        "clock has no such kind, or its phase is not below its period"};
+    return status <= LDVBI_BAD_CLOCK ? texts[status] : "unknown";
 }
 
 static inline const char *ldvbi_cause_text(uint32_t cause) {

@@ -13,6 +13,7 @@
     print(ldvbi.first_of(ldvbi.judge_chapters(side), 3))
     print(ldvbi.seek(side, 12345))
     print(ldvbi.judge_side(side, "NTSC").verdict)
+    print(ldvbi.judge_side(side, "NTSC", "times", clock="find").verdict)
 
 A line, a field or a stream is anything with the buffer protocol that holds samples of 16 bits, the low byte first, as
 ld-decode's TBC files do. It may be a numpy array of uint16 or an array of "H"; or the bytes of such samples: bytes, a
@@ -40,13 +41,14 @@ from .near import Near, nearest, recover_pile
 from .readings import (PACKED_FIELD, Cause, FieldReadings, Reading, draw_line, field_bytes, line_bytes, read_field,
                        read_line, read_rows)
 from .seeking import Sought, seek
-from .sides import Gap, GapKind, JudgedSide, Reason, Tally, Verdict, judge_side
+from .sides import Clock, ClockKind, Gap, GapKind, JudgedSide, Reason, Tally, Verdict, find_clock, judge_side
 from .stream import BLOCK, Stream, fields
 
 __all__ = ["System", "Cause", "Kind", "Format", "Counted", "Pace", "Both", "State", "End", "Reading", "FieldReadings",
-           "Code", "Number", "Near", "Sought", "Verdict", "Reason", "GapKind", "Gap", "Tally", "JudgedSide", "Stream",
-           "line_bytes", "field_bytes", "read_line", "read_rows", "read_field", "fields", "classify", "format_of",
-           "judge", "judge_field", "complete_times", "find_pace", "judge_chapters", "judge_stops", "judge_ends",
-           "judge_side", "first_of", "seek", "nearest", "recover_pile", "draw_line"]
+           "Code", "Number", "Near", "Sought", "Verdict", "Reason", "GapKind", "Gap", "Tally", "ClockKind", "Clock",
+           "JudgedSide", "Stream", "line_bytes", "field_bytes", "read_line", "read_rows", "read_field", "fields",
+           "classify", "format_of", "judge", "judge_field", "complete_times", "find_pace", "judge_chapters",
+           "judge_stops", "judge_ends", "find_clock", "judge_side", "first_of", "seek", "nearest", "recover_pile",
+           "draw_line"]
 
 __version__ = "0.2.0"

@@ -13,7 +13,7 @@ from .classes import whole_number
 ABI = 1
 # statuses
 (BAD_SYSTEM, BAD_LEVELS, BAD_LENGTH, BAD_WORD, BAD_COUNTED, BAD_PACE, BAD_ERASED, BAD_LINE,
- BAD_KNOWN) = range(1, 10)
+ BAD_KNOWN, BAD_CLOCK) = range(1, 11)
 
 _NO_SYSTEM = "system is neither NTSC nor PAL"
 _TEXTS = {BAD_SYSTEM: _NO_SYSTEM, BAD_WORD: "number is no code word",
@@ -21,7 +21,8 @@ _TEXTS = {BAD_SYSTEM: _NO_SYSTEM, BAD_WORD: "number is no code word",
           BAD_PACE: "pace is neither that of video nor of film, nor to be found",
           BAD_ERASED: "list of erased columns is not sorted, or has columns of no line",
           BAD_LINE: "line is none of 16, 17 and 18",
-          BAD_KNOWN: "whether dropouts are known is neither 0 nor 1"}
+          BAD_KNOWN: "whether dropouts are known is neither 0 nor 1",
+          BAD_CLOCK: "clock has no such kind, or its phase is not below its period"}
 MOST = 0xFFFFFFFF  # of 32 bits
 _MAKE = "`make lib` or `make rust` builds"
 
@@ -95,6 +96,9 @@ _LATER: Dict[str, Tuple[str, List[Any]]] = {
     "ldvbi_judge_ends": ("judge whole sides", [_MEMORY, _SIZE] * 2),
     "ldvbi_find_both": ("judge whole sides", [_MEMORY, _SIZE]),
     "ldvbi_judge_side": ("judge whole sides", [_NUMBER] * 5 + [_MEMORY, _SIZE] * 4 + [_MEMORY]),
+    "ldvbi_find_clock": ("find clocks", [_NUMBER] * 4 + [_MEMORY, _SIZE, _MEMORY]),
+    "ldvbi_judge_side_by_clock": ("judge sides by clocks",
+                                  [_NUMBER] * 5 + [_MEMORY] + [_MEMORY, _SIZE] * 4 + [_MEMORY]),
     "ldvbi_nearest": ("find nearest words", _SETUP + [_MEMORY, _SIZE, _MEMORY]),
     "ldvbi_recover_rows": ("recover words", _SETUP + [_MEMORY, _SIZE, _MEMORY]),
     "ldvbi_recover_fields": ("recover words", _SETUP + [_MEMORY, _SIZE, _MEMORY, _SIZE]),

@@ -1,5 +1,5 @@
-"""The library's judge of sides: where the numbers of a side and its fields don't go on together, and whether its
-capture is whole."""
+"""The library's judge of sides: where the numbers of a side and its fields don't go on together, to which clock the
+numbers keep, and whether the capture is whole."""
 
 import ctypes
 import enum
@@ -7,7 +7,8 @@ import struct
 from typing import Any, List, NamedTuple, Optional, Tuple, Union
 
 from .judging import PACKED_NUMBER, PACKED_STATE, SIGHTINGS_BYTES, Number, find_pace, numbers_of, packed_of
-from .library import Both, Counted, Pace, both_of, check, counted_number, later_call, pace_number, system_number
+from .library import (Both, Counted, Pace, System, both_of, check, counted_number, later_call, number_of, pace_number,
+                      system_number)
 from .readings import AnySystem
 
 
@@ -77,11 +78,28 @@ class Tally(NamedTuple):
     unread: int
 
 
+class ClockKind(enum.IntEnum):
+    """Which numbers a disc leaves out. `plain`: none, or it isn't known which. `drop_frame`: the first two of each
+    minute but each tenth. `one_in`: one in a period, those that leave its phase as their remainder."""
+    plain = 0
+    drop_frame = 1
+    one_in = 2
+
+
+class Clock(NamedTuple):
+    """The clock to which the numbers of a disc keep. NTSC counts 30 pictures to a second, which has 29.97; to keep to
+    the clock, CLV discs leave out numbers. `period` and `phase` are 0 if the kind isn't `one_in`. If this module
+    doesn't know the kind, which a later library may have, `kind` is its number."""
+    kind: ClockKind
+    period: int = 0
+    phase: int = 0
+
+
 class JudgedSide(NamedTuple):
     """The library's answer for a whole side. `first` and `last` are the first and the last field with a believed
     number, and `swap` is the first field of the reason `is_swapped`. Each is counted from 0, and None if there is none.
     `pace` is the one that the side was judged by, `on_both` says whether numbers were taken to be on both fields of a
-    picture, and `numbers` is what `judge` answers at this pace."""
+    picture, and `numbers` is what `judge` answers at this pace. `clock` is the one that the side was judged by."""
     verdict: Verdict
     reasons: Reason
     first: Optional[int]
@@ -92,26 +110,86 @@ class JudgedSide(NamedTuple):
     pace: Pace
     on_both: bool
     numbers: List[Number]
+    clock: Clock
 
 
 _PACKED_GAP = struct.Struct("@NNQQIII0Q")  # LdvbiGap
 _PACKED_SIDE = struct.Struct("@N4QN6QNNNII")  # LdvbiSide, whose first members are LdvbiTally
+_PACKED_CLOCK = struct.Struct("=III")  # LdvbiClock
 _ROOM = 64  # gaps, at first: few sides have more
 _KINDS = dict(enumerate(GapKind, 1))
+_CLOCKS = dict(enumerate(ClockKind))
+
+
+class _Fields(NamedTuple):
+    """What was judged of the fields of a side: by what system and numbers, how many there are, at which pace, whether
+    numbers are on both fields of a picture, and what the library wrote of each field."""
+    asked: Tuple[int, int]
+    length: int
+    pace: Pace
+    on_both: bool
+    seen: Any
+    numbers: Any
+    ends: Any
 
 
 def judge_side(readings: Any, system: AnySystem, counted: Union[Counted, str] = Counted.pictures,
                pace: Union[Pace, str] = Pace.find, both: Union[Both, str] = Both.find,
-               may_end: bool = False) -> JudgedSide:
+               may_end: bool = False, clock: Union[Clock, str, None] = None) -> JudgedSide:
     """Judges a whole side: which number each field shows, where numbers and fields don't go on together, and whether
     the capture is whole. `readings`, `system`, `counted` and `pace` are as for `judge`. `both` is a `Both` or its name,
-    and `may_end` says that the capture may end before the disc does.
+    and `may_end` says that the capture may end before the disc does. `clock` says which numbers the disc leaves out: a
+    `Clock`, or "find" for the one that `find_clock` finds. None says that it leaves out none, or that it isn't known
+    which; then an NTSC CLV disc has a gap at each of these places.
 
-    If a capture of video is `whole`, its fields stand in the disc's order, the disc counts on, and the words misread
-    around the first number and around the last weigh less than 10, then no field of the disc is lost from 24 fields
-    after the first to 24 before the last. Some faults go unseen: ldvbi.h says which."""
-    call, judge, judge_ends = map(later_call, ("ldvbi_judge_side", "ldvbi_judge", "ldvbi_judge_ends"))
-    find_both = later_call("ldvbi_find_both")
+    If a capture of video is `whole`, its fields stand in the disc's order, the disc counts on (by the clock), the words
+    misread around the first number and around the last weigh less than 10, and the clock leaves out no number within 12
+    of these two, then no field of the disc is lost from 24 fields after the first to 24 before the last. Some faults go
+    unseen: ldvbi.h says which."""
+    call, packed = _judge_by(clock)
+    fields = _fields_of(readings, system, counted, pace, both)
+    if clock == "find":
+        packed = [_found_clock(fields)]
+    asked = [*fields.asked, fields.pace, fields.on_both, bool(may_end), *packed]
+    count, side, room, is_told = fields.length, ctypes.create_string_buffer(_PACKED_SIDE.size), _ROOM, False
+    while not is_told:
+        gaps = ctypes.create_string_buffer(_PACKED_GAP.size * room)
+        check(call(*asked, fields.seen, count, fields.numbers, count, fields.ends, count, gaps, room, side))
+        told = _PACKED_SIDE.unpack(side)
+        is_told, room = told[0] <= room, told[0]
+    return _side_of(told, _gaps_of(gaps, told[0]), fields, _clock_of(*packed))
+
+
+def find_clock(readings: Any, system: AnySystem, counted: Union[Counted, str] = Counted.times,
+               pace: Union[Pace, str] = Pace.find, both: Union[Both, str] = Both.find) -> Clock:
+    """The `Clock` that the believed numbers of a side tell, for `judge_side`, whose arguments these are. Drop-frame is
+    tried, and one number left out in 1,000 or in 1,001. It is the one that explains most of the places at which numbers
+    don't go on, if these are three or more, and at least twice as many as it speaks against. Else it is `plain`, as of
+    PAL, of pictures, and of a side with two minutes or less."""
+    later_call("ldvbi_find_clock")
+    return _clock_of(_found_clock(_fields_of(readings, system, counted, pace, both)))
+
+
+def _judge_by(clock: Any) -> Tuple[Any, List[bytes]]:
+    """The call that judges by this clock, and what it gets of it; without one the call that older libraries have."""
+    if clock is None:
+        return later_call("ldvbi_judge_side"), []
+    call = later_call("ldvbi_judge_side_by_clock")
+    if clock == "find":
+        later_call("ldvbi_find_clock")
+        return call, []
+    if not isinstance(clock, tuple) or len(clock) != len(Clock._fields):
+        raise ValueError("clock is no Clock, nor to be found")
+    packed = _PACKED_CLOCK.pack(*map(number_of, Clock._fields, clock))
+    nothing = [None, 0] * 4  # of no field the library tests the clock alone
+    check(call(System.NTSC, Counted.times, Pace.video, Both.on_one, 0, packed, *nothing,
+               ctypes.create_string_buffer(_PACKED_SIDE.size)))
+    return call, [packed]
+
+
+def _fields_of(readings, system, counted, pace, both):
+    """What the library judges of the fields of a side."""
+    judge, judge_ends, find_both = map(later_call, ("ldvbi_judge", "ldvbi_judge_ends", "ldvbi_find_both"))
     asked = system_number(system), counted_number(counted)
     check(judge(*asked, pace_number(pace), None, 0, None, 0, None, 0))  # of no field the library tests these alone
     both = both_of(both)
@@ -123,13 +201,20 @@ def judge_side(readings: Any, system: AnySystem, counted: Union[Counted, str] = 
     check(judge_ends(packed, count, ends, count))
     # of film the library doesn't ask
     on_both = found == Pace.video and bool(find_both(numbers, count) if both == Both.find else both)
-    side, room, is_told = ctypes.create_string_buffer(_PACKED_SIDE.size), _ROOM, False
-    while not is_told:
-        gaps = ctypes.create_string_buffer(_PACKED_GAP.size * room)
-        check(call(*asked, found, on_both, bool(may_end), seen, count, numbers, count, ends, count, gaps, room, side))
-        told = _PACKED_SIDE.unpack(side)
-        is_told, room = told[0] <= room, told[0]
-    return _side_of(told, _gaps_of(gaps, told[0]), found, on_both, numbers_of(numbers))
+    return _Fields(asked, count, found, on_both, seen, numbers, ends)
+
+
+def _found_clock(fields: _Fields) -> bytes:
+    """The clock that the judged numbers tell, as the library wrote it."""
+    found = ctypes.create_string_buffer(_PACKED_CLOCK.size)
+    asked = *fields.asked, fields.pace, fields.on_both
+    check(later_call("ldvbi_find_clock")(*asked, fields.numbers, fields.length, found))
+    return bytes(found)
+
+
+def _clock_of(packed=bytes(_PACKED_CLOCK.size)):
+    kind, period, phase = _PACKED_CLOCK.unpack(packed)
+    return Clock(_CLOCKS.get(kind, kind), period, phase)
 
 
 def _gaps_of(packed, count):
@@ -138,11 +223,11 @@ def _gaps_of(packed, count):
                  for *members, kind in _PACKED_GAP.iter_unpack(bytes(packed)[:_PACKED_GAP.size * count]))
 
 
-def _side_of(told, gaps, pace, on_both, numbers):
-    """The answer, of the members of an LdvbiSide and what was found besides."""
+def _side_of(told, gaps, fields, clock):
+    """The answer, of the members of an LdvbiSide, what was found besides, and the clock."""
     *tally, first, last, swap, verdict, bits = told
     reasons = Reason(bits)
     is_empty = bool(reasons & Reason.no_numbers)
     return JudgedSide(Verdict(verdict), reasons, None if is_empty else first, None if is_empty else last,
-                      swap if reasons & Reason.is_swapped else None, Tally(*tally), gaps, pace, on_both, numbers)
-
+                      swap if reasons & Reason.is_swapped else None, Tally(*tally), gaps, fields.pace, fields.on_both,
+                      numbers_of(fields.numbers), clock)

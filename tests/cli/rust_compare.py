@@ -214,7 +214,8 @@ def field_of(system, lines):
 CALLS = {name: (returned, re.findall(r"(const )?(\w+) (\*?)(\w+)", parameters)) for returned, name, parameters in
          re.findall(r"^(?:LDVBI_[^ ]+ )*(uint32_t|size_t) (ldvbi_\w+)\(([^()]*)\);",
                     (TOP / "include/ldvbi.h").read_text(encoding="utf-8"), re.M)}
-ITEMS = {"void": 1, "uint32_t": 4, "LdvbiNumber": 8, "LdvbiErased": 16, "LdvbiSightings": 20, "LdvbiFieldReadings": 24}
+ITEMS = {"void": 1, "uint32_t": 4, "LdvbiNumber": 8, "LdvbiClock": 12, "LdvbiErased": 16, "LdvbiSightings": 20,
+         "LdvbiFieldReadings": 24}
 # What there is after each pointer to something that is written
 PATTERN = b"\xa5" * 2 ** 13
 
@@ -243,7 +244,7 @@ def answer_of(library, name, arguments):
     places = [ctypes.create_string_buffer(PATTERN, len(PATTERN)) if one is ... else one for one in arguments]
     answer = function(*places)
     written = [bytearray(place.raw) for place, one in zip(places, arguments) if one is ...]
-    if name == "ldvbi_judge_side":
+    if "ldvbi_judge_side" in name:
         for gap in range(0, len(PATTERN) - 48, 48):  # Anything may stand between two members of a gap.
             written[0][gap + 44:gap + 48] = bytes(4)
     return answer, written
@@ -285,8 +286,27 @@ def compare_judges(call):
     numbers = altered(numbers[:8 * count])
     yield call("ldvbi_find_both", given, numbers=numbers)
     yield call("ldvbi_first_of", given, numbers=numbers, number=int.from_bytes(numbers[-8:-4], "little"))
-    yield call("ldvbi_judge_side", given, pace=random.choice([1, 2]), seen=altered(seen[:20 * count]), numbers=numbers,
-               ends=altered(ends[:4 * count]), gap_room=random.choice([0, 1, 2, 9]))
+    given.update(pace=random.choice([1, 2]), seen=altered(seen[:20 * count]), numbers=numbers,
+                 ends=altered(ends[:4 * count]), gap_room=random.choice([0, 1, 2, 9]), clock=random_clock())
+    yield call("ldvbi_judge_side", given)
+    yield call("ldvbi_judge_side_by_clock", given)
+    yield call("ldvbi_find_clock", given, counted=2, numbers=random.choice([numbers, skipping(given["clock"])]))
+
+
+def random_clock():
+    """A clock, which is seldom none."""
+    period = random.choice([2, 10, 1000, 1001, 2 ** 32 - 1])
+    phase = random.choice([0, random.randrange(period), period - 1, rarely([period], 0)])
+    return struct.pack("<III", random.choice([0, 1, 2, 2, 2, 2, rarely([3, 258], 0)]), period, phase)
+
+
+def skipping(clock):
+    """Numbers on every other field, around some that this clock leaves out, a few of which are there."""
+    kind, period, phase = struct.unpack("<III", clock)
+    places, gone = (range(1800, 9000, 1800), (0, 1)) if kind == 1 else (range(phase, 9999, period)[:20], (0, ))
+    numbers = [place + at for place in places for at in range(-2, 4)
+               if place + at >= 0 and (at not in gone or random.random() < 0.05)]
+    return b"".join(struct.pack("<IIQ", number, random.choice([1] * 20 + [2]), 0) for number in numbers)
 
 
 def compare_seek(call):

@@ -47,9 +47,10 @@ def spread(text, of_part, nothing):
             found += [nothing] * int(part[1:] or 1)
             continue
         due, first, last, marks, other, marked, count = PART.fullmatch(part).groups("")
+        between = [] if last and count else [nothing]
         for item in map(str, range(int(first), int(last) + 1)) if last else [first]:
-            found += [of_part((item, other), (due + marks, marked))] * int(count or 1) + [nothing]
-        found.pop()
+            found += [of_part((item, other), (due + marks, marked))] * int(count or 1) + between
+        del found[len(found) - len(between):]
     return found
 
 
@@ -191,15 +192,15 @@ def test_first(_, number, text, first):
 
 # ---- Whole sides, which are judged already
 
-GAP, SIDE = layout("Gap"), layout("Side")
+GAP, SIDE, CLOCK = layout("Gap"), layout("Side"), layout("Clock")
 VERDICTS = {"?": NUMBERS.CANNOT_TELL, "yes": NUMBERS.WHOLE, "no": NUMBERS.NOT_WHOLE}
 REASONS = dict(zip("lost held back joined late swapped off none end begin doubtful open".split(), named(
     "is_lost", "is_held", "goes_back", "is_joined", "begins_late", "is_swapped", "is_off", "no_numbers", "end_unseen",
     "begin_unseen", "many_doubtful", "is_open")))
 NUMBERED = ("gaps lost held stood stills still_end back joined open_gaps lost_numbers undecided unread first last "
             "swap").split()  # the members of LdvbiSide before its verdict
-PARTS = [Guarded(size * 300) for size in (SEEN.size, NUMBER.size, STATE.size)]  # so many fields at most
-GAPS, ANSWER = Guarded(GAP.size * 8), Guarded(SIDE.size)
+PARTS = [Guarded(size * 4000) for size in (SEEN.size, NUMBER.size, STATE.size)]  # so many fields at most
+GAPS, ANSWER, KEPT = Guarded(GAP.size * 8), Guarded(SIDE.size), Guarded(CLOCK.size)
 ENDS = {"e": NUMBERS.IS_LEAD_OUT, "i": NUMBERS.IS_LEAD_IN, "": NUMBERS.NO_END, "e?": NUMBERS.DOUBTFUL_END}
 
 
@@ -245,14 +246,22 @@ def side_found(text, gaps):
     return *found.values(), VERDICTS[verdict], reasons
 
 
-def answer_of_side(asked, fields, room, said=None):
-    """What is answered, and the gaps that are written into room for so many, or for as many as is said. Without fields,
-    or without room, null stands for the array."""
+def clock_of(text):
+    """The clock KIND, or KIND/PERIOD/PHASE, packed."""
+    kind, *numbers = text.split("/")
+    return CLOCK.pack(*named(kind), *map(int, numbers or (0, 0)))
+
+
+def answer_of_side(asked, fields, room, said=None, clock=b""):
+    """What is answered, by a clock if there is one, and the gaps that are written into room for so many, or for as many
+    as is said. Without fields, or without room, null stands for the array."""
     parts = [b"".join(part) for part in zip(*fields)] or [b""] * 3
     arrays = [(memory.put(part) if fields else None, len(fields)) for memory, part in zip(PARTS, parts)]
     gaps, side = GAPS.put(BEFORE[0] * GAP.size * room) if room else None, ANSWER.put(BEFORE[0] * SIDE.size)
-    status = call("judge_side")(*asked, *(word for array in arrays for word in array), gaps, said or room, side)
+    judge, kept = ("judge_side_by_clock", [KEPT.put(clock)]) if clock else ("judge_side", [])
+    status = call(judge)(*asked, *kept, *(word for array in arrays for word in array), gaps, said or room, side)
     expect(status == 0, asked, "refused", status)
+    expect(KEPT.get(len(clock)) == clock, asked, "changes the clock")
     expect([memory.get(len(part)) for memory, part in zip(PARTS, parts)] == parts, "has changed")
     side = SIDE.unpack(ANSWER.get(SIDE.size))
     written, written_bytes = GAPS.get(GAP.size * room), GAP.size * min(room, side[0])
@@ -262,24 +271,39 @@ def answer_of_side(asked, fields, room, said=None):
 
 def test_side(setting, text, gaps, wanted):
     """With room for none of its gaps, for some, for all, and for one more. A number in a setting stands for itself. Of
-    a state that no call answers nothing is believed, and nothing is in doubt."""
-    asked = [int(word) if word.isdigit() else named(word)[0] for word in setting.split(":")]
+    a state that no call answers nothing is believed, and nothing is in doubt. By no clock it is the same as without."""
+    *words, clock = setting.split(":") if setting.count(":") == 5 else [*setting.split(":"), "plain/7/9"]
+    asked = [int(word) if word.isdigit() else named(word)[0] for word in words]
+    calls = [{"clock": clock_of(clock)}, {}][:1 + clock.startswith("plain")]
     fields, gaps = spread(text, judged_field, NO_FIELD), [gap_of(gap) for gap in gaps.split(",") if gap]
     wanted = side_found(wanted, gaps)
     for state in (4, 257, 258, 65537, 65538, 0x80000001, 2 ** 32 - 1):
         odd = spread(text, judged_field, (NO_FIELD[0], NUMBER.pack(700, state), STATE.pack(state)))
-        expect(answer_of_side(asked, odd, 0) == (wanted, []), setting, text, "with the state", state)
-    for room in range(len(gaps) + 2):
-        found = answer_of_side(asked, fields, room)
+        for by in calls:
+            expect(answer_of_side(asked, odd, 0, **by) == (wanted, []), setting, text, "with the state", state)
+    for room, by in ((room, by) for room in range(len(gaps) + 2) for by in calls):
+        found = answer_of_side(asked, fields, room, **by)
         expect(found == (wanted, gaps[:room]), setting, text, room, *found)
-    for said in (2 ** 64 - 1, 2 ** 63, 2 ** 60) if gaps else ():
-        expect(answer_of_side(asked, fields, len(gaps), said) == (wanted, gaps), setting, text, "room for", said)
+    for said, by in ((said, by) for said in (2 ** 64 - 1, 2 ** 63, 2 ** 60) for by in calls if gaps):
+        found = answer_of_side(asked, fields, len(gaps), said, **by)
+        expect(found == (wanted, gaps), setting, text, "room for", said)
+
+
+def test_clock(setting, text, wanted):
+    """The clock of believed numbers, whatever stands there before the call. The numbers stay as they are."""
+    asked, numbers = named(*setting.split(":")), b"".join(field[1] for field in spread(text, judged_field, NO_FIELD))
+    for before in BEFORE:
+        at = KEPT.put(before * CLOCK.size)
+        status = call("find_clock")(*asked, PARTS[1].put(numbers), len(numbers) // NUMBER.size, at)
+        found = KEPT.get(CLOCK.size)
+        expect((status, found) == (0, clock_of(wanted)), setting, text, status, CLOCK.unpack(found))
+        expect(PARTS[1].get(len(numbers)) == numbers, setting, text, "has changed")
 
 
 def main():
     rows = [(kind, setting, row) for name in ("judged.txt", "whole.txt") for kind, settings, rows in tables(name)
             for setting in settings for row in rows]
-    expect(len(rows) == 482, "there are more rows, or fewer:", len(rows))
+    expect(len(rows) == 579, "there are more rows, or fewer:", len(rows))
     for kind, setting, row in rows:
         globals()["test_" + kind](setting, *row)
     finish()

@@ -52,6 +52,7 @@ length does not fit the system;number is no code word;neither pictures nor times
 pace is neither that of video nor of film, nor to be found
 list of erased columns is not sorted, or has columns of no line;line is none of 16, 17 and 18
 whether dropouts are known is neither 0 nor 1
+clock has no such kind, or its phase is not below its period
 word;blank;unfinished;change;hold
 other;picture;chapter;time;clv picture;cx on;cx off;users;lead-in;lead-out;picture stop;clv
 neither;cav;clv;both;nothing;believed;doubtful;due;2

@@ -49,6 +49,9 @@ BAD = {
     NUMBERS.BAD_PACE: one("pace", (0, 4, 5, *CUT_OFF)),
     NUMBERS.BAD_LINE: one("line", (0, 15, 19, 16 + 65536, 17 + 256)),
     NUMBERS.BAD_KNOWN: one("known", (2, 256, 65537)),
+    NUMBERS.BAD_CLOCK: one("clock", [layout("Clock").pack(*numbers) for numbers in (
+        (3, 1000, 0), (256, 1000, 0), (257, 0, 0), (MOST, 0, 0), (2, 0, 0), (2, 1000, 1000), (2, 1, 1), (2, 1000, MOST),
+        (2, 65536, 65536), (2, 65536, 65537), (2, 0, MOST))]),
     NUMBERS.BAD_ERASED: []}
 
 
@@ -60,7 +63,7 @@ def answered(name, words, is_open, is_listed=True):
         size = {"void": 1, "uint32_t": 4}.get(kind) or is_pointer and layout(kind).size
         if not is_pointer:
             arguments.append(words[key])
-        elif isinstance(words.get(key), bytes) and is_listed:
+        elif isinstance(words.get(key), bytes) and (is_listed or key == "clock"):
             arguments.append(OPEN[key].put(words[key]) if words[key] else None)
         elif is_open:
             size *= words[after] if after_kind == "size_t" else 1
@@ -76,7 +79,7 @@ def test_call(name, right, **more):
     found = answered(name, right, True)
     expect(found == NUMBERS.DONE, name, right, "is refused", found)
     own = {getattr(NUMBERS, status): changes for status, changes in more.items()}
-    numbers = {key for key, _, is_pointer in parameters(name) if not is_pointer}
+    numbers = {key for key, _, is_pointer in parameters(name) if not is_pointer} | {"clock"} & {*right}
     tests = [(status, [change for change in changes + own.get(status, []) if set(change) <= {*numbers, "erased"}])
              for status, changes in BAD.items()]
     for place, (status, changes) in enumerate(tests):
@@ -128,19 +131,24 @@ def test_judges():
     """Calls that judge."""
     sizes = (0, 1, 3, 4, MOST_BYTES, MOST_BYTES >> 1, MOST_BYTES >> 3)
     no_found = {"BAD_PACE": one("pace", (NUMBERS.FIND_PACE, ))}
-    for name in ("judge", "find_pace", "judge_side", "complete_times", "judge_chapters", "judge_stops", "judge_ends"):
+    for name in ("judge", "find_pace", "judge_side", "judge_side_by_clock", "complete_times", "judge_chapters",
+                 "judge_stops", "judge_ends"):
         counts = [key for key, kind, _ in parameters(name) if kind == "size_t" and key != "gap_room"]
         lengths = [dict(zip(counts, some)) for some in itertools.product(sizes, repeat=len(counts)) if len({*some}) > 1]
-        more = no_found if name == "judge_side" else {}
-        for count in (0, 2):
+        more = no_found if "judge_side" in name else {}
+        for count, clock in ((0, (0, 5, 9)), (2, (2, MOST, MOST - 1))):
+            clock = {"clock": layout("Clock").pack(*clock)} if name == "judge_side_by_clock" else {}
             for system, counted, pace in ((1, 1, 1), (2, 2, 2), (2, 1, 1 if more else 3)):
                 test_call(name, {"system": system, "counted": counted, "pace": pace, "both": MOST, "may_end": MOST,
-                                 "gap_room": 1, **dict.fromkeys(counts, count)}, BAD_LENGTH=lengths, **more)
+                                 "gap_room": 1, **clock, **dict.fromkeys(counts, count)}, BAD_LENGTH=lengths, **more)
     for system, counted, pace in ((1, 1, 1), (2, 2, 2), (2, 1, 3)):
         right, part = {"system": system, "counted": counted, "pace": pace}, NUMBERS.PART
         test_call("judge_field", {**right, "pace": min(pace, 2), "count": part, "field": part - 1}, **no_found,
                   BAD_LENGTH=[dict(count=count, field=field) for count, field in (
                       (0, 0), (5, 5), (5, MOST_BYTES), (part + 1, 5), (MOST_BYTES, 0))])
+        for count in (0, 2):
+            test_call("find_clock", {**right, "pace": min(pace, 2), "both": MOST, "number_count": count}, **no_found)
+            expect(OPEN["clock"].get(12) == bytes(12), "the clock of a side without numbers")
         test_call("seek", {**right, "black": 5, "white": 6, "length": 0, "number": 7})
         expect(OPEN["sought"].get(24) == bytes(24), "what was sought in a side without fields")
 

@@ -81,7 +81,7 @@ def test_refused():
                            (b"12345", "packed readings have 24 bytes to a field, and these are 5"),
                            ([[line] * 3, [line] * 2], "readings[1] is not three readings"),
                            ([[line, line, (0, 0, 0, 2 ** 32)]], "readings[0] is not three readings")):
-        for call in (ldvbi.judge, ldvbi.find_pace, ldvbi.complete_times, ldvbi.judge_side):
+        for call in (ldvbi.judge, ldvbi.find_pace, ldvbi.complete_times, ldvbi.judge_side, ldvbi.find_clock):
             assert reason(call, readings, "PAL") == text
         assert [reason(call, readings) for call in (ldvbi.judge_chapters, ldvbi.judge_stops)] == [text] * 2
 

@@ -17,9 +17,9 @@ from unittest import mock
 from compact import made
 from discs import side
 import ldvbi
-from ldvbi import (complete_times, draw_line, find_pace, judge, judge_chapters, judge_ends, judge_field, judge_side,
-                   judge_stops, judging, library, near, nearest, read_field, read_line, read_rows, recover_pile, seek,
-                   seeking, sides, stream, Stream)
+from ldvbi import (complete_times, draw_line, find_clock, find_pace, judge, judge_chapters, judge_ends, judge_field,
+                   judge_side, judge_stops, judging, library, near, nearest, read_field, read_line, read_rows,
+                   recover_pile, seek, seeking, sides, stream, Stream)
 from ldvbi.samples import Samples
 import pytest
 from room import reason
@@ -224,10 +224,10 @@ def test_what_is_judged():
     """What is asked for is looked at before the readings are."""
     wrong = ((NO_SYSTEM, ("SECAM", None, 3)), (COUNTED, ("chapters", None, 0, 3, 1.0, *WIDE)),
              (PACE, ("slow", None, 0, 4, *WIDE)), (BOTH, ("both", None, 2, 4, *WIDE)))
-    for call, count in ((judge_side, 4), (judge, 3), (find_pace, 2), (complete_times, 1)):
+    for call, count in ((judge_side, 4), (find_clock, 4), (judge, 3), (find_pace, 2), (complete_times, 1)):
         for place, (text, values) in enumerate(wrong[:count]):
             for value, readings in ((value, readings) for value in values for readings in ([], [5])):
-                later = (9, 9)[:min(count, 3) - place - 1]
+                later = (9, 9)[:max(min(count, 3) - place - 1, 0)]
                 assert reason(call, readings, *("PAL", 1, 3)[:place], value, *later) == text
 
 
@@ -250,6 +250,9 @@ def test_each_call(monkeypatch):
             ("judge_chapters", judge_chapters, packed), ("judge_stops", judge_stops, packed),
             ("judge_ends", judge_ends, packed), ("judge", judge_side, packed, "PAL", "pictures", "video"),
             *((name, judge_side, packed, "PAL") for name in ("find_pace", "judge_ends", "judge_side")),
+            ("find_clock", find_clock, packed, "PAL"),
+            ("find_clock", functools.partial(judge_side, clock="find"), packed, "PAL"),
+            ("judge_side_by_clock", functools.partial(judge_side, clock=(1, 0, 0)), packed, "PAL"),
             ("nearest", nearest, LINE, *NTSC), ("seek", lambda: seek(fields(), 1)),
             ("recover_fields", lambda: list(fields())), ("recovered_record", lambda: list(fields().records())),
             ("recover_fields_without", lambda: list(fields(dropouts=[(0, 17, 3, 4)])))):

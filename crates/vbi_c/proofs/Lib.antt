@@ -12,3 +12,4 @@ pub mod Running
 pub mod CompletedTimes
 pub mod Placed
 mod NoneBeyond
+mod SidesCalled

@@ -14,9 +14,11 @@ pub mod Piling
 pub mod Seeking
 pub mod Searches
 pub mod Chapters
+pub mod Clocks
 pub mod Stops
 pub mod Ends
 pub mod WholeSides
+pub mod CalledWhole
 pub mod Telling
 pub mod Leads
 pub mod Completing

@@ -2,7 +2,7 @@
 use Rattle.std.specs.Prelude.{ℕ, Result, Ok, Err}
 use Rattle.vbi_c.specs.declared.status.Refusal.{Refusal}
 use Rattle.vbi_c.specs.declared.status.Refusal.TheVariants.{System, Levels, Length, Word, Counted, Pace}
-use Rattle.vbi_c.specs.declared.status.Refusal.TheVariants.{Erased, Line, Known}
+use Rattle.vbi_c.specs.declared.status.Refusal.TheVariants.{Erased, Line, Known, Clock}
 
 -- the status of a refused call, as include/ldvbi.h has it
 abbrev pub refusal_status : Refusal → ℕ
@@ -15,6 +15,7 @@ refusal_status Pace = 6
 refusal_status Erased = 7
 refusal_status Line = 8
 refusal_status Known = 9
+refusal_status Clock = 10
 
 -- the status of a call whose arguments were found right, or were refused
 abbrev pub status_of : {A : Type 0} → Result A Refusal → ℕ

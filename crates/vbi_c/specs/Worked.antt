@@ -6,6 +6,7 @@ use Rattle.vbi_words.specs.declared.system.System.TheVariants.{Ntsc, Pal}
 use Rattle.vbi_near.specs.declared.near.Near.{Near}
 use Rattle.vbi_side.specs.declared.lines.Counted.{Counted}
 use Rattle.vbi_side.specs.declared.number.Number.{Number}
+use Rattle.vbi_side.specs.declared.clock.Clock.{Clock}
 use Rattle.vbi_side.specs.declared.clock.Clock.TheVariants.{Plain}
 use Rattle.vbi_side.specs.declared.pace.Pace.{Pace}
 use Rattle.vbi_side.specs.declared.sighting.Sightings.{Sightings}
@@ -94,10 +95,13 @@ film_ending weight = field_of 5 2 0 0 ∷ blank ∷ field_of 6 2 0 0 ∷ blank �
 abbrev pub second_on_18 : List Sightings
 second_on_18 = field_of 5 2 5 2 ∷ blank ∷ field_of 0 0 6 2 ∷ []
 
--- what a whole side is judged by
+-- what a whole side is judged by, with a clock, and with none
+abbrev pub sided_by : System → Counted → Pace → Clock → Siding
+sided_by system counted pace clock =
+    record { numbering = record { system = system; counted = counted; clock = clock }; pace = pace }
+
 abbrev pub sided_as : System → Counted → Pace → Siding
-sided_as system counted pace =
-    record { numbering = record { system = system; counted = counted; clock = Plain }; pace = pace }
+sided_as system counted pace = sided_by system counted pace Plain
 
 -- numbers on one field of each picture, and on both
 abbrev pub on_one : List Number

@@ -12,7 +12,10 @@ ghost use Rattle.vbi_words.specs.declared.system.System.TheVariants.{Ntsc, Pal};
 ghost use Rattle.vbi_words.specs.Codes.{IsBetween};
 ghost use Rattle.vbi_words.specs.Geometry.{width_of, height_of, line_bytes, field_bytes};
 ghost use Rattle.vbi_side.specs.declared.lines.Counted.TheVariants.{Pictures, Times};
+ghost use Rattle.vbi_side.specs.declared.clock.Clock as clocks;
+ghost use Rattle.vbi_side.specs.declared.clock.Clock.TheVariants.{Plain, DropFrame, OneIn};
 ghost use Rattle.vbi_side.specs.declared.pace.Pace.TheVariants.{Video, Film};
+ghost use Rattle.vbi_side.specs.Clocks.{IsProper};
 ghost use Rattle.vbi_side.specs.Worked.{field_of};
 ghost use Rattle.vbi_c.specs.declared.judging.Asked.TheVariants.{Given, Found};
 ghost use Rattle.vbi_c.specs.declared.erased.LdvbiErased.{LdvbiErased};
@@ -22,6 +25,7 @@ ghost use Rattle.vbi_c.specs.declared.record.LdvbiRecord.{LdvbiRecord};
 ghost use Rattle.vbi_c.specs.declared.seeking.LdvbiSought.{LdvbiSought};
 ghost use Rattle.vbi_c.specs.declared.setup.Setup.{Setup};
 ghost use Rattle.vbi_c.specs.Chapters.{chapters_in};
+ghost use Rattle.vbi_c.specs.Clocks.{clock_given, clock_for_c, clock_as};
 ghost use Rattle.vbi_c.specs.Codes.{code_for_c, format_for_c};
 ghost use Rattle.vbi_c.specs.Completing.{times_of, with_time, TellsTime};
 ghost use Rattle.vbi_c.specs.Fields.{field_in, field_reading, fields_reading, rows_reading};
@@ -38,11 +42,12 @@ ghost use Rattle.vbi_c.specs.Stops.{IsStopOf};
 ghost use Rattle.vbi_c.specs.Telling.{IsTold, TellsIn};
 ghost use Rattle.vbi_c.specs.Ends.{ends_status, IsEndOf};
 ghost use Rattle.vbi_c.specs.Erased.{none_erased};
-ghost use Rattle.vbi_c.specs.WholeSides.{pace_given, siding_of, both_by, both_for_c, slack_by, may_end_by};
+ghost use Rattle.vbi_c.specs.WholeSides.{pace_given, siding_of, siding_by, numbering_of, both_by, both_for_c, slack_by};
+ghost use Rattle.vbi_c.specs.WholeSides.{may_end_by};
 ghost use Rattle.vbi_c.specs.Worked.{ntsc, pal, judged_as, code_as, reading_as, near_of, near_as, lines_read_as};
 ghost use Rattle.vbi_c.specs.Worked.{field_read_as, video_ending, film_ending, far_ending, second_on_18, sided_as};
-ghost use Rattle.vbi_c.specs.Worked.{on_one, on_both};
-ghost use Rattle.vbi_c.specs.declared.status.Refusal.TheVariants.{System, Length, Counted, Pace};
+ghost use Rattle.vbi_c.specs.Worked.{sided_by, on_one, on_both};
+ghost use Rattle.vbi_c.specs.declared.status.Refusal.TheVariants.{System, Length, Counted, Pace, Clock};
 
 /// What the numbers that C hands over stand for, and the sizes that it is answered.
 pub fn worked_numbers()
@@ -178,6 +183,29 @@ pub fn worked_sides()
     ensures lead_outs { (answer : ℕ) → IsEndOf (lines_read_as 0x88FFFF 0x80EEEE 0x80EEEE) answer → answer ≡ 1 }
     ensures lead_ins { (answer : ℕ) → IsEndOf (lines_read_as 0 0x88FFFF 0) answer → answer ≡ 3 }
     ensures none_on_16 { (answer : ℕ) → IsEndOf (lines_read_as 0x80EEEE 0 0) answer → answer ≡ 0 }
+{}
+
+/// The clocks that C hands over, and those that it is answered. What is answered is taken again; the clock is looked at
+/// last; and by none a side is judged as by the call without a clock.
+pub fn worked_clocks()
+    ensures given { map clock_given (clock_as 0 0 0 ∷ clock_as 0 7 9 ∷ clock_as 1 0 0 ∷ clock_as 2 1000 999
+        ∷ clock_as 2 1 0 ∷ [])
+        ≡ Some Plain ∷ Some Plain ∷ Some DropFrame ∷ Some (OneIn 1000 999) ∷ Some (OneIn 1 0) ∷ [] }
+    ensures none_given { map clock_given (clock_as 2 1000 1000 ∷ clock_as 2 0 0 ∷ clock_as 3 1000 0 ∷ clock_as 256 0 0
+        ∷ []) ≡ None ∷ None ∷ None ∷ None ∷ [] }
+    ensures answered { map clock_for_c (Plain ∷ DropFrame ∷ OneIn 1001 7 ∷ [])
+        ≡ clock_as 0 0 0 ∷ clock_as 1 0 0 ∷ clock_as 2 1001 7 ∷ [] }
+    ensures taken_again { (clock : clocks.Clock) → IsProper clock → clock_given (clock_for_c clock) ≡ Some clock }
+    ensures taken { (siding_by 1 2 1 (clock_as 2 1000 399) 5 5 5 ≡ Ok (sided_by Ntsc Times Video (OneIn 1000 399)))
+        × (siding_by 2 1 2 (clock_as 1 0 0) 5 5 5 ≡ Ok (sided_by Pal Pictures Film DropFrame)) }
+    ensures plain { (system counted pace seen numbers ends : ℕ)
+        → siding_by system counted pace (clock_as 0 0 0) seen numbers ends
+        ≡ siding_of system counted pace seen numbers ends }
+    ensures order { (siding_by 1 0 0 (clock_as 3 0 0) 5 4 5 ≡ Err Length)
+        × (siding_by 1 0 3 (clock_as 3 0 0) 5 5 5 ≡ Err Counted) × (siding_by 1 1 3 (clock_as 3 0 0) 5 5 5 ≡ Err Pace)
+        × (siding_by 1 1 1 (clock_as 3 0 0) 5 5 5 ≡ Err Clock) }
+    ensures sought { (numbering_of 1 2 1 ≡ Ok (sided_as Ntsc Times Video)) × (numbering_of 3 0 0 ≡ Err System)
+        × (numbering_of 1 0 0 ≡ Err Counted) × (numbering_of 1 1 3 ≡ Err Pace) }
 {}
 
 /// Which numbers fields tell together: what supports one has to weigh 6, at either pace, or what all fields show at

@@ -10,6 +10,7 @@
 #![tactic(auto)]
 
 mod chapters;
+mod clock;
 mod code;
 mod completing;
 mod drawing;
@@ -38,10 +39,12 @@ mod sizes;
 mod status;
 mod stops;
 mod version;
+pub mod whole_laws;
 mod whole_side;
 mod word;
 
 pub use chapters::ldvbi_judge_chapters;
+pub use clock::LdvbiClock;
 pub use code::{LdvbiCode, ldvbi_classify};
 pub use completing::ldvbi_complete_times;
 pub use drawing::ldvbi_draw_line;
@@ -65,4 +68,6 @@ pub use seeking::{LdvbiSought, ldvbi_seek};
 pub use sizes::{ldvbi_field_bytes, ldvbi_line_bytes, ldvbi_line_samples, ldvbi_lines};
 pub use stops::ldvbi_judge_stops;
 pub use version::{ldvbi_abi, ldvbi_version};
-pub use whole_side::{ldvbi_find_both, ldvbi_judge_side};
+pub use whole_side::{
+    ldvbi_find_both, ldvbi_find_clock, ldvbi_judge_side, ldvbi_judge_side_by_clock,
+};

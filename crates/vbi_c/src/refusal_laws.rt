@@ -7,7 +7,7 @@ ghost use Rattle.vbi_side.specs.declared.lines.Counted.TheVariants.{Pictures, Ti
 ghost use Rattle.vbi_side.specs.declared.pace.Pace.TheVariants.{Video, Film};
 ghost use Rattle.vbi_c.specs.declared.judging.Asked.TheVariants.{Given, Found};
 ghost use Rattle.vbi_c.specs.declared.status.Refusal.TheVariants.{System, Levels, Length, Word, Counted, Pace};
-ghost use Rattle.vbi_c.specs.declared.status.Refusal.TheVariants.{Erased, Line, Known};
+ghost use Rattle.vbi_c.specs.declared.status.Refusal.TheVariants.{Erased, Line, Known, Clock};
 ghost use Rattle.vbi_c.specs.Chapters.{chapters_status};
 ghost use Rattle.vbi_c.specs.Completing.{completing_of};
 ghost use Rattle.vbi_c.specs.Drawing.{drawing_of};
@@ -24,8 +24,8 @@ ghost use Rattle.vbi_c.specs.Worked.{ntsc, pal, judged_as, columns_of, reading_a
 /// What a refused call is answered, and one that isn't refused.
 pub fn worked_statuses()
     ensures refused { map refusal_status
-        (System ∷ Levels ∷ Length ∷ Word ∷ Counted ∷ Pace ∷ Erased ∷ Line ∷ Known ∷ [])
-        ≡ 1 ∷ 2 ∷ 3 ∷ 4 ∷ 5 ∷ 6 ∷ 7 ∷ 8 ∷ 9 ∷ [] }
+        (System ∷ Levels ∷ Length ∷ Word ∷ Counted ∷ Pace ∷ Erased ∷ Line ∷ Known ∷ Clock ∷ [])
+        ≡ 1 ∷ 2 ∷ 3 ∷ 4 ∷ 5 ∷ 6 ∷ 7 ∷ 8 ∷ 9 ∷ 10 ∷ [] }
     ensures calls { map (λ number. status_of (word_or_none number)) (0 ∷ 1 ∷ []) ≡ 0 ∷ 4 ∷ [] }
     ensures chapters { (chapters_status 2 2 2 ≡ 0) × (chapters_status 2 1 2 ≡ 3) × (chapters_status 2 2 3 ≡ 3) }
     ensures stops { map (stops_status 2) (1 ∷ 2 ∷ 3 ∷ []) ≡ 3 ∷ 0 ∷ 3 ∷ [] }

@@ -24,6 +24,8 @@ pub const BAD_ERASED: u32 = 7;
 pub const BAD_LINE: u32 = 8;
 /// What says whether dropouts are known is neither 0 nor 1.
 pub const BAD_KNOWN: u32 = 9;
+/// The kind of the clock is none of 0 to 2, or its phase is not below its period.
+pub const BAD_CLOCK: u32 = 10;
 
 /// Why a call is refused. What comes first here is tested first, but lists are tested last.
 #[derive(Clone, Copy)]
@@ -46,6 +48,8 @@ pub(crate) enum Refusal {
     Line,
     /// Nothing says whether dropouts are known.
     Known,
+    /// There is no clock of that kind, or of that phase.
+    Clock,
 }
 
 impl Refusal {
@@ -63,6 +67,7 @@ impl Refusal {
             Refusal::Erased => BAD_ERASED,
             Refusal::Line => BAD_LINE,
             Refusal::Known => BAD_KNOWN,
+            Refusal::Clock => BAD_CLOCK,
         }
     }
 }

@@ -12,7 +12,7 @@
 //! gaps.rt has the pass and gap.rt the test whether two numbers go on; clock.rt says what each clock leaves out.
 //! Another bound, or a clock more, changes `specs/ClocksFound.antt` and the contract of `find_clock`.
 
-ghost use Rattle.std.specs.Prelude.{◌≡◌, ◌+◌, ◌*◌, ◌<◌, ◌≤◌, ◌^◌, ◌↔◌, ◌⊎◌, true, length, List};
+ghost use Rattle.std.specs.Prelude.{◌≡◌, ◌+◌, ◌*◌, ◌<◌, ◌≤◌, ◌^◌, ◌↔◌, ◌⊎◌, true, false, length, List};
 ghost use Rattle.vbi_side.specs.declared.clock.Clock.TheVariants.{DropFrame, OneIn};
 ghost use Rattle.vbi_side.specs.declared.number.Number.{Number};
 ghost use Rattle.vbi_side.specs.Paces.{nearly};
@@ -217,14 +217,15 @@ fn even_clock(rule: Rule, first: Even, second: Even) -> Clock
 
 /// The clock that explains most of the places at which the numbers of an NTSC CLV disc don't go on, of those that
 /// explain at least three, and at least twice as many as they speak against. If drop-frame explains as much as one
-/// number in 1,000 or 1,001 it is drop-frame; if these two explain as much it is neither. One in 1,000 or 1,001 is
-/// found only if more than half of the places at which just one number is missing have its phase. Else, and of another
-/// disc, it is the clock of the rule.
+/// number in 1,000 or 1,001 it is drop-frame; if these two explain as much it is neither. The phase of one in 1,000 or
+/// 1,001 is that of more than half of the places at which just one number is missing; if none has so many, it may be
+/// any of theirs. Else, and of another disc, it is the clock of the rule.
 pub fn find_clock(numbers: &[Number], rule: Rule) -> Clock
     ensures told { (result ≡ rule.numbering.clock)
         ⊎ (IsProper result × IsClockTold result rule.pace rule.slack numbers.now) }
     ensures drop { has_clock rule.numbering ≡ true → ExplainsMost DropFrame rule.pace rule.slack numbers.now
         → result ≡ DropFrame }
+    ensures none { has_clock rule.numbering ≡ false → result ≡ rule.numbering.clock }
 {
     if !rule.numbering.has_clock() {
         return rule.numbering.clock;

@@ -3,7 +3,8 @@
 //! The caller has to ensure what that header says: a pointer points to as many bytes, or readings, as the length beside
 //! it says, or to one value. It may be null only if the length is 0.
 #![allow(clippy::missing_safety_doc)]
-use crate::c::{self, LdvbiCode, LdvbiErased, LdvbiFieldReadings, LdvbiNear, LdvbiReading, LdvbiRecord, LdvbiSought};
+use crate::c::{self, LdvbiClock, LdvbiCode, LdvbiErased, LdvbiFieldReadings, LdvbiNear, LdvbiReading, LdvbiRecord};
+use crate::c::LdvbiSought;
 use crate::side::{Finding, Gap, Number, Sightings};
 use std::mem::size_of;
 use std::slice::{from_raw_parts, from_raw_parts_mut};
@@ -57,6 +58,9 @@ macro_rules! export {
     ($name:ident $answer:ty, [$($given:tt)*] [$($passed:tt)*] $one:ident: &mut $of:ty, $($rest:tt)*) => {
         export! { $name $answer, [$($given)* $one: *mut $of,] [$($passed)* &mut *$one,] $($rest)* }
     };
+    ($name:ident $answer:ty, [$($given:tt)*] [$($passed:tt)*] $one:ident: &$of:ty, $($rest:tt)*) => {
+        export! { $name $answer, [$($given)* $one: *const $of,] [$($passed)* &*$one,] $($rest)* }
+    };
     ($name:ident $answer:ty, [$($given:tt)*] [$($passed:tt)*] $number:ident: $of:ty, $($rest:tt)*) => {
         export! { $name $answer, [$($given)* $number: $of,] [$($passed)* $number,] $($rest)* }
     };
@@ -107,5 +111,9 @@ exports! {
     fn ldvbi_find_both(numbers: &[Number]) -> u32;
     fn ldvbi_judge_side(system: u32, counted: u32, pace: u32, both: u32, may_end: u32, seen: &[Sightings],
         numbers: &[Number], ends: &[u32], gaps: &mut [Gap], side: &mut Finding) -> u32;
+    fn ldvbi_find_clock(system: u32, counted: u32, pace: u32, both: u32, numbers: &[Number],
+        clock: &mut LdvbiClock) -> u32;
+    fn ldvbi_judge_side_by_clock(system: u32, counted: u32, pace: u32, both: u32, may_end: u32, clock: &LdvbiClock,
+        seen: &[Sightings], numbers: &[Number], ends: &[u32], gaps: &mut [Gap], side: &mut Finding) -> u32;
     fn ldvbi_first_of(numbers: &[Number], number: u32) -> usize;
 }

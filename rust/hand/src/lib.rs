@@ -44,8 +44,8 @@
 //! ```
 //!
 //! Errors: [`Levels::new`] returns [`LevelsFault`], and [`Word24::new`] returns [`WordFault`]. [`Error`] is returned if
-//! bytes are no side or no line. Two calls panic on what they can't take: [`draw_line`] on less than a line, and
-//! [`Word24::half`] from 48 on.
+//! bytes are no side or no line, or a clock is none. Two calls panic on what they can't take: [`draw_line`] on less
+//! than a line, and [`Word24::half`] from 48 on.
 //!
 //! The calls below this interface are the source of the library for C, without the contracts that were proved of it.
 //! docs/PROMISES.md has what they promise. This interface itself is tested. With the feature `cli` the crate also has
@@ -104,7 +104,7 @@ pub use crate::lines::{Error, Feeder};
 pub use crate::near::Near;
 pub use crate::side::{Counted, Tally};
 pub use crate::sides::{Field, Number, Place, Side};
-pub use crate::whole::{Gap, GapKind, Reason, SideOptions, Verdict, Whole};
+pub use crate::whole::{Clock, Gap, GapKind, Reason, SideOptions, Verdict, Whole};
 pub use crate::words::{
     classify, draw_line, format_of, Code, Format, Levels, LevelsFault, Outcome, Reading, System, Word24, WordFault,
 };

@@ -12,6 +12,10 @@ pub enum Error {
     /// From [`Side::line`](crate::Side::line): not one line. From [`Side::nearest`](crate::Side::nearest): not 1 to 28.
     #[error("a line has {line} bytes, and these are {bytes}")]
     NoLine { bytes: usize, line: usize },
+    /// From [`Side::whole_by_clock`](crate::Side::whole_by_clock) and
+    /// [`Side::gaps_by_clock`](crate::Side::gaps_by_clock): no number leaves this remainder by the period.
+    #[error("the phase {phase} is not below the period {period}")]
+    NoClock { period: u32, phase: u32 },
 }
 
 /// Refuses bytes that aren't 1 to `most` lines of this system.

@@ -80,7 +80,7 @@ pub struct Field {
 /// | `new`, `cut_bytes`, `line`, `nearest` | nothing of the side |
 /// | `fields`, `stops` | each field that the iterator comes to, each time |
 /// | `seek` of a picture or a time | at most 1,000 fields; if it isn't found there, the whole side |
-/// | `seek` of a chapter, `numbers`, `chapters`, `whole`, `gaps`, `judged` | the whole side, once |
+/// | `seek` of a chapter, `numbers`, `chapters`, `whole`, `gaps`, `find_clock`, `judged` | the whole side, once |
 ///
 /// What is judged of the whole side is kept, 48 bytes a field, and clones and threads share it. Map a file with
 /// `MADV_RANDOM`: without it, the system reads far more of the file. docs/RUST.md says what the calls cost.

@@ -1,9 +1,9 @@
 //! Whole sides: whether a capture is whole, and where its numbers and fields don't go on together.
 
-use crate::c;
+use crate::c::{self, LdvbiClock};
 use crate::judged::rooms;
-use crate::lines::{done, number_of};
-use crate::side::{self, Counted, Finding, Tally};
+use crate::lines::{done, number_of, Error};
+use crate::side::{self, Counted, Finding, Sightings, Tally};
 use crate::sides::Side;
 
 /// How a whole side is judged.
@@ -21,6 +21,38 @@ impl SideOptions {
     /// The options for a disc that counts this: `on_both` is found, and the capture has to show the disc's lead-out.
     pub fn new(counted: Counted) -> SideOptions {
         SideOptions { counted, on_both: None, may_end: false }
+    }
+}
+
+/// Which numbers a disc leaves out. NTSC counts 30 pictures to a second, which has 29.97; to keep to the clock, CLV
+/// discs leave out numbers.
+#[derive(Clone, Copy, Debug, PartialEq, Eq)]
+pub enum Clock {
+    /// None, or it isn't known which.
+    Plain,
+    /// The first two of each minute but each tenth: 0:00:59.29 is followed by 0:01:00.02.
+    DropFrame,
+    /// One in `period`: those that leave the remainder `phase`, which is below it.
+    OneIn { period: u32, phase: u32 },
+}
+
+impl Clock {
+    /// As the library's calls take it, if it is one.
+    fn for_c(self) -> Result<LdvbiClock, Error> {
+        match self {
+            Clock::Plain => Ok(PLAIN),
+            Clock::DropFrame => Ok(LdvbiClock { kind: 1, period: 0, phase: 0 }),
+            Clock::OneIn { period, phase } if phase < period => Ok(LdvbiClock { kind: 2, period, phase }),
+            Clock::OneIn { period, phase } => Err(Error::NoClock { period, phase }),
+        }
+    }
+
+    fn of(clock: &LdvbiClock) -> Clock {
+        match clock.kind {
+            1 => Clock::DropFrame,
+            2 => Clock::OneIn { period: clock.period, phase: clock.phase },
+            _ => Clock::Plain,
+        }
     }
 }
 
@@ -128,8 +160,8 @@ pub enum GapKind {
     Still,
     /// Lead-in or lead-out stands between: another side begins.
     Joined,
-    /// The disc itself may skip there, or fields are lost: the clock of an NTSC CLV disc leaves out one or two times,
-    /// and film that is cut over a number that wasn't read goes on a field off.
+    /// The disc itself may skip there, or fields are lost: the clock of an NTSC CLV disc, if it isn't known, leaves out
+    /// one or two times, and film that is cut over a number that wasn't read goes on a field off.
     Open,
 }
 
@@ -168,37 +200,80 @@ impl Gap {
     }
 }
 
+/// What was judged of the fields of a side: the pace, what each field shows, its number, and the ends of the side.
+struct Fields {
+    pace: u32,
+    seen: Vec<Sightings>,
+    numbers: Vec<side::Number>,
+    ends: Vec<u32>,
+}
+
 impl Side<'_> {
-    /// Says whether the capture is whole. The whole side is read and judged, at the pace that is found.
+    /// Says whether the capture is whole. The whole side is read and judged, at the pace that is found. An NTSC CLV
+    /// disc leaves out numbers: ask [`whole_by_clock`](Side::whole_by_clock) with the clock of
+    /// [`find_clock`](Side::find_clock).
     pub fn whole(&self, options: SideOptions) -> Whole {
-        Whole::of(&self.judge_side(options).0)
+        Whole::of(&self.judge_side(options, &PLAIN).0)
+    }
+
+    /// The same of a disc that keeps to this clock. [`Error::NoClock`] if there is no such clock.
+    pub fn whole_by_clock(&self, options: SideOptions, clock: Clock) -> Result<Whole, Error> {
+        Ok(Whole::of(&self.judge_side(options, &clock.for_c()?).0))
     }
 
     /// The places where the numbers and the fields don't go on together, in order. The whole side is read and judged,
     /// at the pace that is found.
     pub fn gaps(&self, options: SideOptions) -> Vec<Gap> {
-        self.judge_side(options).1.iter().map(Gap::of).collect()
+        self.judge_side(options, &PLAIN).1.iter().map(Gap::of).collect()
     }
 
-    /// Reads and judges the side. Returns the answer for it and all its gaps.
-    fn judge_side(&self, options: SideOptions) -> (Finding, Vec<side::Gap>) {
+    /// The same of a disc that keeps to this clock. [`Error::NoClock`] if there is no such clock.
+    pub fn gaps_by_clock(&self, options: SideOptions, clock: Clock) -> Result<Vec<Gap>, Error> {
+        Ok(self.judge_side(options, &clock.for_c()?).1.iter().map(Gap::of).collect())
+    }
+
+    /// The clock to which the believed numbers keep, at the pace that is found; [`Clock::Plain`] if they tell none, as
+    /// those of PAL, of pictures, and of a few minutes.
+    pub fn find_clock(&self, options: SideOptions) -> Clock {
+        let (system, counted, both) = asked(self, options);
+        let (Fields { pace, numbers, .. }, mut clock) = (self.judge_fields(options.counted), PLAIN);
+        done(c::ldvbi_find_clock(system, counted, pace, both, &numbers, &mut clock));
+        Clock::of(&clock)
+    }
+
+    /// Reads the side, and judges its fields.
+    fn judge_fields(&self, counted: Counted) -> Fields {
         let judged = self.judged();
         let readings = judged.readings();
-        let (system, counted) = (number_of(self.system()), options.counted as u32 + 1);
+        let (system, counted) = (number_of(self.system()), counted as u32 + 1);
         let (mut pace, mut ends) = (0, vec![0; readings.len()]);
         let (mut seen, mut numbers) = rooms(readings.len());
         done(c::ldvbi_find_pace(system, counted, readings, &mut seen, &mut pace));
         done(c::ldvbi_judge(system, counted, pace, readings, &mut seen, &mut numbers));
         done(c::ldvbi_judge_ends(readings, &mut ends));
+        Fields { pace, seen, numbers, ends }
+    }
+
+    /// Reads and judges the side. Returns the answer for it and all its gaps.
+    fn judge_side(&self, options: SideOptions, clock: &LdvbiClock) -> (Finding, Vec<side::Gap>) {
+        let Fields { pace, seen, numbers, ends } = self.judge_fields(options.counted);
         // Each gap ends at a field of its own, so there is room for all.
-        let (mut gaps, mut found) = (vec![NO_GAP; readings.len()], NOT_FOUND);
-        let (both, may_end) = (options.on_both.map_or(FIND_BOTH, u32::from), u32::from(options.may_end));
-        done(c::ldvbi_judge_side(system, counted, pace, both, may_end, &seen, &numbers, &ends, &mut gaps, &mut found));
+        let (mut gaps, mut found) = (vec![NO_GAP; numbers.len()], NOT_FOUND);
+        let ((system, counted, both), may_end) = (asked(self, options), u32::from(options.may_end));
+        done(c::ldvbi_judge_side_by_clock(
+            system, counted, pace, both, may_end, clock, &seen, &numbers, &ends, &mut gaps, &mut found,
+        ));
         gaps.truncate(found.tally.gaps);
         (found, gaps)
     }
 }
 
+/// What is asked of a side, as the library's calls take it: its system, what is counted, and on which fields.
+fn asked(side: &Side, options: SideOptions) -> (u32, u32, u32) {
+    (number_of(side.system()), options.counted as u32 + 1, options.on_both.map_or(FIND_BOTH, u32::from))
+}
+
+const PLAIN: LdvbiClock = LdvbiClock { kind: 0, period: 0, phase: 0 };
 const FIND_BOTH: u32 = 3;
 
 // What is in a room before a call writes there

@@ -3,7 +3,7 @@
 mod drawn;
 
 use drawn::{draw, levels, picture, time};
-use ldvbi::{Counted, Gap, GapKind, Reason, Side, SideOptions, System, Verdict, Whole};
+use ldvbi::{Clock, Counted, Error, Gap, GapKind, Reason, Side, SideOptions, System, Verdict, Whole};
 
 type Rows = Vec<[u32; 3]>;
 
@@ -16,10 +16,10 @@ fn pictures(first: u32, last: u32) -> Rows {
     (first..=last).flat_map(|number| [[0, picture(number), picture(number)], BLANK]).collect()
 }
 
-/// These times of the first second of a CLV disc.
+/// These times of the first hour of an NTSC CLV disc, or of the first second of one of PAL.
 fn times(first: u32, last: u32) -> Rows {
     let rows = (first..=last).flat_map(|number| {
-        let [second, minutes] = time(0, 0, 0, number);
+        let [second, minutes] = time(0, number / 1800, number / 30 % 60, number % 30);
         [[second, 0x87FFFF, minutes], BLANK]
     });
     rows.collect()
@@ -136,4 +136,59 @@ fn film_and_numbers_on_both_fields() {
         assert_eq!((whole.verdict, whole.tally.lost, whole.tally.held), (verdict, lost, held));
         assert_eq!((gaps.len() as u64, whole.tally.gaps), (lost + held, gaps.len()));
     }
+}
+
+#[test]
+fn the_clock_of_a_disc() {
+    // Around the first three minutes 0:00:59.29 and the like are followed by 0:01:00.02.
+    let minute = |at: u32| [times(1800 * at - 10, 1800 * at - 1), times(1800 * at + 2, 1800 * at + 12)].concat();
+    let rows = [minute(1), minute(2), minute(3)].concat();
+    let thousand: Rows = (1..=3)
+        .flat_map(|at| [times(1000 * at - 10, 1000 * at - 1), times(1000 * at + 1, 1000 * at + 10)].concat())
+        .collect();
+    let (options, found) = (cut_off(Counted::Times), |rows: &Rows, options| {
+        let bytes = draw(System::Ntsc, rows);
+        Side::new(&bytes, System::Ntsc, levels()).unwrap().find_clock(options)
+    });
+    assert_eq!(found(&rows, options), Clock::DropFrame);
+    assert_eq!(found(&thousand, options), Clock::OneIn { period: 1000, phase: 0 });
+    assert_eq!(found(&rows[..84].to_vec(), options), Clock::Plain);
+    assert_eq!(found(&rows, SideOptions { counted: Counted::Pictures, ..options }), Clock::Plain);
+    let both: Rows = (0..rows.len()).map(|field| rows[field - field % 2]).collect();
+    assert_eq!(found(&both, options), Clock::DropFrame);
+    assert_eq!(found(&both, SideOptions { on_both: Some(false), ..options }), Clock::Plain);
+}
+
+#[test]
+fn a_side_by_its_clock() {
+    let options = cut_off(Counted::Times);
+    let judged = |rows: &Rows, phase| {
+        let bytes = draw(System::Ntsc, rows);
+        let side = Side::new(&bytes, System::Ntsc, levels()).unwrap();
+        assert_eq!(side.whole_by_clock(options, Clock::Plain), Ok(side.whole(options)));
+        assert_eq!(side.gaps_by_clock(options, Clock::Plain), Ok(side.gaps(options)));
+        let clock = Clock::OneIn { period: 1000, phase };
+        let whole = side.whole_by_clock(options, clock).unwrap();
+        (whole.verdict, whole.reasons, whole.tally.lost_numbers, side.gaps_by_clock(options, clock).unwrap())
+    };
+    // Number 12 is left out, and then also lost are the picture before it, or the one after it.
+    let whole = [times(0, 11), times(13, 24)].concat();
+    assert_eq!(judged(&whole, 12), (Verdict::Yes, vec![], 0, vec![]));
+    for (rows, fields, numbers) in [
+        ([times(0, 10), times(13, 24)].concat(), [20, 22], [10, 13]),
+        ([times(0, 11), times(14, 24)].concat(), [22, 24], [11, 14]),
+    ] {
+        let lost = vec![gap(GapKind::Lost, fields, numbers, 2)];
+        assert_eq!(judged(&rows, 12), (Verdict::No, vec![Reason::IsLost, Reason::IsOff], 1, lost));
+    }
+    // By another phase 12 is missing, and 13 has no fields.
+    let gaps = vec![gap(GapKind::Lost, [22, 24], [11, 13], 2), gap(GapKind::Held, [24, 26], [13, 14], 2)];
+    assert_eq!(judged(&whole, 13), (Verdict::No, vec![Reason::IsLost, Reason::IsHeld], 1, gaps));
+    let side = Side::new(&[], System::Ntsc, levels()).unwrap();
+    for (period, phase) in [(0, 0), (1000, 1000), (1, u32::MAX)] {
+        let (clock, refused) = (Clock::OneIn { period, phase }, Error::NoClock { period, phase });
+        assert_eq!(side.whole_by_clock(options, clock), Err(refused));
+        assert_eq!(side.gaps_by_clock(options, clock), Err(refused));
+    }
+    assert_eq!(side.find_clock(options), Clock::Plain);
 }
