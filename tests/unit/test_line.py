@@ -84,8 +84,8 @@ def test_what_a_line_shows(setup, text, said, digits, marked):
     (PLAIN, Row(0x82CFFE, 150), "82CFFF; the row of 82CFFE from column 150 on is 20.3 columns away", 29),
     (CHANGED, Row(0x82CFFF, 150), "no word: change 170; the row of 82CFFF from column 150 on is 3.5 columns away", 5)])
 def test_the_row_of_a_word(text, row, said, count):
-    """82CFFF changes its level in 42 columns, and 82CFFE is another word in the 29 columns of its last cell. Each counts
-    seven tenths."""
+    """82CFFF changes its level in 42 columns, and 82CFFE is another word in the 29 columns of its last cell. Each
+    counts seven tenths."""
     drawn = Drawn(described(text), row=row)
     assert (drawn.said, drawn.digits, len(drawn.marked), drawn.outside) == (said, "%06X" % row.word, count, [])
 

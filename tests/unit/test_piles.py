@@ -116,8 +116,8 @@ def test_times(room):
 
 def test_their_columns_count_for_nothing(room):
     """In cell 9 another word is nearer by a column in each capture. Without five that are wrong it is farther by four,
-    by 12 in three captures, which count 8.4 by seven tenths; without four by 9, which count 6.3. The word is nearer than
-    none by some 660: as a code it needs 4 in 288 of that, 9.2, or as any word 8, and 3 in 288, 6.9."""
+    by 12 in three captures, which count 8.4 by seven tenths; without four by 9, which count 6.3. The word is nearer
+    than none by some 660: as a code it needs 4 in 288 of that, 9.2, or as any word 8, and 3 in 288, 6.9."""
     for dropouts, wanted in (([(8, 17, 411, 415)], "together"), ([(8, 17, 411, 414)], "neighbours"),
                              ([(8, 18, 411, 415)], "neighbours"), ([(9, 17, 411, 415)], "neighbours")):
         ones = [capture(room, str(cell), NTSC, {5: [worn_line(picture(5), NTSC, 9, 15, cell, 15), 0]}, dropouts)

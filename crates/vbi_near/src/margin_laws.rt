@@ -1,5 +1,5 @@
-//! By how much a nearest word has to be ahead, as rows written down: the least of each kind is said, and one less isn't.
-//! A function here does nothing: its contract holds the numbers of margins.rt.
+//! By how much a nearest word has to be ahead, as rows written down: the least of each kind is said, and one less
+//! isn't. A function here does nothing: its contract holds the numbers of margins.rt.
 
 ghost use Rattle.std.specs.Prelude.{◌≡◌, ◌∷◌, [], Some, None, map};
 ghost use Rattle.vbi_near.specs.Margins.{levelled_margins, given_margins};

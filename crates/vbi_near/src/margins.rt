@@ -6,8 +6,8 @@
 //! nearer the word is than none, so a share of 10 of 288 parts is five twelfths of a cell there: it keeps back what a
 //! dropout says on a good line. Columns keep back what a line says of which hardly anything is left.
 //!
-//! specs/Margins.antt has the same numbers, and margin_laws.rt has words at their limits. CONTRIBUTING.md says what else
-//! changes with a margin.
+//! specs/Margins.antt has the same numbers, and margin_laws.rt has words at their limits. CONTRIBUTING.md says what
+//! else changes with a margin.
 
 /// By how much a nearest word has to be ahead of any other.
 #[derive(Clone, Copy)]
