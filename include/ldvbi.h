@@ -186,6 +186,9 @@ LDVBI_RESULT LDVBI_POINTER(6) uint32_t ldvbi_nearest(uint32_t system, uint32_t b
  *         either, if they don't agree             8           0                 10           0
  *         lines 17 and 18 together                8           8                  8           6
  *
+ * A code that isn't ahead by so much is said all the same if it is the nearest of all words, and is ahead as any other
+ * word has to be.
+ *
  * Lines 17 and 18 are taken together if neither shows a word that stays, neither is blank, they agree, and each bears
  * the common word or code. They agree if each has the same nearest word or code, or if the common one is at most 30
  * columns farther from the two lines than the nearest one of each is from its own line. Each bears it if the common one

@@ -40,9 +40,9 @@ pub struct MarginSet {
     pub both: Margins,
 }
 
-/// Those of levelled lines, chosen on simulated lines of worn discs: few words are wrong, and none are lost that were
-/// right before. One of two lines that don't agree is badly worn, so its nearest word is worth less. A code is compared
-/// with codes alone, and far fewer of these can be mistaken for it: so on one line it may be ahead by a column less.
+/// Those of levelled lines, chosen on simulated lines of worn discs (docs/MEASURED.md). One of two lines that don't
+/// agree is badly worn, so its nearest word is worth less. A code is compared with codes alone. If it is the nearest of
+/// all words, too, it may also be said as any other word is (said.rt).
 pub(crate) const LEVELLED: MarginSet = MarginSet {
     lone: Margins {
         code: Margin {

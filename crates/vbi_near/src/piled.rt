@@ -23,8 +23,8 @@ const MOST_LINES: usize = 28;
 
 /// By how much the nearest word has to be ahead, by whether the erased columns are known. If they are, no dropout is
 /// left in what is summed up, and a code needs the 4 columns that it needs on one line. Else a dropout at one place of
-/// all lines may turn a code into another one, so it needs as many as any other word, 8. The shares keep back what many
-/// lines say that have hardly anything left in common.
+/// all lines may turn a code into another one, so it needs as many as any other word, 8. What such a dropout says grows
+/// with the number of lines, and so do the shares.
 fn pile_margins(known: bool) -> Margins
     ensures { result ≡ pile_margins known }
 {
