@@ -146,13 +146,14 @@ install: places said-from $(BUILT)ldvbi $(if $(wildcard $(BUILT)libldvbi.a),inst
 	install -m 644 $(SHARED) $(ROOT)/share/ldvbi
 	install -d $(patsubst %/,$(ROOT)/share/ldvbi/%,$(sort $(dir $(PYTHON))))
 	$(foreach module,$(PYTHON),install -m 644 $(module) $(ROOT)/share/ldvbi/$(module) &&) :
-	install -d $(DOCUMENTS)/docs/pictures $(DOCUMENTS)/examples/rust/src
+	install -d $(DOCUMENTS)/docs/pictures $(DOCUMENTS)/examples/rust/src/bin
 	install -m 644 README.md CHANGELOG.md LICENSE $(DOCUMENTS)
 	install -m 644 $(wildcard docs/*.md) $(DOCUMENTS)/docs
 	install -m 644 $(wildcard docs/pictures/*.svg docs/pictures/*.png) $(DOCUMENTS)/docs/pictures
 	install -m 644 $(wildcard examples/*.*) $(DOCUMENTS)/examples
 	install -m 644 examples/rust/Cargo.toml $(DOCUMENTS)/examples/rust
-	install -m 644 examples/rust/src/main.rs $(DOCUMENTS)/examples/rust/src
+	install -m 644 $(wildcard examples/rust/src/*.rs) $(DOCUMENTS)/examples/rust/src
+	install -m 644 examples/rust/src/bin/whole.rs $(DOCUMENTS)/examples/rust/src/bin
 
 said-from:
 	@[ "$(ASKED)" ] || [ $(FROM) = proved ] || echo "make: takes what make rust built, which is tested and not proved"

@@ -15,12 +15,13 @@
 #include <sys/mman.h>
 #include <unistd.h>
 
-enum { ROOM = 10, REASONS = 12, KINDS = 7 };
+enum { ROOM = 10, REASONS = 13, KINDS = 9 };
 static const char *const reasons[REASONS] = {
     "fields are lost", "too many fields", "numbers go back", "another side begins", "it begins late",
     "fields are swapped", "first and last number don't fit", "no numbers", "no lead-out", "its beginning isn't seen",
-    "many numbers are in doubt", "fields may be lost"};
-static const char *const kinds[KINDS] = {"unknown", "lost", "held", "back", "still", "joined", "open"};
+    "many numbers are in doubt", "fields may be lost", "fields don't belong there"};
+static const char *const kinds[KINDS] = {
+    "unknown", "lost", "held", "back", "still", "joined", "open", "inserted", "replaced"};
 
 static void require(int holds, const char *fault) {
     if (!holds) exit((fprintf(stderr, "whole: %s\n", fault), 2));
@@ -67,7 +68,7 @@ int main(int count, char **words) {
     check(ldvbi_judge_ends(read, fields, ends, fields));
     LdvbiGap gaps[ROOM];
     LdvbiClock clock;
-    LdvbiSide found;
+    LdvbiSide found, dropped;
     found.reasons = LDVBI_NO_NUMBERS;
     for (uint32_t counted = LDVBI_PICTURES; counted <= LDVBI_TIMES && found.reasons == LDVBI_NO_NUMBERS; counted++) {
         check(ldvbi_find_pace(system, counted, read, fields, seen, fields, &pace));
@@ -75,6 +76,12 @@ int main(int count, char **words) {
         check(ldvbi_find_clock(system, counted, pace, LDVBI_FIND_BOTH, numbers, fields, &clock));
         check(ldvbi_judge_side_by_clock(system, counted, pace, LDVBI_FIND_BOTH, (uint32_t)may_end, &clock, seen,
                                         fields, numbers, fields, ends, fields, gaps, ROOM, &found));
+        if (clock.kind != LDVBI_PLAIN || system != LDVBI_NTSC || counted != LDVBI_TIMES) continue;
+        /* a few minutes don't show enough of drop-frame: if no clock is found, what is whole by that is whole */
+        clock.kind = LDVBI_DROP_FRAME;
+        check(ldvbi_judge_side_by_clock(system, counted, pace, LDVBI_FIND_BOTH, (uint32_t)may_end, &clock, seen,
+                                        fields, numbers, fields, ends, fields, NULL, 0, &dropped));
+        if (dropped.verdict == LDVBI_WHOLE) found = dropped;
     }
     return print(&found, gaps);
 }

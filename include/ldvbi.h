@@ -426,9 +426,10 @@ enum { LDVBI_LOOKED = 1000 };
  * this pace by what ldvbi_recover_fields reads of all fields. The first field with a number is found if the side has at
  * most a million fields and its numbers lead there. They do if three things hold: along a sixteenth of the side or
  * more, any 12 fields in a row tell a number together; elsewhere none do; lower numbers are told before the field,
- * higher ones after it. It isn't proved that a side is like this. The sides that were tried are, if the player runs on,
- * with any lead-in and lead-out, and each line is read. Otherwise a number may be missed: to be sure that it isn't
- * there, judge the whole side. */
+ * higher ones after it. A run of a disc of video is like this if it has three fields more than a sixteenth of the side,
+ * and each number was read on both lines in pass 1: that is proved, too. Of other sides it isn't. Those that were tried
+ * are like this if the player runs on, with any lead-in and lead-out, and each line is read. Otherwise a number may be
+ * missed: to be sure that it isn't there, judge the whole side. */
 LDVBI_RESULT LDVBI_POINTER(9) uint32_t ldvbi_seek(uint32_t system, uint32_t black, uint32_t white, uint32_t counted,
     uint32_t pace, const void *bytes, size_t length, uint32_t number, LdvbiSought *sought);
 
@@ -478,6 +479,15 @@ LDVBI_RESULT uint32_t ldvbi_judge_stops(const LdvbiFieldReadings *readings, size
  * for each picture or time; two and a half on film, to within a field; and two, to within a field, on video with a
  * number on both fields of a picture. All else is a gap.
  *
+ * Two neighbouring gaps may be a detour around the run of numbers between them. Then both have another kind, in place
+ * of LDVBI_LOST, LDVBI_HELD, LDVBI_BACK or LDVBI_OPEN; other gaps are never part of one. The numbers around are `from`
+ * of the first gap and `to` of the second one, which has to be above it. If these two go on, both gaps are
+ * LDVBI_REPLACED: the run's numbers were misread, or two cuts cancel each other. On film a gap of these may also stand
+ * in place of LDVBI_STILL: a number that is misread by one looks so. Else both are LDVBI_INSERTED if numbers go back at
+ * one of the gaps, and the two count to no more fields than lie outside of the run: the player left the fields around,
+ * and came back. Detours are taken from the first gap on, and no gap is part of two. Of the numbers between the two
+ * none is lost, undecided or unread by these gaps.
+ *
  * This is proved: `gaps` gets each gap, once and in order, as far as it has room, and `side->tally` counts all of them.
  * What follows holds if the numbers are those of ldvbi_judge at this pace, and the disc counts on: any two of its
  * numbers go on.
@@ -488,11 +498,18 @@ LDVBI_RESULT uint32_t ldvbi_judge_stops(const LdvbiFieldReadings *readings, size
  * was misread between. If numbers are on both fields of a picture, at most two fields are lost between a field that
  * near to `first` and one that near to `last`; on film at most four.
  *
+ * The other way round, a side of video with a number on one field of each picture is LDVBI_WHOLE, with no gap and no
+ * reason, if the capture is one run of the disc from its first number, which is 1 or 0, to lead-out, has three pictures
+ * or more, and each number was read on both lines in pass 1. So is one that begins later, if fields enough for the
+ * numbers before it stand there, 100 at most. `both` is LDVBI_ON_ONE or LDVBI_FIND_BOTH.
+ *
  * With a number on one field of each picture: if each field stands later on the disc than the one before it, and the
  * numbers at both ends of each LDVBI_LOST gap are right, the capture lacks at least `tally.lost` fields of the disc
- * between `first` and `last`. And in whatever order the fields stand, if the words misread within LDVBI_REACH fields of
- * each end of a gap of video weigh less than 10, the capture isn't one run of the disc from LDVBI_REACH fields before
- * the gap to as many after it.
+ * between `first` and `last`. If the numbers around gaps of LDVBI_REPLACED are right, on video, as many fields are
+ * skipped between as are repeated. If also each field stands later on the disc than the one before it, none is, and the
+ * run's numbers at the two gaps are wrong. And in whatever order the fields stand, if the words misread within
+ * LDVBI_REACH fields of each end of a gap of video weigh less than 10, the capture isn't one run of the disc from
+ * LDVBI_REACH fields before the gap to as many after it.
  *
  * Some faults go unseen. Lost fields and as many doubled ones leave no gap if no number between is believed. Swapped
  * fields go unseen if their numbers weren't read, on film, and with numbers on both fields. And a disc whose own
@@ -502,15 +519,19 @@ enum LdvbiGapKind {
     LDVBI_HELD = 2,   /* there are more fields than the numbers count to */
     LDVBI_BACK = 3,   /* the numbers go back */
     LDVBI_STILL = 4,  /* the same number an even count of fields later: the player stood still; never for times */
-    LDVBI_JOINED = 5, /* a field between is believed to be lead-in or lead-out: another side begins */
-    LDVBI_OPEN = 6    /* fields are lost or too many, or the disc itself skips: the clock of an NTSC CLV disc leaves out
-                         one or two times, and film that is cut over an unread number goes on a field off */
+    LDVBI_JOINED = 5, /* a field between is believed to be lead-in or lead-out: another side begins; never of a still */
+    LDVBI_OPEN = 6,   /* fields are lost or too many, or the disc itself skips: the clock of an NTSC CLV disc leaves out
+                         one or two times; film that is cut over an unread number goes on a field off; and a disc of
+                         film may have video there, if there are just two fields for each number */
+    LDVBI_INSERTED = 7, /* one of the two gaps of a detour over fields that don't belong there */
+    LDVBI_REPLACED = 8  /* one of the two gaps of a detour whose numbers were misread, unless two cuts cancel */
 };
 
 typedef struct LdvbiGap {
     size_t after, before; /* the fields with the numbers before it and after it, counted from 0 */
     uint64_t fields;      /* at least how many are lost or too many; how many a still has; for an open gap how many
-                             more or fewer there are than the numbers count to; else 0 */
+                             more or fewer there are than the numbers count to; for the first gap of LDVBI_INSERTED how
+                             many don't belong there, on film to within a field; else 0 */
     uint64_t shown;       /* the fields between that show a number between these two, on both lines in pass 1 */
     uint32_t from, to;    /* the numbers of the two fields */
     uint32_t kind;        /* of enum LdvbiGapKind */
@@ -522,7 +543,7 @@ typedef struct LdvbiTally { /* a count that is too large becomes the greatest on
     uint64_t stood, stills;  /* the fields of stills, and how many stills: each counts once, however many gaps it has */
     size_t still_end;        /* the field after the last still, counted from 0; 0 if there is none */
     uint64_t back, joined;   /* how often the numbers go back, and how often another side begins */
-    uint64_t open_gaps;      /* how many gaps are LDVBI_OPEN */
+    uint64_t open_gaps;      /* how many gaps are LDVBI_OPEN or LDVBI_REPLACED */
     uint64_t lost_numbers;   /* numbers that are skipped in gaps with lost fields, without those that are undecided */
     uint64_t undecided;      /* skipped numbers that may be there: in gaps with lost fields as many as the fields
                                 between show, or half as many as these fields, if that is more; in open gaps all */
@@ -538,7 +559,8 @@ enum LdvbiBoth { /* whether a disc of video has its numbers on both fields of a 
 
 enum LdvbiVerdict { LDVBI_CANNOT_TELL = 0, LDVBI_WHOLE = 1, LDVBI_NOT_WHOLE = 2 };
 
-enum LdvbiReason { /* any of the first six makes the side LDVBI_NOT_WHOLE, else any other one LDVBI_CANNOT_TELL */
+enum LdvbiReason { /* any of the first six, or the last one, makes the side LDVBI_NOT_WHOLE, else any other one
+                      LDVBI_CANNOT_TELL */
     LDVBI_IS_LOST = 1,
     LDVBI_IS_HELD = 2,
     LDVBI_GOES_BACK = 4,
@@ -547,13 +569,15 @@ enum LdvbiReason { /* any of the first six makes the side LDVBI_NOT_WHOLE, else 
                                    the numbers before it take */
     LDVBI_IS_SWAPPED = 32,      /* on video with numbers on one field of a picture: between two numbers that go on, a
                                    field shows one that belongs in a field beside it and isn't there */
-    LDVBI_IS_OFF = 64,          /* numbers go on one by one, each to within a field, but not all from each other; or no
-                                   gap is open, and the last one, less the stills, doesn't go on from the first */
+    LDVBI_IS_OFF = 64,          /* numbers go on one by one, each to within a field, but not all from each other; or
+                                   `open_gaps` is 0, and the last one, less the stills and the fields of
+                                   LDVBI_INSERTED gaps, doesn't go on from the first */
     LDVBI_NO_NUMBERS = 128,     /* none is believed; then this is the only reason */
     LDVBI_END_UNSEEN = 256,     /* no lead-out is believed after the last number, and `may_end` is 0 */
     LDVBI_BEGIN_UNSEEN = 512,   /* the first number is above 1, and over 100 fields are before it, counted as above */
     LDVBI_MANY_DOUBTFUL = 1024, /* a tenth or more of the numbers that were read are LDVBI_DOUBTFUL */
-    LDVBI_IS_OPEN = 2048        /* a gap is LDVBI_OPEN */
+    LDVBI_IS_OPEN = 2048,       /* a gap is LDVBI_OPEN or LDVBI_REPLACED */
+    LDVBI_IS_INSERTED = 4096    /* a gap is LDVBI_INSERTED */
 };
 
 typedef struct LdvbiSide {
@@ -573,7 +597,9 @@ enum LdvbiEnd { /* whether a field belongs to an end of the side */
 
 /* Judges which fields show lead-in or lead-out, each by its own lines 17 and 18. For each field `ends` gets
  * LDVBI_IS_LEAD_OUT if one of the two lines shows lead-out in pass 1, or if both lines do, in whatever pass; else
- * LDVBI_IS_LEAD_IN if they show lead-in so; LDVBI_DOUBTFUL_END if a line shows either; else LDVBI_NO_END. */
+ * LDVBI_IS_LEAD_IN if they show lead-in so; LDVBI_DOUBTFUL_END if a line shows either; else LDVBI_NO_END. This is
+ * proved: if the disc has no lead-out in a field with LDVBI_IS_LEAD_OUT, a word of pass 1 was misread there, or both
+ * words were; and so it is with lead-in. */
 LDVBI_RESULT uint32_t ldvbi_judge_ends(const LdvbiFieldReadings *readings, size_t count, uint32_t *ends,
     size_t end_count);
 

@@ -15,6 +15,7 @@ from comparison import Comparison
 from ldvbi_side.answer.analysis import analyse
 from ldvbi_side.judge.readings import Fields
 from simulate import simulated
+from simulated_real import REAL, real
 from simulated_runs import parser, totals_of, write_rows
 from sound import faults_of
 from truth import Truth
@@ -37,7 +38,7 @@ def fields_of(side, parity=False):
     words, passes, causes = ([tuple(of(record)) for record in records] for of in (
         lambda record: record["vbi"]["vbiData"], operator.itemgetter("vbiPass"), operator.itemgetter("vbiCause")))
     return Fields(side.document["videoParameters"]["system"], words, passes, causes, _packed(words, passes), None,
-                  side.first if parity else None, may_end=True)
+                  side.first if parity or side.has_parity else None, may_end=True)
 
 
 def _packed(words, passes):
@@ -50,7 +51,7 @@ def _packed(words, passes):
 def measured(seed, kind=None, parity=False, tell=lambda text: None, count=None, sound=True):
     """The kind of the side of this seed, and the counts of what is found of it. Its kind and the count of its pictures
     can be asked for, and what holds of every answer can be left out."""
-    side = simulated(seed, kind, count=count)
+    side = real(kind, seed, count) if kind in REAL else simulated(seed, kind, count=count)
     fields = fields_of(side, parity)
     begin = time.process_time()
     answer = analyse(fields)

@@ -26,7 +26,9 @@ class Simulated(NamedTuple):
     that was misread. `swaps` are the first fields of pairs that stand in each other's place, `speeds` the first and the
     last field and the numbers a picture of each stretch at another speed. Where two discs are joined, `second` is the
     first field of the second one, `between` are the numbers that lie between those of both, and `other` are the fields
-    of a disc whose format is the other one. `dark` are fields that show nothing, and are none of the disc's."""
+    of a disc whose format is the other one. `dark` are fields that show nothing, and are none of the disc's. `detours`
+    are the first and the last field of what was played elsewhere before the player came back. If it `has_parity`, the
+    metadata has isFirstField."""
     kind: str
     layout: str
     settings: str
@@ -42,6 +44,8 @@ class Simulated(NamedTuple):
     between: range = range(0)
     other: frozenset = frozenset()
     dark: frozenset = frozenset()
+    detours: Sequence = ()
+    has_parity: bool = False
 
 
 def simulated(seed, kind=None, wrong=None, count=None):
@@ -74,7 +78,7 @@ def played_through(seed, kind, count=None):
         rows = disc(rng, kind, count)
     lost = dict.fromkeys((16, 17, 18), rng.choice((0, 0.001, 0.02, 0.1)))
     damage = Damage(rng, rng.choice((0, 0.0001, 0.001, 0.005)), lost, rng.choice((0, 0.01, 0.1)))
-    return _side(kind, kind, damage, rows, list(range(len(rows))), _numbers_in(rows))
+    return side_read(kind, kind, damage, rows, list(range(len(rows))), _numbers_in(rows))
 
 
 def _captured(rng, kind, rows, wrong):
@@ -82,7 +86,7 @@ def _captured(rng, kind, rows, wrong):
     lost_rate = rng.choice((0, 0, 0.0005, 0.002, 0.01))
     order = played(rng, rows, kind, lost_rate)
     lost = dict.fromkeys((16, 17, 18), rng.choice((0, 0.001, 0.02, 0.1, 0.3)))
-    return _side(kind, kind, Damage(rng, wrong, lost, rng.choice((0, 0.01, 0.1))), rows, order, _numbers_in(rows))
+    return side_read(kind, kind, Damage(rng, wrong, lost, rng.choice((0, 0.01, 0.1))), rows, order, _numbers_in(rows))
 
 
 def _played(seed, kind, wrong, count):
@@ -102,7 +106,7 @@ def _played(seed, kind, wrong, count):
     if play.second is not None and not play.other:
         between = _between(_numbers_in(rows[:play.second]), _numbers_in(rows[play.second:]))
     second = play.second and bisect.bisect_left(order, play.second) + 1
-    return _side(kind, layout, damage, rows, order, _numbers_in(rows))._replace(
+    return side_read(kind, layout, damage, rows, order, _numbers_in(rows))._replace(
         swaps=[at + 1 for at in swaps], second=second, between=between,
         other=frozenset(field for field, place in enumerate(order, 1) if place in play.other),
         dark=frozenset(field for field, place in enumerate(order, 1) if place in play.dark),
@@ -119,7 +123,7 @@ def _between(one, other):
     return range(min(one[-1], other[-1]) + 1, max(one[0], other[0]))
 
 
-def _side(kind, layout, damage, rows, order, on_disc):
+def side_read(kind, layout, damage, rows, order, on_disc):
     """The side of which this damage reads the fields in this order."""
     for field, place in enumerate(order, 1):
         damage.read(field, rows[place][1])

@@ -32,7 +32,7 @@ def kept_of(rng, order, lost_rate):
     return kept
 
 
-def _changeable(text):
+def changeable(text):
     """The places of the digits of a word that may be misread."""
     if text[0] == "F":
         return [1, 4, 5] if text[2] == "D" else [1, 2, 3, 4, 5]
@@ -44,7 +44,7 @@ def _changeable(text):
 def misread(rng, word):
     """Another word of the same kind where it has a number: one or two digits have a wrong bit."""
     text = list("%06X" % word)
-    places = _changeable("%06X" % word)
+    places = changeable("%06X" % word)
     for place in rng.sample(places, rng.choice((1, 1, 1, 2))):
         digit = int(text[place], 16)
         for _ in range(20):

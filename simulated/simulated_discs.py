@@ -73,3 +73,23 @@ def _clv(rng, kind, count, step, clock):
         if clock == "minutes" and number % 1800 == 0 and number % 18000:
             number += 2
     return rows
+
+
+def clocked(rng, clock, count, on_both):
+    """The fields of an NTSC CLV disc of so many pictures, from number 0 or 1 on, as `disc` has them. It has its numbers
+    on both fields of a picture, or on the first. Its clock leaves out numbers as `drop-frame` does, or one in so many,
+    or none."""
+    rows = [(None, [0, LEAD_IN, LEAD_IN])] * (2 * rng.randrange(1, 20))
+    layout, number = rng.randrange(3), rng.randrange(2)
+    phase = rng.randrange(2, clock) if isinstance(clock, int) else None
+    for _ in range(count):
+        while number % 1800 < 2 and number % 18000 > 1 if clock == "drop-frame" else clock and number % clock == phase:
+            number += 1
+        own, time, of_group = clv_picture(number // 30 % 60, number % 30), minutes(number // 1800), chapter(
+            number // 300 % 80)
+        rows.append((number, [own, time if layout == 0 else CLV_MARK, time]))
+        rows.append((number, [own, CLV_MARK, time]) if on_both else (
+            None, [CX_ON, CLV_MARK if layout < 2 else of_group, of_group]))
+        number += 1
+    rows += [(None, [0, LEAD_OUT, LEAD_OUT])] * 40
+    return [(number, words, place % 2 == 0) for place, (number, words) in enumerate(rows)]

@@ -65,50 +65,51 @@ def with_lead_out(side):
         numbers=side.numbers + [None] * LEAD_OUT_FIELDS, order=side.order + list(range(place, place + LEAD_OUT_FIELDS)))
 
 
-def _programme(side):
+def programme_of(side):
     """The fields, counted from 0, from the first one with a number to the last one."""
     numbered = list(_numbered(side))
     return range(numbered[0] - 1, numbered[-1])
 
 
-def _fields(side):
+def fields_in(side):
+    """The fields of a side, counted from 0."""
     return list(range(len(side.order)))
 
 
 def twice(rng, side):
     """The capture has one field twice."""
-    fields, at = _fields(side), rng.choice(_programme(side)[20:-20])
+    fields, at = fields_in(side), rng.choice(programme_of(side)[20:-20])
     return rearranged(side, fields[:at] + fields[at - 1:])
 
 
 def one_lost(rng, side):
     """The capture lacks one field."""
-    fields, at = _fields(side), rng.choice(_programme(side)[20:-20])
+    fields, at = fields_in(side), rng.choice(programme_of(side)[20:-20])
     return rearranged(side, fields[:at] + fields[at + 1:])
 
 
 def one_swap(rng, side):
     """The capture has two neighbouring fields in each other's place."""
-    fields, at = _fields(side), rng.choice(_programme(side)[20:-20])
+    fields, at = fields_in(side), rng.choice(programme_of(side)[20:-20])
     fields[at:at + 2] = fields[at + 1], fields[at]
     return rearranged(side, fields)._replace(swaps=[at + 1])
 
 
 def no_lead_out(rng, side):
     """The capture ends with the field of the disc's last number."""
-    return rearranged(side, _fields(side)[:_programme(side)[-1] + 1])
+    return rearranged(side, fields_in(side)[:programme_of(side)[-1] + 1])
 
 
 def cut_off(rng, side):
     """The capture was stopped early, and lacks the last tenth of the programme."""
-    programme = _programme(side)
-    return rearranged(side, _fields(side)[:programme[9 * len(programme) // 10]])
+    programme = programme_of(side)
+    return rearranged(side, fields_in(side)[:programme[9 * len(programme) // 10]])
 
 
 def begun_late(rng, side):
     """The capture was begun late, and lacks the first tenth of the programme."""
-    programme = _programme(side)
-    return rearranged(side, _fields(side)[programme[len(programme) // 10]:])
+    programme = programme_of(side)
+    return rearranged(side, fields_in(side)[programme[len(programme) // 10]:])
 
 
 def film_cut(rng, side):
@@ -121,7 +122,7 @@ def film_cut(rng, side):
         for begin, end in zip(begins[cut:], begins[cut + 1:]):
             fields += (begin, begin + 1) if end - begin == 3 else (begin, begin + 1, begin + 1)
         side = rearranged(side, fields + list(range(begins[-1], len(side.order))))
-    return side._replace(order=_fields(side))
+    return side._replace(order=fields_in(side))
 
 
 def none(rng, side):

@@ -7,6 +7,7 @@ import sys
 from collections import Counter, defaultdict
 
 from simulate import KINDS, PLAYED
+from simulated_real import REAL
 
 
 def parser():
@@ -15,7 +16,7 @@ def parser():
     found = argparse.ArgumentParser()
     found.add_argument("begin", type=int)
     found.add_argument("end", type=int)
-    found.add_argument("--kind", choices=KINDS + tuple(PLAYED) + ("each",), action="append")
+    found.add_argument("--kind", choices=(*KINDS, *PLAYED, *REAL, "each"), action="append")
     found.add_argument("--show", type=int, default=0)
     found.add_argument("--into")
     return found

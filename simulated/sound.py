@@ -108,11 +108,13 @@ class Sound:
         return number is not None and value == number
 
     def _look_at_judged(self):
-        """What the library believes of a field is believed."""
+        """What the library believes of a field is believed, unless it stands in the place of other numbers."""
         counted = ldvbi.Counted.times if self.unit == "time" else ldvbi.Counted.pictures
         pace = ldvbi.Pace.film if self.answer["pace"] == "film" else ldvbi.Pace.video
         for field, (number, state) in enumerate(ldvbi.judge(self.fields.packed, self.fields.system, counted, pace), 1):
-            if state == ldvbi.State.believed and self.believed.get(field) != number:
+            if state == ldvbi.State.believed and self.believed.get(field) != number and not any(
+                    one["kind"] == "replaced" and one["first"] <= field <= one["last"]
+                    for one in self.answer["detours"]):
                 self.faults.append("field %d: the library believes another number" % field)
 
     def _look_at_conflicts(self):
@@ -271,12 +273,12 @@ class Sound:
             self.faults.append("whole is %s, and the reasons are %s" % (answer["whole"], answer["reasons"]))
 
     def _verdict(self):
-        """What the library says of the side at the pace of the answer."""
+        """What the library says of the side at the pace of the answer, by the clock that it finds."""
         counted = "times" if self.answer["format"] == "clv" else "pictures"
         pace = {"film": "film", None: "find"}.get(self.answer["pace"], "video")
         both = {"both": "on_both", None: "find"}.get(self.answer["pace"], "on_one")
         return ldvbi.judge_side(self.fields.packed, self.fields.system, counted, pace, both,
-                                self.fields.may_end).verdict
+                                self.fields.may_end, "find").verdict
 
     def _is_seen(self, field):
         """Whether a line of a field isn't blank, and none shows a code that stands where no number does."""

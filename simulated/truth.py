@@ -35,9 +35,10 @@ class Truth:
     has it, else `lost`), `left_out` those that the disc hasn't; `due` are pairs of a number and the field that has it
     where it can't be read, between two fields whose numbers can; `lost` how many fields are lost after which field,
     `hidden` the numbers that the disc hasn't inside such a loss, where no field shows that, by its field;
-    `backs` the fields after which the disc's order is broken, `searches` how many fields too many (or, negative, too
-    few) each search in the dark has for the numbers that it passes over, `swaps` and `speeds` as far as numbers show
-    them."""
+    `backs` the fields after which the disc's order is broken; `inserted` and `replaced` are detours, whose ends are
+    neither: the capture goes on after them where it left the disc, or as if it had played on meanwhile; `searches` how
+    many fields too many (or, negative, too few) each search in the dark has for the numbers that it passes over,
+    `swaps` and `speeds` as far as numbers show them."""
 
     def __init__(self, side):
         self.side = side
@@ -48,12 +49,18 @@ class Truth:
         self.right, self.right_chapters, self.wrong, self.wrong_chapters = set(), set(), set(), set()
         self.numbered = [field for field, record in enumerate(side.document["fields"], 1)
                          if self._look_at(field, record["vbi"]["vbiData"])]
+        self.inserted = [one for one in side.detours if self._over(*one) == 1]
+        self.replaced = [(first, last) for first, last in side.detours if self._over(first, last) == last - first + 2]
         self._find_missing()
         self._find_due()
         self._find_lost()
         self.searches = [off for off in map(self._searched, self.numbered, self.numbered[1:]) if off is not None]
         self.swaps = [field for field in side.swaps if self._is_seen(field)]
         self.speeds = [] if side.layout == "clv-minutes" else side.speeds
+
+    def _over(self, first, last):
+        """How far the field after a detour is from the one before it, on the disc."""
+        return self.side.order[last] - self.side.order[first - 2]
 
     def _look_at(self, field, words):
         """Takes in a field; answers whether its number can be read."""
@@ -144,6 +151,8 @@ class Truth:
                 continue
             if side.dark & {place, place + 1} or any(first <= place < last for first, last, _ in side.speeds):
                 continue
+            if any(place in (first - 1, last) for first, last in self.inserted + self.replaced):
+                continue
             if after - before > 1:
                 self.lost[place] = after - before - 1
                 self.hidden[place] = self.left_out & set(self._passed_over(place))
@@ -190,7 +199,8 @@ class Reasons:
             "lost": self._or_before(self._lost()), "jumps": self._jumps(),
             "missing": self._or_before(self._or_clock("lost" in truth.missing.values())), "begins": self._begins(),
             "joined": self._joined(), "format": self._format(), "metadata": False, "cut": False,
-            "swapped": bool(truth.swaps), "speed": self._speed()}
+            "swapped": bool(truth.swaps), "speed": self._speed(),
+            "detours": bool(truth.inserted) if self.side.detours else None}
         self.open = {"numbers": not truth.read, "line": False, "doubtful": self._doubtful(), "judged": False,
                      "ends": False, "undecided": None, "order": None}
 
@@ -242,10 +252,14 @@ class Reasons:
         return None if self.truth.backs else self._beside_a_join(False)
 
     def _joined(self):
-        kinds, numbered = self.truth.kinds, self.truth.numbered
-        return bool(numbered) and any(
-            Kind.lead_in in kinds[field] and field > numbered[0] or Kind.lead_out in kinds[field] and
-            field < numbered[-1] for field in kinds)
+        """The last number may stay beside lead-out."""
+        kinds, numbered, numbers = self.truth.kinds, self.truth.numbered, self.side.numbers
+        if not numbered:
+            return False
+        others = (field for field in reversed(numbered) if numbers[field - 1] != numbers[numbered[-1] - 1])
+        last = numbered[bisect.bisect(numbered, next(others, 0))]
+        return any(Kind.lead_in in kinds[field] and field > numbered[0] or Kind.lead_out in kinds[field] and
+                   field < last for field in kinds)
 
     def _format(self):
         fields = [field for field in sorted(self.side.other) if self.truth.kinds[field] & set(CAV_KINDS + CLV_KINDS)]

@@ -1,10 +1,13 @@
 #!/usr/bin/env python3
 """How often the first line of `ldvbi-side` is right: whether a capture is whole, beside the truth of simulated sides.
 
-usage: verdicts.py FROM TO [--kind KIND]... [--open-end] [--processes N] [--show FILE]     the seeds FROM to TO - 1
+usage: verdicts.py FROM TO [--kind KIND]... [--open-end] [--library] [--processes N] [--show FILE]
+
+The sides have the seeds FROM to TO - 1. --library asks the library alone, which judges by the clock that it finds.
 
 Each seed has a kind by chance: those of simulate.py, where fields are lost and the player jumps by chance, those of
-PLAYED (simulated_kinds.py), and those of FAULTS (simulated_faults.py). --kind asks for some of them alone. With
+PLAYED (simulated_kinds.py), and those of FAULTS (simulated_faults.py). --kind asks for some of them alone, or for
+those of REAL (simulated_real.py), `real` for each of these in turn. With
 --open-end a capture may end before the disc does, as with that option of `ldvbi-side`. --show writes each false or open
 answer into a file.
 
@@ -32,13 +35,16 @@ import random
 from collections import Counter, defaultdict
 from typing import NamedTuple
 
+import ldvbi
 from ldvbi_side.answer.analysis import analyse
 from measure import fields_of
 from simulate import KINDS, PLAYED, simulated
 from simulated_faults import FAULTS, faulty, lead_in_of, lead_out_of, with_lead_out
+from simulated_real import REAL, real
 from truth import Reasons, Truth
 
 YES, NO, EITHER, OPEN = "yes", "no", "either", "can't tell"
+SAID = {ldvbi.Verdict.whole: YES, ldvbi.Verdict.not_whole: NO, ldvbi.Verdict.cannot_tell: OPEN}
 ALL = (*KINDS, *PLAYED, *FAULTS)
 COLUMNS = ("sides", "right", "false yes", "false no", "can't tell of a yes", "can't tell of a no", "either")
 
@@ -63,6 +69,8 @@ def side_of(seed, kind):
     """The side of this seed and kind, with a lead-out if its kind isn't to have none."""
     if kind in FAULTS:
         return faulty(random.Random("%s %d" % (kind, seed)), kind, seed)
+    if kind in REAL:
+        return real(kind, seed)
     return with_lead_out(simulated(seed, kind))
 
 
@@ -133,9 +141,21 @@ def true_of(side, may_end=False):
     return YES if is_in_order else EITHER
 
 
-def said_of(side, may_end=False):
-    """The answer's verdict, and its reasons as texts."""
-    answer = analyse(fields_of(side)._replace(may_end=may_end))
+def library_says(side, fields, clock="find"):
+    """The library's answer for a side; times are judged with the minutes that it completes."""
+    if side.layout.startswith("clv"):
+        packed, counted = ldvbi.complete_times(fields.packed, fields.system), "times"
+    else:
+        packed, counted = fields.packed, "pictures"
+    return ldvbi.judge_side(packed, fields.system, counted, may_end=fields.may_end, clock=clock)
+
+
+def said_of(side, may_end=False, by_library=False):
+    """The answer's verdict, and its reasons as texts; or the library's verdict, and no reasons."""
+    fields = fields_of(side)._replace(may_end=may_end)
+    if by_library:
+        return SAID[library_says(side, fields).verdict], []
+    answer = analyse(fields)
     return answer["whole"], [one["text"] for one in answer["reasons"]]
 
 
@@ -148,10 +168,10 @@ def column_of(said, true):
     return "%s of a %s" % (said, true) if said == OPEN else "false " + said
 
 
-def verdict_of(seed, kind, may_end=False):
+def verdict_of(seed, kind, may_end=False, by_library=False):
     """What is said of the side of this seed and kind, and what is true."""
     side = side_of(seed, kind)
-    said, reasons = said_of(side, may_end)
+    said, reasons = said_of(side, may_end, by_library)
     true = true_of(side, may_end)
     counts = {"sides": 1, column_of(said, true): 1}
     if not lead_out_of(side):
@@ -167,7 +187,7 @@ def print_table(verdicts):
             totals[kind].update(one.counts)
     print("| Kind | %s |" % " | ".join(COLUMNS))
     print("| --- |%s" % (" --- |" * len(COLUMNS)))
-    for kind in sorted(totals, key=lambda kind: (*ALL, "all").index(kind)):
+    for kind in sorted(totals, key=lambda kind: (*ALL, *REAL, "all").index(kind)):
         print("| %s | %s |" % (kind, " | ".join(str(totals[kind][name]) for name in COLUMNS)))
     sums = totals["all"]
     print("Without a lead-out: %d sides, said yes %d, no %d, can't tell %d" % (
@@ -187,14 +207,15 @@ def main():
     asked = argparse.ArgumentParser()
     asked.add_argument("begin", type=int)
     asked.add_argument("end", type=int)
-    asked.add_argument("--kind", choices=ALL, action="append")
+    asked.add_argument("--kind", choices=(*ALL, *REAL, "real"), action="append")
     asked.add_argument("--open-end", action="store_true")
+    asked.add_argument("--library", action="store_true")
     asked.add_argument("--processes", type=int, default=1)
     asked.add_argument("--show")
     options = asked.parse_args()
-    kinds = options.kind or ALL
+    kinds = tuple(REAL) if options.kind == ["real"] else options.kind or ALL
     with multiprocessing.Pool(options.processes) as pool:
-        verdicts = pool.starmap(verdict_of, [(seed, kind_of(seed, kinds), options.open_end)
+        verdicts = pool.starmap(verdict_of, [(seed, kind_of(seed, kinds), options.open_end, options.library)
                                              for seed in range(options.begin, options.end)])
     print_table(verdicts)
     if options.show:

@@ -24,7 +24,7 @@ SECTIONS = {mark: [tuple(one.split()) for one in text.split(";")] for mark, text
     "worn": "vbi_field/src/run.rt extract_recovered",
     "counts": "vbi_line/src/tries.rt read_once write_once; "
               "vbi_line/src/line.rt clear start_pass next_sample next_block",
-    "nearest": "vbi_near/src/lines.rt nearest_of_lines",
+    "nearest": "vbi_near/src/pile.rt nearest_of_lines",
     "recovered": "vbi_near/src/recovery.rt recover_rows",
     "belief": "vbi_side/src/laws.rt sound on_the_disc sound_still",
     "judge": "vbi_side/src/answers.rt judge; vbi_side/src/found.rt found_pace; vbi_side/src/laws.rt whole_found; "
@@ -36,7 +36,9 @@ SECTIONS = {mark: [tuple(one.split()) for one in text.split(";")] for mark, text
     "field": "vbi_side/src/laws.rt same_in_part; vbi_side/src/answers.rt judge_one",
     "stops": "vbi_side/src/stops.rt judge_stop; vbi_side/src/stop_laws.rt stops_in_words",
     "whole": "vbi_side/src/verdict.rt judge_whole; vbi_side/src/ends.rt judge_end; "
-             "vbi_side/src/gap_laws.rt cut_found whole_yes nearly_whole lost_sound",
+             "vbi_side/src/gap_laws.rt cut_found whole_yes nearly_whole lost_sound; "
+             "vbi_side/src/clean_laws.rt yes_complete clean_runs_are; "
+             "vbi_side/src/end_laws.rt ends_sound",
 }.items()}
 LINE = "line"
 # Those of this section that the page prints; their comments and names say what the others are

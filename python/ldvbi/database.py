@@ -38,6 +38,13 @@ def first_of_database(path: str) -> List[Any]:
     return [bool(value) if value in (0, 1) else None for value in values]
 
 
+def padding_of_database(path: str) -> List[int]:
+    """Which fields are padding, counted from 0: those whose column `pad` is 1. There are none without this column."""
+    with opened(path) as database:
+        values = column_of_fields(database, "pad") if has_column_of_fields(database, "pad") else None
+    return [place for place, value in enumerate(values or ()) if value == 1]
+
+
 def dropouts_of_database(path: str) -> List[Dropout]:
     """The dropouts of lines 16, 17 and 18. There are none if the table `drop_outs` isn't as ld-decode makes it, or if
     no table, or more than one, has the fields."""
@@ -106,12 +113,23 @@ def columns_of(database: sqlite3.Connection, table: str) -> List[str]:
 def column_of_fields(database: sqlite3.Connection, column: str) -> Optional[List[Any]]:
     """The values of a column, in the order of the fields, from the one table that has the fields; None if no table has
     them, or more than one."""
+    table = table_of_fields(database)
+    if table is None:
+        return None
+    return [value for value, in database.execute("SELECT %s FROM %s ORDER BY field_id" % (column, quoted(table)))]
+
+
+def table_of_fields(database: sqlite3.Connection) -> Optional[str]:
+    """The name of the one table that has the fields; None if no table has them, or more than one."""
     tables = [table for table in tables_of(database)
               if {"field_id", "is_first_field"} <= set(columns_of(database, table))]
-    if len(tables) != 1:
-        return None
-    rows = database.execute("SELECT %s FROM %s ORDER BY field_id" % (column, quoted(tables[0])))
-    return [value for value, in rows]
+    return tables[0] if len(tables) == 1 else None
+
+
+def has_column_of_fields(database: sqlite3.Connection, column: str) -> bool:
+    """Whether that table has a column."""
+    table = table_of_fields(database)
+    return table is not None and column in columns_of(database, table)
 
 
 def quoted(name: str) -> str:

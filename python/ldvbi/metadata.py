@@ -24,12 +24,14 @@ OnMember = Callable[[str, int, str], None]
 
 class Metadata(NamedTuple):
     """What a file has: the videoParameters, how many fields there are, and `isFirstField` of each. Each is None if the
-    file doesn't have it. `dropouts` are those of lines 16, 17 and 18, as `ldvbi.Stream` takes them."""
+    file doesn't have it. `dropouts` are those of lines 16, 17 and 18, as `ldvbi.Stream` takes them. `pad` says of each
+    field whether it is padding, which stands for one that the capture lacks; it is None if none is."""
     path: str
     parameters: Optional[Dict[str, Any]]
     fields: Optional[int]
     first: Optional[List[bool]]
     dropouts: List[Dropout]
+    pad: Optional[List[bool]] = None
 
 
 class Settings(NamedTuple):
@@ -64,20 +66,24 @@ def read_metadata(path: str, on_field: Optional[OnField] = None, waits: bool = T
         if is_database(begin):
             from . import database  # the smallest Pythons have no sqlite3
             found = _Found(database.parameters_of_database(path), database.first_of_database(path),
-                           database.dropouts_of_database(path))
+                           database.dropouts_of_database(path), database.padding_of_database(path))
         else:
             found = _of_text(file, on_field, on_member)
-    parameters, first, dropouts = found
+    parameters, first, dropouts, padding = found
     count = len(first) if first else _count(parameters or {})
     is_known = first and all(isinstance(one, bool) for one in first)
-    return Metadata(path, parameters, count, first if is_known else None, dropouts)
+    pads = set(padding)
+    return Metadata(path, parameters, count, first if is_known else None, dropouts,
+                    [place in pads for place in range(len(first))] if pads else None)
 
 
 class _Found(NamedTuple):
-    """The videoParameters, and of each field its `isFirstField`, each None if it isn't there; and the dropouts."""
+    """The videoParameters, and of each field its `isFirstField`, each None if it isn't there; the dropouts; and which
+    fields are padding, counted from 0."""
     parameters: Optional[Dict[str, Any]]
     first: List[Any]
     dropouts: List[Dropout]
+    padding: List[int]
 
 
 def _of_text(file: BinaryIO, on_field: Optional[OnField], on_member: Optional[OnMember]) -> _Found:
@@ -85,12 +91,13 @@ def _of_text(file: BinaryIO, on_field: Optional[OnField], on_member: Optional[On
     parameters: Optional[Dict[str, Any]] = None
     first: List[Any] = []
     dropouts: List[Dropout] = []
+    padding: List[int] = []
     with io.TextIOWrapper(file, encoding="utf-8", newline="") as text:
         scanner = Scanner(text)
         try:
             for name in scanner.members():
                 if name == "fields" and scanner.comes("["):
-                    first, dropouts = _firsts_and_dropouts(_told(scanner, on_field) if on_field else scanner.values())
+                    first, dropouts, padding = _of_fields(_told(scanner, on_field) if on_field else scanner.values())
                     continue
                 value = scanner.value()
                 if on_member:
@@ -98,24 +105,28 @@ def _of_text(file: BinaryIO, on_field: Optional[OnField], on_member: Optional[On
                 if name == "videoParameters":
                     parameters = value if isinstance(value, dict) else None
                 elif name == "fields":
-                    first, dropouts = [], []
+                    first, dropouts, padding = [], [], []
             scanner.end()
         except NotJson:
-            return _Found(None, [], [])
-    return _Found(parameters, first, dropouts)
+            return _Found(None, [], [], [])
+    return _Found(parameters, first, dropouts, padding)
 
 
-def _firsts_and_dropouts(fields: Iterable[List[Any]]) -> Tuple[List[Any], List[Dropout]]:
-    """The `isFirstField` of each of the fields, which come some at a time, and the dropouts of all."""
+def _of_fields(fields: Iterable[List[Any]]) -> Tuple[List[Any], List[Dropout], List[int]]:
+    """The `isFirstField` of each of the fields, which come some at a time, the dropouts of all, and which have a `pad`
+    that is true."""
     first: List[Any] = []
     dropouts: List[Dropout] = []
+    padding: List[int] = []
     for some in fields:
         for field in some:
             known = field if isinstance(field, dict) else {}
             if "dropOuts" in known:
                 dropouts += told_dropouts(len(first), known["dropOuts"])
+            if known.get("pad") is True:
+                padding.append(len(first))
             first.append(known.get("isFirstField"))
-    return first, dropouts
+    return first, dropouts, padding
 
 
 def _told(scanner: Scanner, on_field: OnField) -> Iterator[List[Any]]:

@@ -20,8 +20,8 @@ class Verdict(enum.IntEnum):
 
 
 class Reason(enum.IntFlag):
-    """Why a capture isn't whole (the first six), or why that can't be told (if there are only others). One that a later
-    library may have keeps its number."""
+    """Why a capture isn't whole (the first six, and the last one), or why that can't be told (if there are only
+    others). One that a later library may have keeps its number."""
     is_lost = 1
     is_held = 2
     goes_back = 4
@@ -34,25 +34,32 @@ class Reason(enum.IntFlag):
     begin_unseen = 512
     many_doubtful = 1024
     is_open = 2048
+    is_inserted = 4096
 
 
 class GapKind(enum.IntEnum):
     """What lies between two neighbouring numbers that don't go on. `lost`: fields of the disc are lost. `held`: there
     are more fields than the numbers count to. `back`: the numbers go back. `still`: the player stood still. `joined`:
-    another side begins. `open`: the disc itself may skip there, or fields are lost or too many."""
+    another side begins. `open`: the disc itself may skip there, or fields are lost or too many; on film, it may have
+    video there. The last two are the kinds of detours: of two neighbouring gaps, over which the numbers around go on.
+    `inserted`: as if fields between weren't there, where the player left and came back. `replaced`: over the fields
+    between, whose numbers were misread, unless two cuts cancel each other."""
     lost = 1
     held = 2
     back = 3
     still = 4
     joined = 5
     open = 6
+    inserted = 7
+    replaced = 8
 
 
 class Gap(NamedTuple):
     """A gap between two fields with numbers, counted from 0. `fields` is at least how many are lost or too many; how
-    many a still has; for an open gap how many more or fewer there are than the numbers count to; else 0. `shown` are
-    the fields between that show a number between these two, on both lines in pass 1. `from_` and `to` are the numbers
-    of the two fields. If this module doesn't know the kind, which a later library may have, `kind` is its number."""
+    many a still has; for an open gap how many more or fewer there are than the numbers count to; for the first gap of a
+    detour how many it inserts; else 0. `shown` are the fields between that show a number between these two, on both
+    lines in pass 1. `from_` and `to` are the numbers of the two fields. If this module doesn't know the kind, which a
+    later library may have, `kind` is its number."""
     after: int
     before: int
     fields: int

@@ -24,9 +24,10 @@ RECOVERED = 3  # the pass of a recovered word
 class Side:
     """The whole fields of a side in order, and the field in which it was cut. `readings` are kept as the library writes
     them, and those of each field are made when they are asked for. `first` says of each field whether it is the first
-    one of its frame, or is None if that isn't known. `expected` is the number of fields that the metadata has, or None.
-    With `is_strict`, a side without lead-in or lead-out, or with an unread number, isn't whole. With `may_end`, a side
-    without lead-out may be. `samples` is the stream from which words were recovered, or None.
+    one of its frame, or is None if that isn't known. `pad` says of each whether it is padding, or is None if none is.
+    `expected` is the number of fields that the metadata has, or None. With `is_strict`, a side without lead-in or
+    lead-out, or with an unread number, isn't whole. With `may_end`, a side without lead-out may be. `samples` is the
+    stream from which words were recovered, or None.
 
     `answer` says what the words mean, as docs/ANSWER.md describes it; `pictures`, `times`, `chapters`, `stops` and
     `format` are parts of it. `analysis` has the same as an `Answer` of answer/entries.py. `codes` is what each field
@@ -41,6 +42,7 @@ class Side:
         self.levels = levels
         self.first = first
         self.samples = samples
+        self.pad: Optional[List[bool]] = None
         self.expected: Optional[int] = None
         self.is_strict = False
         self.may_end = False
@@ -55,7 +57,7 @@ class Side:
         try_levels = functools.partial(tried_on, self.samples) if self.samples else None
         fields = self.readings
         return Fields(self.system.name, fields.words(), fields.passes(), fields.causes(), fields.data, self.cut,
-                      self.first, self.expected, self.is_strict, self.may_end, nearest_word, try_levels)
+                      self.first, self.expected, self.is_strict, self.may_end, nearest_word, try_levels, self.pad)
 
     @functools.cached_property
     def analysis(self) -> Analysis:

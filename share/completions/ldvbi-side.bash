@@ -33,6 +33,15 @@ _ldvbi_side() {
                 -j | --jobs | --black | --white) return ;;
             esac
             ;;
+        write)
+            options='--help --change --from --ends --sure --one-side --most-padding --plan --recovered --meta'
+            options="$options "'--system --black --white --no-recover --strict --open-end'
+            case $before in
+                --system) answers='NTSC PAL' ;;
+                --meta) compopt -o default; return ;;
+                --change | --from | --most-padding | --black | --white) return ;;
+            esac
+            ;;
         *)
             options='--help --version --meta --system --black --white --no-recover --strict --open-end --csv --json'
             options="$options "'--bad-lines --seek --summary --document --plot-line --recovered --output --svg --html --map'

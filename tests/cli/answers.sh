@@ -27,19 +27,11 @@ finds() {
         0 | 3) sed -n 's/^field \([0-9]*\).*/\1/p' out | paste -s -d ' ' | sed -n 's/^[0-9]/field &/p' > answer ;;
     esac
 }
-# says COMMAND..: leaves as the answer what it says as examples/whole.c does: whether the side is whole, or its gaps
-says() {
-    does "$@"
-    gap='^\([a-z]*\) \([0-9]*\): field \([0-9]*\) has [0-9]*, field \([0-9]*\) has [0-9]*$'
-    case $question in
-        whole*) sed -n '1s/^whole: \(yes\|no\)\b.*/\1/p' out > answer ;;
-        *) sed -n "s/$gap/\1 \3 \4 \2/p" out | paste -s -d , | sed -n 's/,/, /g; /./p' > answer ;;
-    esac
-}
-
 # The answerers, as `asks` takes them: the examples in a language, the players, and `ldvbi-side`
 searches() {
     case "$1 $4" in
+        'python whole to lead-out') says python3 "$top/examples/whole.py" "$2.tbc" $3 ;;
+        'python whole' | 'python gaps') says python3 "$top/examples/whole.py" "$2.tbc" $3 cut ;;
         *' whole to lead-out') says ./whole_$1 "$2.tbc" $3 ;;
         *' whole' | *' gaps') says ./whole_$1 "$2.tbc" $3 cut ;;
         *' stops') finds sh -c "./stops_$1 $3 < $2.tbc" ;;
@@ -65,7 +57,7 @@ plays_in() {
 }
 asks c 'searches c'
 asks c++ 'searches cpp'
-asks python 'searches python' '[0-9c].*'
+asks python 'searches python' '[0-9cwg].*'
 for language in c cpp python; do
     asks player "plays_in $language" '[0-9]*'
 done

@@ -1,5 +1,5 @@
 #!/bin/sh
-# Asks the crate of `make rust` what answers.sh asks others, by the player in examples/rust and its example `answers`.
+# Asks the crate of `make rust` what answers.sh asks others, by the programs in examples/rust and its example `answers`.
 # usage: sh tests/cli/rust_answers.sh PROGRAM
 # runs: rust
 # fails where: tests/cli/answers.txt|s/ = field 29;/ = field 27;/
@@ -14,11 +14,8 @@ in_rust() {
         stops) does ./answers "$1.tbc" $2
             awk '/ true$/ && $2 != "bytes" { fields = fields " " $1 + 1 } END { if (fields) print "field" fields }' \
                 out > answer ;;
-        whole*) does ./answers "$1.tbc" $2
-            sed -n "s/^$3: \(Yes\|No\)\$/\L\1/p" out > answer ;;
-        gaps) does ./answers "$1.tbc" $2
-            awk '$1 == "gap:" { printf "%s%s %d %d %d", parted, tolower($2), $5 + 1, $9 + 1, $3; parted = ", " }' \
-                out > answer ;;
+        'whole to lead-out') says ./whole "$1.tbc" $2 ;;
+        whole | gaps) says ./whole "$1.tbc" $2 cut ;;
         chapter*) plays '\( picture [0-9]*\)\?' ./player "$1.tbc" $2 $3 ;;
         *:*) plays '\( picture [0-9]*\)\?' ./player "$1.tbc" $2 search $3 ;;
         *) plays "\( picture $3\)\?" ./player "$1.tbc" $2 search $3 ;;
@@ -39,7 +36,9 @@ for place in "$top/rust/crate" project; do
     # By the settings of the folder
     check "cargo builds in $(basename "$place")" does sh -c 'cd "$1" && cargo build --quiet --examples --bins' sh $place
 done
-cp "$CARGO_TARGET_DIR/debug/examples/answers" "$CARGO_TARGET_DIR/debug/player" . || exit 1
+for name in examples/answers player whole; do
+    cp "$CARGO_TARGET_DIR/debug/$name" . || exit 1
+done
 draws_sides
 asks rust in_rust
 asks rust by_seek '[0-9c].*'

@@ -1,13 +1,15 @@
 # shellcheck shell=sh disable=SC2034
 # What the tests of the table answers.txt share. They read this in after tests/helpers.sh and library_helpers.sh.
 
-# draw_side NAME RATE OPTIONS: prints the side of the table with this name
+# draw_side NAME RATE SETUP: draws the side of the table with this name. Of long sides the file has holes: what isn't a
+# drawn line takes no room.
 draw_side() {
     sed -n "s/^= $1 [A-Z]* //p" "$tests/cli/answers.txt" | PYTHONPATH=$top/python:$tests/unit python3 -Bc '
 import sys
-from compact import rows
-print(*rows(sys.stdin.read(), int(sys.argv[1])), sep="\n")' $2 > side.words
-    output_of draw $3 side.words
+import streams
+from compact import words_of
+path, rate, setup = sys.argv[1:]
+streams.write_stream(path, getattr(streams, setup), words_of(sys.stdin.read(), int(rate)))' "$1.tbc" $2 $3
 }
 
 # draws_sides: draws the side NAME.tbc of each name in the table
@@ -18,10 +20,20 @@ draws_sides() {
     sed -n 's/^= \([a-z]* [A-Z]*\) .*/\1/p' "$here/answers.txt" | uniq > sides
     while read -r side system; do
         case $system in
-            NTSC) draw_side "$side" 30 "$ntsc" ;;
-            PAL) draw_side "$side" 25 "$pal" ;;
-        esac > "$side.tbc"
+            NTSC) draw_side "$side" 30 NTSC ;;
+            PAL) draw_side "$side" 25 PAL ;;
+        esac || exit 1
     done < sides
+}
+
+# says COMMAND..: leaves as the answer what an example as examples/whole.c says: whether the side is whole, or its gaps
+says() {
+    does "$@"
+    gap='^\([a-z]*\) \([0-9]*\): field \([0-9]*\) has [0-9]*, field \([0-9]*\) has [0-9]*$'
+    case $question in
+        whole*) sed -n '1s/^whole: \(yes\|no\)\b.*/\1/p' out > answer ;;
+        *) sed -n "s/$gap/\1 \3 \4 \2/p" out | paste -s -d , | sed -n 's/,/, /g; /./p' > answer ;;
+    esac
 }
 
 # plays SAID COMMAND..: what a player finds, which says this after the field

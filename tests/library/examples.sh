@@ -17,7 +17,7 @@ with_python
 seek='seek seek.py'
 stops='stops stops_cpp'
 player='player player_cpp player.py'
-whole='whole whole_cpp'
+whole='whole whole_cpp whole.py'
 for name in seek stops player whole pixels; do
     bounded $cc -std=c99 $strict -o $name "$top/examples/$name.c" $linked
 done
@@ -75,8 +75,8 @@ run extract $ntsc worn.tbc
 check 'a worn side: no line shows its word' [ "$(jq -c '[.fields[].vbi.vbiData[]] | [length, add]' out)" = '[144,0]' ]
 mkdir folder.tbc
 ln -s /dev/null null.tbc
-draw_side misread 30 "$ntsc" > misread.tbc
-draw_side clock 30 "$ntsc" > clock.tbc
+draw_side misread 30 NTSC
+draw_side clock 30 NTSC
 bounded sh "$top/examples/side.sh" "$program"
 # Parts of a side: so many fields, and bytes of the next one
 for part in 4_478659 5_1 8_32760; do

@@ -194,9 +194,9 @@ def test_first(_, number, text, first):
 
 GAP, SIDE, CLOCK = layout("Gap"), layout("Side"), layout("Clock")
 VERDICTS = {"?": NUMBERS.CANNOT_TELL, "yes": NUMBERS.WHOLE, "no": NUMBERS.NOT_WHOLE}
-REASONS = dict(zip("lost held back joined late swapped off none end begin doubtful open".split(), named(
+REASONS = dict(zip("lost held back joined late swapped off none end begin doubtful open inserted".split(), named(
     "is_lost", "is_held", "goes_back", "is_joined", "begins_late", "is_swapped", "is_off", "no_numbers", "end_unseen",
-    "begin_unseen", "many_doubtful", "is_open")))
+    "begin_unseen", "many_doubtful", "is_open", "is_inserted")))
 NUMBERED = ("gaps lost held stood stills still_end back joined open_gaps lost_numbers undecided unread first last "
             "swap").split()  # the members of LdvbiSide before its verdict
 PARTS = [Guarded(size * 4000) for size in (SEEN.size, NUMBER.size, STATE.size)]  # so many fields at most
@@ -303,7 +303,7 @@ def test_clock(setting, text, wanted):
 def main():
     rows = [(kind, setting, row) for name in ("judged.txt", "whole.txt") for kind, settings, rows in tables(name)
             for setting in settings for row in rows]
-    expect(len(rows) == 579, "there are more rows, or fewer:", len(rows))
+    expect(len(rows) == 623, "there are more rows, or fewer:", len(rows))
     for kind, setting, row in rows:
         globals()["test_" + kind](setting, *row)
     finish()

@@ -5,7 +5,7 @@ A side is a text of parts, from left to right. These add fields:
     7  1..30  0..60/3  9..5   the two fields of each of these pictures (discs.pictures)
     0..99!4,7  0..99!4%10     the same without some, or without those that have this rest
     f1..30  e1..30  b1..30    pictures of film, the odd or the even ones having 3 fields; each field with a number
-    t0..60  u0..60            times, counted from the disc's start, and with line 16 alone
+    t0..60  u0..60  d0..60    times, counted from the disc's start; with line 16 alone; with each on both fields
     m9  n9                    a field with this minute on line 18 beside a mark, or on lines 17 and 18
     L O B ? C                 lead-in, lead-out, a blank field, `- ? ?`, chapter 0
     -/#17/#7                  a row of discs.py, with / for its spaces: #17 is picture 17, c7 chapter 7, @1:09 a minute,
@@ -38,6 +38,7 @@ FIELDS = {
     "e": lambda numbers, rate: pictures(numbers, 0), "t": times,
     "b": lambda numbers, rate: ["- %s %s" % (picture(number), picture(number)) for number in numbers for _ in (1, 2)],
     "u": lambda numbers, rate: [row.split(" ")[0] + " - -" if row[2] == "E" else BLANK for row in times(numbers, rate)],
+    "d": lambda numbers, rate: [row for row in times(numbers, rate)[::2] for _ in (1, 2)],
     "m": lambda numbers, rate: ["- 87FFFF " + minutes(*divmod(number, 60)) for number in numbers],
     "n": lambda numbers, rate: ["- {0} {0}".format(minutes(*divmod(number, 60))) for number in numbers]}
 NUMBERS = re.compile(r"([a-z]?)(\d+)(?:\.\.(\d+)(?:/(\d+))?)?(?:!([\d,]+)(?:%(\d+))?)?")
@@ -140,6 +141,7 @@ ITEMS = {
     "lost": lambda one: "%s %s %s" % (span(one, "after", "before"), one["fields"], one["by"]),
     "breaks": lambda one: "%s %s %s to %s, %s" % (one["kind"], span(one, "after", "before"), one["from"], one["to"],
                                                  one["fields"]),
+    "detours": lambda one: "%s %s %s" % (one["kind"], span(one), span(one, "from", "to")),
     "unread": lambda one: "%s@%s" % (one["number"], one["field"]) + ("" if one["read"] is None
                                                                      else "=%s" % one["read"]),
     "stills": lambda one: "%s@%s" % (one["number"], span(one)),

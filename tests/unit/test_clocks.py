@@ -76,11 +76,12 @@ def test_without_a_clock():
 
 
 def test_another_clock():
-    """By one whose places are elsewhere each of its own is a gap, and each of the disc's: no place is both."""
+    """By one whose places are elsewhere each of its own is a gap, and each of the disc's: no place is both. Around the
+    number between the two the others go on."""
     found = judged(fields_of(THOUSAND, False), THOUSAND._replace(phase=400))
-    assert (found.verdict, found.tally.lost, found.tally.held) == (Verdict.not_whole, 8, 8)
-    assert [(gap.from_, gap.to, gap.kind) for gap in found.gaps[:2]] == [(398, 400, GapKind.lost),
-                                                                         (400, 401, GapKind.held)]
+    assert (found.verdict, found.reasons, found.tally.open_gaps) == (Verdict.cannot_tell, Reason.is_open, 8)
+    assert [(gap.from_, gap.to, gap.kind) for gap in found.gaps[:2]] == [(398, 400, GapKind.replaced),
+                                                                         (400, 401, GapKind.replaced)]
 
 
 @pytest.mark.parametrize("text, counted", (

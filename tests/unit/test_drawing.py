@@ -43,6 +43,8 @@ MARKS = (
     ("lost", {"by": "both", "fields": 3},
      "lost fields 10: lost: 3 fields" + LOST + "by the numbers and by isFirstField"),
     ("lost", {"by": "parity", "fields": None}, "lost fields 10: lost: one or more fields" + LOST + "by isFirstField"),
+    ("lost", {"by": "undecided", "fields": None},
+     "lost fields 10: lost or shown again: a field" + LOST + "by isFirstField"),
     ("lost", {"by": "undecided", "fields": 2},
      "lost fields 10: lost: 2 fields" + LOST + "or a number was skipped by the disc itself"),
     ("lost", {"unit": "minute", "after": 3610, "before": 7111, "fields": 90},
@@ -178,7 +180,7 @@ DRAWN = """
       | stop picture stop of 1 in field 9, lines 16 and 17 | lead-in lead-in: fields 1 to 8
       | +line-17 line 17, field 61: hold 200
     t0..57/3 | +count other speeds: 1 | -count swapped || 1 | +count lost: 0 | -count undecided
-    1..9 ?x4 14..30 | +count undecided: 4 || PAL/8 1..3 6..9 | +count lost fields: 5 || 1..30 21=? | +count unread: 1
+    1..9 ?x4 14..30 | +count undecided: 4 || PAL/8 1..3 6..9 | +count lost fields: 4 || 1..30 21=? | +count unread: 1
     1..600!0%8 | +count lost: 74 | #lost 74 | #lost-fields 74 | #upright 0 || 1..399!0%8 | #upright 98
     <1..60 -/#N/#N -/cN/cN> | #chapter 60 | #chapter-line 60 || <1..70 -/#N/#N -/cN/cN> | #chapter 70 | #chapter-line 0
     <1..30 -/#N/#N -/cN/cN> | disc-label 1; 2; 3; 4; 5; 6; 7; 8; 9

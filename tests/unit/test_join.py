@@ -31,6 +31,8 @@ NAMES = {
     "OTHER": "1..40 9=-/#5*/#5* 11=-/#6/#70000 15=-/#8/- 25=#13/#13/#13 -61:62",
     # without five times, which the clock leaves out
     "SOME": "NTSC t0..4499!7%1000", "DETOUR": "1..50 151..170 71..100",
+    # 38 pictures in the place of others, between 24
+    "RUN": "1..10 5..42 49..62",
     # every fifth field of 30 pictures of film is lost, which looks like a stretch of video. Picture 61 is in field 151;
     # 64 is 6 fields on, and in the whole side 8
     "CUT": "NTSC f1..60 61..90 f91..120",
@@ -53,6 +55,9 @@ EITHER = """
     seconds count | t100..139 ; t100..139 21.16=s4.10* | better a 0:00:04.10 1
     better than both others | 1..40 3=-/#2*/- ; 1..40 3=-/#2/- 5=? ; 1..39 3=-/#2*/- | better b 2 1
     another part | 1..10 ; 21..40 | missing 11-20 10 lost | says lacking in all: 10 (pictures 11 to 20 lost)
+    fields after the last number or before the first may have others | 1..10 Bx20 ; 21..40 | missing 11-20 10 undecided
+    as many | 1..10 Bx4 O ; Lx9 Bx5 61..80 | missing 11-12 2 undecided, 13-57 45 lost, 58-60 3 undecided
+    minutes | n0..1x3000 Bx3000 ; n4x3000 | missing 0:02 1 undecided, 0:03 1 lost
     what one has a field for isn't lost | 1..40 29=C ; 1..40 -29:30 | missing 15 1 unread
     lost ones are counted first | 1..40 9=C -29:30 ; 1..40 9=C -29:30 | missing 5 1 unread, 15 1 lost
         | says together: pictures 1 to 40, 1 lost, 1 unread
@@ -61,6 +66,8 @@ EITHER = """
     it leaves out 0:00:00.07 | SOME -1:38 ; SOME | lacks a 0:00:00.00-0:00:00.19 19 b
     a detour | DETOUR ; 1..100 | says disagreements: 1 (pictures 151 to 170 in fields 101 to 140 of a, where b has
         pictures 51 to 70 in fields 101 to 140)
+    a long one | RUN ; RUN | disagreements || of another | RUN ; 1..62 | says disagreements: 1 (pictures 5 to 42 in
+        fields 21 to 96 of a, where b has pictures 11 to 48 in fields 21 to 96)
     what the clock leaves out of one | SOME ; NTSC t0..999 | says disagreements: 1 (time 0:00:00.07 skipped by the disc
         itself in fields 13 to 15 of a, and shown in fields 15 to 16 of b)
     a skip | 1..50 31..100 ; 1..100 | disagreements || a way back | 1..50 71..100 ; 1..100 | disagreements
@@ -99,8 +106,8 @@ IN_ORDER = """
     of which the second one alone is read | b1..20 39=B Bx4 ; b1 | ranges 1-20 a 1-40
     minutes | m59x3000 ; m58..59x3000 | ranges 0:58 b 1-3000, 0:59 a 1-3000
     what the clock leaves out | SOME ; SOME | ranges 0:00:00.00-0:02:29.29 a 1-8990
-    numbers of a detour are taken elsewhere, and the picture before it, which may have lost a field | DETOUR ; 1..100
-        ; 121..180 | @151 c 61 31 read | ranges 1-49 a 1-98, 50-70 b 99-140, 71-100 a 141-200, 121-180 c 1-120
+    numbers of a detour are taken elsewhere | DETOUR ; 1..100 ; 121..180 | @151 c 61 31 read
+        | ranges 1-50 a 1-100, 51-70 b 101-140, 71-100 a 141-200, 121-180 c 1-120
     a distance | CUT ; NTSC f1..120 | says disagreements: 1 (pictures 64 to 120 in fields 157 to 285 of a and fields 159
         to 300 of b, further from those before them in one than in the other)
     up to a loss | CUT ; NTSC f1..120 -201:225 | says disagreements: 1 (pictures 64 to 80 in fields 157 to 190 of a and
@@ -119,7 +126,8 @@ IN_ORDER = """
 def capture(text):
     for name, parts in NAMES.items():
         text = text.replace(name, parts)
-    return made(text, side)
+    one = made(text, side)
+    return one if one.analysis else None
 
 
 def together(*texts, names="abc"):

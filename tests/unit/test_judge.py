@@ -109,6 +109,13 @@ def test_what_stands_beside():
     assert (found.verdict, found.reasons, found.swap) == (Verdict.not_whole, Reason.is_swapped, 21)
     found = asked(ldvbi.judge_side, "1..30 -/#70/#70 B -/#80/#80 B 200..230 O")
     assert found.gaps == (Gap(58, 64, 334, 2, 30, 200, GapKind.lost),)
+    # the player jumps ahead and comes back; pictures 31 to 40 are misread
+    found = asked(ldvbi.judge_side, "1..30 201..210 31..60 O")
+    assert (found.verdict, found.reasons) == (Verdict.not_whole, Reason.is_inserted)
+    assert found.gaps == (Gap(58, 60, 20, 0, 30, 201, GapKind.inserted), Gap(78, 80, 0, 0, 210, 31, GapKind.inserted))
+    found = asked(ldvbi.judge_side, "1..30 201..210 41..60 O")
+    assert (found.verdict, found.reasons) == (Verdict.cannot_tell, Reason.is_open)
+    assert found.gaps == (Gap(58, 60, 0, 0, 30, 201, GapKind.replaced), Gap(78, 80, 0, 0, 210, 41, GapKind.replaced))
     found = asked(ldvbi.judge_side, "L Bx9 O")
     assert (found.first, found.last, found.swap, found.gaps, found.reasons) == (None, None, None, (), Reason.no_numbers)
 

@@ -53,7 +53,7 @@ REFUSED = """
 WORDS = {
     "HALF": "--system NTSC --black 16384", "NONE": NO_METADATA, "ABSENT": "absent/out: No such file or directory",
     "SETTINGS": "give --meta, or --system, --black and --white",
-    "NO COMMAND": "is no file and no command; the commands are join and scan",
+    "NO COMMAND": "is no file and no command; the commands are join, scan and write",
     "OPTIONS": "a document has its system and levels; they are options for a TBC file"}
 
 
@@ -156,7 +156,7 @@ OPTIONS = {"": (0, 1, 4, 1), "--summary": (0, 1, 4, 1), "--seek 12": (0, 1, 1, 0
     "--csv", "--json", "--bad-lines", "--document", "--svg side.svg", "--html side.html", "--map side.map",
     "--chapters side.txt", "--into copy.json", "--plot-line 1 17"), (0, 0, 0, 3))}
 # The same of commands, in front of the name of a side; a side without numbers can't be joined.
-COMMANDS = {"scan %s": (0, 1, 4, 1), "join whole.tbc %s": (0, 0, 2, 3)}
+COMMANDS = {"scan %s": (0, 1, 4, 1), "join whole.tbc %s": (0, 0, 2, 3), "write out.tbc %s": (0, 1, 2, 2)}
 PRINTED = ("--help", "--version")
 # What goes with options, and has no status of its own
 WITH_OTHERS = {"--meta", "--system", "--black", "--white", "--no-recover", "--recovered", "--as-read", "--strict",
@@ -200,6 +200,7 @@ def test_the_table():
     found = [(name, set(meanings)) for names, meanings in MEANINGS for name in names]
     wanted = {(words.split() or ["no option"])[0]: set(statuses) - {2}
               for words, statuses in [*OPTIONS.items(), *COMMANDS.items()]}
+    wanted["write"].add(4)  # of a still of film (test_write.py)
     assert sorted(found) == sorted({**wanted, **dict.fromkeys(PRINTED, {0})}.items())
     options = {name for action in parser_of_side("ldvbi-side")._actions for name in action.option_strings}
     assert {name for name in options if name.startswith("--")} - WITH_OTHERS == {
@@ -207,7 +208,8 @@ def test_the_table():
 
 
 # The statuses of each command, and of none, but for those of signals: yes or done, no, a fault, a cut field, can't tell
-STATUSES = {"": [0, 1, 2, 3, 4], "join": [0, 2, 3], "scan": [0, 1, 2, 4]}
+STATUSES = {"": [0, 1, 2, 3, 4], "join": [0, 2, 3], "scan": [0, 1, 2, 4],
+            "write": [0, 1, 2, 4]}
 
 
 def test_texts_of_commands():

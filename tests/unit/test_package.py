@@ -15,7 +15,7 @@ PYTHON = pathlib.Path(TOP, "python")
 # The modules of python/, by their names
 MODULES = {".".join(path.relative_to(PYTHON).with_suffix("").parts): ast.parse(path.read_text("utf-8"))
            for path in sorted(PYTHON.rglob("*.py"))}
-ROOMS = ["ldvbi_side." + name for name in ("judge", "join", "draw", "into", "command")]
+ROOMS = ["ldvbi_side." + name for name in ("judge", "join", "draw", "into", "write", "command")]
 # Each package, whose modules may import those before it; what is in no room is of ldvbi_side itself
 ORDER = ["ldvbi", ROOMS[0], "ldvbi_side", *ROOMS[1:]]
 

@@ -98,10 +98,10 @@ def test_a_copy_of_a_capture(room, dropouts, wanted):
 def test_a_detour(room):
     """Its fields aren't asked: there the other capture has other numbers."""
     one, other = (capture(room, name, NTSC, {160: [half_worn(160, NTSC, cell), 0]}, None, numbers)
-                  for name, cell, numbers in (("a", 5, (*range(1, 51), *range(151, 171), *range(71, 101))),
-                                              ("b", 6, range(121, 181))))
+                  for name, cell, numbers in (("a", 5, (*range(1, 21), *range(151, 193), *range(63, 81))),
+                                              ("b", 6, range(121, 201))))
     assert how(one, other) == {160: "together"}
-    assert how(one, other, capture(room, "c", numbers=range(1, 101))) == {160: "neighbours"}
+    assert how(one, other, capture(room, "c", numbers=range(1, 81))) == {160: "neighbours"}
 
 
 def test_times(room):

@@ -128,7 +128,9 @@ def answers():
     yield answer(pictures([1, 2]), cut=Cut(5, 7), first=[False, True, True, False])
     yield made(" ".join("-/#%d/#%d B" % (number, number + 1000) for number in range(60)))  # a second row
     yield analyse(made("1..2 ? B 4..6", plain)._replace(nearest_word=lambda *_: 0xF00003))  # a confirmed number
+    yield made("1..30 11..20 31..60")  # a detour
     yield analyse(made("1..8", plain)._replace(may_end=False))
+    yield analyse(made("1..3 Bx2 5..8", plain)._replace(pad=[field in (6, 7) for field in range(16)]))
     yield analyse(made("Bx3", plain)._replace(
         try_levels=lambda: Tried(6, 0, 16384, 51200, Best("NTSC", None, 30000, 6))))
     for seed, kind in enumerate(KINDS):

@@ -161,6 +161,8 @@ SUMMARIES = """
     n0..3x3000 -3501:4500 | lost fields: 1000 (at least 1000, between fields 3001 and 5000)
     m9..11x3000 | lost: 9 (minutes 0:00 to 0:08 before field 1) | lost fields: 27000 (at least 27000 before field 1)
     PAL/1500 n0..2x3000 | lost fields: 1 (1 or more after field 1499)
+    PAL/31,32 1..30 -41:44 | lost fields: 4 (4 after field 39), undecided: 2 (lost or shown again after field 30, lost
+        or shown again after field 31)
     1..30 4:60/2.16=8DC0A1 2=8BA0A1/88FFFB/800DDD 6=83D00F/800DDD/F00E81*
         | unknown words: 2 (88FFFB in field 2 line 17, F00E81 in field 6 line 18)
         | programme status: 29 (CX off 0A1 in 1 field, CX on 0A1 in 28 fields), users' codes: 1 (3 00F in 1 field)
@@ -207,7 +209,7 @@ def test_levels():
 
 
 def test_at_most_26_lines():
-    known = made("NTSC t0..8999!400%1001 -101:110 1:17972/2.17=@2:20", typed)  # a second row of numbers on line 17
+    known = made("NTSC t0..8999!400%1001 -101:110 1:17972/2.17=@2:20*", typed)  # a second row of numbers on line 17
     known = known._replace(levels=FewWords("bad", 1, 9, 1, 1, 17, None), swapped=[Swapped(1, "2:20:00.00")])
     lines = list(summary(known))
     assert (len(lines), MOST_LINES) == (26, 26)

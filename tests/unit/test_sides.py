@@ -5,8 +5,8 @@ import cProfile
 import os
 import random
 
-from compact import check_row, made, rows, table_in
-from discs import answer, minutes, picture, plain, second, side, typed
+from compact import cells_of, check_row, made, rows, table_in
+from discs import answer, minutes, picture, plain, second, side, times, typed
 import ldvbi
 from ldvbi import Kind, Reason
 from ldvbi.readings import Cut
@@ -30,6 +30,61 @@ def test_row(cells, more):
     check_row(*cells, **more)
 
 
+# Pairs of gaps over which the numbers around go on: the kinds, sides, and members of their answers. The player plays 20
+# pictures elsewhere, and comes back; ten pictures show others, on both lines or as one worn line has them, which were
+# misread, or of which it isn't known whether they or those around were. Minutes are misread, or the seconds, too. Two
+# pictures are skipped, and shown again later: all that is between was played. Of ten that are ten off none is due.
+DETOURS = """
+    inserted | 1..200 381..400 201..600 | said no: 1 detour (fields 401 to 440 show pictures 381 to 400)
+        | no lost breaks missing unread doubtful | repeated 381-400@801-839 after 401
+    inserted inserted | 1..200 41..60 201..220 381..400 221..500 | no lost breaks missing unread doubtful
+        | said no: 2 detours (the first: fields 401 to 440 show pictures 41 to 60)
+        | detours inserted 401-440 41-60, inserted 481-520 381-400
+    inserted | NTSC f1..100 f41..60 f101..200 | said no: 1 detour (fields 251 to 300 show pictures 41 to 60) | no lost
+    replaced | 1..60 40061..40070 71..140 | no lost breaks unread | missing 61-70 undecided | doubtful x20 | count 130
+        | said can't tell: fields 121 to 140 show pictures 40061 to 40070, misread or played in the place of others; 1..
+    replaced | 1..60 <61..70 -/-/#N+40000^ B> 71..140 | no lost breaks | missing 61-70 unread | doubtful x10
+        | said can't tell: fields 121 to 140 show pictures 40061 to 40070, misread or played in the place of others
+    replaced | 1..100 61=-/#71/? 63=-/#72/? 65=-/#73/? 67=-/#74/? 69=-/#75/? | no lost breaks repeated
+        | missing 31-35 unread | aside 61, 63, 65, 67, 69 | detours replaced 61-70 71-75
+    replaced | 1..10 40011..40040 41..50 | no lost breaks doubtful | count 50 | whys undecided
+        | detours replaced 21-80 40011-40040
+    replaced replaced | 1..60 40061..40070 71..90 50091..50099 100..140 | no lost breaks | doubtful x38
+        | said can't tell: fields 121 to 140 show pictures 40061 to 40070, misread or played in the place of others (..
+    replaced | t0..199 t12200..12209 t210..399 | no lost breaks unread missing | count 400 | doubtful x10
+        | completed x10
+    replaced | 1..100 103..140 139..200 | no lost breaks doubtful | missing 101-102 undecided | count 198
+        | repeated 139-140@277-279 after 273 | detours replaced 201-276 103-140
+    replaced | 1..100 98..130 134..200 | no lost breaks doubtful | missing 131-133 undecided | count 197
+    replaced | 1..100 111..120 111..200 | no lost breaks repeated | missing 101-110 undecided | doubtful x20
+    replaced | 1..100 110..119 111..200 | no lost breaks doubtful | missing 101-109 undecided
+    replaced | 1..100 91..100 111..200 | no lost breaks repeated | missing 101-110 undecided | doubtful x20
+    replaced | 1..100 92..101 111..200 | no lost breaks doubtful | missing 102-110 undecided
+    replaced | NTSC f1..100 f103..120 f119..200 | no lost breaks doubtful | missing 101-102 undecided
+    replaced | b1..100 b111..120 b111..200 | no lost breaks repeated | missing 101-110 undecided | doubtful x40
+    replaced | b1..100 b103..140 b139..200 | no lost breaks doubtful | missing 101-102 undecided
+    replaced | 1..59 -/#60/#60x60 B 61..99 | no detours doubtful missing | stills 60@119-178
+    replaced | t0..199 t12205..12214 t210..399 | no lost breaks | missing 0:00:08.00-0:00:08.09 unread | count 390
+"""
+
+
+@pytest.mark.parametrize("kinds, cells", [(kinds, cells) for kinds, *cells in cells_of(DETOURS)])
+def test_detours(kinds, cells):
+    check_row(kinds, *cells)
+
+
+def test_seconds_alone():
+    """Of a disc whose clock leaves out numbers just one time a second is read: too few for the library. So each place
+    may be a loss, or the clock's."""
+    numbers = [number for number in range(4000) if number % 1001 != 400]
+    fields = times(numbers, 30)
+    for place, number in enumerate(numbers):
+        if number % 30:
+            fields[2 * place] = "- " + fields[2 * place].partition(" ")[2]
+    found = answer(fields, "NTSC")
+    assert (found["whole"], [one["by"] for one in found["lost"]]) == ("can't tell", ["undecided"] * 4)
+
+
 def test_what_stands_beside_entries():
     assert [(one["before"], one["after"]) for one in made("1..30 1.18=#7 9.18=#7 59.18=#7")["doubtful"]] == [
         (None, {"number": 2, "field": 3}), ({"number": 4, "field": 7}, {"number": 6, "field": 11}),
@@ -46,6 +101,34 @@ def test_what_stands_beside_entries():
                               {"field": 15, "frame": 7, "number": 8, "lines": [16, 17, 18]},
                               {"field": 20, "frame": 10, "number": None, "lines": [16]}]
     assert [one["pass"] for one in found["stray"]] == [2, 3]
+
+
+def test_an_unknown_clock_of_numbers_on_both_fields():
+    """What a clock leaves out that isn't found is open, as with numbers on one field. Another loss isn't."""
+    def on_both(text):
+        return made(text, lambda rows, system, first: answer(
+            [rows[place - place % 2] for place in range(len(rows))], system))
+
+    for text, lost, why in (("NTSC t0..999!400", (800, 801, 2), "undecided"),
+                            ("NTSC t0..1799 t1802..3700", (3600, 3601, 4), "undecided"),
+                            ("NTSC t0..999!400,401", (800, 801, 4), "number"),
+                            ("NTSC t0..4500!400", (800, 801, 2), "number")):
+        found = on_both(text)
+        assert (found["pace"], found["whole"]) == ("both", "no" if why == "number" else "can't tell")
+        assert [tuple(one.values()) for one in found["lost"]] == [(*lost, why)]
+
+
+def test_a_library_without_a_clock(monkeypatch):
+    """An older library judges as if the disc left out no number: then each place may be a loss, or the clock's."""
+    def older(name, later_call=ldvbi.sides.later_call):
+        if "clock" in name:
+            raise OSError(name)
+        return later_call(name)
+
+    monkeypatch.setattr("ldvbi.sides.later_call", older)
+    found = made("NTSC t0..3999!400%1001")
+    assert (found["whole"], len(found["lost"]), found["leftOut"]) == ("can't tell", 4, [])
+    assert {(one["by"], one["fields"]) for one in found["lost"]} == {("undecided", 2)}
 
 
 def test_what_schema_and_map_say():

@@ -14,6 +14,7 @@ from measure import fields_of, measured
 import pytest
 from simulate import KINDS, PLAYED, simulated
 from simulated_faults import faulty, lead_out_of
+from simulated_real import real
 from sound import faults_of
 from truth import Truth
 from verdicts import said_of, true_of
@@ -139,6 +140,37 @@ def test_sides_by_hand():
     for text, in cells_of(BY_HAND):
         fields = made(text, plain)
         assert faults_of(fields, analyse(fields)) == []
+
+
+# Of sides as discs and players are what is true, and what may be said. Detours, and a last number that stays beside
+# lead-out, are the library's. A player that comes back as if it had played on meanwhile looks like misread numbers.
+REAL_TRUE = {"wrong parity": ({"yes"}, "can't tell"), "away": ({"no"}, "no, can't tell"),
+             "video in film": ({"yes", "no"}, "yes, no, can't tell"), "frozen": ({"yes"}, "yes, no, can't tell"),
+             "scratched": ({"yes"}, "yes, no, can't tell")}
+
+
+@pytest.mark.parametrize("kind, wanted, said", [(kind, *row) for kind, row in REAL_TRUE.items()])
+def test_real_sides(kind, wanted, said):
+    """No answer contradicts the words of its side, and none is falsely yes."""
+    sides = [real(kind, seed, 120) for seed in range(14)]
+    found = [(true_of(side, may_end=True), said_of(side, may_end=True)[0]) for side in sides]
+    assert {true for true, _ in found} == wanted and ("no", "yes") not in found
+    assert [one for _, one in found if one not in said] == []
+    for side in sides[:3]:
+        assert faults_of(fields_of(side), analyse(fields_of(side))) == []
+
+
+def test_what_scratches_and_players_do():
+    """A scratch misreads one bit of a line; a player that was away comes back to where it was, or further on."""
+    found = []
+    for side in (real("scratched", seed, 120) for seed in range(8)):
+        turned = Counter(side.document["fields"][field - 1]["vbi"]["vbiData"][line - 16] ^ true
+                         for field, line, true in side.misread)
+        found += [bits for bits, count in turned.most_common(1) if count > 20]
+    assert found and all(bits & (bits - 1) == 0 for bits in found)
+    away = [Truth(real("away", seed, 120)) for seed in range(12)]
+    assert any(one.inserted for one in away) and any(one.replaced for one in away)
+    assert {len(one.inserted + one.replaced) for one in away} == {0, 1}
 
 
 # What is true of sides with a fault, whether they have a lead-out, and what may be said of them

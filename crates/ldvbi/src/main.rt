@@ -88,7 +88,7 @@ fn run_with_files(rt: &HostRuntime, job: &Job) -> Result<u8, MainFault> {
     let bytes = meta.as_ref().map(Vec::as_slice);
     let ended = match settle(rt.alloc(), job, bytes) {
         Ok(config) => {
-            let mut source = Source::new(job.verb, config.system(), &mut input);
+            let mut source = Source::new(job.verb, job.recover, config.system(), &mut input);
             let mut outlet = Outlet::new(&mut output);
             do_command(&config, &mut source, &mut outlet)
         }

@@ -13,3 +13,8 @@ pub mod CompletedTimes
 pub mod Placed
 mod NoneBeyond
 mod SidesCalled
+mod CleanJudged
+pub mod Tellers
+pub mod CleanLeading
+pub mod CleanSought
+pub mod DrawnSides

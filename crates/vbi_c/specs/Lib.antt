@@ -19,6 +19,8 @@ pub mod Stops
 pub mod Ends
 pub mod WholeSides
 pub mod CalledWhole
+pub mod CleanSides
+pub mod DrawnSides
 pub mod Telling
 pub mod Leads
 pub mod Completing

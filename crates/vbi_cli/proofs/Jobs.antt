@@ -1,5 +1,5 @@
 -- What a run's clause says with the words that are read back, and a job's clause by its command's.
-use Rattle.std.proofs.Common.{◌≡◌, subst, ℕ, List, Option, Result, Ok, Err, IfOk}
+use Rattle.std.proofs.Common.{◌≡◌, subst, ℕ, Bool, List, Option, Result, Ok, Err, IfOk}
 use Rattle.vbi_field.specs.ConfigView.{ConfigView}
 use Rattle.vbi_field.specs.Extracts.{Extracts}
 use Rattle.vbi_field.specs.Texts.{document}
@@ -10,8 +10,9 @@ use Rattle.vbi_meta.proofs.DocumentReadings.{extracted}
 use Rattle.vbi_meta.specs.DocumentValue.{IsConfig}
 use Rattle.vbi_meta.specs.ReadBack.{ReadsBack}
 use Rattle.vbi_meta.specs.declared.choosing.Overrides.{Overrides}
-use Rattle.vbi_cli.specs.Jobs.{Counting, Did, ExtractsWords, Settles, Under, UnlessMeta}
+use Rattle.vbi_cli.specs.Jobs.{Counting, Did, ExtractsWords, Settles, Under, UnlessMeta, recovers}
 use Rattle.vbi_cli.specs.declared.command_line.Verb.{Verb}
+use Rattle.vbi_cli.specs.declared.command_line.Verb.TheVariants.{Line, Extract, Show, Draw}
 use Rattle.vbi_cli.specs.declared.fault.AppFault.{AppFault}
 use Rattle.vbi_cli.specs.declared.fault.AppFault.TheVariants.{Meta}
 use Rattle.vbi_cli.specs.declared.job.Ended.{Ended}
@@ -39,14 +40,28 @@ with_words {c = c} {input = input} {n = n} {result = result} numbers ran = recor
   says = record { says = ran.says; read_back = read_back c input n result ran.z ran.text numbers ran.says };
 }
 
+-- what a command did that recovers words if it can and is asked to
+does_verb : (c : ConfigView) (input0 input output0 output : Option (List ℕ)) (n : Counts) (verb : Verb) (asked : Bool)
+    (answer : Result Ended AppFault) → Did c input0 input output0 output n verb (recovers verb asked) answer
+    → Did c input0 input output0 output n verb asked answer
+does_verb c input0 input output0 output n Line asked answer did = did
+does_verb c input0 input output0 output n Extract asked answer did = did
+does_verb c input0 input output0 output n Show asked answer did = did
+does_verb c input0 input output0 output n Draw asked answer did = did
+
 -- what a command did under settings that were settled is what the job did
 pub did_under : (meta : Option (List ℕ)) (given : Overrides) (c : ConfigView)
-    (input0 input output0 output : Option (List ℕ)) (n : Counts) (before verb : Verb) (answer : Result Ended AppFault)
-    → Settles meta given c → before ≡ verb → Did c input0 input output0 output n before answer
-    → UnlessMeta answer (Under meta given (λ c. Counting (λ n. Did c input0 input output0 output n verb answer)))
-did_under meta given c input0 input output0 output n before verb answer settled same did =
+    (input0 input output0 output : Option (List ℕ)) (n : Counts) (before verb : Verb) (recover asked : Bool)
+    (answer : Result Ended AppFault) → Settles meta given c → before ≡ verb → recover ≡ recovers verb asked
+    → Did c input0 input output0 output n before recover answer
+    → UnlessMeta answer (Under meta given (λ c. Counting (λ n. Did c input0 input output0 output n verb asked answer)))
+did_under meta given c input0 input output0 output n before verb recover asked answer settled same so did =
     let Here : Result Ended AppFault → Type 0 = λ a. UnlessMeta a
-    (Under meta given (λ c. Counting (λ n. Did c input0 input output0 output n verb answer))) in
-    let holds : Under meta given (λ c. Counting (λ n. Did c input0 input output0 output n verb answer))
-    = (c, (settled, (n, subst (λ (v : Verb). Did c input0 input output0 output n v answer) same did))) in
+    (Under meta given (λ c. Counting (λ n. Did c input0 input output0 output n verb asked answer))) in
+    let same_verb : Did c input0 input output0 output n verb recover answer
+    = subst (λ (v : Verb). Did c input0 input output0 output n v recover answer) same did in
+    let did_so = does_verb c input0 input output0 output n verb asked answer
+    (subst (λ (r : Bool). Did c input0 input output0 output n verb r answer) so same_verb) in
+    let holds : Under meta given (λ c. Counting (λ n. Did c input0 input output0 output n verb asked answer))
+    = (c, (settled, (n, did_so))) in
     elim answer as Here [ Ok ended ↦ holds | Err fault ↦ elim fault as (λ f. Here (Err f)) [ Meta f ↦ tt | _ ↦ holds ] ]

@@ -104,16 +104,16 @@ pub record ExtractsWords (c : ConfigView) (input : Option (List ℕ)) (n : Count
   pub read_back : IfOk result (λ summary. ReadsBack c z text)
 
 module _ (c : ConfigView) (input0 input output0 output : Option (List ℕ)) (n : Counts) where
-  -- what a command did, over devices that counted n since
-  abbrev pub Did : Verb → Result Ended AppFault → Type 0
-  Did Line answer = DidRun input0 input output0 output n (line.Answers c input) (IsAnsweredBy c.system) answer
-  Did (Extract false) answer = DidRun input0 input output0 output n (ExtractsWords c input) IsEndedBy answer
-  Did (Extract true) answer =
+  -- what a command did that recovers words or doesn't, over devices that counted n since
+  abbrev pub Did : Verb → Bool → Result Ended AppFault → Type 0
+  Did Line recover answer = DidRun input0 input output0 output n (line.Answers c input) (IsAnsweredBy c.system) answer
+  Did Extract false answer = DidRun input0 input output0 output n (ExtractsWords c input) IsEndedBy answer
+  Did Extract true answer =
       DidRun input0 input output0 output n (extracts.Extracts recovered_document c input) IsEndedBy answer
-  Did (Show false) answer = DidRun input0 input output0 output n (extracts.Extracts report c input) IsEndedBy answer
-  Did (Show true) answer =
+  Did Show false answer = DidRun input0 input output0 output n (extracts.Extracts report c input) IsEndedBy answer
+  Did Show true answer =
       DidRun input0 input output0 output n (extracts.Extracts recovered_report c input) IsEndedBy answer
-  Did Draw answer = DidRun input0 input output0 output n (draws.Draws c input) IsDrawnBy answer
+  Did Draw recover answer = DidRun input0 input output0 output n (draws.Draws c input) IsDrawnBy answer
 
 -- ---- the job
 
@@ -140,9 +140,16 @@ module _ {R : Type 0} where
   -- the command
   abbrev pub verb_of : Source R → Verb
   verb_of (source.Line i) = Line
-  verb_of (source.Extract i recover) = Extract recover
-  verb_of (source.Show i recover) = Show recover
+  verb_of (source.Extract i recover) = Extract
+  verb_of (source.Show i recover) = Show
   verb_of (source.Draw i) = Draw
+
+  -- it recovers words
+  abbrev pub recover_of : Source R → Bool
+  recover_of (source.Line i) = false
+  recover_of (source.Extract i recover) = recover
+  recover_of (source.Show i recover) = recover
+  recover_of (source.Draw i) = false
 
   -- what is read for a text of a stream
   abbrev pub source_of : Text → Intake R → Source R
@@ -171,7 +178,7 @@ abbrev pub Does : {R W : Type 0} → (R → Option (List ℕ)) → (W → Option
 Does remaining contents c s0 s o0 o answer =
     Did c (remaining (outlets.device_of (counted_of s0))) (remaining (outlets.device_of (counted_of s)))
     (contents (outlets.device_of (outlets.counted_of o0))) (contents (outlets.device_of (outlets.counted_of o)))
-    (counts_of s o) (verb_of s0) answer
+    (counts_of s o) (verb_of s0) (recover_of s0) answer
 
 -- the bytes that the program's input has yet to give, if they are told: those of the file or of standard input
 abbrev pub input_remaining : {F S : Type 0} → (F → Option (List ℕ)) → (S → Option (List ℕ)) → Input F S
@@ -184,16 +191,16 @@ input_remaining file standard (Standard s) = standard s
 -- the word that asks for a command
 abbrev pub word_of : Verb → List ℕ
 word_of Line = codes "line"
-word_of (Extract recover) = codes "extract"
-word_of (Show recover) = codes "show"
+word_of Extract = codes "extract"
+word_of Show = codes "show"
 word_of Draw = codes "draw"
 
--- recovered words are asked for
-abbrev pub recovers : Verb → Bool
-recovers Line = false
-recovers (Extract recover) = recover
-recovers (Show recover) = recover
-recovers Draw = false
+-- a command recovers words if it can and this is asked for
+abbrev pub recovers : Verb → Bool → Bool
+recovers Line asked = false
+recovers Extract asked = asked
+recovers Show asked = asked
+recovers Draw asked = false
 
 -- the metadata that lies beside the input is to be read, if there is some
 abbrev pub looks_beside : Job → Bool

@@ -2,7 +2,7 @@
 
 ghost use Rattle.std.specs.Prelude.{◌≡◌, None, IfOk, OnErr};
 ghost use Rattle.vbi_words.specs.Geometry.{name_of, system_named};
-ghost use Rattle.vbi_cli.specs.Jobs.{words_status, word_of, recovers, looks_beside};
+ghost use Rattle.vbi_cli.specs.Jobs.{words_status, word_of, looks_beside};
 ghost use Rattle.vbi_cli.specs.declared.command_line.Verb as verbs;
 
 use crate::commands::{RECOVER, can_recover, program};
@@ -19,15 +19,9 @@ pub enum Verb {
     /// Print the word of one line.
     Line,
     /// Write the words of each field as a document.
-    Extract {
-        /// With the words that are recovered from worn lines.
-        recover: bool,
-    },
+    Extract,
     /// Print the words of each field and what they mean.
-    Show {
-        /// With the words that are recovered from worn lines.
-        recover: bool,
-    },
+    Show,
     /// Write fields drawn from rows of words.
     Draw,
 }
@@ -37,6 +31,8 @@ pub enum Verb {
 pub struct Job {
     /// What is to be done.
     pub verb: Verb,
+    /// Whether `extract` and `show` are to recover words from worn lines; the others recover none.
+    pub recover: bool,
     /// The options that stand in place of metadata.
     pub overrides: Overrides,
     /// The path of the metadata file, if one is given.
@@ -134,21 +130,22 @@ fn job_of(alloc: Global, name: &str, options: &ArgMatches<'_>) -> Result<Job, Wo
     let meta = owned(alloc, options.get_str("meta"))?;
     let input = owned(alloc, options.get_str("input").filter(|path| *path != "-"))?;
     Ok(Job {
-        verb: verb_named(name, asks_recovery(name, options)),
+        verb: verb_named(name),
+        recover: asks_recovery(name, options),
         overrides,
         meta,
         input,
     })
 }
 
-/// The command of one of the four names, with recovered words or without; `clap` has refused every other name.
-fn verb_named(name: &str, recover: bool) -> Verb
-    ensures { (verb : verbs.Verb) → name.now ≡ word_of verb → recover ≡ recovers verb → result ≡ verb }
+/// The command of one of the four names; `clap` has refused every other name.
+fn verb_named(name: &str) -> Verb
+    ensures { (verb : verbs.Verb) → name.now ≡ word_of verb → result ≡ verb }
 {
     match name {
         "line" => Verb::Line,
-        "extract" => Verb::Extract { recover },
-        "show" => Verb::Show { recover },
+        "extract" => Verb::Extract,
+        "show" => Verb::Show,
         _ => Verb::Draw,
     }
 }

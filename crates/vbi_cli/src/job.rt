@@ -62,10 +62,10 @@ pub fn run_job<R: Read, W: Write>(
     // Every other answer is the command's own.
     ensures did { UnlessMeta result (Under (option_map (λ b. b.now) meta.entry) job.now.overrides (λ c.
         Counting (λ n. Did c (R.remaining input.old) (R.remaining input.new)
-        (W.contents output.old) (W.contents output.new) n job.now.verb result))) }
+        (W.contents output.old) (W.contents output.new) n job.now.verb job.now.recover result))) }
 {
     let config = settle(alloc, job, meta).map_err(AppFault::Meta)?;
-    let mut source = Source::new(job.verb, config.system(), input);
+    let mut source = Source::new(job.verb, job.recover, config.system(), input);
     let mut outlet = Outlet::new(output);
     let answer = do_command(&config, &mut source, &mut outlet);
     // Handed back, so that it is known what the two devices are now.

@@ -2,7 +2,7 @@
 
 ghost use Rattle.std.specs.Prelude.{◌≡◌};
 ghost use Rattle.vbi_line.specs.Counted.{device_of, name_of};
-ghost use Rattle.vbi_cli.specs.Jobs.{counted_of, verb_of, IsFresh};
+ghost use Rattle.vbi_cli.specs.Jobs.{counted_of, verb_of, recover_of, recovers, IsFresh};
 
 use crate::command_line::Verb;
 use std::io::Read;
@@ -35,20 +35,22 @@ pub enum Source<'a, R> {
 }
 
 impl<'a, R: Read> Source<'a, R> {
-    /// The source of a command on lines of this system. It has not called the reader.
-    pub fn new(verb: Verb, system: System, reader: &'a mut R) -> Self
+    /// The source of a command on lines of this system, which recovers words if it can and is asked to. It has not
+    /// called the reader.
+    pub fn new(verb: Verb, recover: bool, system: System, reader: &'a mut R) -> Self
         ensures same { name_of (counted_of result) ≡ reader.entry.ghost_name }
         ensures reader { device_of (counted_of result) ≡ reader.old }
         ensures verb { verb_of result ≡ verb }
+        ensures recover { recover_of result ≡ recovers verb recover }
         ensures fresh { IsFresh result system }
     {
         match verb {
             Verb::Line => Source::Line(Intake::new(reader, system)),
-            Verb::Extract { recover } => Source::Extract {
+            Verb::Extract => Source::Extract {
                 intake: Intake::new(reader, system),
                 recover,
             },
-            Verb::Show { recover } => Source::Show {
+            Verb::Show => Source::Show {
                 intake: Intake::new(reader, system),
                 recover,
             },

@@ -3,7 +3,7 @@
 
 use crate::asserts::{ends, writes};
 use crate::known::{black_stream, drawn_line, front, stored_line};
-use crate::runs::{EXTRACT, NEVER, NONE, NTSC, PAL, Ran, SHOW, STORED, job, run_between, run_over};
+use crate::runs::{NEVER, NONE, NTSC, PAL, Ran, STORED, job, run_between, run_over};
 use std::alloc::Global;
 use std::test::Fail;
 use vbi_cli::{AppFault, Ended, Job, Verb};
@@ -66,7 +66,7 @@ static UNSETTLED: [(Overrides, Option<&[u8]>, MetaFault); 8] = [
 #[test]
 fn settles_before_it_reads(rt: HostRuntime) -> Result<(), Fail> {
     for (overrides, meta, fault) in &UNSETTLED {
-        for verb in [Verb::Line, EXTRACT, SHOW, Verb::Draw] {
+        for verb in [Verb::Line, Verb::Extract, Verb::Show, Verb::Draw] {
             let ran = run_over(rt.alloc(), &job(verb, *overrides), *meta, b"some bytes");
             ends(&ran, Err(AppFault::Meta(*fault)), 1, verb)?;
             same(ran.asked, NEVER, (verb, *fault))?;
@@ -86,7 +86,7 @@ fn gives(alloc: Global, job: &Job, input: &[u8], text: &[u8]) -> Result<(), Fail
 #[test]
 fn extracts_with_metadata(rt: HostRuntime) -> Result<(), Fail> {
     let alloc = rt.alloc();
-    let extract = job(EXTRACT, NONE);
+    let extract = job(Verb::Extract, NONE);
     let field = black_stream(alloc, 478_660)?;
     gives(alloc, &extract, field.as_slice(), BLACK_FIELD.as_bytes())
 }
@@ -99,7 +99,7 @@ fn an_option_stands_before_metadata(rt: HostRuntime) -> Result<(), Fail> {
         ..NONE
     };
     let wanted = b"system NTSC 910x263 black 16384 white 60000\nfields 0 cut none\n";
-    gives(alloc, &job(SHOW, brighter), b"", wanted)?;
+    gives(alloc, &job(Verb::Show, brighter), b"", wanted)?;
 
     // The metadata's levels aren't those of the line.
     let line = stored_line(alloc)?;
@@ -117,9 +117,9 @@ fn shows_what_was_drawn(rt: HostRuntime) -> Result<(), Fail> {
     let found = (field.ended, field.written.len());
     same(found, (Ok(Ended::Whole), 478_660), "a field")?;
     let field = field.written.as_slice();
-    let extract = job(EXTRACT, NONE);
+    let extract = job(Verb::Extract, NONE);
     gives(alloc, &extract, field, DRAWN_FIELD.as_bytes())?;
-    gives(alloc, &job(SHOW, NONE), field, REPORT.as_bytes())
+    gives(alloc, &job(Verb::Show, NONE), field, REPORT.as_bytes())
 }
 
 /// The system, the bytes that there are of its line, after how many of them the reader fails, the bytes that the writer

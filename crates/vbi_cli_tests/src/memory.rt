@@ -1,7 +1,7 @@
 //! Jobs that run out of memory. No device here takes any, so that each allocation of a run is the job's own.
 
 use crate::jobs::{BLACK_FIELD, FULL};
-use crate::runs::{EXTRACT, NONE, STORED, job};
+use crate::runs::{NONE, STORED, job};
 use std::io::{self, Read, Write};
 use std::test::Fail;
 use vbi_cli::{AppFault, Ended, Verb, run_job};
@@ -39,7 +39,7 @@ fn the_joined_run_answers_want_of_memory_as_such(rt: HostRuntime) -> Result<(), 
         rest: BLACK_FIELD.as_bytes(),
         asked: 0,
     };
-    let joined = job(EXTRACT, NONE);
+    let joined = job(Verb::Extract, NONE);
     match run_job(rt.alloc(), &joined, Some(FULL), &mut field, &mut stencil) {
         Ok(ended) => {
             same(ended, Ended::Whole, "the run")?;

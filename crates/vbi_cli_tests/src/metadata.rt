@@ -4,10 +4,10 @@
 use crate::asserts::{ends, writes};
 use crate::jobs::BLACK_FIELD;
 use crate::known::{black_stream, repeated};
-use crate::runs::{EXTRACT, NEVER, NONE, job, run_over};
+use crate::runs::{NEVER, NONE, job, run_over};
 use std::alloc::{AllocError, Global};
 use std::test::Fail;
-use vbi_cli::{AppFault, Ended};
+use vbi_cli::{AppFault, Ended, Verb};
 use vbi_meta::MetaFault;
 use vbi_test_devices::same;
 
@@ -34,7 +34,7 @@ fn two_megabytes_that_are_no_json_are_called_so(rt: HostRuntime) -> Result<(), F
     // A list without an end, and one with something at its very end that JSON doesn't have.
     for after in ["", ",NaN]}"] {
         let meta = two_megabytes(alloc, after)?;
-        let extract = job(EXTRACT, NONE);
+        let extract = job(Verb::Extract, NONE);
         let ran = run_over(alloc, &extract, Some(meta.as_slice()), b"some bytes");
         ends(&ran, Err(AppFault::Meta(MetaFault::NotJson)), 1, after)?;
         same(ran.asked, NEVER, after)?;
@@ -47,7 +47,7 @@ fn two_megabytes_of_metadata_are_read(rt: HostRuntime) -> Result<(), Fail> {
     let alloc = rt.alloc();
     let meta = two_megabytes(alloc, "]}")?;
     let field = black_stream(alloc, 478_660)?;
-    let extract = job(EXTRACT, NONE);
+    let extract = job(Verb::Extract, NONE);
     let ran = run_over(alloc, &extract, Some(meta.as_slice()), field.as_slice());
     let document = BLACK_FIELD.as_bytes();
     writes(&ran, Ok(Ended::Whole), document, "two megabytes")

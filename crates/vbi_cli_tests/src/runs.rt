@@ -35,15 +35,11 @@ pub(crate) const PAL: Overrides = Overrides {
     max_fields: None,
 };
 
-/// Without recovered words.
-pub(crate) const EXTRACT: Verb = Verb::Extract { recover: false };
-
-pub(crate) const SHOW: Verb = Verb::Show { recover: false };
-
-/// A job with no paths.
+/// A job with no paths, and without recovered words.
 pub(crate) fn job(verb: Verb, overrides: Overrides) -> Job {
     Job {
         verb,
+        recover: false,
         overrides,
         meta: None,
         input: None,

@@ -6,7 +6,7 @@ use crate::known::{
     BLACK, HEAD, REPORT_BLACK, REPORT_HEAD, REPORT_TAIL, SECOND_BLACK, SECOND_REPORT_BLACK, TAIL,
     black_stream, front, joined,
 };
-use crate::runs::{Asked, EXTRACT, NTSC, Ran, SHOW, job, run_between};
+use crate::runs::{Asked, NTSC, Ran, job, run_between};
 use std::alloc::{AllocError, Global};
 use std::test::Fail;
 use vbi_cli::{AppFault, Ended, Verb};
@@ -25,7 +25,7 @@ fn run_stream(alloc: Global, verb: Verb, limit: Option<u32>, tape: Tape, paper: 
 /// What is written of a stream that begins with so many whole black fields, two at most, and then this text.
 fn wanted(alloc: Global, verb: Verb, fields: u32, tail: &str) -> Result<Vec<u8>, AllocError> {
     let (head, first, second) = match verb {
-        Verb::Show { .. } => (REPORT_HEAD, REPORT_BLACK, SECOND_REPORT_BLACK),
+        Verb::Show => (REPORT_HEAD, REPORT_BLACK, SECOND_REPORT_BLACK),
         _ => (HEAD, BLACK, SECOND_BLACK),
     };
     match fields {
@@ -170,7 +170,7 @@ fn each_stream_has_its_end_and_its_text(rt: HostRuntime) -> Result<(), Fail> {
     let stream = black_stream(alloc, 957_320)?;
     for row in &ROWS {
         let [document_tail, report_tail] = row.tails;
-        for (verb, tail) in [(EXTRACT, document_tail), (SHOW, report_tail)] {
+        for (verb, tail) in [(Verb::Extract, document_tail), (Verb::Show, report_tail)] {
             let tape = Tape {
                 fault: row.fault,
                 ..Tape::new(front(stream.as_slice(), row.bytes))
@@ -190,19 +190,19 @@ fn each_stream_has_its_end_and_its_text(rt: HostRuntime) -> Result<(), Fail> {
 /// The command, the bytes that the writer takes one by one before it fails once, and the reads by then: none before
 /// the head is whole, a black field's 263 lines before its record is, and then the one for the end.
 static WRITE_FAULTS: [(Verb, u32, u64); 13] = [
-    (EXTRACT, 0, 0),
-    (EXTRACT, 134, 0),
-    (EXTRACT, 135, 263),
-    (EXTRACT, 150, 263),
-    (EXTRACT, 226, 263),
-    (EXTRACT, 227, 264),
-    (EXTRACT, 246, 264),
-    (SHOW, 0, 0),
-    (SHOW, 43, 0),
-    (SHOW, 44, 263),
-    (SHOW, 101, 263),
-    (SHOW, 102, 264),
-    (SHOW, 119, 264),
+    (Verb::Extract, 0, 0),
+    (Verb::Extract, 134, 0),
+    (Verb::Extract, 135, 263),
+    (Verb::Extract, 150, 263),
+    (Verb::Extract, 226, 263),
+    (Verb::Extract, 227, 264),
+    (Verb::Extract, 246, 264),
+    (Verb::Show, 0, 0),
+    (Verb::Show, 43, 0),
+    (Verb::Show, 44, 263),
+    (Verb::Show, 101, 263),
+    (Verb::Show, 102, 264),
+    (Verb::Show, 119, 264),
 ];
 
 #[test]
@@ -211,7 +211,7 @@ fn ends_at_a_write_fault_and_asks_no_more(rt: HostRuntime) -> Result<(), Fail> {
     let stream = black_stream(alloc, 478_660)?;
     for &(verb, room, reads) in &WRITE_FAULTS {
         let tail = match verb {
-            Verb::Show { .. } => REPORT_TAIL,
+            Verb::Show => REPORT_TAIL,
             _ => TAIL,
         };
         let text = wanted(alloc, verb, 1, tail)?;

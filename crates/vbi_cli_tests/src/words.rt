@@ -9,7 +9,7 @@
 //! `read` and `read_after` serve refusals.rt, which has the words that are refused. An option that is added in
 //! vbi_cli/src/commands.rt gets its row in `OPTIONS`, and its place in `Held`.
 
-use crate::runs::{EXTRACT, NONE, SHOW};
+use crate::runs::NONE;
 use std::alloc::{AllocError, Global};
 use std::test::Fail;
 use vbi_cli::{Job, Verb, WordsFault, read_words};
@@ -42,21 +42,19 @@ fn owned(alloc: Global, texts: &[&str]) -> Result<Vec<String>, AllocError> {
 
 pub(crate) static COMMANDS: [(&str, Verb); 4] = [
     ("line", Verb::Line),
-    ("extract", EXTRACT),
-    ("show", SHOW),
+    ("extract", Verb::Extract),
+    ("show", Verb::Show),
     ("draw", Verb::Draw),
 ];
 
-/// The commands with the flag that asks for recovered words.
-static RECOVERING: [(&str, Verb); 2] = [
-    ("extract", Verb::Extract { recover: true }),
-    ("show", Verb::Show { recover: true }),
-];
+/// The commands that may be asked for recovered words.
+static RECOVERING: [(&str, Verb); 2] = [("extract", Verb::Extract), ("show", Verb::Show)];
 
 /// All that a job holds.
 #[derive(Clone, Copy, Debug, PartialEq, Eq)]
 struct Held<'a> {
     verb: Verb,
+    recover: bool,
     overrides: Overrides,
     meta: Option<&'a str>,
     input: Option<&'a str>,
@@ -65,6 +63,7 @@ struct Held<'a> {
 fn contents_of(job: &Job) -> Held<'_> {
     Held {
         verb: job.verb,
+        recover: job.recover,
         overrides: job.overrides,
         meta: job.meta.as_ref().map(String::as_str),
         input: job.input.as_ref().map(String::as_str),
@@ -104,11 +103,12 @@ fn said(
     Ok(words)
 }
 
-/// What these words put into a job.
+/// What these words put into a job, without recovered words.
 fn wanted(verb: Verb, given: [bool; 5], input: Option<&'static str>) -> Held<'static> {
     let [meta, system, black, white, max_fields] = given;
     Held {
         verb,
+        recover: false,
         overrides: Overrides {
             system: if system { Some(System::Pal) } else { None },
             black: if black { Some(16384) } else { None },
@@ -150,7 +150,10 @@ fn recovered_words_are_asked_for_before_or_after_the_input(rt: HostRuntime) -> R
     for &(command, verb) in &RECOVERING {
         for words in [["--recover", "disc.tbc"], ["disc.tbc", "--recover"]] {
             let job = read_after(rt.alloc(), command, &words)?;
-            let wanted = wanted(verb, [false; 5], Some("disc.tbc"));
+            let wanted = Held {
+                recover: true,
+                ..wanted(verb, [false; 5], Some("disc.tbc"))
+            };
             same(contents_of(&job), wanted, (command, words))?;
         }
     }

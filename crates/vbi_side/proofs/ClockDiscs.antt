@@ -13,7 +13,7 @@ use Rattle.vbi_side.proofs.Truth.{video_fits}
 use Rattle.vbi_side.proofs.Telling.{some_is}
 
 -- a field with a number is the first of its picture
-numbered_is : (number : ℕ → ℕ) (d m : ℕ) → numbered number d ≡ Some m → (p : ℕ) × (d ≡ 2 * p) × (m ≡ number p)
+pub numbered_is : (number : ℕ → ℕ) (d m : ℕ) → numbered number d ≡ Some m → (p : ℕ) × (d ≡ 2 * p) × (m ≡ number p)
 numbered_is number d m e = go (eqb_tells (d % 2) 0)
   where
     go : ((eqb (d % 2) 0 ≡ true) × (d % 2 ≡ 0)) ⊎ ((eqb (d % 2) 0 ≡ false) × (d % 2 ≢ 0))
@@ -34,7 +34,7 @@ counts_by clock number is d e m n here there =
     let last : kept clock n ≡ q.0 = ap (kept clock) q.2 ∙ is q.0 in
     eq-eqb (e + 2 * kept clock m) (d + 2 * kept clock n) (omega (arith, p.1, q.1, first, last))
 
-drop_kept : (p : ℕ) → kept DropFrame (drop_number p) ≡ p
+pub drop_kept : (p : ℕ) → kept DropFrame (drop_number p) ≡ p
 unfolding kept left_out
 drop_kept p = omega arith
 

@@ -8,7 +8,8 @@ use Rattle.std.proofs.Math.Dec.{eqb}
 use Rattle.std.proofs.Math.Nat.{div-lt_iff_lt-mul, div-zero, mul-le-mul_left, div-eq_of_lt, div-eq_of_lt-le}
 use Rattle.vbi_side.specs.declared.gap.Gap.{Gap}
 use Rattle.vbi_side.specs.declared.gap.Numbering.{Numbering}
-use Rattle.vbi_side.specs.Gaps.{lost, open_gap, gap_of, lost_of, undecided_of, skipped}
+use Rattle.vbi_side.specs.Gaps.{lost, open_gap, gap_of, skipped}
+use Rattle.vbi_side.specs.Told.{lost_of, undecided_of}
 use Rattle.vbi_side.specs.declared.clock.Clock.{Clock}
 use Rattle.vbi_side.specs.declared.clock.Clock.TheVariants.{Plain, DropFrame, OneIn}
 use Rattle.vbi_side.specs.declared.pace.Pace.{Pace}
@@ -253,7 +254,7 @@ out_step (OneIn (suc k) phase) n =
     let same : n + 1 + (suc k - 1 - phase) ≡ n + (suc k - 1 - phase) + 1 = omega arith in
     subst (λ x. x / suc k ≤ (n + (suc k - 1 - phase)) / suc k + 1) (sym same) (div_step (n + (suc k - 1 - phase)) k)
 
-out_far : (clock : Clock) (m d : ℕ) → left_out clock (m + d) ≤ left_out clock m + d
+pub out_far : (clock : Clock) (m d : ℕ) → left_out clock (m + d) ≤ left_out clock m + d
 out_far clock m zero = let same : m ≡ m + zero = omega arith in
     subst (λ x. left_out clock x ≤ left_out clock m + zero) same (omega arith)
 out_far clock m (suc d) = let next : m + d + 1 ≡ m + suc d = omega arith in

@@ -46,7 +46,7 @@ doubtful_state field = go (nat_le 1 field.line_17.weight) (nat_le 1 field.line_1
 pub unlike : (field : Sightings) (n : ℕ) → doubtful_of field ≡ believed n → ⊥
 unlike field n e = (doubtful_state field).1 (state_of (doubtful_of field) (believed n) e)
 
-not_due : (field : Sightings) (n : ℕ) → doubtful_of field ≡ due n → ⊥
+pub not_due : (field : Sightings) (n : ℕ) → doubtful_of field ≡ due n → ⊥
 not_due field n e =
     absurd (omega (arith, (doubtful_state field).0, state_of (doubtful_of field) (due n) e))
 
@@ -69,7 +69,7 @@ mark_tells pace fields i n answer (inr (none, (field, at, is))) =
     (λ e. absurd (unlike field n (sym is ∙ e)), λ b. absurd (none n b))
 
 -- a number that is believed is of a field that is there
-shown_within : (fields : List Sightings) (i n : ℕ) → Shows (slice_get fields i) n → i < length fields
+pub shown_within : (fields : List Sightings) (i n : ℕ) → Shows (slice_get fields i) n → i < length fields
 shown_within fields i n shown = go (slice_get fields i) refl shown
   where
     go : (field : Option Sightings) → slice_get fields i ≡ field → Shows field n → i < length fields
@@ -274,7 +274,7 @@ answers_sound_still pace fields answers are recorded i m n at video is =
     (answer_believed pace fields i n (believed n) (are.each i (believed n) at) refl))
 
 -- what is believed is answered so
-answers_tell : (pace : Pace) (fields : List Sightings) (answers : List Number) → AreAnswers pace fields answers
+pub answers_tell : (pace : Pace) (fields : List Sightings) (answers : List Number) → AreAnswers pace fields answers
     → (i n : ℕ) → Believed pace fields i n → slice_get answers i ≡ Some (believed n)
 answers_tell pace fields answers are i n b = at ∙ ap Some (go ((known_numbers pace fields i n answer is).1 (inl b)))
   where

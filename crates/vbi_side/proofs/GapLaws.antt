@@ -2,10 +2,9 @@
 use Rattle.vbi_side.proofs.Truth.{near_same}
 use Rattle.std.proofs.Common.{◌-◌, ◌≡◌, ◌≢◌, ℕ, zero, suc, ◌+◌, ◌*◌, ◌<◌, ◌≤◌, Bool, true, false, List, [], ◌∷◌, ◌++◌}
 use Rattle.std.proofs.Common.{arith, ap, sym, ◌∙◌, subst, inl, inr, length}
-use Rattle.std.specs.Prelude.{Option, Some, None, ◌⊎◌, nat_le, nat_lt, sum_by, if◌then◌else◌, ◌&&◌}
+use Rattle.std.specs.Prelude.{Option, Some, None, ◌⊎◌, nat_le, nat_lt, if◌then◌else◌, ◌&&◌}
 use Rattle.std.proofs.lemmas.Bool.Decides.{leb_tells, eqb_tells}
 use Rattle.std.proofs.lemmas.List.{length_push}
-use Rattle.std.proofs.lemmas.List.Sums.{sum_by_push}
 use Rattle.std.proofs.Math.Dec.{eqb}
 use Rattle.vbi_side.specs.declared.number.Number.{Number}
 use Rattle.vbi_side.specs.declared.gap.Gap.{Gap}
@@ -14,16 +13,15 @@ use Rattle.vbi_side.specs.declared.pace.Pace.TheVariants.{Video, Film}
 use Rattle.vbi_side.specs.Paces.{nearly, stays}
 use Rattle.vbi_side.specs.Clocks.{kept, nearly_by, DiscCountsBy}
 use Rattle.vbi_side.specs.Numbers.{believed, IsMarked}
-use Rattle.vbi_side.specs.Side.{Rises, captured, AreLost}
+use Rattle.vbi_side.specs.Side.{captured, AreLost}
 use Rattle.vbi_side.specs.declared.sighting.Sightings.{Sightings}
 use Rattle.vbi_side.specs.declared.gap.Numbering.{Numbering}
 use Rattle.vbi_side.specs.Gaps.{lost, held, back, still, joined, open_gap, has_stills, is_open, lacking_by, gap_as}
 use Rattle.vbi_side.specs.Gaps.{kind_of}
-use Rattle.vbi_side.specs.Gaps.{fields_of, ended_between, shown_between, AreNeighbours, IsFree, IsGap, AreGaps}
-use Rattle.vbi_side.specs.Gaps.{fields_if, CountTo, HasRightEnds, LostAtLeast}
+use Rattle.vbi_side.specs.Gaps.{fields_of, ended_between, shown_between, AreNeighbours, IsGap, AreGaps}
+use Rattle.vbi_side.specs.Gaps.{CountTo, HasRightEnds, LostAtLeast}
 use Rattle.std.proofs.lemmas.Bool.{and_parts}
 use Rattle.vbi_side.proofs.Truth.{video_fits, film_fits}
-use Rattle.vbi_side.proofs.Sides.{apart}
 use Rattle.vbi_side.proofs.Telling.{gap_is, some_is}
 
 -- ---- one gap
@@ -44,14 +42,14 @@ kind_lost : (pace : Pace) (numbering : Numbering) (ended : Bool) (i m k n : ℕ)
     → kind_of pace numbering ended i m k n ≡ lost
     → 0 < lacking_by numbering.clock pace i m k n
 kind_lost pace numbering ended i m k n =
-    go ended (has_stills numbering && stays i m k n) (nat_lt n m) (is_open pace numbering i m k n)
+    go (has_stills numbering && stays i m k n) ended (nat_lt n m) (is_open pace numbering i m k n)
     (leb_tells 1 (lacking_by numbering.clock pace i m k n))
   where
     go : (a b c d : Bool) → ((nat_le 1 (lacking_by numbering.clock pace i m k n) ≡ true)
         × (1 ≤ lacking_by numbering.clock pace i m k n))
         ⊎ ((nat_le 1 (lacking_by numbering.clock pace i m k n) ≡ false)
         × (lacking_by numbering.clock pace i m k n < 1))
-        → (if a then joined else (if b then still else (if c then back else (if d then open_gap
+        → (if a then still else (if b then joined else (if c then back else (if d then open_gap
         else (if nat_le 1 (lacking_by numbering.clock pace i m k n) then lost else held))))) ≡ lost
         → 0 < lacking_by numbering.clock pace i m k n
     go true b c d l e = absurd (omega (arith, e))
@@ -207,95 +205,6 @@ all_count numbering seen answers ends (suc k) unread all i m j n here there orde
           )
           | inr (v, lt) ↦ absurd (on.neighbours.between i m lt (omega (arith, order, same, differ)) here)
         ]
-
--- ---- so many fields at least are lost
-
--- with no number there is no gap
-none_gaps : (pace : Pace) (slack : ℕ) (numbering : Numbering) (seen : List Sightings) (answers : List Number)
-    (ends : List ℕ) (k : ℕ) (gaps : List Gap) (unread : ℕ)
-    → AreGaps pace slack numbering seen answers ends k gaps unread → ((j l : ℕ) → j < k → IsMarked answers j l → ⊥)
-    → gaps ≡ []
-unfolding AreGaps
-none_gaps pace slack numbering seen answers ends zero gaps unread (none, e) never = none
-none_gaps pace slack numbering seen answers ends (suc k) gaps unread (inl (free, all)) never =
-    none_gaps pace slack numbering seen answers ends k gaps unread all (λ j l less. never j l (omega (arith, less)))
-none_gaps pace slack numbering seen answers ends (suc k) gaps unread (inr (inl (i, m, n, fewer, on, all, e))) never =
-    absurd (never k n (omega arith) on.neighbours.there)
-none_gaps pace slack numbering seen answers ends (suc k) gaps unread (inr (inr (one, others, is, last, all, e))) never =
-    absurd (never one.before one.to (omega (arith, last)) is.neighbours.there)
-
-module _ (pace : Pace) (slack : ℕ) (disc : ℕ → Option ℕ) (place : ℕ → ℕ) (numbering : Numbering) (seen : List Sightings)
-    (answers : List Number) (ends : List ℕ)
-    (runs : DiscCountsBy numbering.clock pace disc) (rises : Rises place)
-    (right : (gap : Gap) → IsGap pace slack numbering seen answers ends gap → gap.kind ≡ lost
-    → HasRightEnds (captured disc place) gap)
-    (first : ℕ) (before_first : (j l : ℕ) → j < first → IsMarked answers j l → ⊥) where
-  -- a gap loses its fields, whatever its kind
-  loses : (gap : Gap) → IsGap pace slack numbering seen answers ends gap
-      → LostAtLeast place gap.after gap.before (fields_if lost gap)
-  loses gap is = go (eqb_tells gap.kind lost)
-    where
-      go : ((eqb gap.kind lost ≡ true) × (gap.kind ≡ lost)) ⊎ ((eqb gap.kind lost ≡ false) × (gap.kind ≢ lost))
-          → LostAtLeast place gap.after gap.before (fields_if lost gap)
-      go (inl (t, e)) = rw t (gap_least pace slack disc place numbering seen answers ends gap runs is e
-          (right gap is e))
-      go (inr (f, other)) = rw f (omega (
-        arith,
-        apart place gap.after gap.before rises
-            (let o : gap.after < gap.before = is.neighbours.order in omega (arith, o)),
-      ))
-
-  within : (gap : Gap) (k : ℕ) → IsGap pace slack numbering seen answers ends gap → gap.before ≡ k → gap.after < k
-  within gap k is last = let order : gap.after < gap.before = is.neighbours.order in omega (arith, order, last)
-
-  pub lost_below : (k : ℕ) (gaps : List Gap) (unread : ℕ) → AreGaps pace slack numbering seen answers ends k gaps unread
-      → (i m : ℕ) → IsMarked answers i m → i < k → ((j l : ℕ) → i < j → j < k → IsMarked answers j l → ⊥)
-      → (first ≤ i) × LostAtLeast place first i (sum_by (fields_if lost) gaps)
-  unfolding AreGaps
-  lost_below zero gaps unread all i m here inside after = absurd (omega (arith, inside))
-  lost_below (suc k) gaps unread (inl (free, all)) i m here inside after =
-      go (lost_below k gaps unread all i m here) free (eqb_tells i k) (leb_tells first i)
-    where
-      go : (i < k → ((j l : ℕ) → i < j → j < k → IsMarked answers j l → ⊥)
-          → (first ≤ i) × LostAtLeast place first i (sum_by (fields_if lost) gaps)) → IsFree answers k
-          → ((eqb i k ≡ true) × (i ≡ k)) ⊎ ((eqb i k ≡ false) × (i ≢ k))
-          → ((nat_le first i ≡ true) × (first ≤ i)) ⊎ ((nat_le first i ≡ false) × (i < first))
-          → (first ≤ i) × LostAtLeast place first i (sum_by (fields_if lost) gaps)
-      go ih f (inr (u, differ)) _ = ih (omega (arith, inside, differ))
-          (λ j l lt less. after j l lt (omega (arith, less)))
-      go ih f (inl (t, same)) (inr (v, lt)) = absurd (before_first i m lt here)
-      go ih (inl never) (inl (t, same)) (inl (v, le)) = absurd (never m (subst (λ x. IsMarked answers x m) same here))
-      go ih (inr never) (inl (t, same)) (inl (v, le)) =
-          let none = none_gaps pace slack numbering seen answers ends k gaps unread all never in
-          (le, omega (arith, ap (λ (xs : List Gap). sum_by (fields_if lost) xs) none, apart place first i rises le))
-  lost_below (suc k) gaps unread (inr (inl (h, l, o, fewer, on, all, e))) i m here inside after =
-      go (lost_below k gaps fewer all h l on.neighbours.here on.neighbours.order on.neighbours.between) (eqb_tells i k)
-    where
-      go : ((first ≤ h) × LostAtLeast place first h (sum_by (fields_if lost) gaps))
-          → ((eqb i k ≡ true) × (i ≡ k)) ⊎ ((eqb i k ≡ false) × (i ≢ k))
-          → (first ≤ i) × LostAtLeast place first i (sum_by (fields_if lost) gaps)
-      go p (inr (u, differ)) =
-          absurd (after k o (omega (arith, inside, differ)) (omega arith) on.neighbours.there)
-      go p (inl (t, same)) =
-          let order : h < k = on.neighbours.order in
-          let up = apart place h k rises (omega (arith, order)) in
-          (omega (arith, p.0, order, same), omega (arith, p.0, p.1, up, order, same, ap place same))
-  lost_below (suc k) gaps unread (inr (inr (one, others, is, last, all, e))) i m here inside after =
-      go (lost_below k others unread all one.after one.from is.neighbours.here (within one k is last)
-      (λ j l lt less. is.neighbours.between j l lt (omega (arith, less, last)))) (eqb_tells i k)
-    where
-      go : ((first ≤ one.after) × LostAtLeast place first one.after (sum_by (fields_if lost) others))
-          → ((eqb i k ≡ true) × (i ≡ k)) ⊎ ((eqb i k ≡ false) × (i ≢ k))
-          → (first ≤ i) × LostAtLeast place first i (sum_by (fields_if lost) gaps)
-      go p (inr (u, differ)) =
-          absurd (after one.before one.to (omega (arith, inside, differ, last))
-          (omega (arith, last)) is.neighbours.there)
-      go p (inl (t, same)) =
-          let order : one.after < one.before = is.neighbours.order in
-          let up = loses one is in
-          let sum = ap (λ (xs : List Gap). sum_by (fields_if lost) xs) e ∙ sum_by_push (fields_if lost) others one in
-          let ends_at : place one.before ≡ place i = ap place (last ∙ sym same) in
-          (omega (arith, p.0, order, last, same), omega (arith, p.0, p.1, up, order, last, same, sum, ends_at))
 
 -- ---- a gap is a cut
 

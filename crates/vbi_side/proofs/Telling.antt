@@ -1,7 +1,7 @@
 -- How the gaps of a capture are told, field by field.
 use Rattle.std.proofs.Common.{◌≡◌, ◌≢◌, ℕ, zero, suc, ◌+◌, ◌<◌, ◌≤◌, Bool, true, false, List, [], ◌∷◌, ◌++◌}
 use Rattle.std.proofs.Common.{refl, arith, ap, sym, ◌∙◌, subst, inl, inr, get_or, length}
-use Rattle.std.specs.Prelude.{Some, None, slice_get, slice_set, ◌⊎◌, nat_le, sum_by, if◌then◌else◌, unwrap_or}
+use Rattle.std.specs.Prelude.{Option, Some, None, slice_get, slice_set, ◌⊎◌, nat_le, sum_by, if◌then◌else◌, unwrap_or}
 use Rattle.std.proofs.lemmas.Bool.Decides.{leb_tells}
 use Rattle.std.proofs.lemmas.List.{length-set, length_push, get_or_append_left, get_or-set_other, get_or-set_same}
 use Rattle.std.proofs.lemmas.List.Sums.{sum_by_push}
@@ -16,14 +16,17 @@ use Rattle.vbi_side.specs.declared.pace.Pace.{Pace}
 use Rattle.vbi_side.specs.declared.clock.Clock.{Clock}
 use Rattle.vbi_side.specs.Clocks.{nearly_by}
 use Rattle.vbi_side.specs.Numbers.{believed, IsMarked}
+use Rattle.vbi_side.specs.Told.{capped, one_if, one_if_open, fields_if, lost_of, undecided_of, still_end_of}
+use Rattle.vbi_side.specs.Told.{begins_still, last_still, stills_of, tally_of, with_gap, AreWritten, AreTold}
+use Rattle.vbi_side.specs.Told.{AreTelling, IsTelling}
+use Rattle.vbi_side.proofs.Detouring.{settled_few}
 use Rattle.vbi_side.specs.declared.sighting.Sightings.{Sightings}
 use Rattle.vbi_side.specs.declared.gap.Numbering.{Numbering}
-use Rattle.vbi_side.specs.Gaps.{lost, held, back, still, joined, open_gap, gap_of, gap_as, kind_of, since_end}
+use Rattle.vbi_side.specs.Gaps.{lost, held, back, still, joined, inserted, gap_of, gap_as, kind_of, since_end}
 use Rattle.vbi_side.specs.Gaps.{ended_between}
-use Rattle.vbi_side.specs.Gaps.{shown_between, still_end_of, begins_still, last_still, stills_of}
+use Rattle.vbi_side.specs.Gaps.{shown_between}
 use Rattle.vbi_side.specs.Gaps.{is_end}
-use Rattle.vbi_side.specs.Gaps.{AreNeighbours, IsFree, IsGap, AreGaps, AreWritten, IsTold, IsLast, skipped, tally_of}
-use Rattle.vbi_side.specs.Gaps.{capped, one_if, fields_if, lost_of, undecided_of, with_gap, with_unread}
+use Rattle.vbi_side.specs.Gaps.{AreNeighbours, IsFree, IsGap, AreGaps, IsLast, skipped}
 
 -- ---- lists
 
@@ -106,7 +109,7 @@ capped_more : (a b : ℕ) → capped (capped a + b) ≡ capped (a + b)
 capped_more a b = omega arith
 
 -- a capped sum with one more after it
-summed : (f : Gap → ℕ) (gaps : List Gap) (gap : Gap)
+pub summed : (f : Gap → ℕ) (gaps : List Gap) (gap : Gap)
     → capped (capped (sum_by f gaps) + f gap) ≡ capped (sum_by f (gaps ++ gap ∷ []))
 summed f gaps gap = capped_more (sum_by f gaps) (f gap) ∙ ap capped (sym (sum_by_push f gaps gap))
 
@@ -142,15 +145,34 @@ tally_gap clock gaps unread gap =
       sym (last_still_push 0 gaps gap),
       summed (one_if back) gaps gap,
       summed (one_if joined) gaps gap,
-      summed (one_if open_gap) gaps gap,
+      summed one_if_open gaps gap,
       summed (lost_of clock) gaps gap,
       summed (undecided_of clock) gaps gap,
     )
 
-pub tally_unread : (clock : Clock) (gaps : List Gap) (unread more : ℕ)
-    → with_unread (tally_of clock gaps unread) more ≡ tally_of clock gaps (unread + more)
-tally_unread clock gaps unread more = ap (λ (n : ℕ). record (tally_of clock gaps unread) { unread = n })
-    (capped_more unread more)
+-- one gap more, which is counted and written if there is room
+pub told_one : (clock : Clock) (gaps : List Gap) (unread : ℕ) (tally : Tally) (away then_away : ℕ)
+    (old new then_new : List Gap) (gap : Gap) → AreTold clock gaps unread tally away old new
+    → then_away ≡ capped (away + fields_if inserted gap)
+    → (tally.gaps < length new → then_new ≡ slice_set new tally.gaps gap) → (length new ≤ tally.gaps → then_new ≡ new)
+    → AreTold clock (gaps ++ gap ∷ []) unread (with_gap clock tally gap) then_away old then_new
+told_one clock gaps unread tally away then_away old new then_new gap told more there full = record {
+  comes_to = ap (λ (t : Tally). with_gap clock t gap) told.comes_to ∙ tally_gap clock gaps unread gap;
+  inserts = more ∙ ap (λ (n : ℕ). capped (n + fields_if inserted gap)) told.inserts
+      ∙ summed (fields_if inserted) gaps gap;
+  written = go (leb_tells (length new) tally.gaps);
+}
+  where
+    place : tally.gaps ≡ length gaps
+    place = ap (λ (t : Tally). t.gaps) told.comes_to
+
+    go : ((nat_le (length new) tally.gaps ≡ true) × (length new ≤ tally.gaps))
+        ⊎ ((nat_le (length new) tally.gaps ≡ false) × (tally.gaps < length new))
+        → AreWritten (gaps ++ gap ∷ []) old then_new
+    go (inl (t, le)) = subst (AreWritten (gaps ++ gap ∷ []) old) (sym (full le))
+        (written_full gaps old new gap told.written (omega (arith, le, place)))
+    go (inr (f, lt)) = subst (AreWritten (gaps ++ gap ∷ []) old) (sym (there lt))
+        (written_there gaps old new gap tally.gaps place told.written lt)
 
 -- ---- a gap
 
@@ -206,83 +228,53 @@ gap_between pace slack numbering seen answers ends i m k n gap neighbours found 
 
 -- ---- field by field
 
-pub told_begins : (pace : Pace) (slack : ℕ) (numbering : Numbering) (seen : List Sightings) (answers : List Number)
-    (ends : List ℕ) (old : List Gap)
-    → IsTold pace slack numbering seen answers ends 0 (tally_of numbering.clock [] 0) old old
-unfolding AreGaps
-told_begins pace slack numbering seen answers ends old = record {
-  gaps = [];
-  unread = 0;
-  all = (refl, refl);
-  comes_to = refl;
-  written = none_written old;
-}
-
 pub told_free : (pace : Pace) (slack : ℕ) (numbering : Numbering) (seen : List Sightings) (answers : List Number)
-    (ends : List ℕ) (k : ℕ) (tally : Tally)
-    (old new : List Gap) → IsFree answers k → IsTold pace slack numbering seen answers ends k tally old new
-    → IsTold pace slack numbering seen answers ends (suc k) tally old new
+    (ends : List ℕ) (k : ℕ) (last : Option Gap) (tally : Tally) (away : ℕ)
+    (old new : List Gap) → IsFree answers k
+    → IsTelling pace slack numbering seen answers ends k last tally away old new
+    → IsTelling pace slack numbering seen answers ends (suc k) last tally away old new
 unfolding AreGaps
-told_free pace slack numbering seen answers ends k tally old new free told = record {
+told_free pace slack numbering seen answers ends k last tally away old new free told = record {
   gaps = told.gaps;
   unread = told.unread;
   all = inl (free, told.all);
-  comes_to = told.comes_to;
-  written = told.written;
+  telling = told.telling;
 }
 
 pub told_on : (pace : Pace) (slack : ℕ) (numbering : Numbering) (seen : List Sightings) (answers : List Number)
-    (ends : List ℕ) (i m k n : ℕ) (tally : Tally)
+    (ends : List ℕ) (i m k n : ℕ) (last then_last : Option Gap) (tally next : Tally) (away then_away : ℕ)
     (old new : List Gap) → AreNeighbours answers i m k n
     → nearly_by numbering.clock pace slack i m k n ≡ true
-    → IsTold pace slack numbering seen answers ends k tally old new
-    → IsTold pace slack numbering seen answers ends (suc k) (with_unread tally (skipped numbering.clock m n)) old new
+    → (told : IsTelling pace slack numbering seen answers ends k last tally away old new)
+    → AreTelling pace slack numbering.clock told.gaps (told.unread + skipped numbering.clock m n) then_last next
+    then_away old new
+    → IsTelling pace slack numbering seen answers ends (suc k) then_last next then_away old new
 unfolding AreGaps
-told_on pace slack numbering seen answers ends i m k n tally old new neighbours near told = record {
-  gaps = told.gaps;
-  unread = told.unread + skipped numbering.clock m n;
-  all = inr (inl (i, m, n, told.unread, record { neighbours = neighbours; near = near }, told.all, refl));
-  comes_to = ap (λ (t : Tally). with_unread t (skipped numbering.clock m n)) told.comes_to
-      ∙ tally_unread numbering.clock told.gaps told.unread (skipped numbering.clock m n);
-  written = told.written;
-}
-
-told_more : (pace : Pace) (slack : ℕ) (numbering : Numbering) (seen : List Sightings) (answers : List Number)
-    (ends : List ℕ) (k : ℕ) (gap : Gap) (tally : Tally)
-    (old new next : List Gap) → IsGap pace slack numbering seen answers ends gap → gap.before ≡ k
-    → (told : IsTold pace slack numbering seen answers ends k tally old new)
-    → AreWritten (told.gaps ++ gap ∷ []) old next
-    → IsTold pace slack numbering seen answers ends (suc k) (with_gap numbering.clock tally gap) old next
-unfolding AreGaps
-told_more pace slack numbering seen answers ends k gap tally old new next is last told written = record {
-  gaps = told.gaps ++ gap ∷ [];
-  unread = told.unread;
-  all = inr (inr (gap, told.gaps, is, last, told.all, refl));
-  comes_to = ap (λ (t : Tally). with_gap numbering.clock t gap) told.comes_to
-      ∙ tally_gap numbering.clock told.gaps told.unread gap;
-  written = written;
-}
+told_on pace slack numbering seen answers ends i m k n last then_last tally next away then_away old new neighbours
+    near told telling = record {
+      gaps = told.gaps;
+      unread = told.unread + skipped numbering.clock m n;
+      all = inr (inl (i, m, n, told.unread, record { neighbours = neighbours; near = near }, told.all, refl));
+      telling = telling;
+    }
 
 pub told_gap : (pace : Pace) (slack : ℕ) (numbering : Numbering) (seen : List Sightings) (answers : List Number)
-    (ends : List ℕ) (i m k n : ℕ) (gap : Gap)
-    (tally : Tally) (old new next : List Gap) → AreNeighbours answers i m k n
+    (ends : List ℕ) (i m k n : ℕ) (gap : Gap) (last then_last : Option Gap) (tally next : Tally)
+    (away then_away : ℕ) (old new then_new : List Gap) → AreNeighbours answers i m k n
     → gap_of pace slack numbering (ended_between ends i k) (shown_between seen i m k n) i m k n ≡ Some gap
-    → (tally.gaps < length new → next ≡ slice_set new tally.gaps gap) → (length new ≤ tally.gaps → next ≡ new)
-    → IsTold pace slack numbering seen answers ends k tally old new
-    → IsTold pace slack numbering seen answers ends (suc k) (with_gap numbering.clock tally gap) old next
-told_gap pace slack numbering seen answers ends i m k n gap tally old new next neighbours found there full told =
+    → (told : IsTelling pace slack numbering seen answers ends k last tally away old new)
+    → AreTelling pace slack numbering.clock (told.gaps ++ gap ∷ []) told.unread then_last next then_away old then_new
+    → IsTelling pace slack numbering seen answers ends (suc k) then_last next then_away old then_new
+unfolding AreGaps
+told_gap pace slack numbering seen answers ends i m k n gap last then_last tally next away then_away old new then_new
+    neighbours found told telling =
     let is = gap_between pace slack numbering seen answers ends i m k n gap neighbours found in
-    let place : tally.gaps ≡ length told.gaps = ap (λ (t : Tally). t.gaps) told.comes_to in
-    told_more pace slack numbering seen answers ends k gap tally old new next is.0 is.1 told
-    (go place (leb_tells (length new) tally.gaps))
-  where
-    go : tally.gaps ≡ length told.gaps → ((nat_le (length new) tally.gaps ≡ true) × (length new ≤ tally.gaps))
-        ⊎ ((nat_le (length new) tally.gaps ≡ false) × (tally.gaps < length new))
-        → AreWritten (told.gaps ++ gap ∷ []) old next
-    go place (inl (t, le)) = subst (AreWritten (told.gaps ++ gap ∷ []) old) (sym (full le))
-        (written_full told.gaps old new gap told.written (omega (arith, le, place)))
-    go place (inr (f, lt)) = subst (AreWritten (told.gaps ++ gap ∷ []) old) (sym (there lt))
-        (written_there told.gaps old new gap tally.gaps place told.written lt)
+    record {
+      gaps = told.gaps ++ gap ∷ [];
+      unread = told.unread;
+      all = inr (inr (gap, told.gaps, is.0, is.1, told.all, refl));
+      telling = telling;
+    }
 
 -- ---- the last number
 
@@ -316,12 +308,13 @@ gaps_few pace slack numbering seen answers ends (suc k) gaps unread (inr (inr (o
     )
 
 pub told_few : (pace : Pace) (slack : ℕ) (numbering : Numbering) (seen : List Sightings) (answers : List Number)
-    (ends : List ℕ) (k : ℕ) (tally : Tally)
-    (old new : List Gap) → IsTold pace slack numbering seen answers ends k tally old new → tally.gaps ≤ k
-told_few pace slack numbering seen answers ends k tally old new told =
+    (ends : List ℕ) (k : ℕ) (last : Option Gap) (tally : Tally) (away : ℕ)
+    (old new : List Gap) → IsTelling pace slack numbering seen answers ends k last tally away old new
+    → tally.gaps ≤ k
+told_few pace slack numbering seen answers ends k last tally away old new told =
     omega (
       arith,
-      ap (λ (t : Tally). t.gaps) told.comes_to,
+      settled_few pace slack numbering.clock told.gaps told.unread last tally away old new told.telling,
       gaps_few pace slack numbering seen answers ends k told.gaps told.unread told.all,
     )
 

@@ -175,7 +175,7 @@ sighting_passes test sighting more = go (test sighting.number) refl
     go false e =
         absurd (let none : sighting_weight test sighting ≡ 0 = rw e refl in omega (arith, none, more))
 
-field_passes : (test : ℕ → Bool) (field : Option Sightings) → 0 < field_weight test field → Passes test field
+pub field_passes : (test : ℕ → Bool) (field : Option Sightings) → 0 < field_weight test field → Passes test field
 field_passes test None more = absurd (omega arith)
 field_passes test (Some field) more = go (leb_tells 1 (sighting_weight test field.line_17))
   where
@@ -207,7 +207,7 @@ sighting_most test sighting = go (test sighting.number)
     go true = omega arith
     go false = omega arith
 
-field_weight-most : (test : ℕ → Bool) (field : Option Sightings) → field_weight test field ≤ field_most
+pub field_weight-most : (test : ℕ → Bool) (field : Option Sightings) → field_weight test field ≤ field_most
 field_weight-most test None = omega arith
 field_weight-most test (Some field) =
     omega (arith, sighting_most test field.line_17, sighting_most test field.line_18)

@@ -25,7 +25,7 @@ use Rattle.vbi_side.proofs.Weights.{weight_below-split, once, spread, weight_at-
 
 -- ---- counts
 
-some_most : (pace other : Pace) (fields : List Sightings) (n few many : ℕ)
+pub some_most : (pace other : Pace) (fields : List Sightings) (n few many : ℕ)
     → ((i m : ℕ) → Believed pace fields i m → Believed other fields i m)
     → IsCount pace fields n few → IsCount other fields n many → few ≤ many
 some_most pace other fields zero few many so counted counts = omega (arith, counted, counts)
@@ -90,7 +90,7 @@ all_believed pace recorded fields i n whole shown =
 
 -- ---- video
 
-video_most : (video film : ℕ) → film ≤ video → pace_by video film ≡ Video
+pub video_most : (video film : ℕ) → film ≤ video → pace_by video film ≡ Video
 video_most video film less = go (nat_lt (11 * video) (10 * film)) refl
   where
     go : (b : Bool) → nat_lt (11 * video) (10 * film) ≡ b → pace_by video film ≡ Video

@@ -1,7 +1,8 @@
 -- What the verdict of a capture says of it.
 use Rattle.std.proofs.Common.{◌≡◌, ◌≢◌, ℕ, ◌+◌, ◌*◌, ◌-◌, ◌<◌, ◌≤◌, Bool, true, false, List}
-use Rattle.std.proofs.Common.{refl, arith, ap, sym, ◌∙◌, inl, inr, length}
-use Rattle.std.specs.Prelude.{Option, ◌⊎◌, nat_le, nat_lt, ◌==◌, ◌&&◌, ◌||◌, ◌%◌, not, sum_by, if◌then◌else◌}
+use Rattle.std.proofs.Common.{refl, arith, ap, sym, subst, ◌∙◌, inl, inr, length}
+use Rattle.std.specs.Prelude.{Option, Some, slice_get, ◌⊎◌, nat_le, nat_lt, ◌==◌, ◌&&◌, ◌||◌, ◌%◌, not, sum_by}
+use Rattle.std.specs.Prelude.{if◌then◌else◌}
 use Rattle.std.proofs.lemmas.Bool.Decides.{leb_tells, eqb_tells}
 use Rattle.std.proofs.Math.Dec.{eqb}
 use Rattle.vbi_side.specs.declared.number.Number.{Number}
@@ -18,11 +19,11 @@ use Rattle.vbi_side.specs.Clocks.{kept, nearly_by, out_near, DiscCountsBy, DiscN
 use Rattle.vbi_side.proofs.Counting.{clear_video, clear_film, near_video, plain_clear, plain_runs, plain_counts}
 use Rattle.vbi_side.specs.Beliefs.{reach, enough}
 use Rattle.vbi_side.specs.Truth.{IsNear, wrong_weight}
-use Rattle.std.proofs.lemmas.Option.{slice_get_within}
 use Rattle.vbi_side.specs.Numbers.{believed, AreAnswers, IsMarked}
 use Rattle.vbi_side.specs.Side.{DiscRuns, DiscCounts, Rises, captured, NoneLost, AreLost, AreEnds, IsAnchor}
 use Rattle.vbi_side.specs.declared.gap.Numbering.{Numbering}
-use Rattle.vbi_side.specs.Gaps.{lost, fields_if, capped, IsGap, HasRightEnds, LostAtLeast}
+use Rattle.vbi_side.specs.Gaps.{lost, HasRightEnds, LostAtLeast}
+use Rattle.vbi_side.specs.Told.{fields_if, capped}
 use Rattle.vbi_side.specs.Verdicts.{yes, no, cannot_tell, verdict_of, reason, seen_reasons, is_off, reasons_of, HasNone}
 use Rattle.vbi_side.specs.Verdicts.{IsUntold}
 use Rattle.vbi_side.specs.Verdicts.{IsFinding}
@@ -32,13 +33,14 @@ use Rattle.vbi_side.proofs.Truth.{video_fits, film_fits}
 use Rattle.vbi_side.proofs.Filling.{answer_believed}
 use Rattle.vbi_side.proofs.Sides.{apart, near_one, alone_of, none_lost, lost_between}
 use Rattle.vbi_side.proofs.Anchors.{anchor}
-use Rattle.vbi_side.proofs.GapLaws.{lost_below}
+use Rattle.vbi_side.proofs.LostFields.{told_lost}
+use Rattle.vbi_side.specs.Detours.{detoured}
 
 -- ---- the verdict
 
 -- yes leaves no reason
 yes_none : (reasons : ℕ) → verdict_of reasons ≡ yes → reasons ≡ 0
-yes_none reasons = go (eqb_tells reasons 0) (eqb (reasons % 64) 0)
+yes_none reasons = go (eqb_tells reasons 0) (eqb (reasons % 64) 0 && nat_lt reasons 4096)
   where
     go : ((eqb reasons 0 ≡ true) × (reasons ≡ 0)) ⊎ ((eqb reasons 0 ≡ false) × (reasons ≢ 0)) → (b : Bool)
         → (if eqb reasons 0 then yes else (if b then cannot_tell else no)) ≡ yes → reasons ≡ 0
@@ -46,15 +48,22 @@ yes_none reasons = go (eqb_tells reasons 0) (eqb (reasons % 64) 0)
     go (inr (f, other)) true v = let h : cannot_tell ≡ yes = rw f at v in absurd (omega (arith, h))
     go (inr (f, other)) false v = let h : no ≡ yes = rw f at v in absurd (omega (arith, h))
 
-not_off : (seen swap last first doubt gaps : ℕ) (off : Bool)
-    → seen + swap + (if off then 64 else 0) + last + first + doubt + gaps ≡ 0 → off ≡ false
-not_off seen swap last first doubt gaps true e = absurd (omega (arith, e))
-not_off seen swap last first doubt gaps false e = refl
+not_off : (seen swap last first doubt gaps more : ℕ) (off : Bool)
+    → seen + swap + (if off then 64 else 0) + last + first + doubt + gaps + more ≡ 0 → off ≡ false
+not_off seen swap last first doubt gaps more true e = absurd (omega (arith, e))
+not_off seen swap last first doubt gaps more false e = refl
 
-not_open : (seen swap off last first doubt : ℕ) (b : Bool)
-    → seen + swap + off + last + first + doubt + (if b then 2048 else 0) ≡ 0 → b ≡ false
-not_open seen swap off last first doubt true e = absurd (omega (arith, e))
-not_open seen swap off last first doubt false e = refl
+not_open : (seen swap off last first doubt more : ℕ) (b : Bool)
+    → seen + swap + off + last + first + doubt + (if b then 2048 else 0) + more ≡ 0 → b ≡ false
+not_open seen swap off last first doubt more true e = absurd (omega (arith, e))
+not_open seen swap off last first doubt more false e = refl
+
+-- nothing is inserted
+none_away : (rest away : ℕ) → rest + reason 4096 (nat_lt 0 away) ≡ 0 → away ≡ 0
+none_away rest away e = elim (leb_tells 1 away) [
+  | inl (t, le) ↦ absurd (let h : rest + 4096 ≡ 0 = rw t at e in omega (arith, h))
+  | inr (f, lt) ↦ omega (arith, lt)
+]
 
 -- neither of two
 neither : (a b : Bool) → (a || b) ≡ false → b ≡ false
@@ -86,7 +95,7 @@ yes_near pace slack numbering may_end seen answers ends finding old new is verdi
     none = yes_none finding.reasons (sym is.verdict ∙ verdict)
 
     go : IsUntold answers finding ⊎ ((m n : ℕ) × AreEnds answers finding.first m finding.last n
-        × (finding.reasons ≡ reasons_of numbering.clock pace slack may_end answers ends finding.tally is.swapped
+        × (finding.reasons ≡ reasons_of numbering.clock pace slack may_end answers ends finding.tally is.away is.swapped
         is.drifts
         finding.first m finding.last n))
         → (m n : ℕ) × AreEnds answers finding.first m finding.last n
@@ -103,16 +112,21 @@ yes_near pace slack numbering may_end seen answers ends finding old new is verdi
         let last_unseen = reason 256 (is_end_unseen may_end ends last) in
         let first_unseen = reason 512 (is_begin_unseen ends first m) in
         let doubt = reason 1024 (are_doubtful answers) in
-        let open_none = not_open seen_here swap (reason 64
-        (is.drifts || is_off pace slack tally first from last to)) last_unseen
-        first_unseen doubt (nat_lt 0 tally.open_gaps) (sym e ∙ none) in
-        let off = not_off seen_here swap last_unseen first_unseen doubt (reason 2048 (nat_lt 0 tally.open_gaps))
-        (is.drifts || is_off pace slack tally first from last to) (sym e ∙ none) in (
+        let off_here = is.drifts || is_off pace slack tally is.away first from last to in
+        let gaps = reason 2048 (nat_lt 0 tally.open_gaps) in
+        let more = reason 4096 (nat_lt 0 is.away) in
+        let open_none = not_open seen_here swap (reason 64 off_here) last_unseen first_unseen doubt more
+        (nat_lt 0 tally.open_gaps) (sym e ∙ none) in
+        let off = not_off seen_here swap last_unseen first_unseen doubt gaps more off_here (sym e ∙ none) in
+        let here = none_away (seen_here + swap + reason 64 off_here + last_unseen + first_unseen + doubt + gaps)
+        is.away (sym e ∙ none) in
+        let near = is_near tally.open_gaps (nearly pace slack (first + tally.stood + is.away) from last to) open_none
+        (neither is.drifts (is_off pace slack tally is.away first from last to) off) in (
           m,
           n,
           are,
-          is_near tally.open_gaps (nearly pace slack (first + tally.stood) from last to) open_none
-              (neither is.drifts (is_off pace slack tally first from last to) off),
+          subst (λ n. nearly pace slack n from last to ≡ true)
+              (let less : first + tally.stood + is.away ≡ first + tally.stood = omega (arith, here) in less) near,
         )
 
 within : (slack i m j n : ℕ) → nearly Video slack i m j n ≡ true
@@ -328,28 +342,28 @@ plain_of_film disc place fields answers slack numbering may_end seen ends findin
 pub whole_lost : (pace : Pace) (slack : ℕ) (disc : ℕ → Option ℕ) (place : ℕ → ℕ) (answers : List Number)
     (numbering : Numbering) (may_end : Bool) (seen : List Sightings) (ends : List ℕ) (finding : Finding)
     (old new : List Gap) → DiscCountsBy numbering.clock pace disc → Rises place
-    → IsFinding pace slack numbering may_end seen answers ends finding old new
-    → ((gap : Gap) → IsGap pace slack numbering seen answers ends gap → gap.kind ≡ lost
-    → HasRightEnds (captured disc place) gap)
+    → (is : IsFinding pace slack numbering may_end seen answers ends finding old new)
+    → ((j : ℕ) (gap : Gap) → slice_get (detoured pace slack numbering.clock is.told.gaps) j ≡ Some gap
+    → gap.kind ≡ lost → HasRightEnds (captured disc place) gap)
     → (HasNone answers → ⊥) → LostAtLeast place finding.first finding.last finding.tally.lost
 whole_lost pace slack disc place answers numbering may_end seen ends finding old new runs rises is right some = go
     is.reasons
   where
-    sum : finding.tally.lost ≡ capped (sum_by (fields_if lost) is.told.gaps)
-    sum = ap (λ (t : Tally). t.lost) is.told.comes_to
+    sum : finding.tally.lost ≡ capped (sum_by (fields_if lost) (detoured pace slack numbering.clock is.told.gaps))
+    sum = ap (λ (t : Tally). t.lost) is.told.told.comes_to
 
     go : IsUntold answers finding ⊎ ((m n : ℕ) × AreEnds answers finding.first m finding.last n
-        × (finding.reasons ≡ reasons_of numbering.clock pace slack may_end answers ends finding.tally is.swapped
+        × (finding.reasons ≡ reasons_of numbering.clock pace slack may_end answers ends finding.tally is.away is.swapped
         is.drifts
         finding.first m finding.last n))
         → LostAtLeast place finding.first finding.last finding.tally.lost
     go (inl (never, e, first, last)) = absurd (some never)
-    go (inr (m, n, are, e)) =
-        let p = lost_below pace slack disc place numbering seen answers ends runs rises right finding.first
-        are.none_before
-        (length answers) is.told.gaps is.told.unread is.told.all finding.last n are.ends
-        (slice_get_within answers finding.last (believed n) are.ends) (λ j l lt less. are.none_after j l lt) in
-        omega (arith, p.1, sum)
+    go (inr (m, n, are, e)) = omega (
+      arith,
+      sum,
+      told_lost pace slack disc place numbering seen answers ends runs rises (length answers) is.told.gaps
+          is.told.unread is.told.all right finding.first m finding.last n are,
+    )
 
 -- ---- nothing is known
 
@@ -360,7 +374,7 @@ pub none_known : (pace : Pace) (slack : ℕ) (numbering : Numbering) (may_end : 
 none_known pace slack numbering may_end seen answers ends finding old new is never = go is.reasons
   where
     go : IsUntold answers finding ⊎ ((m n : ℕ) × AreEnds answers finding.first m finding.last n
-        × (finding.reasons ≡ reasons_of numbering.clock pace slack may_end answers ends finding.tally is.swapped
+        × (finding.reasons ≡ reasons_of numbering.clock pace slack may_end answers ends finding.tally is.away is.swapped
         is.drifts
         finding.first m finding.last n))
         → finding.verdict ≡ cannot_tell

@@ -1,8 +1,8 @@
 -- Where the numbers of a capture and its fields don't go on together: what lies between two neighbouring numbers that
 -- are believed, and all of it in order.
-use Rattle.std.specs.Prelude.{◌≡◌, ℕ, zero, suc, ◌+◌, ◌*◌, ◌-◌, ◌/◌, ◌^◌, ◌<◌, ◌≤◌, ◌==◌, nat_le, nat_lt, min, max}
-use Rattle.std.specs.Prelude.{sum_by, count_by, slice_range, ◌&&◌, ◌||◌, not, ◌⊎◌, Bool, true, false, if◌then◌else◌}
-use Rattle.std.specs.Prelude.{List, [], ◌∷◌, ◌++◌, length, Option, Some, None, slice_get}
+use Rattle.std.specs.Prelude.{◌≡◌, ℕ, zero, suc, ◌+◌, ◌*◌, ◌-◌, ◌/◌, ◌<◌, ◌≤◌, ◌==◌, nat_le, nat_lt}
+use Rattle.std.specs.Prelude.{count_by, slice_range, ◌&&◌, ◌||◌, ◌⊎◌, Bool, true, false, if◌then◌else◌}
+use Rattle.std.specs.Prelude.{List, [], ◌∷◌, ◌++◌, Option, Some, None, slice_get}
 use Rattle.vbi_words.specs.declared.system.System.{System}
 use Rattle.vbi_words.specs.declared.system.System.TheVariants.{Ntsc}
 use Rattle.vbi_side.specs.declared.lines.Counted.{Counted}
@@ -11,11 +11,10 @@ use Rattle.vbi_side.specs.declared.sighting.Sightings.{Sightings}
 use Rattle.vbi_side.specs.declared.gap.Numbering.{Numbering}
 use Rattle.vbi_side.specs.declared.number.Number.{Number}
 use Rattle.vbi_side.specs.declared.gap.Gap.{Gap}
-use Rattle.vbi_side.specs.declared.gap.Tally.{Tally}
 use Rattle.vbi_side.specs.declared.place.Place.{Place}
 use Rattle.vbi_side.specs.declared.pace.Pace.{Pace}
 use Rattle.vbi_side.specs.declared.pace.Pace.TheVariants.{Video, Film}
-use Rattle.vbi_side.specs.Paces.{stays}
+use Rattle.vbi_side.specs.Paces.{fits, stays}
 use Rattle.vbi_side.specs.Clocks.{kept, nearly_by, is_plain}
 use Rattle.vbi_side.specs.declared.clock.Clock.{Clock}
 use Rattle.vbi_side.specs.Numbers.{IsMarked}
@@ -24,7 +23,8 @@ use Rattle.vbi_side.specs.Ends.{lead_out, lead_in}
 -- ---- what lies between two numbers
 
 -- what a gap is: fields are lost; too many are there; the numbers go back; the player stood still; another side begins;
--- or the disc itself may skip there
+-- or the disc itself may skip there. Of two neighbouring ones that are a detour each is told to be one where fields are
+-- inserted, or numbers replaced
 abbrev pub lost : ℕ
 lost = 1
 
@@ -42,6 +42,12 @@ joined = 5
 
 abbrev pub open_gap : ℕ
 open_gap = 6
+
+abbrev pub inserted : ℕ
+inserted = 7
+
+abbrev pub replaced : ℕ
+replaced = 8
 
 -- a player can stand still at a picture, and on a CLV disc nowhere
 abbrev pub stands : Counted → Bool
@@ -78,18 +84,21 @@ abbrev pub off_by_clock : Clock → Pace → ℕ → ℕ → ℕ → ℕ → ℕ
 off_by_clock clock pace i m k n = off_by pace i (kept clock m) k (kept clock n)
 
 -- the disc itself may skip between them: a clock that isn't known leaves out one number or two; where film is cut over
--- a number that wasn't read, the next one stands a field off
+-- a number that wasn't read, the next one stands a field off; and a disc of film may have video between them, of two
+-- fields to a picture
 abbrev pub is_open : Pace → Numbering → ℕ → ℕ → ℕ → ℕ → Bool
 is_open Video numbering i m k n =
     has_clock numbering
     && (lacking_by numbering.clock Video i m k n == 2 || lacking_by numbering.clock Video i m k n == 4)
-is_open Film numbering i m k n = nat_lt (m + 1) n && (off_by_clock numbering.clock Film i m k n == 1)
+is_open Film numbering i m k n =
+    fits Video i m k n || (nat_lt (m + 1) n && (off_by_clock numbering.clock Film i m k n == 1))
 
--- what lies between numbers that don't go on, of which an end of a side stands between or not
+-- what lies between numbers that don't go on, of which an end of a side stands between or not. The last number of a
+-- side may stand still beside its end: there no other side begins
 abbrev pub kind_of : Pace → Numbering → Bool → ℕ → ℕ → ℕ → ℕ → ℕ
 kind_of pace numbering ended i m k n =
-    if ended then joined
-    else (if has_stills numbering && stays i m k n then still
+    if has_stills numbering && stays i m k n then still
+    else (if ended then joined
     else (if nat_lt n m then back
     else (if is_open pace numbering i m k n then open_gap
     else (if nat_lt 0 (lacking_by numbering.clock pace i m k n) then lost
@@ -210,106 +219,6 @@ AreGaps pace slack numbering seen answers ends (suc k) gaps unread =
     × AreGaps pace slack numbering seen answers ends k gaps fewer × (unread ≡ fewer + skipped numbering.clock m n))
     ⊎ ((one : Gap) × (others : List Gap) × IsGap pace slack numbering seen answers ends one × (one.before ≡ k)
     × AreGaps pace slack numbering seen answers ends k others unread × (gaps ≡ others ++ one ∷ []))
-
--- ---- what they come to
-
--- a count, or the most that 64 bits hold
-abbrev pub capped : ℕ → ℕ
-capped n = min n (2 ^ 64 - 1)
-
--- one if it is a gap of this kind
-abbrev pub one_if : ℕ → Gap → ℕ
-one_if kind gap = if gap.kind == kind then 1 else 0
-
--- its fields if it is a gap of this kind
-abbrev pub fields_if : ℕ → Gap → ℕ
-fields_if kind gap = if gap.kind == kind then gap.fields else 0
-
--- of the numbers between those of a gap this many at most are in its fields: one in two fields could be, and each that
--- is shown there is
-abbrev pub shown_most : Gap → ℕ
-shown_most gap = max gap.shown ((gap.before - gap.after - 1) / 2)
-
--- of the numbers between those of a gap with lost fields this many at least are lost; none is that the clock leaves out
-abbrev pub lost_of : Clock → Gap → ℕ
-lost_of clock gap = if gap.kind == lost then skipped clock gap.from gap.to - shown_most gap else 0
-
--- of the others it isn't known, nor of those between the numbers of an open gap
-abbrev pub undecided_of : Clock → Gap → ℕ
-undecided_of clock gap =
-    if gap.kind == lost then min (skipped clock gap.from gap.to) (shown_most gap)
-    else (if gap.kind == open_gap then skipped clock gap.from gap.to else 0)
-
--- the field after the last still, if that was field `end` before this gap
-abbrev pub still_end_of : ℕ → Gap → ℕ
-still_end_of end gap = if gap.kind == still then gap.before + 1 else end
-
--- one if the gap begins a still: it is one, and doesn't go on from the last one
-abbrev pub begins_still : ℕ → Gap → ℕ
-begins_still end gap = if gap.kind == still && not (end == (gap.after + 1)) then 1 else 0
-
--- the field after the last still of the gaps
-unfoldable pub last_still : ℕ → List Gap → ℕ
-last_still end [] = end
-last_still end (gap ∷ gaps) = last_still (still_end_of end gap) gaps
-
--- this many stills are among the gaps
-unfoldable pub stills_of : ℕ → List Gap → ℕ
-stills_of end [] = 0
-stills_of end (gap ∷ gaps) = begins_still end gap + stills_of (still_end_of end gap) gaps
-
--- what the gaps come to
-abbrev pub tally_of : Clock → List Gap → ℕ → Tally
-tally_of clock gaps unread = record {
-  gaps = length gaps;
-  lost = capped (sum_by (fields_if lost) gaps);
-  held = capped (sum_by (fields_if held) gaps);
-  stood = capped (sum_by (fields_if still) gaps);
-  stills = capped (stills_of 0 gaps);
-  still_end = last_still 0 gaps;
-  back = capped (sum_by (one_if back) gaps);
-  joined = capped (sum_by (one_if joined) gaps);
-  open_gaps = capped (sum_by (one_if open_gap) gaps);
-  lost_numbers = capped (sum_by (lost_of clock) gaps);
-  undecided = capped (sum_by (undecided_of clock) gaps);
-  unread = capped unread;
-}
-
--- the same with one gap more
-abbrev pub with_gap : Clock → Tally → Gap → Tally
-with_gap clock tally gap = record {
-  gaps = tally.gaps + 1;
-  lost = capped (tally.lost + fields_if lost gap);
-  held = capped (tally.held + fields_if held gap);
-  stood = capped (tally.stood + fields_if still gap);
-  stills = capped (tally.stills + begins_still tally.still_end gap);
-  still_end = still_end_of tally.still_end gap;
-  back = capped (tally.back + one_if back gap);
-  joined = capped (tally.joined + one_if joined gap);
-  open_gaps = capped (tally.open_gaps + one_if open_gap gap);
-  lost_numbers = capped (tally.lost_numbers + lost_of clock gap);
-  undecided = capped (tally.undecided + undecided_of clock gap);
-  unread = tally.unread;
-}
-
--- the same with this many unread numbers more
-abbrev pub with_unread : Tally → ℕ → Tally
-with_unread tally more = record tally { unread = capped (tally.unread + more) }
-
--- the caller's room holds the first gaps as far as it goes, and is else as it was
-pub record AreWritten (gaps old new : List Gap) : Type 0 where
-  pub room : length new ≡ length old
-  pub first : (j : ℕ) (gap : Gap) → j < length old → slice_get gaps j ≡ Some gap → slice_get new j ≡ Some gap
-  pub others : (j : ℕ) → length gaps ≤ j → slice_get new j ≡ slice_get old j
-
--- of the fields before field k it is told what their gaps come to, and the room holds the first of them
-pub record IsTold (pace : Pace) (slack : ℕ) (numbering : Numbering) (seen : List Sightings) (answers : List Number)
-    (ends : List ℕ) (k : ℕ) (tally : Tally) (old new : List Gap) : Type 0 where
-  pub gaps : List Gap
-  pub unread : ℕ
-  pub all : AreGaps pace slack numbering seen answers ends k gaps unread
-  pub comes_to : tally ≡ tally_of numbering.clock gaps unread
-  pub written : AreWritten gaps old new
 
 -- ---- what is true of them
 

@@ -19,6 +19,8 @@ pub mod Stops
 pub mod Side
 pub mod Ends
 pub mod Gaps
+pub mod Detours
+pub mod Told
 pub mod ClocksFound
 pub mod Verdicts
 pub mod Swaps
@@ -28,3 +30,6 @@ pub mod Tallies
 pub mod WorkedVotes
 pub mod WorkedSides
 pub mod Drifts
+pub mod CleanRuns
+pub mod SoundEnds
+pub mod Witnesses

@@ -16,7 +16,8 @@
 ghost use Rattle.std.specs.Prelude.{◌≡◌, ◌+◌, ◌*◌, ◌<◌, ◌≤◌, ◌^◌};
 ghost use Rattle.vbi_side.specs.Paces.{nearly, stays};
 ghost use Rattle.vbi_side.specs.Gaps.{lacking, has_stills, has_clock, off_by, is_open, kind_of, fields_of, gap_of};
-ghost use Rattle.vbi_side.specs.Gaps.{skipped, shown_most, lost_of, undecided_of, fields_if, one_if};
+ghost use Rattle.vbi_side.specs.Gaps.{skipped};
+ghost use Rattle.vbi_side.specs.Told.{shown_most, lost_of, undecided_of, fields_if, one_if};
 ghost use Rattle.vbi_side.specs.Clocks.{kept, is_plain, nearly_by};
 
 use crate::clock::Clock;
@@ -34,11 +35,16 @@ pub const HELD: u32 = 2;
 pub const BACK: u32 = 3;
 /// The player stood still: the same number, an even count of fields later.
 pub const STILL: u32 = 4;
-/// A lead-in or a lead-out stands between: another side begins.
+/// A lead-in or a lead-out stands between, and it is no still: another side begins.
 pub const JOINED: u32 = 5;
-/// The disc itself may skip there: the clock of an NTSC CLV disc leaves out a number or two, and where film is cut a
-/// number that wasn't read may stand a field off.
+/// The disc itself may skip there: the clock of an NTSC CLV disc leaves out a number or two; where film is cut a number
+/// that wasn't read may stand a field off; and a disc of film may have video there, of two fields to a picture.
 pub const OPEN: u32 = 6;
+/// One of a detour: the numbers around go on as if fields between weren't there. The player left and came back.
+pub const INSERTED: u32 = 7;
+/// One of a detour: the numbers around go on over the fields between. Those between are read in place of others, or two
+/// cuts cancel each other.
+pub const REPLACED: u32 = 8;
 
 /// What lies between two neighbouring believed numbers that don't go on.
 #[derive(Clone, Copy)]
@@ -48,8 +54,8 @@ pub struct Gap {
     pub after: usize,
     /// The field after it that has one.
     pub before: usize,
-    /// By how many fields: those lost or too many, at least; those of the still; else 0. If it is open, how many
-    /// more or less there are than the numbers count to.
+    /// By how many fields: those lost or too many, at least; those of the still; those that a detour inserts, which its
+    /// first gap has; else 0. If it is open, how many more or less there are than the numbers count to.
     pub fields: u64,
     /// How many fields between the two show a number between theirs, on both lines in pass 1.
     pub shown: u64,
@@ -57,7 +63,7 @@ pub struct Gap {
     pub from: u32,
     /// The number of the field after it.
     pub to: u32,
-    /// `LOST`, `HELD`, `BACK`, `STILL`, `JOINED` or `OPEN`.
+    /// `LOST`, `HELD`, `BACK`, `STILL`, `JOINED`, `OPEN`, `INSERTED` or `REPLACED`.
     pub kind: u32,
 }
 
@@ -81,7 +87,7 @@ pub struct Tally {
     pub back: u64,
     /// How often another side begins.
     pub joined: u64,
-    /// How many gaps are open.
+    /// How many gaps are open, or replaced.
     pub open_gaps: u64,
     /// The numbers that are lost, at least.
     pub lost_numbers: u64,
@@ -226,7 +232,9 @@ fn is_open(pace: Pace, numbering: Numbering, here: Place, there: Place) -> bool
                 by_clock(numbering.clock, there),
             );
             // Where film is cut the turns of two and three fields begin anew, which moves a number by one field.
-            u64::from(here.number) + 1 < u64::from(there.number) && off == 1
+            let cut = u64::from(here.number) + 1 < u64::from(there.number) && off == 1;
+            // A disc of film may have a stretch of video.
+            goes_on(Pace::Video, 0, here, there) || cut
         }
     }
 }
@@ -235,10 +243,11 @@ fn is_open(pace: Pace, numbering: Numbering, here: Place, there: Place) -> bool
 fn kind(pace: Pace, numbering: Numbering, ended: bool, here: Place, there: Place) -> u32
     ensures { result ≡ kind_of pace numbering ended here.field here.number there.field there.number }
 {
-    if ended {
-        JOINED
-    } else if numbering.has_stills() && is_still(here, there) {
+    // The last number of a side may stand still beside its end.
+    if numbering.has_stills() && is_still(here, there) {
         STILL
+    } else if ended {
+        JOINED
     } else if there.number < here.number {
         BACK
     } else if is_open(pace, numbering, here, there) {

@@ -27,8 +27,10 @@ ghost use Rattle.vbi_side.specs.declared.clock.Clock.TheVariants.{Plain, DropFra
 ghost use Rattle.vbi_side.specs.Clocks.{DiscCountsBy, DiscNearlyBy, IsClear, IsClearAt, out_near};
 ghost use Rattle.vbi_side.specs.declared.gap.Numbering.{Numbering};
 ghost use Rattle.vbi_side.specs.Gaps.{lost, held, back, still, joined, open_gap, gap_of, gap_made, since_end};
+ghost use Rattle.vbi_side.specs.Detours.{detoured};
 ghost use Rattle.vbi_side.specs.Gaps.{ended_between};
-ghost use Rattle.vbi_side.specs.Gaps.{shown_between, lost_of, undecided_of, stills_of, last_still};
+ghost use Rattle.vbi_side.specs.Gaps.{shown_between};
+ghost use Rattle.vbi_side.specs.Told.{lost_of, undecided_of, stills_of, last_still};
 ghost use Rattle.vbi_side.specs.Swaps.{stands_off, is_stray};
 ghost use Rattle.vbi_side.specs.Both.{is_on_both};
 ghost use Rattle.vbi_side.specs.Ends.{end_by};
@@ -185,15 +187,16 @@ pub fn nearly_whole()
         → (p q some : ℕ) × IsNear finding.first p × IsNear finding.last q × AreLost place p q some × (some ≤ 4) }
 {}
 
-/// If fields are said to be lost, the numbers at the ends of those gaps are right, and the capture's fields stand in
-/// the disc's order, this many of the disc at least are lost between its first and its last number.
+/// If fields are said to be lost, the numbers at the ends of the gaps that are told to be such are right, and the
+/// capture's fields stand in the disc's order, this many of the disc at least are lost between its first and its last
+/// number.
 pub fn lost_sound()
     ensures { (pace : Pace) (slack : ℕ) (disc : ℕ → Option ℕ) (place : ℕ → ℕ) (answers : List Number)
         (numbering : Numbering) (may_end : Bool) (seen : List Sightings) (ends : List ℕ) (finding : Finding)
         (old new : List Gap) → DiscCountsBy numbering.clock pace disc
-        → Rises place → IsFinding pace slack numbering may_end seen answers ends finding old new
-        → ((gap : Gap) → IsGap pace slack numbering seen answers ends gap → gap.kind ≡ lost
-        → HasRightEnds (captured disc place) gap) → (HasNone answers → ⊥)
+        → Rises place → (is : IsFinding pace slack numbering may_end seen answers ends finding old new)
+        → ((j : ℕ) (gap : Gap) → slice_get (detoured pace slack numbering.clock is.told.gaps) j ≡ Some gap
+        → gap.kind ≡ lost → HasRightEnds (captured disc place) gap) → (HasNone answers → ⊥)
         → LostAtLeast place finding.first finding.last finding.tally.lost }
 {}
 
@@ -227,6 +230,12 @@ pub fn worked_gaps()
     ensures film_cut { map (λ k. gap_of Film 0 cav false 0 10 5 k 7) (12 ∷ 13 ∷ 17 ∷ 18 ∷ [])
         ≡ Some (gap_made 10 5 12 7 lost 2 0) ∷ Some (gap_made 10 5 13 7 open_gap 1 0)
         ∷ Some (gap_made 10 5 17 7 open_gap 1 0) ∷ Some (gap_made 10 5 18 7 held 2 0) ∷ [] }
+    ensures film_video { map (λ k. gap_of Film 0 cav false 0 10 5 k 10) (19 ∷ 20 ∷ 21 ∷ []) ++ map
+        (λ k. gap_of Film 0 cav false 0 10 5 k 12) (23 ∷ 24 ∷ 25 ∷ [])
+        ≡ Some (gap_made 10 5 19 10 lost 3 0) ∷ Some (gap_made 10 5 20 10 open_gap 2 0)
+        ∷ Some (gap_made 10 5 21 10 open_gap 1 0) ∷ Some (gap_made 10 5 23 12 lost 4 0)
+        ∷ Some (gap_made 10 5 24 12 open_gap 3 0) ∷ Some (gap_made 10 5 25 12 lost 2 0) ∷ [] }
+    ensures film_back { gap_of Film 0 cav false 0 20 10 24 8 ≡ Some (gap_made 20 10 24 8 back 0 0) }
     ensures stays { map (λ numbering. gap_of Video 0 numbering false 0 10 5 14 5) (clv ∷ clv_pal ∷ [])
         ≡ Some (gap_made 10 5 14 5 held 4 0) ∷ Some (gap_made 10 5 14 5 held 4 0) ∷ [] }
     ensures clock { map (λ n. gap_of Video 0 clv false 0 10 5 13 n) (7 ∷ []) ++ map
@@ -245,7 +254,7 @@ pub fn worked_gaps()
     ensures since { map (since_end (1 ∷ 0 ∷ 2 ∷ 3 ∷ 0 ∷ [])) (0 ∷ 1 ∷ 2 ∷ 3 ∷ 4 ∷ 5 ∷ []) ≡ 0 ∷ 0 ∷ 1 ∷ 2 ∷ 0 ∷ 1 ∷ [] }
     ensures ended { map (ended_between (1 ∷ 0 ∷ 2 ∷ 3 ∷ 0 ∷ []) 0)
         (1 ∷ 2 ∷ 3 ∷ 4 ∷ []) ≡ false ∷ false ∷ false ∷ true ∷ [] }
-    ensures still_at_an_end { gap_of Video 0 cav true 0 10 5 14 5 ≡ Some (gap_made 10 5 14 5 joined 0 0) }
+    ensures still_at_an_end { gap_of Video 0 cav true 0 10 5 14 5 ≡ Some (gap_made 10 5 14 5 still 4 0) }
 {}
 
 /// Swapped fields, numbers on both fields, and verdicts, worked by hand.
@@ -276,8 +285,9 @@ pub fn worked_verdicts()
         ∷ believed 6 ∷ []) ∷ []) ≡ true ∷ false ∷ [] }
     ensures frozen { map is_on_both ((believed 1 ∷ believed 1 ∷ believed 1 ∷ nothing ∷ believed 2 ∷ [])
         ∷ (believed 1 ∷ believed 1 ∷ believed 1 ∷ believed 2 ∷ []) ∷ []) ≡ false ∷ true ∷ [] }
-    ensures verdicts { map verdict_of (0 ∷ 1 ∷ 32 ∷ 64 ∷ 128 ∷ 256 ∷ 257 ∷ 1024 ∷ 2048 ∷ 4032 ∷ []) ≡ yes ∷ no ∷ no
-        ∷ cannot_tell ∷ cannot_tell ∷ cannot_tell ∷ no ∷ cannot_tell ∷ cannot_tell ∷ cannot_tell ∷ [] }
+    ensures verdicts { map verdict_of (0 ∷ 1 ∷ 32 ∷ 64 ∷ 128 ∷ 256 ∷ 257 ∷ 1024 ∷ 2048 ∷ 4032 ∷ 4096 ∷ 6144 ∷ [])
+        ≡ yes ∷ no ∷ no ∷ cannot_tell ∷ cannot_tell ∷ cannot_tell ∷ no ∷ cannot_tell ∷ cannot_tell ∷ cannot_tell ∷ no
+        ∷ no ∷ [] }
     ensures late { map (λ fields. too_few Video fields 5) (7 ∷ 8 ∷ []) ≡ true ∷ false ∷ [] }
     ensures film_late { map (λ fields. too_few Film fields 5) (8 ∷ 9 ∷ []) ≡ true ∷ false ∷ [] }
     ensures first { map (λ m. too_few Video 0 m) (0 ∷ 1 ∷ 2 ∷ []) ≡ false ∷ false ∷ true ∷ [] }

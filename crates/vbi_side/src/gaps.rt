@@ -1,15 +1,15 @@
 //! Where the numbers of a capture and its fields don't go on together.
 //!
 //! `find_gaps` is one pass over the answers. It holds the last believed number, how many fields stand since the last
-//! end of a side, and what the gaps so far come to (`Walk`), and writes the gaps into the caller's room as far as it
-//! goes; the tally counts those too for which there is no room. `neighbours_at` says of each field which pair ends
-//! there, if one does, and gap.rt what lies between the two.
+//! end of a side, and what is told of the gaps so far (`Walk`; told.rt), and writes the gaps into the caller's room as
+//! far as it goes; the tally counts those too for which there is no room. `neighbours_at` says of each field which pair
+//! ends there, if one does, gap.rt what lies between the two, and detour.rt which gaps are a detour.
 //!
 //! Sums saturate, so that no side is too long for them. Stills that follow each other at one field are one, however
 //! many numbers of it were read: each begins where the one before ended.
 //!
 //! clock_found.rt makes its pass with `neighbours_at` and `last_at`, and verdict.rt counts with `since_at`. What this
-//! file tells is `IsTold` of `specs/Gaps.antt`; a change of what counts as an end changes ends.rt and include/ldvbi.h
+//! file tells is `IsTold` of `specs/Told.antt`; a change of what counts as an end changes ends.rt and include/ldvbi.h
 //! too.
 
 ghost use Rattle.std.specs.Prelude.{◌≡◌, ◌≢◌, ℕ, suc, ◌+◌, ◌*◌, ◌<◌, ◌≤◌, ◌^◌, length, slice_set, List, [], Bool};
@@ -19,23 +19,25 @@ ghost use Rattle.vbi_side.specs.declared.clock.Clock.{Clock};
 ghost use Rattle.vbi_side.specs.declared.number.Number.{Number};
 ghost use Rattle.vbi_side.specs.declared.sighting.Sightings.{Sightings};
 ghost use Rattle.vbi_side.specs.Numbers.{IsMarked};
-ghost use Rattle.vbi_side.specs.Gaps.{gap_of, skipped, tally_of, with_gap, with_unread, ended_between, shown_between};
-ghost use Rattle.vbi_side.specs.Gaps.{shows_between, AreNeighbours, IsFree, IsTold, IsLast, is_end, since_end};
-ghost use Rattle.vbi_side.specs.Gaps.{still_end_of};
-ghost use Rattle.vbi_side.specs.Gaps.{begins_still};
+ghost use Rattle.vbi_side.specs.Told.{tally_of, with_gap, with_unread, still_end_of, begins_still, waiting};
+ghost use Rattle.vbi_side.specs.Told.{IsTold, IsTelling};
+ghost use Rattle.vbi_side.specs.Gaps.{gap_of, skipped, ended_between, shown_between};
+ghost use Rattle.vbi_side.specs.Gaps.{shows_between, AreNeighbours, IsFree, IsLast, is_end, since_end};
 
 use crate::clock::Clock;
+use crate::detour::Waiting;
 use crate::ends::{LEAD_IN, LEAD_OUT};
 use crate::gap::{
-    BACK, Gap, HELD, JOINED, LOST, Neighbours, OPEN, Rule, STILL, Tally, between, skipped,
+    BACK, Gap, HELD, JOINED, LOST, Neighbours, OPEN, REPLACED, Rule, STILL, Tally, between, skipped,
 };
 use crate::number::Number;
 use crate::place::{Place, believed_at};
 use crate::sighting::Sightings;
+use crate::told::{Telling, Told};
 
 impl Tally {
     /// Of no gap.
-    fn none() -> Tally
+    pub(crate) fn none() -> Tally
         ensures { (clock : Clock) → result ≡ tally_of clock [] 0 }
     {
         Tally {
@@ -79,8 +81,8 @@ impl Tally {
     }
 
     /// With one gap more.
-    fn with_gap(self, clock: Clock, gap: Gap) -> Tally
-        requires few { self.gaps < 2 ^ 60 }
+    pub(crate) fn with_gap(self, clock: Clock, gap: Gap) -> Tally
+        requires few { self.gaps < 2 ^ 61 }
         requires far { gap.before < 2 ^ 60 }
         requires order { gap.after < gap.before }
         ensures { result ≡ with_gap clock self gap }
@@ -94,7 +96,9 @@ impl Tally {
             still_end: self.still_end_of(gap),
             back: self.back.saturating_add(gap.one_if(BACK)),
             joined: self.joined.saturating_add(gap.one_if(JOINED)),
-            open_gaps: self.open_gaps.saturating_add(gap.one_if(OPEN)),
+            open_gaps: self
+                .open_gaps
+                .saturating_add(gap.one_if(OPEN) + gap.one_if(REPLACED)),
             lost_numbers: self.lost_numbers.saturating_add(gap.lost_numbers(clock)),
             undecided: self.undecided.saturating_add(gap.undecided(clock)),
             unread: self.unread,
@@ -102,7 +106,7 @@ impl Tally {
     }
 
     /// With this many unread numbers more.
-    fn with_unread(self, more: u64) -> Tally
+    pub(crate) fn with_unread(self, more: u64) -> Tally
         ensures { result ≡ with_unread self more }
     {
         Tally {
@@ -113,7 +117,7 @@ impl Tally {
 }
 
 /// Writes the gap into its place, if there is room.
-fn write(out: &mut [Gap], place: usize, gap: Gap)
+pub(crate) fn write(out: &mut [Gap], place: usize, gap: Gap)
     ensures there { place < length out.old → out.new ≡ slice_set out.old place gap }
     ensures full { length out.old ≤ place → out.new ≡ out.old }
 {
@@ -163,48 +167,49 @@ struct Walk {
     at: Reached,
     /// How many fields stand between it and the last end of a side.
     since: usize,
-    /// What the gaps before it come to.
-    tally: Tally,
+    /// What is told of the gaps before it.
+    telling: Telling,
 }
 
 /// Tells what lies between two neighbours.
-fn tell(seen: &[Sightings], rule: Rule, walk: Walk, pair: Neighbours, out: &mut [Gap]) -> Tally
+fn tell(seen: &[Sightings], rule: Rule, walk: Walk, pair: Neighbours, out: &mut [Gap]) -> Telling
     requires inside { pair.there.field ≤ length seen.now }
     requires since { walk.since ≤ pair.there.field }
-    requires few { walk.tally.gaps < 2 ^ 60 }
+    requires few { walk.telling.told.tally.gaps < 2 ^ 60 }
     ensures { (answers : List Number) (ends : List ℕ) (old : List Gap)
         → AreNeighbours answers pair.here.field pair.here.number pair.there.field pair.there.number
         → walk.since ≡ since_end ends pair.there.field
-        → IsTold rule.pace rule.slack rule.numbering seen.now answers ends pair.there.field walk.tally old out.old
-        → IsTold rule.pace rule.slack rule.numbering seen.now answers ends (pair.there.field + 1) result old out.new }
+        → IsTelling rule.pace rule.slack rule.numbering seen.now answers ends pair.there.field
+        (waiting walk.telling.last) walk.telling.told.tally walk.telling.told.away old out.old
+        → IsTelling rule.pace rule.slack rule.numbering seen.now answers ends (pair.there.field + 1)
+        (waiting result.last) result.told.tally result.told.away old out.new }
 {
     let ended = pair.here.field + walk.since + 1 < pair.there.field;
     let shown = shown_between(seen, pair);
     match between(rule, ended, shown, pair) {
         None => {
             let more = skipped(rule.numbering.clock, pair.here.number, pair.there.number);
-            walk.tally.with_unread(more)
+            walk.telling.with_unread(more)
         }
-        Some(gap) => {
-            write(out, walk.tally.gaps, gap);
-            walk.tally.with_gap(rule.numbering.clock, gap)
-        }
+        Some(gap) => walk.telling.with_gap(rule, Waiting { gap }, out),
     }
 }
 
 /// Tells what lies between the number of a field, if one is believed, and the one before it, if there is one.
-fn visit(seen: &[Sightings], numbers: &[Number], rule: Rule, walk: Walk, out: &mut [Gap]) -> Tally
+fn visit(seen: &[Sightings], numbers: &[Number], rule: Rule, walk: Walk, out: &mut [Gap]) -> Telling
     requires same { length seen.now ≡ length numbers.now }
     requires inside { walk.at.field < length numbers.now }
     requires since { walk.since ≤ walk.at.field }
-    requires few { walk.tally.gaps ≤ walk.at.field }
+    requires few { walk.telling.told.tally.gaps ≤ walk.at.field }
     requires last { IsLast numbers.now walk.at.field walk.at.last }
     ensures { (ends : List ℕ) (old : List Gap) → walk.since ≡ since_end ends walk.at.field
-        → IsTold rule.pace rule.slack rule.numbering seen.now numbers.now ends walk.at.field walk.tally old out.old
-        → IsTold rule.pace rule.slack rule.numbering seen.now numbers.now ends (walk.at.field + 1) result old out.new }
+        → IsTelling rule.pace rule.slack rule.numbering seen.now numbers.now ends walk.at.field
+        (waiting walk.telling.last) walk.telling.told.tally walk.telling.told.away old out.old
+        → IsTelling rule.pace rule.slack rule.numbering seen.now numbers.now ends (walk.at.field + 1)
+        (waiting result.last) result.told.tally result.told.away old out.new }
 {
     let Some(pair) = neighbours_at(numbers, walk.at) else {
-        return walk.tally;
+        return walk.telling;
     };
     tell(seen, rule, walk, pair, out)
 }
@@ -246,21 +251,21 @@ pub fn find_gaps(
     ends: &[u32],
     rule: Rule,
     out: &mut [Gap],
-) -> Tally
+) -> Told
     requires seen { length seen.now ≡ length numbers.now }
     requires ends { length ends.now ≡ length numbers.now }
-    ensures { IsTold rule.pace rule.slack rule.numbering seen.now numbers.now ends.now (length numbers.now) result
-        out.old out.new }
+    ensures { IsTold rule.pace rule.slack rule.numbering seen.now numbers.now ends.now (length numbers.now)
+        result.tally result.away out.old out.new }
 {
-    let mut tally = Tally::none();
+    let mut telling = Telling::none();
     let mut last: Option<Place> = None;
     let mut since = 0;
     for field in 0..numbers.len() {
         let at = Reached { field, last };
-        let walk = Walk { at, since, tally };
-        tally = visit(seen, numbers, rule, walk, out);
+        let walk = Walk { at, since, telling };
+        telling = visit(seen, numbers, rule, walk, out);
         last = last_at(numbers, field, last);
         since = since_at(ends, field, since);
     }
-    tally
+    telling.ended(rule, out)
 }

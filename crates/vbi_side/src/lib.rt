@@ -12,12 +12,16 @@ mod belief;
 mod both;
 pub mod chapter_laws;
 mod chapters;
+pub mod clean_laws;
 mod clock;
 mod clock_found;
 pub mod clock_laws;
 mod completion;
+mod detour;
+pub mod detour_laws;
 mod drift;
 mod due;
+pub mod end_laws;
 mod ends;
 mod found;
 mod gap;
@@ -25,6 +29,7 @@ pub mod gap_laws;
 mod gaps;
 pub mod laws;
 mod lines;
+pub mod long_laws;
 mod number;
 mod pace;
 mod place;
@@ -36,6 +41,7 @@ mod sighting;
 pub mod stop_laws;
 mod stops;
 mod swaps;
+mod told;
 mod verdict;
 pub mod vote_laws;
 mod votes;
@@ -49,7 +55,9 @@ pub use clock_found::find_clock;
 pub use completion::completed_time;
 pub use ends::{DOUBTFUL_END, LEAD_IN, LEAD_OUT, NO_END, judge_end};
 pub use found::found_pace;
-pub use gap::{BACK, Gap, HELD, JOINED, LOST, Numbering, OPEN, Rule, STILL, Tally};
+pub use gap::{
+    BACK, Gap, HELD, INSERTED, JOINED, LOST, Numbering, OPEN, REPLACED, Rule, STILL, Tally,
+};
 pub use gaps::find_gaps;
 pub use lines::{Counted, Shown, sightings};
 pub use number::{BELIEVED, DOUBTFUL, DUE, NOTHING, Number};
@@ -57,8 +65,10 @@ pub use pace::Pace;
 pub use seek::first_of;
 pub use sighting::{Sighting, Sightings};
 pub use stops::judge_stop;
+pub use told::Told;
 pub use verdict::{
-    BEGIN_UNSEEN, BEGINS_LATE, CANNOT_TELL, END_UNSEEN, Finding, GOES_BACK, IS_HELD, IS_JOINED,
-    IS_LOST, IS_OFF, IS_OPEN, IS_SWAPPED, MANY_DOUBTFUL, NO, NO_NUMBERS, YES, judge_whole,
+    BEGIN_UNSEEN, BEGINS_LATE, CANNOT_TELL, END_UNSEEN, Finding, GOES_BACK, IS_HELD, IS_INSERTED,
+    IS_JOINED, IS_LOST, IS_OFF, IS_OPEN, IS_SWAPPED, MANY_DOUBTFUL, NO, NO_NUMBERS, YES,
+    judge_whole,
 };
 pub use votes::{VOTE_REACH, elected};

@@ -5,7 +5,8 @@ ghost use Rattle.std.specs.Prelude.{◌≡◌, ◌∷◌, [], ◌++◌, map, rep
 ghost use Rattle.vbi_side.specs.declared.clock.Clock.TheVariants.{Plain};
 ghost use Rattle.vbi_side.specs.declared.pace.Pace.TheVariants.{Video};
 ghost use Rattle.vbi_side.specs.Ends.{out_weight, in_weight};
-ghost use Rattle.vbi_side.specs.Gaps.{lost, held, back, still, joined, open_gap, gap_made, tally_of};
+ghost use Rattle.vbi_side.specs.Gaps.{lost, held, back, still, joined, open_gap, gap_made};
+ghost use Rattle.vbi_side.specs.Told.{tally_of};
 ghost use Rattle.vbi_side.specs.Numbers.{believed, doubtful};
 ghost use Rattle.vbi_side.specs.Verdicts.{is_begin_unseen, seen_reasons, reasons_of, are_doubtful};
 ghost use Rattle.vbi_side.specs.Worked.{shown_in};
@@ -16,16 +17,21 @@ pub fn worked_reasons()
     ensures seen { map (λ kind. seen_reasons Video [] (tally_of Plain (gap_made 10 5 12 8 kind 4 0 ∷ []) 0) 0 1)
         (lost ∷ held ∷ back ∷ joined ∷ still ∷ []) ≡ 1 ∷ 2 ∷ 4 ∷ 8 ∷ 0 ∷ [] }
     ensures late { seen_reasons Video (0 ∷ []) (tally_of Plain [] 0) 1 3 ≡ 16 }
-    ensures swapped { reasons_of Plain Video 0 true (believed 1 ∷ []) [] (tally_of Plain [] 0) true false 0 1 0 1 ≡ 32 }
-    ensures drifts { reasons_of Plain Video 0 true (believed 1 ∷ []) [] (tally_of Plain [] 0) false true 0 1 0 1 ≡ 64 }
-    ensures off { reasons_of Plain Video 0 true (believed 1 ∷ []) [] (tally_of Plain [] 0) false false 0 1 2 1 ≡ 64 }
+    ensures swapped { reasons_of Plain Video 0 true (believed 1 ∷ []) []
+        (tally_of Plain [] 0) 0 true false 0 1 0 1 ≡ 32 }
+    ensures drifts { reasons_of Plain Video 0 true (believed 1 ∷ []) []
+        (tally_of Plain [] 0) 0 false true 0 1 0 1 ≡ 64 }
+    ensures off { reasons_of Plain Video 0 true (believed 1 ∷ []) [] (tally_of Plain [] 0) 0 false false 0 1 2 1 ≡ 64 }
     ensures stood { reasons_of Plain Video 0 true (believed 1 ∷ []) []
-        (tally_of Plain (gap_made 0 1 2 1 still 2 0 ∷ []) 0) false false 0 1 2 1 ≡ 0 }
+        (tally_of Plain (gap_made 0 1 2 1 still 2 0 ∷ []) 0) 0 false false 0 1 2 1 ≡ 0 }
     ensures left_open { reasons_of Plain Video 0 true (believed 1 ∷ []) []
-        (tally_of Plain (gap_made 0 1 2 1 open_gap 2 0 ∷ []) 0) false false 0 1 2 1 ≡ 2048 }
-    ensures end { reasons_of Plain Video 0 false (believed 1 ∷ []) [] (tally_of Plain [] 0) false false 0 1 0 1 ≡ 256 }
-    ensures begin { reasons_of Plain Video 0 true (believed 2 ∷ []) (replicate 101 0) (tally_of Plain [] 0) false false
-        101 2 101 2 ≡ 512 }
+        (tally_of Plain (gap_made 0 1 2 1 open_gap 2 0 ∷ []) 0) 0 false false 0 1 2 1 ≡ 2048 }
+    ensures away { reasons_of Plain Video 0 true (believed 1 ∷ []) []
+        (tally_of Plain [] 0) 2 false false 0 1 2 1 ≡ 4096 }
+    ensures end { reasons_of Plain Video 0 false (believed 1 ∷ []) []
+        (tally_of Plain [] 0) 0 false false 0 1 0 1 ≡ 256 }
+    ensures begin { reasons_of Plain Video 0 true (believed 2 ∷ []) (replicate 101 0) (tally_of Plain [] 0) 0 false
+        false 101 2 101 2 ≡ 512 }
 {}
 
 /// A begin is unseen from 101 fields on, and many numbers are doubtful from a tenth on.

@@ -2,9 +2,9 @@
 //!
 //! `judge_whole` asks three passes over the answers: the gaps (gaps.rt), the swapped fields (swaps.rt) and the numbers
 //! that drift (drift.rt). What they find is `Found`, with the first and the last number; each thing that speaks against
-//! the capture is a reason, and reasons are bits, so that their sum says which hold. Bits below 64 are seen on the
-//! capture itself: with one of these the verdict is `NO`. The others leave it open, so with these alone it is
-//! `CANNOT_TELL`. A capture without a number has the reason `NO_NUMBERS` alone.
+//! the capture is a reason, and reasons are bits, so that their sum says which hold. Bits below 64, and the last one,
+//! are seen on the capture itself: with one of these the verdict is `NO`. The others leave it open, so with these alone
+//! it is `CANNOT_TELL`. A capture without a number has the reason `NO_NUMBERS` alone.
 //!
 //! A reason more, or another bound, changes `specs/Verdicts.antt`, the worked reasons of `reason_laws`,
 //! include/ldvbi.h, `Reason` of python/ldvbi/sides.py and docs/SIDES.md.
@@ -27,6 +27,7 @@ use crate::pace::Pace;
 use crate::place::{Place, by_clock, first_believed, last_believed};
 use crate::sighting::Sightings;
 use crate::swaps::first_swap;
+use crate::told::Told;
 use std::mem::size_of;
 
 /// It can't be told.
@@ -49,8 +50,8 @@ pub const BEGINS_LATE: u32 = 16;
 /// Two fields are swapped: between two numbers that go on a field shows one that stands a field off.
 pub const IS_SWAPPED: u32 = 32;
 /// Numbers that go on one by one, each to within a field, don't count to each other; or the first and the last one
-/// don't, less the fields for which the player stood still, and no gap is open. Of film, or of numbers on both fields,
-/// a field may be lost there, or the disc cut.
+/// don't, less the fields for which the player stood still or was away, and no gap is open. Of film, or of numbers on
+/// both fields, a field may be lost there, or the disc cut.
 pub const IS_OFF: u32 = 64;
 /// No number is believed.
 pub const NO_NUMBERS: u32 = 128;
@@ -60,8 +61,10 @@ pub const END_UNSEEN: u32 = 256;
 pub const BEGIN_UNSEEN: u32 = 512;
 /// A tenth or more of the numbers that were read is in doubt.
 pub const MANY_DOUBTFUL: u32 = 1024;
-/// Between two numbers the disc itself may have skipped, or fields are lost.
+/// Between two numbers the disc itself may have skipped, or fields are lost; or numbers are replaced.
 pub const IS_OPEN: u32 = 2048;
+/// Fields are inserted: the player left those around and came back.
+pub const IS_INSERTED: u32 = 4096;
 
 /// What is said of a capture.
 #[derive(Clone, Copy)]
@@ -90,7 +93,7 @@ fn verdict(reasons: u32) -> u32
 {
     if reasons == 0 {
         YES
-    } else if reasons % IS_OFF == 0 {
+    } else if reasons % IS_OFF == 0 && reasons < IS_INSERTED {
         CANNOT_TELL
     } else {
         NO
@@ -140,11 +143,15 @@ fn too_few(pace: Pace, fields: usize, number: u32) -> bool
     }
 }
 
-/// Whether no gap is open, and the first and the last number don't count to each other, less the stills.
-fn is_off(rule: Rule, tally: &Tally, first: Place, last: Place) -> bool
-    ensures { result ≡ is_off rule.pace rule.slack tally.now first.field first.number last.field last.number }
+/// Whether no gap is open, and the first and the last number don't count to each other, less the stills and what
+/// detours insert.
+fn is_off(rule: Rule, told: Told, first: Place, last: Place) -> bool
+    ensures { result ≡ is_off rule.pace rule.slack told.tally told.away first.field first.number last.field
+        last.number }
 {
+    let Told { tally, away } = told;
     let field = first.field as u128 + u128::from(tally.stood);
+    let field = field + u128::from(away);
     let number = u128::from(first.number);
     let other = last.field as u128;
     let count = u128::from(last.number);
@@ -204,7 +211,7 @@ struct Swap {
 #[derive(Clone, Copy)]
 struct Found {
     /// What its gaps come to.
-    tally: Tally,
+    told: Told,
     /// A field that was swapped.
     swap: Swap,
     /// Whether the numbers of some stretch don't count to each other.
@@ -220,23 +227,25 @@ fn reasons(numbers: &[Number], ends: &[u32], rule: Rule, may_end: bool, found: &
     requires same { length ends.now ≡ length numbers.now }
     requires first { found.now.first.field < length numbers.now }
     requires last { found.now.last.field < length numbers.now }
-    ensures { result ≡ reasons_of rule.numbering.clock rule.pace rule.slack may_end numbers.now ends.now found.now.tally
-        found.now.swap.is_seen found.now.drifts found.now.first.field found.now.first.number found.now.last.field
-        found.now.last.number }
+    ensures { result ≡ reasons_of rule.numbering.clock rule.pace rule.slack may_end numbers.now ends.now
+        found.now.told.tally found.now.told.away found.now.swap.is_seen found.now.drifts found.now.first.field
+        found.now.first.number found.now.last.field found.now.last.number }
 {
-    let tally = &found.tally;
+    let tally = &found.told.tally;
     let before = since_end(ends, found.first.field);
     let is_ended = lead_out_follows(ends, found.last.field);
     let begin = by_clock(rule.numbering.clock, found.first);
     let end = by_clock(rule.numbering.clock, found.last);
+    let is_off = found.drifts || is_off(rule, found.told, begin, end);
     seen_reasons(rule.pace, before, tally, begin.number)
         + reason(IS_SWAPPED, found.swap.is_seen)
-        + reason(IS_OFF, found.drifts || is_off(rule, tally, begin, end))
+        + reason(IS_OFF, is_off)
         + reason(END_UNSEEN, !may_end && !is_ended)
         // Some two seconds show no number: those before the first one may be there, unread.
         + reason(BEGIN_UNSEEN, found.first.number > 1 && before > 100)
         + reason(MANY_DOUBTFUL, are_doubtful(numbers))
         + reason(IS_OPEN, tally.open_gaps > 0)
+        + reason(IS_INSERTED, found.told.away > 0)
 }
 
 /// The first field that was swapped, of a disc on which that can be seen: one of video with a number on one field of
@@ -282,12 +291,12 @@ pub fn judge_whole(
     ensures { IsFinding rule.pace rule.slack rule.numbering may_end seen.now numbers.now ends.now result
         out.old out.new }
 {
-    let tally = find_gaps(seen, numbers, ends, rule, out);
+    let told = find_gaps(seen, numbers, ends, rule, out);
     let swap = swap_by(seen, numbers, rule);
     let drifts = has_drift(numbers, rule);
     let Some(first) = first_believed(numbers) else {
         return Finding {
-            tally,
+            tally: told.tally,
             first: 0,
             last: 0,
             swap: swap.field,
@@ -297,7 +306,7 @@ pub fn judge_whole(
     };
     let last = last_believed(numbers).unwrap_or(first);
     let found = Found {
-        tally,
+        told,
         swap,
         drifts,
         first,
@@ -305,7 +314,7 @@ pub fn judge_whole(
     };
     let reasons = reasons(numbers, ends, rule, may_end, &found);
     Finding {
-        tally,
+        tally: told.tally,
         first: first.field,
         last: last.field,
         swap: swap.field,

@@ -1,20 +1,8 @@
 //! A player: seeks, plays to the next stop, and prints the field that it reaches, from 1. Status 1: nothing is found.
 //!     cargo run -- side.tbc NTSC 16384 51200 search 12345 play chapter 3 play search 0:59:29.07
 use ldvbi::{Counted, Levels, Place, Side, System};
-use std::{error::Error, fs::File, io, io::Write, os::unix::io::AsRawFd, process::ExitCode, ptr, slice};
-
-/// Maps a file until the program ends. Nobody may make it shorter meanwhile. Few of its pages are read, and none ahead.
-fn map(path: &str) -> io::Result<&'static [u8]> {
-    let file = File::open(path)?;
-    let size = file.metadata()?.len() as usize;
-    match unsafe { libc::mmap(ptr::null_mut(), size.max(1), libc::PROT_READ, libc::MAP_SHARED, file.as_raw_fd(), 0) } {
-        libc::MAP_FAILED => Err(io::Error::last_os_error()),
-        start => Ok(unsafe {
-            libc::madvise(start, size, libc::MADV_RANDOM);
-            slice::from_raw_parts(start.cast(), size)
-        }),
-    }
-}
+use player::map;
+use std::{error::Error, io, io::Write, process::ExitCode};
 
 fn place(text: &str) -> Result<Place, String> {
     match text.split(&[':', '.'][..]).map(|part| part.parse().ok()).collect::<Option<Vec<u32>>>().as_deref() {

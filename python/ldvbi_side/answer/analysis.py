@@ -2,15 +2,16 @@
 data, and returns an `Answer` (entries.py). docs/SIDES.md has the rules, and share/schema/ldvbi-side.schema.json the
 form that as_json.py gives the answer. Every output is a view of it.
 
-The rules of docs/SIDES.md are in these modules: 1 in paces.py, 2 in readings.py, 3 and 4 in chain.py, 5 in numbers.py
-and places.py, 6 and the end of 4 in order.py, 7 in parts.py and readings.py, 8 in places.py, missing.py and
+The rules of docs/SIDES.md are in these modules: 1 in paces.py, 2 in readings.py, 3 in chain.py and detours.py, 4 in
+chain.py, 5 in numbers.py and places.py, 6 in order.py, 7 in parts.py and readings.py, 8 in places.py, missing.py and
 confirmed.py, 9 in clock.py. gaps.py takes in what the library says of the side."""
 
 import operator
 from typing import Any, Dict, List, NamedTuple, Sequence
 
-from ldvbi import Kind
+from ldvbi import Clock, Kind
 from ldvbi.collector import paused
+from ..judge.clock import NO_CLOCK
 from ..judge.numbers import numbers_of
 from ..judge.order import pairs_of
 from ..judge.places import Break, Places, places_of, showings_of
@@ -18,22 +19,23 @@ from ..judge.readings import Codes, Fields, codes_of
 from .as_json import as_json
 from .confirmed import with_confirmed
 from .doubts import Doubts, doubts_in, read_in
-from .ends import begin_of
+from .ends import begin_of, unseen_between
 from .entries import Answer, Extent, Lost, Speed, Swapped, Unread
 from .gaps import Gaps, gaps_of
 from .lines import bad_lines_of, levels_of, rates_of
 from .missing import lost_fields, missing_before, missing_of, own_breaks, repeated_of
-from .parts import chapters_of, ends_of, status_of, stops_of, users_of
+from .parts import chapters_of, ends_of, padding_of, status_of, stops_of, users_of
 from .whole import reasons_of, whole_of
 
 VERSION = 3  # of the answer's form
 
 
 class Analysis(NamedTuple):
-    """The answer, and the breaks between the numbers that are believed in it: there are more of these than the library
-    reports."""
+    """The answer; the breaks between the numbers that are believed in it: there are more of these than the library
+    reports; and the clock that the library found."""
     answer: Answer
     breaks: List[Break]
+    clock: Clock
 
 
 def analyse(fields: Fields) -> Dict[str, Any]:
@@ -48,7 +50,7 @@ def analysed(fields: Fields) -> Analysis:
     found = numbers_of(codes)
     numbers, doubts = found.numbers, doubts_in(codes, found)
     places = with_confirmed(places_of(numbers, codes), fields.nearest_word)
-    gaps = gaps_of(places, codes.kinds[Kind.picture])
+    gaps = gaps_of(places, codes.kinds[Kind.picture], codes.sure_fields(Kind.lead_out))
     begin = 2 if fields.first and not fields.first[0] else 1
     bad, rates = bad_lines_of(fields), rates_of(fields)
     answer = Answer(
@@ -58,8 +60,9 @@ def analysed(fields: Fields) -> Analysis:
         open_end=fields.may_end, **_of_numbers(places, gaps, doubts), **_of_losses(places, gaps, codes),
         **_of_parts(codes, places, doubts, begin))
     answer = _with_lost_before(answer, places, gaps, codes)
-    reasons = reasons_of(answer, gaps, numbers.unit, fields.is_strict, fields.may_end)
-    return Analysis(answer._replace(whole=whole_of(reasons), reasons=reasons), _breaks(places, own_breaks(places)))
+    reasons = reasons_of(answer, gaps, numbers.unit, fields.is_strict, fields.may_end, unseen_between(numbers))
+    return Analysis(answer._replace(whole=whole_of(reasons), reasons=reasons), _breaks(places, own_breaks(places)),
+                    gaps.judged.clock if gaps.judged else NO_CLOCK)
 
 
 def _of_numbers(places: Places, gaps: Gaps, doubts: Doubts) -> Dict[str, Any]:
@@ -75,13 +78,13 @@ def _of_numbers(places: Places, gaps: Gaps, doubts: Doubts) -> Dict[str, Any]:
             map(text_of, shown), [one.first for one in showings], [one.last for one in showings]),
         "completed": sorted(places.numbers.completed), "confirmed": list(places.confirmed),
         "unread": [Unread(text_of(number), field, read.get(field)) for number, field in places.due],
-        "breaks": _breaks(places, gaps.breaks),
+        "breaks": _breaks(places, gaps.breaks), "detours": _breaks(places, gaps.detours),
         "stills": [one._replace(number=text_of(one.number)) for one in places.stills],
         "repeated": repeated_of(places)}
 
 
-def _breaks(places: Places, breaks: List[Break]) -> List[Break]:
-    """Breaks with the texts of their numbers."""
+def _breaks(places: Places, breaks: List[Any]) -> List[Any]:
+    """Breaks, or detours, with the texts of their numbers."""
     text_of = places.numbers.unit.text_of
     return [one._replace(from_=text_of(one.from_), to=text_of(one.to)) for one in breaks]
 
@@ -92,7 +95,7 @@ def _of_losses(places: Places, gaps: Gaps, codes: Codes) -> Dict[str, Any]:
     missing, left_out = missing_of(places, gaps, codes)
     return {
         "missing": missing, "left_out": left_out,
-        "lost": lost_fields(places, gaps, (fields.first or ())[:len(fields.words)]),
+        "lost": lost_fields(places, gaps, (fields.first or ())[:len(fields.words)]), "padding": padding_of(fields),
         "speeds": [Speed(one.first, one.last, one.line.name()) for one in numbers.speeds],
         "swapped": [Swapped(begin, places.number_at(field)) for begin, field in pairs_of(numbers.swapped).items()]}
 

@@ -1,17 +1,19 @@
 """The two ends of a side: whether it has fields for the numbers before its first one, and how far it goes on without
 numbers. This is judged by the answer's other members and the library's reasons."""
 
-from typing import Any, Dict, NamedTuple, Optional, Tuple
+from typing import Any, Dict, List, NamedTuple, Optional, Tuple
 
-from ldvbi import JudgedSide, Reason
+from ldvbi import Clock, ClockKind, JudgedSide, Reason
+from ..judge.believed import Numbers
+from ..judge.clock import NO_CLOCK, left_out_below
 from ..judge.paces import RATES, Unit
 from .entries import Answer
 
 # The numbers with which a disc may begin
 FIRST: Dict[Optional[str], Tuple[Any, ...]] = {
     "picture": (0, 1), "time": ("0:00:00.00", "0:00:00.01"), "minute": ("0:00",)}
-LONGEST = 100  # fields without a number at an end that may be a scratch
-LEFT_OUT = 2  # numbers that the clock of an NTSC disc leaves out in a minute, at most
+LONGEST = 100  # fields without a number that may be a scratch
+LEFT_OUT = 2  # numbers that the clock of an NTSC disc leaves out in a minute, at most, if it isn't known
 
 
 class Begin(NamedTuple):
@@ -32,28 +34,29 @@ def begin_of(answer: Answer, judged: Optional[JudgedSide], unit: Unit, is_strict
     least = answer.numbers.least
     if least is None:
         return None
+    clock = judged.clock if judged else NO_CLOCK
     number, field, _ = answer.showings[0]
     is_first = least in FIRST[answer.unit]
     if judged is None:
         if is_first:
             return None
-        fewest, most = _fields_before(number, answer)
-        there = _fields_there(answer, field)
+        fewest, most = _fields_before(number, answer, clock)
+        there = fields_there(answer, field)
         is_late, is_open = number != least or there < fewest, there < most or there > LONGEST
     else:
         if judged.first is not None:
             field, number = judged.first + 1, unit.text_of(judged.numbers[judged.first].number or 0)
-        is_short = bool(judged.reasons & Reason.begins_late)  # the library knows of no clock
-        is_late = is_short and _fields_there(answer, field) < _fields_before(number, answer)[0]
+        is_short = bool(judged.reasons & Reason.begins_late)
+        is_late = is_short and fields_there(answer, field) < _fields_before(number, answer, clock)[0]
         is_open = is_short or bool(judged.reasons & Reason.begin_unseen)
     if is_late or is_strict and not is_first:
-        there = _fields_there(answer, field)
-        lost = _fields_before(number, answer)[answer.unit != "minute"] - there if is_late else 0
+        there = fields_there(answer, field)
+        lost = _fields_before(number, answer, clock)[answer.unit != "minute"] - there if is_late else 0
         return Begin(number, None, lost, field - 1 - there, field)
-    return Begin(unread=(field - _fields_there(answer, field), field - 1)) if is_open else None
+    return Begin(unread=(field - fields_there(answer, field), field - 1)) if is_open else None
 
 
-def _fields_there(answer, field):
+def fields_there(answer: Answer, field: int) -> int:
     """How many fields stand before this one, from the lead-in on."""
     return field - 1 - max((one.last for one in answer.lead_in if one.last < field), default=0)
 
@@ -64,8 +67,21 @@ def end_of(answer: Answer) -> Optional[Tuple[int, int]]:
     if not answer.showings:
         return None
     shown = answer.showings[-1].last
-    last = min((one.first - 1 for one in answer.lead_out if one.first > shown), default=answer.fields)
-    return (shown + 1, last) if last - shown > LONGEST else None
+    after = fields_after(answer, shown)
+    return (shown + 1, shown + after) if after > LONGEST else None
+
+
+def fields_after(answer: Answer, field: int) -> int:
+    """How many fields stand after this one, up to the lead-out."""
+    return min((one.first - 1 for one in answer.lead_out if one.first > field), default=answer.fields) - field
+
+
+def unseen_between(numbers: Numbers) -> List[Tuple[int, int]]:
+    """The first and the last field of each stretch without a number between two that fit, if it is longer than a
+    scratch is."""
+    pairs = [numbers.believed[place - 1:place + 1] for place in numbers.odd_places]
+    return [(before.field + 1, after.field - 1) for before, after in pairs
+            if after.field - before.field > LONGEST + 1 and numbers.off(before, after) == 0]
 
 
 def is_end_seen(answer: Answer) -> bool:
@@ -79,14 +95,18 @@ def first_of(unit: Optional[str], rate: int) -> int:
     return ordinal_of(FIRST[unit][-1], rate)
 
 
-def _fields_before(number, answer):
+def _fields_before(number: Any, answer: Answer, clock: Clock) -> Tuple[int, int]:
     """How many fields a disc has before this number, from the last one on with which it may begin, at least and at
-    most: on NTSC the clock may leave out times."""
+    most: if no clock was found of an NTSC disc, it may leave out times."""
     rate, unit = RATES[answer.system], answer.unit
     count = ordinal_of(number, rate) - first_of(unit, rate)
     if unit == "picture":
         fields = 5 * count // 2 if answer.pace == "film" else 2 * count
         return fields, fields
+    if clock.kind != ClockKind.plain:
+        begin = first_of(unit, rate)
+        count -= left_out_below(clock, begin + count) - left_out_below(clock, begin)
+        return 2 * count, 2 * count
     times = 60 * rate * count if unit == "minute" else count
     left_out = LEFT_OUT * (times // (60 * rate) + 1) if answer.system == "NTSC" else 0
     return 2 * (times - left_out), 2 * times

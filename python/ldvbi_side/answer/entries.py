@@ -7,6 +7,7 @@ from typing import Any, Dict, List, NamedTuple, Optional, Sequence, Set, Tuple
 
 from ldvbi import Kind
 from ldvbi.readings import Cut
+from ..judge.detours import Detour
 from ..judge.places import Break, Showing, Still
 from ..judge.readings import Stray, Unknown
 
@@ -53,6 +54,10 @@ class Lost(NamedTuple):
     before: int
     fields: Optional[int]
     by: str
+
+    def is_again(self) -> bool:
+        """Whether a field may be shown again there instead: only isFirstField shows that something is."""
+        return self.by == "undecided" and self.fields is None
 
 
 class Swapped(NamedTuple):
@@ -136,7 +141,7 @@ class Stop(NamedTuple):
 
 
 class Stretch(NamedTuple):
-    """A stretch of lead-in or of lead-out, and how many of its fields show it."""
+    """A stretch of lead-in, of lead-out or of padding, and how many of its fields show it, or are it."""
     first: int
     last: int
     count_: int
@@ -253,8 +258,10 @@ class Answer(NamedTuple):
     missing: List[Missing]
     left_out: List[Missing]
     lost: List[Lost]
+    padding: List[Stretch]
     speeds: List[Speed]
     swapped: List[Swapped]
+    detours: List[Detour]
     doubtful: List[Doubt]
     conflicts: List[Conflict]
     chapter_conflicts: List[Conflict]

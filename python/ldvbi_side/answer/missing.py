@@ -4,8 +4,9 @@ gaps; and numbers that are shown again."""
 import bisect
 from typing import Any, Dict, Iterator, List, NamedTuple, Optional, Sequence, Set, Tuple
 
-from ldvbi import Reason
+from ldvbi import ClockKind, Reason
 from ..judge.believed import stretch_at
+from ..judge.clock import kept_in, left_out_in
 from ..judge.order import pairs_of
 from ..judge.paces import RATES, Unit
 from ..judge.places import Break, Places, Showing
@@ -24,7 +25,7 @@ def missing_of(places: Places, gaps: Gaps, codes: Codes) -> Tuple[List[Missing],
     firsts, losses = _first_fields(places.showings), _Losses(gaps, places.numbers.unit)
     passed, unread = _passed_over(places, losses, gaps, codes), {number for number, _ in places.due}
     unread |= places.without_field
-    known = sorted(unread.union(places.unshown, places.open, places.clock.judged, places.clock.open))
+    known = sorted(unread.union(places.unshown, places.open, places.left_out))
     found: Dict[bool, List[List[Any]]] = {False: [], True: []}
     numbers = sorted(firsts)
     for one, other in zip(numbers, numbers[1:]):
@@ -49,7 +50,8 @@ def missing_before(places: Places, codes: Codes, begin: Begin) -> List[Missing]:
     first, number = first_of(unit.name, unit.rate), ordinal_of(begin.lacks, unit.rate)
     one = Break("lost", begin.after, begin.before, first - 1, number, begin.fields)
     passed = Passed(first, number - 1, *_fate(one, places.numbers, codes.fields))
-    return [_stretch((*part, (begin.after, begin.before)), unit) for part in _in_order(passed)]
+    return [_stretch((*part, why, (begin.after, begin.before)), unit) for low, high, why in _in_order(passed)
+            for part in kept_in(places.numbers.clock, low, high)]
 
 
 def _in_order(passed):
@@ -63,12 +65,13 @@ def _in_order(passed):
 
 class _Losses:
     """The fields between which some are lost: by the gaps, and before the library's first number, if there are none for
-    those before it. An NTSC disc's clock may leave out times."""
+    those before it. If an NTSC disc's clock isn't known, it may leave out times there."""
 
     def __init__(self, gaps: Gaps, unit: Unit) -> None:
         lost = sorted((one.after, one.before) for one in gaps.breaks + gaps.at_speed if one.kind == "lost")
         self.begin, judged = None, gaps.judged
-        if judged and judged.reasons & Reason.begins_late and (unit.name, unit.rate) != ("time", RATES["NTSC"]):
+        if judged and judged.reasons & Reason.begins_late and (
+                judged.clock.kind != ClockKind.plain or (unit.name, unit.rate) != ("time", RATES["NTSC"])):
             self.begin = judged.numbers[judged.first or 0].number
             lost.insert(0, (0, (judged.first or 0) + 1))
         self.after, self.before = [after for after, _ in lost], [before for _, before in lost]
@@ -168,24 +171,22 @@ def _passed_over(places: Places, losses: _Losses, gaps: Gaps, codes: Codes) -> P
 
 def _why(places: Places, number: int, unread: Set[int], passed: PassedOver) -> str:
     """Why a number isn't there. `unread` are those that are due in a field."""
-    clock = places.clock
-    if clock.judged.get(number):
+    if number in places.left_out:
         return "clock"
     if number in unread:
         return "unread"
     if number in places.unshown:
         return "unshown"
-    if number in clock.judged:
-        return "unread"
     why = passed.why(number)
-    return why if why == "unread" or number not in clock.open and number not in places.open else "undecided"
+    return why if why == "unread" or number not in places.open else "undecided"
 
 
 def _fate(one, numbers, fields):
     """For how many of the numbers that are passed over at a break there may be fields, and whether some are lost. Where
     no field is too few, each of them had one in which something was read or seen: else, the player may have searched in
     the dark."""
-    between, passed = range(one.after + 1, one.before), one.to - one.from_ - 1
+    between = range(one.after + 1, one.before)
+    passed = one.to - one.from_ - 1 - len(left_out_in(numbers.clock, one.from_ + 1, one.to - 1))
     if one.kind == "held":
         seen = sum(field not in numbers.others and not _BLANK.issuperset(fields.causes[field - 1])
                    for field in between)
@@ -200,7 +201,8 @@ def _fate(one, numbers, fields):
 
 def lost_fields(places: Places, gaps: Gaps, first: Sequence[bool]) -> List[Lost]:
     """Where fields are lost: by the gaps, and, between the first number and the last, by two fields of one parity in a
-    row. `first` says of each field whether it is the first one of its frame."""
+    row. If the numbers go on there, one was shown again, or the metadata is wrong, or fields were lost and others shown
+    again: this is undecided. `first` says of each field whether it is the first one of its frame."""
     lost = [Lost(one.after, one.before, one.fields, by)
             for by, ones in (("number", gaps.breaks), ("undecided", gaps.open))
             for one in ones if one.kind == "lost"]
@@ -208,7 +210,8 @@ def lost_fields(places: Places, gaps: Gaps, first: Sequence[bool]) -> List[Lost]
     swapped, numbered = _swapped_parity(places.numbers, first), places.numbers.fields
     fields = [field for field in range(numbered[0] + 1, min(numbered[-1], len(first)) + 1)
               if first[field - 1] == first[field - 2]] if numbered else []
-    return _with_parity(lost, [field for field in fields if field not in swapped and
+    return _with_parity(lost, [(field, "undecided" if places.numbers.go_on_before(field) else "parity")
+                               for field in fields if field not in swapped and
                                not _is_between_sides(places, gaps, field)])
 
 
@@ -249,14 +252,14 @@ def _swapped_parity(numbers, first):
 
 
 def _with_parity(lost, fields):
-    """What is lost by numbers, with these fields, each of which has the parity of the one before: something is lost
-    between them."""
+    """What is lost by numbers, with these fields, each of which has the parity of the one before, and how it is known
+    that something is lost between them if the numbers don't show that."""
     found, place = [], 0
-    for field in fields:
+    for field, by in fields:
         while place < len(lost) and lost[place].before < field:
             place += 1
         if place == len(lost) or lost[place].after >= field:
-            found.append(Lost(field - 1, field, None, "parity"))
+            found.append(Lost(field - 1, field, None, by))
         elif lost[place].by == "number":
             one = lost[place]
             after, before = (field - 1, field) if one.fields == 1 else (one.after, one.before)

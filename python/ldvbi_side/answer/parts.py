@@ -9,7 +9,7 @@ from ..judge.believed import Numbers
 from ..judge.chain import chosen, sure_in
 from ..judge.paces import ChapterPace
 from ..judge.places import Places
-from ..judge.readings import WEIGHTS, Codes, Reading, Stray
+from ..judge.readings import WEIGHTS, Codes, Fields, Reading, Stray
 from .doubts import chapters_aside
 from .entries import Chapter, Conflict, Doubt, Status, Stop, Stretch, Users, frame_of
 
@@ -79,6 +79,17 @@ def _chapters(believed, places, begin):
 
 
 # ---- Lead-in and lead-out
+
+def padding_of(fields: Fields) -> List[Stretch]:
+    """The stretches of fields that are padding, by the metadata."""
+    found: List[Stretch] = []
+    for field, is_pad in enumerate((fields.pad or ())[:len(fields.words)], 1):
+        if is_pad and found and found[-1].last == field - 1:
+            found[-1] = Stretch(found[-1].first, field, found[-1].count_ + 1)
+        elif is_pad:
+            found.append(Stretch(field, field, 1))
+    return found
+
 
 def ends_of(codes: Codes, kind: Kind, numbers: Numbers) -> Tuple[List[Stretch], List[Stray]]:
     """The stretches of fields with a code of lead-in or lead-out, and the lines on which that code is stray. A stretch

@@ -3,9 +3,10 @@ library's, and what the answer's other members say beyond gaps."""
 
 import bisect
 from collections import Counter, defaultdict
-from typing import Dict, List, Optional
+from typing import Dict, List, Optional, Sequence, Tuple
 
 from ldvbi import Kind, Reason, State
+from ..judge.detours import Detour
 from ..judge.paces import Unit
 from .ends import begin_of, end_of, is_end_seen, ordinal_of
 from .entries import Answer, Ground
@@ -18,17 +19,20 @@ NEAR = 2  # fields from one code of the other format to the next, if they aren't
 SHARE = 10  # numbers to one that is set aside, at most, if what was read shows whether a side is whole
 
 
-def reasons_of(answer: Answer, gaps: Gaps, unit: Unit, is_strict: bool = False, may_end: bool = False) -> List[Ground]:
+def reasons_of(answer: Answer, gaps: Gaps, unit: Unit, is_strict: bool = False, may_end: bool = False,
+               unseen: Sequence[Tuple[int, int]] = ()) -> List[Ground]:
     """Why a side with this answer and these gaps isn't whole, or why that can't be told, in order of weight. `why` is a
     word for programs, `text` says it, and `whole` is what the reason alone would make of the side. Each reason of the
     library is among them, unless something explains it. Unread numbers whose fields are there are no reason unless
-    `is_strict`, and neither is a lack of lead-in. A lack of lead-out is no reason if it `may_end`."""
+    `is_strict`, and neither is a lack of lead-in. A lack of lead-out is no reason if it `may_end`. `unseen` are long
+    stretches without a number between two that fit, each by its first field and its last."""
     begin = begin_of(answer, gaps.judged, unit, is_strict)
-    known = [_lost(answer), _jumps(answer), _speed(answer), _missing(answer), _swapped(answer, gaps.judged),
-             _begins(answer, begin)]
+    known = [_padding(answer), _lost(answer), _jumps(answer), _detours(answer), _speed(answer), _missing(answer),
+             _swapped(answer, gaps.judged), _begins(answer, begin)]
     known += [_unread(answer), *_ends(answer, may_end)] if is_strict else []
     known += [_joined(answer, gaps), _other_format(answer), _fewer(answer), _cut(answer)]
-    open_ = [_no_numbers(answer, gaps.judged), _open(answer, gaps), _off(gaps), _undecided(answer, gaps),
+    open_ = [_no_numbers(answer, gaps.judged), _open(answer, gaps), _replaced(answer), _parity(answer),
+             _off(gaps), _undecided(answer, gaps), _unseen(unseen),
              _unread_at(begin and begin.unread), _unread_at(end_of(answer)),
              _end_unseen(answer, gaps.judged, may_end or is_strict and not answer.lead_out), _minutes(answer),
              _order(answer), _lines(answer), _doubtful(answer, gaps.judged)]
@@ -58,14 +62,26 @@ def counted_by(answer: Answer, why: str) -> int:
 
 
 def lost_fields_text(answer: Answer) -> str:
-    """How many fields are lost for sure; empty if none is. For minutes alone only the least count is known."""
+    """How many fields are lost for sure; empty if none is. For film, and minutes alone, only the least count is known.
+    """
     lost = [one for one in answer.lost if one.by != "undecided"]
-    least = "at least " if answer.unit == "minute" else ""
+    least = "at least " if answer.unit == "minute" or answer.pace == "film" else ""
     more = " or more" if any(one.fields is None for one in lost) else ""
     return least + counted(sum(one.fields or 1 for one in lost), "field") + more if lost else ""
 
 
 # ---- What is known not to be in the capture, or not as the disc has it
+
+def _padding(answer):
+    """Fields that stand for lost ones, or the numbers that are due in them. One field before all others may stand for
+    none, and have the first picture begin a frame."""
+    fields = {field for one in answer.padding for field in range(one.first, one.last + 1) if one.last > 1}
+    if not fields:
+        return None
+    numbers = sum(one.field in fields for one in answer.unread)
+    return "padding", "%s %s padding" % (counted(numbers, answer.unit) if numbers else counted(len(fields), "field"),
+                                         "is" if (numbers or len(fields)) == 1 else "are")
+
 
 def _lost(answer):
     text = lost_fields_text(answer)
@@ -83,6 +99,21 @@ def _jumps(answer):
     else:
         how = "back" if back else "with fields too many"
     return "jumps", "%s (%s)" % (counted(back + ahead, "jump"), how)
+
+
+def _detours(answer):
+    """The player left, and came back to where it was."""
+    ones = [one for one in answer.detours if one.kind == "inserted"]
+    if not ones:
+        return None
+    which = "the first: " if len(ones) > 1 else ""
+    return "detours", "%s (%s%s)" % (counted(len(ones), "detour"), which, detour_text(answer, ones[0]))
+
+
+def detour_text(answer: Answer, one: Detour) -> str:
+    """What the fields of a detour show."""
+    text = "fields %d to %d show %s %s to %s" % (one.first, one.last, UNITS[answer.unit], one.from_, one.to)
+    return text + ", misread or played in the place of others" * (one.kind == "replaced")
 
 
 def _off(gaps):
@@ -154,7 +185,10 @@ def _end_between(answer):
     again = [one.first for one in answer.lead_in if one.first > showings[0].first]
     if again:
         return "joined", "lead-in again in field %d (two sides joined)" % again[0]
-    early = [one.first for one in answer.lead_out if one.last < showings[-1].last]
+    # the last number may stay beside lead-out
+    stays = next(one for one, after in zip(showings[::-1], showings[-2::-1] + [None])
+                 if after is None or after.number != one.number)
+    early = [one.first for one in answer.lead_out if one.last < stays.last]
     return ("joined", "lead-out in field %d, and numbers after it (two sides joined)" % early[0]) if early else None
 
 
@@ -190,19 +224,42 @@ def _no_numbers(answer, judged):
 
 
 def _open(answer, gaps):
-    """Gaps in which the disc itself may skip, and stills that weren't seen."""
+    """Gaps in which the disc itself may skip."""
     if not gaps.open:
         return None
     one = gaps.open[0]
-    if one.from_ == one.to:
-        return "open", "the player stood still after field %d, or went on and came back" % one.after
     what = "%s may be %s after field %d" % (
         counted(one.fields, "field"), "lost" if one.kind == "lost" else "too many", one.after)
     more = " and in %s" % counted(len(gaps.open) - 1, "more place") if len(gaps.open) > 1 else ""
     why = ("fields are swapped there" if gaps.judged and is_outside(gaps.judged, one) else
-           "the disc's clock left out a number" if answer.unit == "time" else
-           "the film is cut there" if answer.pace == "film" else "lines 17 and 18 count apart there")
+           "the disc's clock left out %s" % _left_out(one) if answer.unit == "time" else
+           "lines 17 and 18 count apart there" if answer.pace != "film" else
+           "the film is cut there" if one.fields == 1 else "the disc has video there")
     return "open", "%s%s, or %s" % (what, more, why)
+
+
+def _left_out(gap):
+    """What the clock may have left out in an open gap. There are no fields for it, or, if they are too many, there are.
+    """
+    return "no number" if gap.kind == "held" else "a number" if gap.fields < 4 else "two numbers"
+
+
+def _replaced(answer):
+    """Numbers in the place of others."""
+    ones = [one for one in answer.detours if one.kind == "replaced"]
+    if not ones:
+        return None
+    more = " (and %s)" % counted(len(ones) - 1, "more place") if len(ones) > 1 else ""
+    return "replaced", detour_text(answer, ones[0]) + more
+
+
+def _parity(answer):
+    """Two fields in a row with the same isFirstField where the numbers go on."""
+    places = [one.before for one in answer.lost if one.is_again()]
+    if not places:
+        return None
+    more = " and in %s" % counted(len(places) - 1, "more place") if len(places) > 1 else ""
+    return "parity", "a field was shown again, or lost, before field %d%s" % (places[0], more)
 
 
 def _undecided(answer, gaps):
@@ -231,8 +288,19 @@ def _minutes(answer):
 
 
 def _unread_at(fields):
-    """A stretch at an end of the side, given by its first and its last field."""
+    """A stretch at an end of the side, given by its first and its last field. It may have none: then the numbers before
+    the next field aren't there, but the clock may leave out these."""
+    if fields and fields[0] > fields[1]:
+        return "ends", "numbers before field %d may be lost, or the disc's clock left them out" % fields[0]
     return fields and ("ends", "no number in fields %d to %d" % fields)
+
+
+def _unseen(stretches):
+    """Long stretches without a number between two that fit: as many fields may be lost there as are too many."""
+    if not stretches:
+        return None
+    more = " and in %s" % counted(len(stretches) - 1, "more place") if len(stretches) > 1 else ""
+    return "unseen", "no number in fields %d to %d%s" % (*stretches[0], more)
 
 
 def _order(answer):

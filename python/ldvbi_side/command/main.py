@@ -8,18 +8,14 @@ import sys
 from typing import List, Optional
 
 from ldvbi import Stream, field_bytes
-from ldvbi.document import is_document, write_document, write_recovered
-from ldvbi.metadata import beside, read_metadata, settings_of
-from ldvbi.packed import refuse_packed
-from ldvbi.regular import regular
+from ldvbi.document import write_document, write_recovered
+from ldvbi.metadata import beside
 from ldvbi.stream import cut_of
-from ..outside import (NAME, bytes_of_document, drop_standard_output, flush, flush_or_drop, printable, raise_lost,
-                       say)
+from ..outside import NAME, drop_standard_output, flush, flush_or_drop, printable, raise_lost, say
 from ..seek import seek, text_of, why_not
 from ..answer.entries import Answer
-from ..side import Side, side_of_document, side_of_stream, stream_of_tbc
-from .faults import (OF_TBC, SETTINGS, STANDARD_INPUT, fault_text, naming, no_metadata, refuse_folder,
-                     refuse_no_document, refuse_packed_side)
+from ..side import Side
+from .faults import fault_text, naming
 from .folders import Task
 from .into import Into
 from .map import COLUMNS as MAP_COLUMNS, head_rows, map_rows
@@ -27,75 +23,10 @@ from .outputs import refuse_inputs, whole_file
 from .parser import settings_in, words_of
 from .parsers import parser_of_side
 from .progress import Progress
+from .reading import is_of_another, loaded, name_of, refuse_settings, settings_given, source_of
 from .statuses import FAULT, OF_SIDE, of_many
 from .summary import summary
 from .tables import BAD_LINE_COLUMNS, FIELD_COLUMNS, bad_line_rows, field_rows
-
-
-def _settings(options):
-    """What the options have of system and levels, in place of the metadata's."""
-    return [options.system, options.black, options.white]
-
-
-def _refuse_settings(options, name, is_tbc):
-    """Raises a ValueError if system or levels are given, and the side with this name is a document."""
-    if not is_tbc and any(value is not None for value in _settings(options)):
-        raise ValueError("%s: %s" % (name, OF_TBC))
-
-
-def _name_of(options):
-    """What messages call the side."""
-    return STANDARD_INPUT if options.side == "-" else options.side
-
-
-def _source(options, into=None):
-    """The side of the document that the options name, or the stream of the TBC file; and the metadata, or None, of
-    which a copy is told."""
-    is_standard_input = options.side == "-"
-    if not is_standard_input:
-        refuse_folder(options.side)
-    with naming(_name_of(options)), \
-            open(0 if is_standard_input else options.side, "rb", closefd=not is_standard_input,
-                 opener=None if options.waits else regular) as file:
-        begin = file.peek(64)
-        _refuse_begin(options, begin)
-        side = None
-        if is_standard_input or is_document(options.side, begin):
-            side = side_of_document(bytes_of_document(file, begin))
-    metadata = _metadata(options, into)
-    return side or _stream(options, metadata), metadata
-
-
-def _refuse_begin(options, begin):
-    """Raises a ValueError if a side that begins with these bytes is compressed, or is standard input and no text."""
-    if options.side == "-":
-        refuse_packed(STANDARD_INPUT, begin)
-        refuse_no_document(options, begin)
-    elif options.is_alone:
-        refuse_packed_side(options, begin)
-    else:
-        refuse_packed(options.side, begin)
-
-
-def _metadata(options, into):
-    """The metadata that the options name, or None."""
-    if not options.meta:
-        return None
-    with naming(options.meta):
-        return read_metadata(options.meta, into and into.places.add, not options.is_beside,
-                             into and into.places.add_member)
-
-
-def _stream(options, metadata):
-    """The stream of the TBC file."""
-    if metadata is None and None in _settings(options):
-        raise ValueError("%s: %s; %s" % (options.side, no_metadata(options.side), SETTINGS))
-    with naming(metadata.path if metadata else options.side):
-        settings = settings_of(metadata, *_settings(options))
-    for note in settings.notes:
-        say("%s: %s" % (options.side, note))
-    with naming(options.side):
-        return stream_of_tbc(options.side, settings, metadata, not options.no_recover)
 
 
 def _print_document(options, stream):
@@ -112,51 +43,6 @@ def _print_line(options, stream):
     from ..draw.plotting import plot_line
     with naming(options.side):
         print(plot_line(stream, options.side, *options.plot_line), end="")
-
-
-def _side_of(source):
-    """The side of either source."""
-    if isinstance(source, Side):
-        return source
-    with Progress(len(source)) as progress:
-        return side_of_stream(source, progress.over)
-
-
-def _loaded(source, metadata, options):
-    """The side of a source, with what the metadata has of its fields."""
-    side = _side_of(source)
-    side.is_strict, side.may_end = options.strict, options.open_end
-    if metadata:
-        _add_fields(side, _name_of(options), metadata, isinstance(source, Side) and _is_asked(options))
-    return side
-
-
-def _add_fields(side, name, metadata, is_all):
-    """Adds what the metadata has of the fields to the side, which has this name. `is_all` says that nothing else is
-    wanted of it."""
-    side.expected = metadata.fields
-    if _is_of_another(metadata, name, len(side.readings), side.cut, side.samples is not None):
-        return
-    side.first = metadata.first
-    if is_all and side.first is None:
-        say("%s has no isFirstField for each field" % metadata.path)
-
-
-def _is_of_another(metadata, name, count, cut, is_recovered):
-    """Whether the metadata has another count of fields than the side with this name, which is said then."""
-    if metadata.fields in (None, count):
-        return False
-    rest = " and %d bytes" % cut.bytes if cut else ""
-    say("%s: %d fields%s, %s says %d%s: another system, or another file's metadata?" % (
-        name, count, rest, metadata.path, metadata.fields, _unused(metadata, is_recovered)))
-    return True
-
-
-def _unused(metadata, is_recovered):
-    """What a message says isn't used of the metadata."""
-    names = ["isFirstField"] * bool(metadata.first) + ["dropOuts"] * bool(is_recovered and metadata.dropouts)
-    return ", so its %s %s used" % (" and ".join(names), "isn't" if names == ["isFirstField"] else "aren't") \
-        if names else ""
 
 
 def _print_table(columns, rows, file=None):
@@ -229,6 +115,11 @@ def _into(options):
     return Into(options.into, options.recovered) if options.into else None
 
 
+def _listeners(into):
+    """What gets the fields and the other members of metadata that is copied."""
+    return (into.places.add, into.places.add_member) if into else ()
+
+
 def _options(words, settings=None):
     """The options of these words, and of these settings, with the metadata beside the TBC file if they leave
     something open."""
@@ -242,7 +133,7 @@ def _options(words, settings=None):
         parser.error("--recovered goes with --document or --into, not with --no-recover")
     if options.as_read and not options.into:
         parser.error("--as-read is of --into")
-    is_open = options.into or None in _settings(options)
+    is_open = options.into or None in settings_given(options)
     options.waits = True  # if the side is a pipe
     options.is_alone = settings is None  # not one of several
     options.title, options.words = os.path.basename(options.side), words_of(options)
@@ -260,12 +151,12 @@ def _join(words):
     captures, statuses, is_tbc = [], [], False
     for path in given.sides:  # one at a time, so that no more than one is held as a whole
         options = _options(["--", path], settings_in(given))
-        source, metadata = _source(options)
+        source, metadata = source_of(options)
         is_tbc = is_tbc or not isinstance(source, Side)
-        side = _loaded(source, metadata, options)
+        side = loaded(source, metadata, options)
         captures.append(capture_of(side, path))
         statuses.append(_cut_status(side.cut, side.system, path))
-    _refuse_settings(given, given.sides[0], is_tbc)
+    refuse_settings(given, given.sides[0], is_tbc)
     print_joined(given, captures)
     return of_many(statuses)
 
@@ -285,12 +176,12 @@ def answer_of(task: Task) -> Answer:
     options.waits, options.title, options.is_alone = task.is_named, task.name, False
     options.as_read = task.as_read
     into = _into(options)
-    source, metadata = _source(options, into)
+    source, metadata = source_of(options, *_listeners(into))
     if into:
         into.prepare(task.path, source, metadata)
         if task.as_read:
             into.write_read(source)
-    side = _loaded(source, metadata, options)
+    side = loaded(source, metadata, options, _is_asked(options))
     _write_files(side, options, not isinstance(source, Side), into)
     return side.analysis.answer
 
@@ -318,17 +209,17 @@ def _run(options):
 def _answer(options):
     """Prints and draws what the options ask for."""
     into = _into(options)
-    source, metadata = _source(options, into)
-    _refuse_settings(options, _name_of(options), not isinstance(source, Side))
+    source, metadata = source_of(options, *_listeners(into))
+    refuse_settings(options, name_of(options), not isinstance(source, Side))
     if into:
         into.prepare(options.side, source, metadata)
     for option in ("document", "plot_line"):
         if getattr(options, option) and isinstance(source, Side):
             raise ValueError("%s is a document, and --%s is for a TBC file" % (
-                _name_of(options), option.replace("_", "-")))
+                name_of(options), option.replace("_", "-")))
     if options.document:
         if options.recovered and metadata and not _is_judged(options):
-            _is_of_another(metadata, _name_of(options), len(source), cut_of(source), True)
+            is_of_another(metadata, name_of(options), len(source), cut_of(source), True)
         _print_document(options, source)
     if options.plot_line:
         _print_line(options, source)
@@ -336,8 +227,8 @@ def _answer(options):
         into.write_read(source)
     if not _is_judged(options):
         cut = source.cut if isinstance(source, Side) else cut_of(source)
-        return _cut_status(cut, source.system, _name_of(options))
-    side = _loaded(source, metadata, options)
+        return _cut_status(cut, source.system, name_of(options))
+    side = loaded(source, metadata, options, _is_asked(options))
     answer = side.analysis.answer  # whose faults come before all that is printed
     _write_files(side, options, not isinstance(source, Side), into)
     if options.seek:
@@ -352,16 +243,23 @@ def _answer(options):
         _print_table(BAD_LINE_COLUMNS, bad_line_rows(side))
     elif options.csv:
         _print_table(FIELD_COLUMNS, field_rows(side))
-    return _cut_status(side.cut, side.system, _name_of(options))
+    return _cut_status(side.cut, side.system, name_of(options))
 
 
-_COMMANDS = {"join": _join, "scan": _scan}
+def _write(words):
+    """Writes the side that captures have together, as a TBC file."""
+    from .write import write_side  # which loads much that no other command needs
+    return write_side(NAME, words)
+
+
+_COMMANDS = {"join": _join, "scan": _scan, "write": _write}
 
 
 def _refuse_no_command(word):
     """Raises a ValueError for a word that could be a command's name, and is neither one nor that of a file."""
     if word.isalpha() and not os.path.lexists(word):
-        raise ValueError("%s is no file and no command; the commands are %s" % (word, " and ".join(_COMMANDS)))
+        raise ValueError("%s is no file and no command; the commands are %s" % (
+            word, " and ".join(", ".join(_COMMANDS).rsplit(", ", 1))))
 
 
 def main(words: Optional[List[str]] = None) -> int:

@@ -7,7 +7,7 @@ import os
 import re
 import shutil
 import stat
-from typing import IO, Iterable, Iterator, Sequence, Union
+from typing import IO, Iterable, Iterator, List, Sequence, Union
 
 from ..outside import raise_lost
 
@@ -67,6 +67,30 @@ def whole_path(path: str, ends: Sequence[str]) -> Iterator[str]:
         _rename(part, target)
     finally:
         shutil.rmtree(folder, ignore_errors=True)
+
+
+@contextlib.contextmanager
+def whole_files(paths: Sequence[str], ends: Sequence[str] = ()) -> Iterator[List[str]]:
+    """The paths of files for code that needs paths, likewise. All get their names together, in this order, as soon as
+    each of them is complete. `ends` are those of the names of files that may be written beside one meanwhile."""
+    targets = [_target_of(path) for path in paths]
+    for path, target in zip(paths, targets):
+        if os.path.exists(target) and not os.path.isfile(target):
+            raise ValueError("%s is no file" % path)
+    parts = [_part_of(target) for target in targets]
+    try:
+        yield parts
+        for part in parts:
+            with open(part, "rb") as file:
+                os.fsync(file.fileno())
+        raise_lost()
+        for part, target in zip(parts, targets):
+            _rename(part, target)
+    finally:
+        for part in parts:
+            for end in ("", *ends):
+                with contextlib.suppress(FileNotFoundError):
+                    os.unlink(part + end)
 
 
 def _target_of(path):

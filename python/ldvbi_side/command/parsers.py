@@ -13,7 +13,8 @@ from .summary import MOST_LINES
 DESCRIPTION = """Reads a side from a TBC file, or from a document that `ldvbi extract` wrote, and says what its words
 mean together: which numbers, times and chapters are believed, and which are lost, unread, shown again or doubtful. A
 file is taken for a document if its name ends with .json or its text begins as a document does. `join SIDE SIDE..`
-compares and joins captures of one side, and `scan PATH..` prints a table of the sides in folders. """ + statuses_text()
+compares and joins captures of one side, `write OUT.tbc SIDE.tbc..` makes one TBC file of them, and `scan PATH..` prints
+a table of the sides in folders. """ + statuses_text()
 SCAN = """Prints a table with a row for each side in these files, and in these folders and all below them: each .tbc
 file, with its metadata beside it, and each .vbi.json document without a .tbc beside it. If a side can't be read, its
 row has the fault, and the others go on. The options by which a side is read count for all of them, but a document has
@@ -102,5 +103,7 @@ def parser_of_scan(program: str) -> argparse.ArgumentParser:
 
 def parsers(program: str) -> Dict[str, argparse.ArgumentParser]:
     """What reads the words after each command, and after none; the manual page and the completions are made of it."""
-    from .join import parser_of_join  # which loads much that no other command needs
-    return {"": parser_of_side(program), "join": parser_of_join(program), "scan": parser_of_scan(program)}
+    from .join import parser_of_join  # these load much that no other command needs
+    from .write import parser_of_write
+    return {"": parser_of_side(program), "join": parser_of_join(program), "scan": parser_of_scan(program),
+            "write": parser_of_write(program)}

@@ -48,8 +48,12 @@ class Progress:
         for item in items:
             yield item
             done = min(done + step, self._fields)
-            if done == self._fields or time.monotonic() >= self._last + PAUSE:
-                self._show(done)
+            self.reached(done)
+
+    def reached(self, done: int) -> None:
+        """Takes in that so many fields are done."""
+        if self._is_shown and (done == self._fields or time.monotonic() >= self._last + PAUSE):
+            self._show(done)
 
     def _show(self, done):
         self._last = time.monotonic()

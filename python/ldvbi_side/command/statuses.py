@@ -21,6 +21,8 @@ MEANINGS: Tuple[Tuple[Tuple[str, ...], Dict[int, str]], ...] = (
       "--into"),
      {0: "it is done", CUT: "done, and the last field is cut"}),
     (("join",), {0: "it is done", CUT: "done, and the last field is cut"}),
+    (("write",), {0: "what is written is whole", 1: "it isn't whole, as something is padding or read otherwise",
+                  4: "it can't be told whether it is whole"}),
     (("--help", "--version"), {0: "it is done"}),
 )
 OF_ALL = {FAULT: "a fault, named in one line on standard error, or a refused command line",

@@ -6,7 +6,7 @@ from typing import Any, Callable, Collection, Iterator, Optional, TypeVar
 from ldvbi.codes import LINES, name_of
 from ..draw.marks import OUT_OF_PLACE, SKIPPED, fields_text, place_text
 from ..answer.entries import Answer
-from ..answer.whole import UNITS, counted, other_file
+from ..answer.whole import UNITS, counted, detour_text, other_file
 from ..levels import options_of
 
 MOST_LINES = 26
@@ -88,10 +88,12 @@ def _number_lines(answer):
     yield "unread: " + _missing_text(answer, "unread") + ("" if undecided == "none" else ", undecided: " + undecided)
     if answer.left_out:
         yield "%s: %d" % (SKIPPED, sum(one.count_ for one in answer.left_out))
-    yield "lost fields: " + listed(sum(one.fields or 1 for one in lost), lost, lambda one: _lost_text(one, unit))
-    jumps = [one for one in answer.breaks if one.kind != "lost"]
-    yield "jumps: " + listed(len(jumps), jumps, lambda one: "%s %s to %s in field %d" % (
-        unit, one.from_, one.to, one.before))
+    sure, unsure = ([one for one in lost if (one.by == "undecided") == is_open] for is_open in (False, True))
+    yield "lost fields: " + _lost_texts(sure, unit) + (", undecided: " + _lost_texts(unsure, unit) if unsure else "")
+    jumps = ["%s %s to %s in field %d" % (unit, one.from_, one.to, one.before)
+             for one in answer.breaks if one.kind != "lost"]
+    jumps += [detour_text(answer, one) for one in answer.detours]
+    yield "jumps: " + listed(len(jumps), jumps, str)
     if answer.swapped or answer.speeds:
         yield _order_text(answer)
     yield "stills: " + listed(len(answer.stills), answer.stills, lambda one: "%s %s in fields %d to %d" % (unit, *one))
@@ -99,12 +101,17 @@ def _number_lines(answer):
         named(unit, one.first, one.last), one.field))
 
 
+def _lost_texts(lost, unit):
+    return listed(sum(one.fields or 1 for one in lost), lost, lambda one: _lost_text(one, unit))
+
+
 def _lost_text(one, unit):
     """Lost fields with their place. Those of a minute may be lost anywhere in it, and be more."""
     least = "at least " if unit == "minute" and one.fields is not None else ""
     if least and one.after and one.before > one.after + 1:
         return "at least %d, between fields %d and %d" % (one.fields, one.after + 1, one.before - 1)
-    return "%s%s %s" % (least, one.fields or "1 or more", place_text(one.after, one.before))
+    place = place_text(one.after, one.before)
+    return "lost or shown again " + place if one.is_again() else "%s%s %s" % (least, one.fields or "1 or more", place)
 
 
 def _order_text(answer):

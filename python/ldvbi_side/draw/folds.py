@@ -14,8 +14,8 @@ MOST_ROWS = 500  # of a list; of a longer one so many, and so many groups
 # The lists of the answer, and how a page names them
 LISTS = {
     "missing": "numbers lost, undecided or unread", "lost": "lost fields", "unread": "unread, and their fields",
-    "leftOut": SKIPPED, "breaks": "breaks", "stills": "stills", "repeated": "shown again",
-    "swapped": "swapped fields", "speeds": "other speeds", "doubtful": "doubtful, set aside",
+    "leftOut": SKIPPED, "breaks": "breaks", "detours": "detours", "stills": "stills", "repeated": "shown again",
+    "padding": "padding", "swapped": "swapped fields", "speeds": "other speeds", "doubtful": "doubtful, set aside",
     "conflicts": "lines 17 and 18 differ", "chapterConflicts": "chapters of lines 17 and 18 differ",
     "secondRows": "second rows of numbers", "chapters": "chapters", "stops": "picture stops", "leadIn": "lead-in",
     "leadOut": "lead-out", "stray": OUT_OF_PLACE, "unknown": "unknown words", "programmeStatus": "programme status",

@@ -5,7 +5,7 @@ from typing import Any, Dict, List, NamedTuple
 
 from ldvbi.codes import name_of
 from ..answer.entries import Answer, Doubt
-from ..answer.whole import counted_by
+from ..answer.whole import counted_by, detour_text
 
 # What a reader is told of the answer's `leftOut` and `stray`
 SKIPPED, OUT_OF_PLACE = "skipped by the disc itself", "codes out of place"
@@ -81,7 +81,8 @@ def marks_of(answer: Answer) -> Dict[str, List[Mark]]:
     found = {
         **{why: [_missing(one) for one in answer.missing if one.why == why] for why in _MISSING},
         "lost fields": [_lost(one, answer.unit) for one in answer.lost],
-        "jumps": [_jump(one) for one in answer.breaks if one.kind != "lost"],
+        "jumps": [_jump(one) for one in answer.breaks if one.kind != "lost"] + [
+            Mark(one.first, one.last, detour_text(answer, one)) for one in answer.detours],
         "swapped fields": [Mark(one.field, one.field + 1, "fields %d and %d are swapped: %s" % (
             one.field, one.field + 1, one.number)) for one in answer.swapped],
         "other speeds": [Mark(one.first, one.last, "%s numbers a picture in %s" % (
@@ -106,7 +107,7 @@ def counts_of(answer: Answer) -> Dict[str, int]:
     """The count of each lane, as the summary counts it."""
     counts = {lane: len(marks) for lane, marks in marks_of(answer).items()}
     counts.update((why, counted_by(answer, why)) for why in _MISSING)
-    counts["lost fields"] = sum(one.fields or 1 for one in answer.lost)
+    counts["lost fields"] = sum(one.fields or 1 for one in answer.lost if one.by != "undecided")
     return counts
 
 
@@ -130,6 +131,9 @@ def _lost(one, unit):
     """Lost fields, where the numbers go on. Those of a minute may be lost anywhere in it, and be more."""
     count = "one or more fields" if one.fields is None else "%d field%s" % (one.fields, "s" * (one.fields > 1))
     after, before = one.after, one.before
+    if one.is_again():
+        return Mark(before, before, "lost or shown again: a field between fields %d and %d, by isFirstField" % (
+            after, before))
     if not after:
         return Mark(before, before, "lost: %s before field %d, %s" % (count, before, _LOST[one.by]))
     if unit == "minute" and before > after + 1:

@@ -40,11 +40,11 @@ def place_of_words(text: str, field: Any, number: int) -> Place:
         return _added(text, 0, len(text), '"vbi"%s{"vbiData"%s%s}' % (colon, colon, _list_with(gap)))
     if not isinstance(field["vbi"], dict):
         raise ValueError("its vbi is no object")
-    begin, end = _value_place(text, 0, len(text), "vbi")
+    begin, end = value_place(text, 0, len(text), "vbi")
     if "vbiData" not in field["vbi"]:
         _, colon, gap = _style_of(text, begin if field["vbi"] else 0)
         return _added(text, begin, end, '"vbiData"%s%s' % (colon, _list_with(gap)))
-    data_begin, data_end = _value_place(text, begin, end, "vbiData")
+    data_begin, data_end = value_place(text, begin, end, "vbiData")
     return Place(data_begin, data_end, _list_like(text[data_begin:data_end]) or _list_with(_style_of(text, begin)[2]))
 
 
@@ -87,7 +87,7 @@ def _list_like(old: str) -> Optional[str]:
     return "[%s%%d%s%%d%s%%d%s]" % three.groups() if three else None
 
 
-def _value_place(text: str, begin: int, end: int, name: str) -> Tuple[int, int]:
+def value_place(text: str, begin: int, end: int, name: str) -> Tuple[int, int]:
     """Where the value of the member with this name begins and ends, which the object that stands there has."""
     quoted = '"%s"' % name
     if text.count(quoted, begin, end) == 1 and text.find("\\", begin, end) < 0:

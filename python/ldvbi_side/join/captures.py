@@ -2,13 +2,13 @@
 
 import bisect
 import itertools
-from typing import Any, Dict, Iterable, List, NamedTuple, Optional, Set, Tuple
+from typing import Any, Dict, Iterable, Iterator, List, NamedTuple, Optional, Set, Tuple
 
-from ldvbi import Kind, Stream
+from ldvbi import Clock, Kind, Stream
 from ldvbi.codes import LINES, code_of
-from ..answer.ends import ordinal_of
+from ..answer.ends import fields_after, fields_there, ordinal_of
 from ..answer.entries import Answer
-from ..judge.paces import RATES, Unit
+from ..judge.paces import MINUTE_FIELDS, RATES, Unit
 from ..judge.places import Break
 from ..side import Side
 
@@ -38,7 +38,7 @@ class Capture(NamedTuple):
     """A capture under its name. `breaks` are where its numbers and fields don't go on together; there are more of them
     than the library reports. `places` are in the order of its fields; `first` has the first place of each number.
     `said` has, for each kind of code, by its name, what is beside which number. `samples` is the stream from which
-    words were recovered; None if it isn't at hand."""
+    words were recovered; None if it isn't at hand. `clock` is the clock of the disc, as far as the library found it."""
     name: str
     answer: Answer
     breaks: List[Break]
@@ -46,6 +46,7 @@ class Capture(NamedTuple):
     first: Dict[int, Place]
     said: Dict[str, Dict[int, Any]]
     samples: Optional[Stream]
+    clock: Clock
 
     def kind(self) -> Tuple[Optional[str], str]:
         """What its numbers count, and its system."""
@@ -62,15 +63,19 @@ class Capture(NamedTuple):
         """The numbers of some stretches, whose first and last numbers are as the answer has them."""
         return {number for first, last in stretches for number in range(self.ordinal(first), self.ordinal(last) + 1)}
 
+    def may_have(self) -> Iterator[int]:
+        """The numbers that may stand before its first field with one, or after its last."""
+        answer, (first, last) = self.answer, (self.places[0], self.places[-1])
+        each = MINUTE_FIELDS[answer.system][0] if answer.unit == "minute" else 2
+        before, after = fields_there(answer, first.field), fields_after(answer, last.last)
+        yield from range(first.number - (before + each - 1) // each, first.number)
+        yield from range(last.number + 1, last.number + 1 + (after + each - 1) // each)
+
     def lasts(self, number: int) -> Optional[int]:
         """How many fields there are from a number to the next one, if each comes first; None if either isn't
         there."""
         one, after = self.first.get(number), self.first.get(number + 1)
         return after.field - one.field if one and after else None
-
-    def places_in(self, first: int, last: int) -> List[Place]:
-        """The places of these fields."""
-        return [place for place in self.places if first <= place.field <= last]
 
 
 def capture_of(side: Side, name: str) -> Capture:
@@ -79,9 +84,9 @@ def capture_of(side: Side, name: str) -> Capture:
     first: Dict[int, Place] = {}
     for place in places:
         first.setdefault(place.number, place)
-    answer, breaks = side.analysis
+    answer, breaks, clock = side.analysis
     return Capture(name, answer, breaks, places, first, {
-        "chapter": _chapters(answer, first), "programme status": _status(side, first)}, side.samples)
+        "chapter": _chapters(answer, first), "programme status": _status(side, first)}, side.samples, clock)
 
 
 # ---- Places
@@ -104,7 +109,7 @@ def _shown(answer):
 
 
 def _places(side):
-    answer, breaks = side.analysis
+    answer, breaks, _ = side.analysis
     bad = _bad_before(answer)
     doubtful = answer.aside()
     is_of_two = answer.pace in ("video", "film")

@@ -9,7 +9,6 @@ So two of them can only disagree if one of them says something else of the same 
 import itertools
 from typing import Iterator, List, NamedTuple, Set, Tuple
 
-from ..judge.paces import Pace
 from .captures import NEIGHBOURS, Capture, Place
 
 DETOUR, CLOCK, DISTANCE = "detour", "clock", "distance"
@@ -56,28 +55,21 @@ def _part(capture, places):
     return Part(capture.name, min(numbers), max(numbers), places[0].field, places[-1].last)
 
 
-# ---- Between two breaks
+# ---- Detours
 
 def _detours(one: Capture, other: Capture) -> Iterator[Disagreement]:
-    """Numbers between two breaks of a capture, if those before and after both breaks fit each other."""
-    if one.answer.pace == "minute":
-        return
-    pace = Pace(str(one.answer.pace))
-    breaks = one.breaks
-    for before, after in zip(breaks, breaks[1:]):
-        number, step = one.ordinal(before.from_), one.ordinal(after.to) - one.ordinal(before.from_)
-        if step < 2 or pace.least_off(after.before - before.after, number, step):
+    """Numbers of a capture in the place of others, if the other capture has those. A copy of the capture has the same
+    detour."""
+    for detour in one.answer.detours:
+        if detour.kind != "replaced" or detour in other.answer.detours:
             continue
-        due = range(number + 1, number + step)
-        inside = one.places_in(before.before, after.after)
-        read = [place for place in other.places if place.number in due and place.how != NEIGHBOURS]
-        is_other = any(place.number not in due for place in inside)
-        if read and is_other and not _at_speed(one, before.before, after.after):
-            yield Disagreement(DETOUR, _part(one, inside), _part(other, read))
-
-
-def _at_speed(capture, first, last):
-    return any(one.first <= last and first <= one.last for one in capture.answer.speeds)
+        before = max((place for place in one.places if place.field < detour.first), key=lambda place: place.field)
+        after = min((place for place in one.places if place.field > detour.last), key=lambda place: place.field)
+        read = [place for place in other.places if before.number < place.number < after.number and
+                place.how != NEIGHBOURS]
+        if read:
+            numbers = one.ordinal(detour.from_), one.ordinal(detour.to)
+            yield Disagreement(DETOUR, Part(one.name, *numbers, detour.first, detour.last), _part(other, read))
 
 
 # ---- Numbers that the clock leaves out

@@ -23,7 +23,7 @@ def join(captures: List[Capture]) -> Joined:
     unit, found = captures[0].unit(), disagreements_of(captures)
     disputed = disputed_in(found)
     taken, piled = taken_of(captures, disputed), read_together(captures, disputed)
-    missing = _missing(captures, [one.number for one in taken])
+    missing = lacking_in(captures, [one.number for one in taken])
     left_out = captures[0].numbers_of((one.first, one.last) for one in missing if one.why == CLOCK)
     return Joined(
         VERSION, captures[0].answer.system, captures[0].answer.format, unit.name, shown_by(captures),
@@ -39,7 +39,7 @@ def join(captures: List[Capture]) -> Joined:
         [_range(one, unit) for one in stretches_of(taken, left_out)])
 
 
-def _missing(captures: List[Capture], numbers: List[int]) -> List[Lacking]:
+def lacking_in(captures: List[Capture], numbers: List[int]) -> List[Lacking]:
     """The numbers between these, which ascend, that no capture has."""
     whys = _whys_of(captures)
     lacking = [number for one, other in zip(numbers, numbers[1:]) for number in range(one + 1, other)]
@@ -48,8 +48,9 @@ def _missing(captures: List[Capture], numbers: List[int]) -> List[Lacking]:
 
 
 def _whys_of(captures: List[Capture]) -> Dict[int, str]:
-    """Why numbers are missing in some captures, but for those that are lost."""
-    whys: Dict[int, str] = {}
+    """Why numbers are missing in some captures, but for those that are lost. A number for which a capture has fields
+    before its first number, or after its last one, is undecided."""
+    whys = {number: UNDECIDED for capture in captures for number in capture.may_have()}
     for why in reversed(WHYS):
         for capture in captures:
             stretches = [(one.first, one.last) for ones in (capture.answer.missing, capture.answer.left_out)

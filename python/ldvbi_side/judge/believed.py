@@ -8,7 +8,8 @@ import operator
 import types
 from typing import Dict, FrozenSet, Iterator, List, Mapping, NamedTuple, Optional, Sequence, Set, Tuple, Union
 
-from ldvbi import JudgedSide
+from ldvbi import Clock, JudgedSide
+from .clock import NO_CLOCK, left_out_below
 from .paces import RATES, MinutePace, Pace, Unit
 from .readings import Reading
 
@@ -83,6 +84,15 @@ class Numbers(_Numbers):  # so that it can keep what was found of it
         """The believed numbers by field."""
         return dict(zip(self.fields, self.values))
 
+    @property
+    def clock(self) -> Clock:
+        """The clock by which the disc leaves out numbers, as far as the library found it."""
+        return self.judged.clock if self.judged else NO_CLOCK
+
+    def left_out(self, begin: int, end: int) -> int:
+        """How many numbers the clock leaves out from one on to before another one; negative if that is less."""
+        return left_out_below(self.clock, end) - left_out_below(self.clock, begin)
+
     def believing(self, readings: List[Reading]) -> "Numbers":
         """The same with these readings in place of those that were believed."""
         return self._replace(believed=readings)
@@ -140,7 +150,8 @@ class Numbers(_Numbers):  # so that it can keep what was found of it
         apart = after.field - before.field
         if self.swapped:
             apart = self.place_of(after) - self.place_of(before)
-        return self.pace.off(apart, before.number, after.number - before.number, before.variant, after.variant)
+        off = self.pace.off(apart, before.number, after.number - before.number, before.variant, after.variant)
+        return off if off is None else off + 2 * self.left_out(before.number, after.number)
 
     def place_of(self, reading: Reading) -> int:
         """The field in which a reading is due."""
@@ -150,6 +161,12 @@ class Numbers(_Numbers):  # so that it can keep what was found of it
         """Whether there is a reading before and one after, and these two fit each other."""
         before, after = around
         return before is not None and after is not None and self.off(before, after) == 0
+
+    def go_on_before(self, field: int) -> bool:
+        """Whether the numbers go on between a field and the one before it. Minutes alone don't show it."""
+        place = bisect.bisect_left(self.fields, field)
+        return isinstance(self.pace, Pace) and 0 < place < len(self.fields) and (
+            self.off(*self.believed[place - 1:place + 1]) == 0)
 
     def why(self, around: Around) -> str:
         """Why a number between these two is set aside."""

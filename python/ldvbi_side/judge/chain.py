@@ -15,14 +15,15 @@ chain of all ends. So a better chain may be missed. What a pace leaves open of a
 readings.py says what words weigh, and paces.py what fits and what breaks cost. If these, or the choice here, change,
 docs/SIDES.md changes, too, and so does what was measured."""
 
+import contextlib
 import functools
 from typing import Dict, Iterator, List, Mapping, Tuple
 
-from ldvbi import Both, Counted, JudgedSide, Number, Pace as JudgedPace, State, complete_times, judge_side
+from ldvbi import ClockKind, Counted, JudgedSide, Number, Pace as JudgedPace, State, complete_times, judge_side
+from .clock import DROP_FRAME, is_dropped
 from .paces import AnyPace, Pace, price
 from .readings import Fields, Reading
 
-PAIRS = 10  # believed numbers to one that stands on the next field as well, at most, of what looks like film and isn't
 LAST = 4  # readings before one that are asked in any case
 LONG = 1000  # readings between two anchors that may be noise, if there are more
 DENSE = 4  # fields to one of these, at most, and of so many one that goes on
@@ -37,21 +38,25 @@ FEWER = 2 ** -20  # of breaks that cost as much those of fewer fields are taken
 # ---- The library's numbers
 
 def judged_of(fields: Fields, counted: Counted) -> JudgedSide:
-    """The library's answer for the side. It looks at how far apart numbers are. On a disc of which little was read, it
-    may take jumps for numbers on both fields of a picture; it may take a disc that has those, and was played slowly,
-    for film. Only a disc with numbers on both fields shows one on two fields beside each other."""
+    """The library's answer for the side, for times of NTSC by the clock that it finds. A few minutes don't show enough
+    of drop-frame: if none is found, that is taken if it leaves fewer gaps, and none of its numbers is shown. An older
+    library knows of no clock."""
     packed = fields.packed
     if counted == Counted.times:
         packed = complete_times(packed, fields.system)
-    judged = judge_side(packed, fields.system, counted, may_end=fields.may_end)
-    sure = sure_in(judged.numbers)
-    pairs = sum([sure.get(field + 1) == number for field, number in sure.items()])
-    is_film = judged.pace == JudgedPace.film
-    is_on_both = pairs > 0 and (PAIRS * pairs >= len(sure) if is_film else judged.on_both)
-    if is_on_both == judged.on_both:
-        return judged
-    both = Both.on_both if is_on_both else Both.on_one
-    return judge_side(packed, fields.system, counted, JudgedPace.video, both, fields.may_end)
+    judge = functools.partial(judge_side, packed, fields.system, counted, may_end=fields.may_end)
+    if counted == Counted.times and fields.system == "NTSC":
+        with contextlib.suppress(OSError):
+            found = judge(clock="find")
+            if found.clock.kind != ClockKind.plain or not found.gaps or any(map(is_dropped, _believed(found.numbers))):
+                return found
+            return min(found, judge(clock=DROP_FRAME), key=lambda one: len(one.gaps))
+    return judge()
+
+
+def _believed(numbers):
+    """The numbers that the library believes."""
+    return [number for number, state in numbers if state is State.believed]
 
 
 def pace_of(judged: JudgedSide) -> Pace:

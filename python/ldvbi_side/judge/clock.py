@@ -5,143 +5,112 @@ field is missing there, only the number:
     evenly         fields  797  799  801  803    numbers 398 399 401 402
     at a minute    fields 3597 3599 3601 3603    0:00:59.28 0:00:59.29 0:01:00.02 0:01:00.03
 
-A capture that lost a picture or two looks just the same. What tells them apart is where the side's other gaps are, so
-all gaps are judged together, once the numbers are believed. To the chain each gap is a break, which costs 3 or 4.
+A capture that lost a picture or two looks just the same. What tells them apart is where the side's other gaps are. So
+the library finds the clock of the whole side (`ldvbi.find_clock`), and judges the side by it. This module counts by the
+clock that was found: `Numbers.off` (believed.py) asks it how far two numbers are apart, and places.py which numbers in
+between have no field. To the chain each such place is a break still, which costs 3 or 4.
 
-A gap of two numbers is judged by its place in the minute. Gaps of one number need a rule (`_Rule`): a spacing, and a
-number from which the gaps are whole multiples of the spacing away. A stretch shows its own rule if at least three of
-its gaps follow it, and two thirds of those that are due are there. A stretch ends at a jump of WIDE fields, since two
-discs may be joined there, each with its own clock. A stretch that shows no rule takes that of another, or all such
-stretches show one together; else the numbers of a short one stay `open`. It isn't known here by which of the two
-SPACINGS discs count, so both are tried.
+The library believes in a clock if a side shows three places that it explains. If it finds none (few numbers were
+played, or many losses hide the clock), drop-frame is tried (`judged_of` in chain.py). Else gaps that one may have made
+are open, unless what was played rules that out (`open_in`). At another speed `off_at_speed` (believed.py) lets a gap of
+one number pass without asking. A change here changes rule 9 of docs/SIDES.md; the simulated discs of the tests leave
+out numbers in both ways."""
 
-places.py collects the gaps, and makes breaks of those that aren't the clock's. missing.py says whether the numbers of
-the others are left out, damaged or undecided. At another speed `off_at_speed` (believed.py) lets a gap of one number
-pass without asking. A change here changes rule 9 of docs/SIDES.md; the simulated discs of the tests leave out numbers
-in both ways."""
-
+import itertools
 from collections import Counter
-from typing import Counter as Counted, Dict, List, NamedTuple, Optional, Set, Tuple
+from typing import Iterator, List, NamedTuple, Set, Tuple
 
-from .readings import Reading
+from ldvbi import Clock, ClockKind
 
-SPACINGS = (1000, 1001)  # numbers from one that is left out evenly to the next
-OFF = 2  # numbers more or less than a whole multiple: a clock is never further off
-LEAST_PLACES = 3  # of numbers left out evenly, for the clock to be believed
-KEPT = (2, 3)  # the numbers left out evenly, at least, of so many that are due
-SHORT = 4000  # numbers too few to show that many places
-WIDE = 2000  # fields of a jump after which the numbers are played anew: those of 1,000 numbers
+NO_CLOCK, DROP_FRAME = Clock(ClockKind.plain), Clock(ClockKind.drop_frame)
+PERIODS = (1000, 1001)  # of which a disc leaves out one number: it isn't known here of which
+OFF = 2  # numbers more or less than a whole multiple, at most, in which an even clock may be off
 MINUTE = 1800
 TENTH_MINUTE = 10 * MINUTE
-Pair = Tuple[Reading, Reading]
+# Fewer numbers may not show three places if one more is hidden: of one number in 1,000 or 1,001, and of two a minute
+SHORT = 4000
+SHORT_MINUTES = 5 * MINUTE
 
 
 class Gap(NamedTuple):
-    """Two believed readings with one or two pictures too few between them for their numbers."""
-    before: Reading
-    after: Reading
+    """The numbers from the first to the last that no field shows, in whose place so many pictures are too few."""
+    first: int
+    last: int
     pictures: int
 
 
-class Played(NamedTuple):
-    """How many numbers were played from one wide jump to the next, from the first to the last, and the gaps in them."""
-    numbers: int
-    gaps: List[Gap]
+def left_out_below(clock: Clock, number: int) -> int:
+    """How many numbers below this one a clock leaves out."""
+    if clock.kind == ClockKind.drop_frame:
+        return sum(_passed(MINUTE, rest, number) - _passed(TENTH_MINUTE, rest, number) for rest in (0, 1))
+    return _passed(clock.period, clock.phase, number) if clock.kind == ClockKind.one_in else 0
 
 
-class Clock(NamedTuple):
-    """Which gaps are the clock's. `judged` says of each number in a gap whether the clock left it out. `open` are the
-    numbers of gaps if too few numbers were played to know. `breaks` are the pairs of readings of all gaps that
-    aren't the clock's."""
-    judged: Dict[int, bool]
-    open: Set[int]
-    breaks: List[Pair]
+def _passed(period, rest, number):
+    """How many numbers below this one leave this rest."""
+    return (number + period - 1 - rest) // period
 
 
-def clock_of(played: List[Played]) -> Clock:
-    """Judges the gaps. One of two numbers is the clock's if it is at the start of a minute. One of one number is the
-    clock's if others of its stretch are whole multiples of 1,000 or of 1,001 away from it, at most 2 more or less,
-    since a clock is never farther off, and if these are two thirds of those due. A stretch in which too few are due is
-    judged by the others, one of which may be of the same disc, or else together with all that are left."""
-    judged, breaks = _judged_pairs([gap for one in played for gap in one.gaps if gap.pictures == 2])
-    unknown: Set[int] = set()
-    for singles, numbers, rule in _ruled(played):
-        for before, after in singles:
-            between = _between(before, after)
-            if rule and rule.has((before, after)):
-                # if some of several weren't read, the one left out is that of the others' place in the thousand
-                out = max(between, key=lambda number: rule.phases[number % rule.spacing])
-                judged.update((number, number == out) for number in between)
-                continue
-            if not rule and numbers < SHORT:
-                unknown.update(between)
-            breaks.append((before, after))
-    return Clock(judged, unknown, breaks)
+def is_dropped(number: int) -> bool:
+    """Whether drop-frame leaves out a number."""
+    return number % MINUTE < 2 <= number % TENTH_MINUTE
 
 
-def _judged_pairs(gaps):
-    """Judges the gaps of two numbers."""
-    judged, breaks = {}, []
-    for before, after, _ in gaps:
-        between = _between(before, after)
-        begin = [number for number in between if number % MINUTE < 2 and number % TENTH_MINUTE > 1]
-        if len(begin) == 2:
-            judged.update((number, number in begin) for number in between)
-        else:
-            breaks.append((before, after))
-    return judged, breaks
+def left_out_in(clock: Clock, first: int, last: int) -> Set[int]:
+    """The numbers from the first to the last that a clock leaves out."""
+    if clock.kind == ClockKind.drop_frame:
+        return set(filter(is_dropped, (number for rest in (0, 1) for number in _with_rest(MINUTE, rest, first, last))))
+    return set(_with_rest(clock.period, clock.phase, first, last)) if clock.kind == ClockKind.one_in else set()
 
 
-def _ruled(played):
-    """Of each stretch its gaps of one number, how many numbers it has, and the rule by which it is judged, or None."""
-    own = []
-    for numbers, gaps in played:
-        singles = [(before, after) for before, after, pictures in gaps if pictures == 1]
-        own.append((singles, numbers, _rule_of(singles, numbers)))
-    rules = [rule for *_, rule in own if rule]
-    found, left = [], []
-    for singles, numbers, rule in own:
-        rule = rule or next((other for other in rules if other.is_kept(singles, numbers, 1)), None)
-        (found if rule else left).append((singles, numbers, rule))
-    joined = _rule_of([one for singles, *_ in left for one in singles], sum(numbers for _, numbers, _ in left))
-    return found + [(singles, numbers, joined) for singles, numbers, _ in left]
+def _with_rest(period, rest, first, last):
+    """The numbers from the first to the last that leave this rest."""
+    return range(first + (rest - first) % period, last + 1, period)
 
 
-class _Rule(NamedTuple):
-    """Numbers that are left out evenly: whole multiples of `spacing` apart from the one after `anchor`. `phases` are
-    the places in the thousand of those of the gaps in which only one number is."""
-    spacing: int
-    anchor: int
-    phases: Counted[int]
-
-    def has(self, one: Pair) -> bool:
-        """Whether a gap is one of these."""
-        before, after = one
-        more = after.number - before.number - 2  # numbers in the gap beside the one
-        return (before.number - self.anchor + OFF) % self.spacing <= 2 * OFF + more
-
-    def count(self, singles: List[Pair]) -> int:
-        """How many of these gaps are such ones."""
-        return sum(map(self.has, singles))
-
-    def is_kept(self, singles: List[Pair], numbers: int, least: int) -> bool:
-        """Whether enough of so many numbers are left out, and at least so many."""
-        count = self.count(singles)
-        return count >= least and KEPT[1] * SPACINGS[0] * count >= KEPT[0] * numbers
+def kept_in(clock: Clock, first: int, last: int) -> Iterator[Tuple[int, int]]:
+    """The stretches of numbers from the first to the last between those that a clock leaves out."""
+    for number in sorted(left_out_in(clock, first, last)):
+        if first < number:
+            yield first, number - 1
+        first = number + 1
+    if first <= last:
+        yield first, last
 
 
-def _rule_of(singles: List[Pair], numbers: int) -> Optional[_Rule]:
-    """The rule by which the disc leaves out numbers, or None."""
-    clear = [before.number for before, after in singles if after.number - before.number == 2]
-    rule = max((_Rule(spacing, anchor, Counter()) for anchor in clear for spacing in SPACINGS),
-               key=lambda rule: rule.count(singles), default=None)
-    if rule is None or not rule.is_kept(singles, numbers, LEAST_PLACES):
-        return None
-    return rule._replace(phases=Counter(
-        (before.number + 1) % rule.spacing for before, after in singles
-        if after.number - before.number == 2 and rule.has((before, after))))
+def open_in(gaps: List[Gap], runs: List[Tuple[int, int]]) -> Set[int]:
+    """The numbers of gaps that a clock may have left out, though the library found none. `runs` are the first and the
+    last of numbers that go on from one to the next. A gap of one number, or of two at the start of a minute, is a loss
+    only if enough was played to know, and each clock that may have made it is ruled out."""
+    played = sum(last - first + 1 for first, last in runs + [one[:2] for one in gaps])
+    singles = [one for one in gaps if one.pictures == 1]
+    pairs = [one for one in gaps if one.pictures == 2 == len(left_out_in(DROP_FRAME, one.first, one.last))]
+    shown = sum(len(left_out_in(DROP_FRAME, first + 1, last - 1)) // 2 for first, last in runs)
+    found = _numbers_of(pairs) if played < SHORT_MINUTES or shown < len(pairs) else set()
+    if played < SHORT:
+        return found | _numbers_of(singles)
+    ruled_out = [(period, _ruled_out(period, singles, runs)) for period in PERIODS]
+    return found | {number for number in _numbers_of(singles)
+                    if any(number % period not in rests for period, rests in ruled_out)}
 
 
-def _between(before, after):
-    """The numbers between two readings."""
-    return range(before.number + 1, after.number)
+def _numbers_of(gaps):
+    """The numbers of these gaps."""
+    return {number for one in gaps for number in range(one.first, one.last + 1)}
+
+
+def _ruled_out(period, singles, runs):
+    """The rests of this period that numbers of as many places have as of gaps, or more. A clock that isn't quite even
+    is none that the library knows, but no loss either: so the gaps near a rest count for it."""
+    alone = [one.first for one in singles if one.first == one.last]
+    gone = Counter((number + off) % period for number in alone for off in range(-OFF, OFF + 1))
+    steps = [0] * (period + 1)
+    for first, last in runs:
+        whole, more = divmod(max(last - first - 1, 0), period)  # a number at an end shows nothing
+        begin = (first + 1) % period
+        steps[0] += whole
+        for low, high in ((begin, min(begin + more, period)), (0, begin + more - period)):
+            if low < high:
+                steps[low] += 1
+                steps[high] -= 1
+    return {rest for rest, shown in enumerate(itertools.accumulate(steps[:period])) if shown >= max(gone[rest], 1)}

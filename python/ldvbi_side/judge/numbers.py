@@ -3,12 +3,12 @@ joined of the minutes on lines 17 and 18 and of the second and picture on line 1
 
 1. The codes become readings: a number of a field, with its weight.
 2. The library says at which pace the numbers go on, and which it believes (`judged_of`). For times, it first gives
-   fields without a minute one by vote.
+   fields without a minute one by vote. Numbers in the place of others are set aside (detours.py).
 3. `anchored` takes these, and chooses among the other readings, each in its own field.
-4. `with_rest_between`, `with_speeds`, `with_turned` and `with_swaps` find what the chain takes for stills or breaks, or
-   sets aside: what is left between two losses, stretches that were played at another speed or turned by hand, and
-   fields that were written in each other's place. Speeds come before swaps: a swap is found between two numbers that
-   fit, and those of another speed fit only once it is known.
+4. `with_speeds`, `with_turned` and `with_swaps` find what the chain takes for stills or breaks, or sets aside:
+   stretches that were played at another speed or turned by hand, and fields that were written in each other's place.
+   Speeds come before swaps: a swap is found between two numbers that fit, and those of another speed fit only once it
+   is known.
 
 Each step returns new `Numbers`, and leaves those that it was given as they were. All later modules ask `Numbers.off` or
 `Numbers.fit` (believed.py) how two numbers stand to each other; these know the pace, the speeds and the swaps. So
@@ -20,7 +20,8 @@ from typing import Dict, List, NamedTuple, Optional
 from ldvbi import Counted, JudgedSide, Kind, State
 from .believed import Line, Numbers, no_numbers, numbers_of_readings
 from .chain import anchored, chain, judged_of, pace_of
-from .order import with_rest_between, with_speeds, with_swaps, with_turned
+from .detours import without_replaced, without_rows
+from .order import with_speeds, with_swaps, with_turned
 from .paces import RATES, MinutePace, Unit
 from .readings import WEIGHTS, ByField, Codes, Lines, Reading
 
@@ -91,17 +92,19 @@ def numbers_of(codes: Codes) -> Found:
 
 def _pictures_of(codes):
     """The picture numbers of a CAV side, or of one without codes of either format."""
-    system, judged = codes.fields.system, judged_of(codes.fields, Counted.pictures)
-    readings = codes.readings(codes.kinds[Kind.picture])
-    if not readings:
+    system = codes.fields.system
+    judged, detours = without_replaced(judged_of(codes.fields, Counted.pictures))
+    known = codes.readings(codes.kinds[Kind.picture])
+    if not known:
         return Found(no_numbers(system, judged), [])
     pace = pace_of(judged)
+    readings = without_rows(known, detours, judged, pace)
     # a field with a chapter is the second one of its picture, unless both have the number
     others = set() if pace.kind == "both" else codes.sure_fields(Kind.chapter)
     unit, believed = Unit("picture", RATES[system]), anchored(readings, pace, judged)
     numbers = numbers_of_readings(unit, pace, believed, others, judged)
-    numbers = with_turned(with_speeds(with_rest_between(numbers, readings), readings), readings)
-    return Found(with_swaps(numbers, readings, {reading.field for reading in readings}), readings)
+    numbers = with_turned(with_speeds(numbers, readings), readings)
+    return Found(with_swaps(numbers, readings, {reading.field for reading in readings}), known)
 
 
 # ---- Times
@@ -132,21 +135,21 @@ def _believed(times, readings):
     """The numbers of these times. Fields without a minute that is believed get the one that brings them nearest to the
     believed times around them, and the chain is drawn again."""
     codes = times.codes
-    judged = judged_of(codes.fields, Counted.times)
+    judged, detours = without_replaced(judged_of(codes.fields, Counted.times))
     pace = pace_of(judged)
     others = set().union(*map(codes.sure_fields, (Kind.chapter, Kind.cx_on, Kind.cx_off)))
-    readings = times.with_voted(readings, judged)
+    all_readings = times.with_voted(readings, judged)
+    readings = without_rows(all_readings, detours, judged, pace)
     believed = anchored(readings, pace, judged)
     numbers = numbers_of_readings(Unit("time", times.rate), pace, believed, others, judged)
     more = _completions(times, numbers, readings)
     if more:
         known = sorted(readings + more, key=lambda one: one.field)
         numbers = numbers.believing(anchored(known, pace, judged))
-    numbers = with_rest_between(numbers, readings)
     numbers = with_speeds(numbers, readings, times.of_line)
     numbers = with_swaps(numbers, readings, times.parts)
     completed = frozenset(reading.field for reading in numbers.believed if reading.lines == (16,))
-    return Found(numbers._replace(completed=completed), readings, times)
+    return Found(numbers._replace(completed=completed), all_readings, times)
 
 
 def _completions(times, numbers, readings):

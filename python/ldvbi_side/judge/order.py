@@ -1,7 +1,7 @@
-"""Numbers that the chain sets aside, or takes for stills or breaks. Numbers between two losses weigh less than one more
-break costs. Others come in another order than the disc's: turned by hand; in stretches that were played at another
-speed, whose numbers go by in other steps, backwards, or three times each; and in fields that a capture has written in
-each other's place, so that a number stands one field before or after its own."""
+"""Numbers that the chain sets aside, or takes for stills or breaks, since they come in another order than the disc's:
+turned by hand; in stretches that were played at another speed, whose numbers go by in other steps, backwards, or three
+times each; and in fields that a capture has written in each other's place, so that a number stands one field before or
+after its own."""
 
 import bisect
 import math
@@ -10,8 +10,7 @@ from collections import Counter
 from typing import Callable, Collection, Dict, List, Mapping
 
 from .believed import APART, SLOW, Line, Numbers, Stretch, line_from, meeting
-from .chain import chain
-from .paces import Pace, price
+from .paces import price
 from .readings import WEIGHTS, Reading
 
 LEAST = 8  # readings of a stretch
@@ -19,49 +18,6 @@ FEWEST = 3  # different numbers of it
 STEPS = (2, 3, -1, -2, -3)  # numbers from one picture to the next
 # By hand: numbers from one that is shown to the next, fields in which there are so many breaks and such numbers beside
 TURN, TURNED, SIGNS = 5, 40, 3
-OTHER = 3  # digits of a single number between two losses that aren't those due: a misread one has one or two
-
-
-# ---- Between two losses
-
-def with_rest_between(numbers: Numbers, readings: List[Reading]) -> Numbers:
-    """These numbers, and those that are left between two breaks, as on a disc that lost much. These were read in pass 1
-    or on two lines, fit each other, and lie between the believed ones around them. A single one counts between two
-    losses if at least three of its digits differ from the numbers that those around leave for its field: then it isn't
-    one of these, misread."""
-    assert isinstance(numbers.pace, Pace)  # minutes alone have none of these
-    more: List[Reading] = []
-    for before, after, inside in _between(numbers, readings):
-        row = chain(inside, numbers.pace) if numbers.off(before, after) != 0 else []
-        if row and not any(map(numbers.off, row, row[1:])):
-            more += row if len(row) > 1 or _is_another(numbers, before, row[0], after) else []
-    return numbers.believing(sorted(numbers.believed + more, key=lambda one: one.field)) if more else numbers
-
-
-def _between(numbers, readings):
-    """The believed readings between which some are set aside whose numbers are between, too, with these."""
-    found = {}
-    for one, before, after in numbers.beside(numbers.aside(readings)):
-        if before and after and before.number < one.number < after.number and one.weight >= WEIGHTS[1]:
-            found.setdefault(before.field, (before, after, []))[2].append(one)
-    return found.values()
-
-
-def _is_another(numbers, before, one, after):
-    """Whether a number between two losses is none of those that are due in its field by the one before or after,
-    misread."""
-    if numbers.off(before, one) >= 0 or numbers.off(one, after) >= 0:
-        return False
-    due = [before.number + numbers.pace.numbers_in(one.field - before.field),
-           after.number - numbers.pace.numbers_in(after.field - one.field)]
-    said = _digits(numbers.unit, one.number)
-    return all(sum(map(operator.ne, said, _digits(numbers.unit, near + step))) >= OTHER
-               for near, steps in zip(due, ((0, 1), (-1, 0))) for step in steps)
-
-
-def _digits(unit, number):
-    """A number as its words have it."""
-    return "%05d" % number if unit.name == "picture" else unit.text_of(number)
 
 
 # ---- Turned by hand

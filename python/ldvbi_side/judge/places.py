@@ -7,9 +7,9 @@ import operator
 from collections import Counter
 from typing import Any, Callable, Dict, Iterable, List, NamedTuple, Set, Tuple, cast
 
-from ldvbi import Kind
+from ldvbi import ClockKind, Kind
 from .believed import Numbers, off_at_speed, passed_between
-from .clock import WIDE, Clock, Gap, Played, clock_of
+from .clock import Gap, left_out_in, open_in
 from .paces import MinutePace, Pace
 from .readings import Codes, Reading
 
@@ -55,10 +55,10 @@ class Places(NamedTuple):
     """Where the numbers of a side are. `showings`, `breaks` and `stills` have them as counts. `joins` are the readings
     between which another side begins. `due` are pairs of a number that isn't there and the field that it belongs in.
     `without_field` are missing numbers whose field is unknown although no field was lost. `open` are missing numbers in
-    whose place only other codes were seen, and `unshown` those that the disc doesn't show. `clock` judges the numbers
-    of an NTSC disc that its clock may have left out. `number_of` has the number of each field that shows one or in
-    which one is due. `confirmed` are the fields whose number was due and counts as shown, since it is the nearest word
-    of their lines."""
+    whose place only other codes were seen, or which an unknown clock may leave out. `unshown` are those that the disc
+    doesn't show, and `left_out` those that its clock leaves out. `number_of` has the number of each field that shows
+    one or in which one is due. `confirmed` are the fields whose number was due and counts as shown, since it is the
+    nearest word of their lines."""
     numbers: Numbers
     showings: List[Showing]
     breaks: List[Break]
@@ -68,7 +68,7 @@ class Places(NamedTuple):
     without_field: Set[int]
     open: Set[int]
     unshown: Set[int]
-    clock: Clock
+    left_out: Set[int]
     number_of: Dict[int, int]
     confirmed: Tuple[int, ...] = ()
 
@@ -85,8 +85,7 @@ class Places(NamedTuple):
 class _Step(NamedTuple):
     """Two believed readings, one after the other, of which `place` is that of the second. `kind` is `same` (one
     showing of a number), `still` (it is shown again), `next` (they fit), `speed` (they fit at another speed), `join`
-    (another side begins between them), `gap` (the clock may have left out what is between them) or `break`; `off` are
-    the fields that are too many or too few."""
+    (another side begins between them) or `break`; `off` are the fields that are too many or too few."""
     place: int
     before: Reading
     after: Reading
@@ -96,11 +95,13 @@ class _Step(NamedTuple):
 
 def places_of(numbers: Numbers, codes: Codes) -> Places:
     """The places of these numbers."""
-    may_leave_out = numbers.unit.name == "time" and codes.fields.system == "NTSC"
-    ends = sorted(codes.sure_fields(Kind.lead_in) | codes.sure_fields(Kind.lead_out))
+    lead_in = codes.sure_fields(Kind.lead_in)
+    ends = sorted(lead_in | codes.sure_fields(Kind.lead_out))
     # of all other believed readings the next one is that of the next number
-    steps = [_step(numbers, place, may_leave_out) for place in numbers.odd_places]
-    joins = [(step.before, step.after) for step in steps if ends and _is_join(step, ends)]
+    steps = [_step(numbers, place) for place in numbers.odd_places]
+    last = _begin_of_last(numbers.values)
+    joins = [(step.before, step.after) for step in steps if ends and _is_join(
+        step, ends if step.place <= last else sorted(lead_in))]
     joined = set(joins)
     steps = [_joined(step) if (step.before, step.after) in joined else step for step in steps]
     due, without_field, unshown, unseen = _due(numbers, steps, codes)
@@ -109,19 +110,24 @@ def places_of(numbers: Numbers, codes: Codes) -> Places:
     for (number, field), said in others.items():
         (unseen if _is_played(codes, field, said) else without_field).add(number)
     due = [one for one in due if one not in others] if others else due
-    clock, showings = clock_of(_played(steps, len(numbers.believed))), _showings(numbers, steps)
+    unseen |= _open(numbers, steps) if codes.fields.system == "NTSC" and numbers.unit.name == "time" else set()
+    showings = _showings(numbers, steps)
     breaks = [_break(numbers, step.before, step.after, step.off) for step in steps if step.kind == "break"]
-    breaks += [_break(numbers, before, after, numbers.off(before, after)) for before, after in clock.breaks]
     if isinstance(numbers.pace, MinutePace):
         breaks += _minute_breaks(numbers.pace, showings, ends)
     number_of = {**{field: number for number, field in due}, **numbers.taken}
     return Places(numbers, showings, sorted(breaks, key=lambda one: one.after), joins,
-                  _stills(steps), due, without_field, unseen, unshown, clock, number_of)
+                  _stills(steps), due, without_field, unseen, unshown, _left_out(numbers, steps), number_of)
+
+
+def _begin_of_last(values):
+    """The place from which on no number but the last one is shown: that may stay beside lead-out."""
+    return next((place for place in range(len(values) - 1, 0, -1) if values[place - 1] != values[-1]), 0)
 
 
 def _is_join(step, ends):
-    """Whether lead-in or lead-out stands between two readings that don't fit, so that another side begins there."""
-    return step.kind in ("still", "gap", "break") and (
+    """Whether one of these ends stands between two readings that don't fit, so that another side begins there."""
+    return step.kind in ("still", "break") and (
         bisect.bisect(ends, step.before.field) < bisect.bisect_left(ends, step.after.field))
 
 
@@ -130,7 +136,7 @@ def _joined(step):
     return step if step.after.number < step.before.number else step._replace(kind="join")
 
 
-def _step(numbers, place, may_leave_out):
+def _step(numbers, place):
     before, after = numbers.believed[place - 1:place + 1]
     is_second = _is_second(before, after)
     if numbers.speeds and not is_second and off_at_speed(numbers, before, after) == 0:
@@ -139,10 +145,7 @@ def _step(numbers, place, may_leave_out):
         kind = numbers.pace.kind
         return _Step(place, before, after, "same" if kind == "minute" or kind == "both" and is_second else "still")
     off = numbers.off(before, after)
-    if off == 0:
-        return _Step(place, before, after, "next")
-    is_gap = may_leave_out and after.number > before.number and off in (-2, -4)
-    return _Step(place, before, after, "gap" if is_gap else "break", off)
+    return _Step(place, before, after, "break" if off else "next", off)
 
 
 def _is_second(before, after):
@@ -216,25 +219,34 @@ def _due_between(numbers, before, after):
     # of a picture with its number on both fields the first one is meant
     variant = 0 if pace.kind == "both" else after.variant
     begin = numbers.place_of(before)
-    return [(before.number + step, begin + pace.between(before.number, step, before.variant, variant))
-            for step in range(1, after.number - before.number)]
+    left_out = left_out_in(numbers.clock, before.number + 1, after.number - 1)
+    kept = [number for number in range(before.number + 1, after.number) if number not in left_out]
+    found = [(number, begin + pace.between(before.number, step, before.variant, variant))
+             for step, number in enumerate(kept, 1)]
+    # there is no field for the last one if the number before is one that the clock leaves out
+    return [one for one in found if one[1] < numbers.place_of(after)]
 
 
-def _played(steps, count):
-    """The numbers as they were played from one wide jump to the next, with the gaps that the clock may have made.
-    `count` are the believed readings."""
-    played, numbers, gaps, begin = [], 1, [], 0
-    for place, before, after, kind, off in steps:
-        numbers += place - 1 - begin  # those in between go on by one each
-        begin = place
-        if kind in ("next", "gap"):
-            numbers += after.number - before.number
-            if kind == "gap":
-                gaps.append(Gap(before, after, -off // 2))
-        elif kind == "join" or kind == "break" and abs(off) >= WIDE:
-            played.append(Played(numbers, gaps))
-            numbers, gaps = 1, []
-    return played + [Played(numbers + max(count - 1 - begin, 0), gaps)]
+# ---- Numbers that the clock leaves out
+
+def _left_out(numbers, steps):
+    """The numbers between neighbouring ones that the clock leaves out."""
+    return set().union(*(left_out_in(numbers.clock, before.number + 1, after.number - 1)
+                         for _, before, after, kind, _ in steps if kind in ("next", "break")))
+
+
+def _open(numbers, steps):
+    """The numbers of gaps that a clock may have left out, if none was found."""
+    gaps = [Gap(before.number + 1, after.number - 1, -off // 2) for _, before, after, kind, off in steps
+            if kind == "break" and after.number > before.number and off in (-2, -4)]
+    return open_in(gaps, _runs(numbers, steps)) if gaps and numbers.clock.kind == ClockKind.plain else set()
+
+
+def _runs(numbers, steps):
+    """The first and the last number of each stretch of believed ones that go on from one to the next."""
+    ends = [(step.before.number, step.after.number) for step in steps if step.kind not in ("same", "next")]
+    return list(zip([numbers.values[0], *(after for _, after in ends)],
+                    [*(before for before, _ in ends), numbers.values[-1]]))
 
 
 def _break(numbers, before, after, off):

@@ -24,7 +24,7 @@ class Fields(NamedTuple):
     None if that isn't known. `expected` is the number of fields that the metadata has, or None. `is_strict` says that a
     side without lead-in or lead-out, or with an unread number, isn't whole, and `may_end` that it may end without
     lead-out. `nearest_word` finds the nearest words of lines if their samples are at hand, and `try_levels` what other
-    levels would read."""
+    levels would read. `pad` says of each field whether it is padding, or is None if none is."""
     system: str
     words: List[Tuple[int, int, int]]
     passes: List[Tuple[int, int, int]]
@@ -37,6 +37,7 @@ class Fields(NamedTuple):
     may_end: bool = False
     nearest_word: Optional[NearestWord] = None
     try_levels: Optional[Callable[[], Any]] = None
+    pad: Optional[List[bool]] = None
 
 
 class Reading(NamedTuple):

@@ -1,9 +1,9 @@
-//! Prints all that the crate answers of a side: of each field, counted from 0, what its lines show, its picture, its
-//! time, its chapter and its stop, then where places are found, whether the side is whole, and its gaps.
+//! Prints what the crate answers of a side: of each field, counted from 0, what its lines show, its picture, its time,
+//! its chapter and its stop; or, if places are given, where they are found.
 //!
 //!     cargo run --example answers -- side.tbc NTSC 16384 51200 12345 0:59:29.07 'chapter 3'
 
-use ldvbi::{Counted, Feeder, Levels, Number, Outcome, Place, Reading, Reason, Side, SideOptions, System};
+use ldvbi::{Counted, Feeder, Levels, Number, Outcome, Place, Reading, Side, System};
 use std::error::Error;
 use std::io::{self, Write};
 
@@ -39,22 +39,6 @@ fn place_of(text: &str) -> Result<Place, Box<dyn Error>> {
     }
 }
 
-/// Whether the side is whole, if it may end before the disc does or has to show its lead-out, and its gaps: of its
-/// pictures, or of its times if none of those is believed.
-fn print_whole(side: &Side, out: &mut dyn Write) -> io::Result<()> {
-    let options = SideOptions { may_end: true, ..SideOptions::new(Counted::Pictures) };
-    let has_pictures = side.whole(options).reasons != [Reason::NoNumbers];
-    let counted = if has_pictures { Counted::Pictures } else { Counted::Times };
-    let options = SideOptions { counted, ..options };
-    writeln!(out, "whole: {:?}", side.whole(options).verdict)?;
-    writeln!(out, "whole to lead-out: {:?}", side.whole(SideOptions::new(counted)).verdict)?;
-    for gap in side.gaps(options) {
-        let ldvbi::Gap { kind, after, before, from, to, fields, .. } = gap;
-        writeln!(out, "gap: {kind:?} {fields}: field {after} has {from}, field {before} has {to}")?;
-    }
-    Ok(())
-}
-
 /// The fields of the same bytes in pieces, each a little longer than the one before.
 fn fed(bytes: &[u8], system: System, levels: Levels) -> (Vec<[Reading; 3]>, usize) {
     let (mut feeder, mut fields, mut at) = (Feeder::new(system, levels), Vec::new(), 0);
@@ -69,13 +53,8 @@ fn fed(bytes: &[u8], system: System, levels: Levels) -> (Vec<[Reading; 3]>, usiz
     (fields, feeder.cut_bytes())
 }
 
-fn print(
-    bytes: &[u8],
-    system: System,
-    levels: Levels,
-    places: &[String],
-    out: &mut dyn Write,
-) -> Result<(), Box<dyn Error>> {
+/// What the crate answers of each field.
+fn print_fields(bytes: &[u8], system: System, levels: Levels, out: &mut dyn Write) -> Result<(), Box<dyn Error>> {
     let side = Side::new(bytes, system, levels)?;
     let (pictures, times) = (side.numbers(Counted::Pictures), side.numbers(Counted::Times));
     let (chapters, stops) = (side.chapters(), side.stops(0).map(|stop| stop.index).collect::<Vec<_>>());
@@ -90,11 +69,6 @@ fn print(
         let alone = line_text(side.line(&rows[..size])?);
         writeln!(out, "{alone} {word} {} {} {} {}", near.start, near.distance, near.rival, near.longer)?;
     }
-    for text in places {
-        let found = side.seek(place_of(text)?).map(|field| field.index);
-        writeln!(out, "{text}: {}", found.map_or("none".to_owned(), |index| index.to_string()))?;
-    }
-    print_whole(&side, out)?;
     let is_same = fed(bytes, system, levels) == (side.fields().collect(), side.cut_bytes());
     Ok(writeln!(out, "{} bytes are cut, the same in pieces: {is_same}", side.cut_bytes())?)
 }
@@ -108,6 +82,14 @@ fn main() -> Result<(), Box<dyn Error>> {
     let system = System::named(system).ok_or("system is neither NTSC nor PAL")?;
     let levels = Levels::new(black.parse()?, white.parse()?)?;
     let mut out = io::BufWriter::new(io::stdout().lock());
-    print(&std::fs::read(path)?, system, levels, places, &mut out)?;
+    let bytes = std::fs::read(path)?;
+    let side = Side::new(&bytes, system, levels)?;
+    for text in places {
+        let found = side.seek(place_of(text)?).map(|field| field.index);
+        writeln!(out, "{text}: {}", found.map_or("none".to_owned(), |index| index.to_string()))?;
+    }
+    if places.is_empty() {
+        print_fields(&bytes, system, levels, &mut out)?;
+    }
     Ok(out.flush()?)
 }

@@ -60,7 +60,7 @@ fn run_with_files(job: &Job) -> Result<u8, &'static str> {
     let mut output = Stream::output();
     let ended = match settle(job, meta.as_deref()) {
         Ok(config) => {
-            let mut source = Source::new(job.verb, config.system(), &mut input);
+            let mut source = Source::new(job.verb, job.recover, config.system(), &mut input);
             do_command(&config, &mut source, &mut Outlet::new(&mut output))
         }
         Err(fault) => Err(AppFault::Meta(fault)),

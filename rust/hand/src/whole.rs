@@ -61,7 +61,7 @@ impl Clock {
 pub enum Verdict {
     /// No reason speaks against it.
     Yes,
-    /// The capture shows a reason why it isn't: one of the first six.
+    /// The capture shows a reason why it isn't: one of the first six, or the last one.
     No,
     /// There are only other reasons.
     CannotTell,
@@ -83,8 +83,8 @@ pub enum Reason {
     /// On video with numbers on one field of a picture: between two numbers that go on, a field shows one that belongs
     /// in a field beside it.
     IsSwapped,
-    /// Numbers go on one by one, each to within a field, but not all from each other; or no gap is open, and the last
-    /// number, less the stills, doesn't go on from the first.
+    /// Numbers go on one by one, each to within a field, but not all from each other; or no gap is open or replaced,
+    /// and the last number, less the stills and what detours insert, doesn't go on from the first.
     IsOff,
     /// No number is believed.
     NoNumbers,
@@ -94,12 +94,14 @@ pub enum Reason {
     BeginUnseen,
     /// A tenth or more of the numbers that were read are in doubt.
     ManyDoubtful,
-    /// A gap is open.
+    /// A gap is open, or replaced.
     IsOpen,
+    /// Fields that don't belong there are inserted.
+    IsInserted,
 }
 
 /// Each reason with its bit, in order.
-const REASONS: [(u32, Reason); 12] = [
+const REASONS: [(u32, Reason); 13] = [
     (side::IS_LOST, Reason::IsLost),
     (side::IS_HELD, Reason::IsHeld),
     (side::GOES_BACK, Reason::GoesBack),
@@ -112,6 +114,7 @@ const REASONS: [(u32, Reason); 12] = [
     (side::BEGIN_UNSEEN, Reason::BeginUnseen),
     (side::MANY_DOUBTFUL, Reason::ManyDoubtful),
     (side::IS_OPEN, Reason::IsOpen),
+    (side::IS_INSERTED, Reason::IsInserted),
 ];
 
 /// The answer for the capture of a side.
@@ -161,8 +164,15 @@ pub enum GapKind {
     /// Lead-in or lead-out stands between: another side begins.
     Joined,
     /// The disc itself may skip there, or fields are lost: the clock of an NTSC CLV disc, if it isn't known, leaves out
-    /// one or two times, and film that is cut over a number that wasn't read goes on a field off.
+    /// one or two times; film that is cut over a number that wasn't read goes on a field off; and a disc of film may
+    /// have video there, if there are just two fields for each number.
     Open,
+    /// One of two neighbouring gaps of a detour: the numbers around go on as if fields between weren't there. The
+    /// player left and came back.
+    Inserted,
+    /// One of two neighbouring gaps of a detour: the numbers around go on over the fields between. Those between were
+    /// misread, or two cuts cancel each other.
+    Replaced,
 }
 
 /// Two neighbouring believed numbers that don't go on, and what is between them.
@@ -179,7 +189,7 @@ pub struct Gap {
     /// The number of the field after it.
     pub to: u32,
     /// At least how many fields are lost or too many; how many a still has; for an open gap, how many more or fewer
-    /// there are than the numbers count to; else 0.
+    /// there are than the numbers count to; for the first gap of a detour, how many it inserts; else 0.
     pub fields: u64,
     /// How many fields between the two show a number between theirs, on both lines in pass 1.
     pub shown: u64,
@@ -193,6 +203,8 @@ impl Gap {
             side::BACK => GapKind::Back,
             side::STILL => GapKind::Still,
             side::JOINED => GapKind::Joined,
+            side::INSERTED => GapKind::Inserted,
+            side::REPLACED => GapKind::Replaced,
             _ => GapKind::Open,
         };
         let side::Gap { after, before, from, to, fields, shown, .. } = *gap;

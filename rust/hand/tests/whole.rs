@@ -87,6 +87,22 @@ fn a_gap_of_each_kind() {
 }
 
 #[test]
+fn detours() {
+    let (before, run) = (pictures(1, 20), pictures(51, 60));
+    let inserted = [gap(GapKind::Inserted, [38, 40], [20, 51], 20), gap(GapKind::Inserted, [58, 60], [60, 21], 0)];
+    let replaced = [gap(GapKind::Replaced, [38, 40], [20, 51], 0), gap(GapKind::Replaced, [58, 60], [60, 31], 0)];
+    for system in SYSTEMS {
+        for (next, wanted, verdict, reason) in
+            [(21, inserted, Verdict::No, Reason::IsInserted), (31, replaced, Verdict::CannotTell, Reason::IsOpen)]
+        {
+            let rows = [before.clone(), run.clone(), pictures(next, 40)].concat();
+            let (whole, gaps) = judged(system, &rows, cut_off(Counted::Pictures));
+            assert_eq!((whole.verdict, whole.reasons, gaps), (verdict, vec![reason], wanted.to_vec()));
+        }
+    }
+}
+
+#[test]
 fn reasons_without_a_gap() {
     let (mut swapped, mut doubtful) = (pictures(1, 20), pictures(1, 20));
     swapped.swap(20, 21);
@@ -126,15 +142,16 @@ fn film_and_numbers_on_both_fields() {
     }
     let (whole, gaps) = judged(System::Ntsc, &rows, cut_off(Counted::Pictures));
     assert_eq!((whole.verdict, whole.reasons, gaps), (Verdict::Yes, vec![], vec![]));
-    // Of 20 pictures with their numbers on both fields each second field has one too many, and each first one is early.
+    // Of 20 pictures with their numbers on both fields each second field has one too many, and each first one is early:
+    // around the second field the numbers go on, but for the last one.
     let rows: Rows = (1..=20).flat_map(|number| [[0, picture(number), picture(number)]; 2]).collect();
-    for (on_both, verdict, lost, held) in
-        [(None, Verdict::Yes, 0, 0), (Some(true), Verdict::Yes, 0, 0), (Some(false), Verdict::No, 19, 20)]
+    for (on_both, verdict, held, replaced) in
+        [(None, Verdict::Yes, 0, 0), (Some(true), Verdict::Yes, 0, 0), (Some(false), Verdict::No, 1, 38)]
     {
         let options = SideOptions { on_both, ..cut_off(Counted::Pictures) };
         let (whole, gaps) = judged(System::Ntsc, &rows, options);
-        assert_eq!((whole.verdict, whole.tally.lost, whole.tally.held), (verdict, lost, held));
-        assert_eq!((gaps.len() as u64, whole.tally.gaps), (lost + held, gaps.len()));
+        assert_eq!((whole.verdict, whole.tally.held, whole.tally.open_gaps), (verdict, held, replaced));
+        assert_eq!((gaps.len() as u64, whole.tally.gaps), (held + replaced, gaps.len()));
     }
 }
 
@@ -181,9 +198,9 @@ fn a_side_by_its_clock() {
         let lost = vec![gap(GapKind::Lost, fields, numbers, 2)];
         assert_eq!(judged(&rows, 12), (Verdict::No, vec![Reason::IsLost, Reason::IsOff], 1, lost));
     }
-    // By another phase 12 is missing, and 13 has no fields.
-    let gaps = vec![gap(GapKind::Lost, [22, 24], [11, 13], 2), gap(GapKind::Held, [24, 26], [13, 14], 2)];
-    assert_eq!(judged(&whole, 13), (Verdict::No, vec![Reason::IsLost, Reason::IsHeld], 1, gaps));
+    // By another phase 12 is missing, and 13 has no fields: around 13 the numbers go on.
+    let gaps = vec![gap(GapKind::Replaced, [22, 24], [11, 13], 0), gap(GapKind::Replaced, [24, 26], [13, 14], 0)];
+    assert_eq!(judged(&whole, 13), (Verdict::CannotTell, vec![Reason::IsOpen], 0, gaps));
     let side = Side::new(&[], System::Ntsc, levels()).unwrap();
     for (period, phase) in [(0, 0), (1000, 1000), (1, u32::MAX)] {
         let (clock, refused) = (Clock::OneIn { period, phase }, Error::NoClock { period, phase });

@@ -6,5 +6,5 @@ use Rattle.vbi_cli.proofs.job.run_job.Goals as goal
 pub returns-clause-did : goal.returns-clause-did
 returns-clause-did g c =
     did_under _ _ c.in_ok-config.config _ _ _ _
-    (counts_of c.do_command-answer.new.source c.do_command-answer.new.outlet) _ _ _ (search rules)
-    c.new-source.ensures.verb (search rules)
+    (counts_of c.do_command-answer.new.source c.do_command-answer.new.outlet) _ _ _ _ _
+    (search rules) c.new-source.ensures.verb c.new-source.ensures.recover (search rules)

@@ -1,5 +1,6 @@
 use Rattle.std.proofs.Common.{refl}
-use Rattle.vbi_side.specs.Gaps.{since_end, stills_of, last_still}
+use Rattle.vbi_side.specs.Gaps.{since_end}
+use Rattle.vbi_side.specs.Told.{stills_of, last_still}
 use Rattle.vbi_side.proofs.gap_laws.worked_gaps.Goals as goal
 
 pub returns-clause-since : goal.returns-clause-since

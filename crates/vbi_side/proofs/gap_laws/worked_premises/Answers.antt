@@ -1,7 +1,9 @@
 use Rattle.std.proofs.Common.{[], false, refl, arith, inr}
-use Rattle.vbi_side.specs.Gaps.{since_end, stills_of, last_still}
+use Rattle.vbi_side.specs.Gaps.{since_end}
+use Rattle.vbi_side.specs.Told.{stills_of, last_still}
 use Rattle.vbi_side.specs.declared.clock.Clock.TheVariants.{Plain}
 use Rattle.vbi_side.specs.Clocks.{kept}
+use Rattle.vbi_side.specs.Detours.{detoured_from}
 use Rattle.vbi_side.proofs.Counting.{plain}
 use Rattle.vbi_side.specs.WorkedSides.{cav, worked_ends}
 use Rattle.vbi_side.proofs.Telling.{none_written}
@@ -18,14 +20,14 @@ pub returns-clause-low : goal.returns-clause-low
 returns-clause-low c = omega (arith, none_wrong 48)
 
 pub returns-clause-finding : goal.returns-clause-finding
-unfolding since_end stills_of last_still kept
+unfolding since_end stills_of last_still kept detoured_from
 returns-clause-finding c = record {
+  away = 0;
   told = record {
     gaps = [];
     unread = 0;
     all = no_gaps cav (λ n less. plain Plain n refl) worked_ends 50 (omega arith);
-    comes_to = refl;
-    written = none_written [];
+    told = record { comes_to = refl; inserts = refl; written = none_written [] };
   };
   swapped = false;
   swap = (refl, λ pace slack. no_swap Plain);

@@ -3,7 +3,8 @@ use Rattle.std.specs.Prelude.{Option, unwrap_or, slice_get}
 use Rattle.std.proofs.lemmas.Option.{slice_get_within}
 use Rattle.vbi_side.specs.declared.number.Number.{Number}
 use Rattle.vbi_side.specs.Numbers.{believed, nothing, IsMarked}
-use Rattle.vbi_side.specs.Gaps.{AreGaps, since_end, stills_of, last_still}
+use Rattle.vbi_side.specs.Gaps.{AreGaps, since_end}
+use Rattle.vbi_side.specs.Told.{stills_of, last_still}
 use Rattle.vbi_side.specs.Clocks.{kept}
 use Rattle.std.proofs.lemmas.Bool.Decides.{eqb_tells}
 use Rattle.vbi_side.specs.declared.pace.Pace.TheVariants.{Video}
@@ -12,6 +13,7 @@ use Rattle.vbi_side.specs.Paces.{nearly}
 use Rattle.vbi_side.specs.Drifts.{IsDrift}
 use Rattle.vbi_side.specs.Swaps.{IsSwap, is_stray}
 use Rattle.vbi_side.specs.WorkedSides.{two_pictures, two_answers}
+use Rattle.vbi_side.specs.Detours.{detoured_from}
 use Rattle.vbi_side.proofs.Telling.{none_written}
 use Rattle.vbi_side.proofs.gap_laws.worked_whole.Goals as goal
 
@@ -61,8 +63,9 @@ no_drift j drift =
         cc
 
 pub returns : goal.returns
-unfolding AreGaps since_end stills_of last_still kept
+unfolding AreGaps since_end stills_of last_still kept detoured_from
 returns c = record {
+  away = 0;
   told = record {
     gaps = [];
     unread = 0;
@@ -83,8 +86,7 @@ returns c = record {
       inl (inl (λ n. never 1 n refl), inl (inr (λ j l less. absurd (omega (arith, less))), (refl, refl))),
       refl,
     ));
-    comes_to = refl;
-    written = none_written [];
+    told = record { comes_to = refl; inserts = refl; written = none_written [] };
   };
   swapped = false;
   swap = (refl, λ pace slack. no_swap);

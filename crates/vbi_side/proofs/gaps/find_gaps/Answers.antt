@@ -1,25 +1,53 @@
-use Rattle.std.proofs.Common.{refl, sym, subst, arith}
-use Rattle.vbi_side.specs.declared.gap.Tally.{Tally}
-use Rattle.vbi_side.specs.Gaps.{IsTold, since_end}
-use Rattle.vbi_side.proofs.Telling.{told_begins, told_few}
+use Rattle.std.proofs.Common.{◌≡◌, [], refl, arith, subst, length}
+use Rattle.vbi_side.specs.Gaps.{since_end, AreGaps}
+use Rattle.vbi_side.specs.Told.{waiting}
+use Rattle.vbi_side.proofs.Telling.{told_few}
 use Rattle.vbi_side.proofs.gaps.find_gaps.Goals as goal
 
 pub loop-field-init : goal.loop-field-init
-unfolding since_end
+unfolding since_end AreGaps
 loop-field-init c = record {
-  told = let rule = c.args.rule in
-      subst (λ (t : Tally). IsTold rule.pace rule.slack rule.numbering c.args.seen.now c.args.numbers.now
-      c.args.ends.now 0
-      t c.args.out.now c.args.out.now) (sym (c.none-tally.ensures rule.numbering.clock))
-      (told_begins rule.pace rule.slack rule.numbering c.args.seen.now c.args.numbers.now c.args.ends.now
-      c.args.out.now);
+  told = let rule = c.args.rule in record {
+    gaps = [];
+    unread = 0;
+    all = (refl, refl);
+    telling = c.none-telling.ensures rule.pace rule.slack rule.numbering.clock c.args.out.now;
+  };
   last = λ j l less. absurd (omega (arith, less));
   since = refl;
   few = omega arith;
 }
 
-pub visit-tally-requires-clause-few : goal.visit-tally-requires-clause-few
-visit-tally-requires-clause-few c =
+pub visit-telling-requires-clause-few : goal.visit-telling-requires-clause-few
+visit-telling-requires-clause-few c =
     let rule = c.args.rule in
+    let telling = c.loop-field.telling in
     told_few rule.pace rule.slack rule.numbering c.args.seen.now c.args.numbers.now c.args.ends.now c.loop-field.field
-    c.loop-field.tally c.args.out.now c.loop-field.out c.loop-field.invariant.told
+    (waiting telling.last) telling.told.tally telling.told.away c.args.out.now c.loop-field.out
+    c.loop-field.invariant.told
+
+pub ended-requires : goal.ended-requires
+ended-requires c =
+    let rule = c.args.rule in
+    let telling = c.loop-field.telling in
+    record {
+      few = omega (
+        arith,
+        told_few rule.pace rule.slack rule.numbering c.args.seen.now c.args.numbers.now c.args.ends.now
+            c.loop-field.field (waiting telling.last) telling.told.tally telling.told.away c.args.out.now
+            c.loop-field.out c.loop-field.invariant.told,
+      );
+    }
+
+pub returns : goal.returns
+returns c =
+    let rule = c.args.rule in
+    let told = c.loop-field.invariant.told in
+    let end : c.loop-field.field ≡ length c.args.numbers.now = omega arith in
+    record {
+      gaps = told.gaps;
+      unread = told.unread;
+      all = subst (λ k. AreGaps rule.pace rule.slack rule.numbering c.args.seen.now c.args.numbers.now c.args.ends.now k
+          told.gaps told.unread) end told.all;
+      told = c.ended.ensures told.gaps told.unread c.args.out.now told.telling;
+    }

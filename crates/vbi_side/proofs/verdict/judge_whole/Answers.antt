@@ -21,7 +21,8 @@ last_is answers first (Some one) some none at = (some.1, some.2)
 
 pub returns-in_default : goal.returns-in_default
 returns-in_default c = record {
-  told = c.find_gaps-tally.ensures;
+  away = c.find_gaps-told.result.away;
+  told = c.find_gaps-told.ensures;
   swapped = c.swap_by-swap.result.is_seen;
   swap = c.swap_by-swap.ensures;
   drifts = c.has_drift-drifts.result;
@@ -36,7 +37,8 @@ returns c =
     (last_is c.args.numbers.now c.in-Some.first c.last_believed.result c.last_believed.ensures.some
     c.last_believed.ensures.none c.in-Some.ensures.some.1) in
     record {
-      told = c.find_gaps-tally.ensures;
+      away = c.find_gaps-told.result.away;
+      told = c.find_gaps-told.ensures;
       swapped = c.swap_by-swap.result.is_seen;
       swap = c.swap_by-swap.ensures;
       drifts = c.has_drift-drifts.result;

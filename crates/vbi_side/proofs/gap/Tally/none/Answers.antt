@@ -1,5 +1,5 @@
 use Rattle.std.proofs.Common.{refl}
-use Rattle.vbi_side.specs.Gaps.{last_still, stills_of}
+use Rattle.vbi_side.specs.Told.{last_still, stills_of}
 use Rattle.vbi_side.proofs.gap.Tally.none.Goals as goal
 
 pub returns : goal.returns

@@ -1,0 +1,269 @@
+-- What the fields of a clean run tell leads to the field with a number.
+use Rattle.std.proofs.Common.{◌≡◌, ◌≢◌, ℕ, ◌+◌, ◌*◌, ◌-◌, ◌/◌, ◌<◌, ◌≤◌, List, map}
+use Rattle.std.proofs.Common.{refl, arith, ap, sym, ◌∙◌, subst, inl, inr, eq-eqb}
+use Rattle.std.specs.Prelude.{◌⊎◌, Some, slice_get}
+use Rattle.std.specs.List.{range_with_len}
+use Rattle.std.proofs.lemmas.Bool.Decides.{leb_tells, eqb_tells}
+use Rattle.std.proofs.lemmas.List.FromFn.{get_or-map-range_with_len, length-map-range_with_len}
+use Rattle.std.proofs.lemmas.Option.{slice_get-get_or}
+use Rattle.vbi_side.specs.declared.clock.Clock.{Clock}
+use Rattle.vbi_side.specs.declared.pace.Pace.TheVariants.{Video}
+use Rattle.vbi_side.specs.declared.sighting.Sightings.{Sightings}
+use Rattle.vbi_side.specs.Beliefs.{window_weight}
+use Rattle.vbi_side.specs.CleanRuns.{IsReadTwice, IsOneOfThree}
+use Rattle.vbi_side.specs.Clocks.{kept}
+use Rattle.vbi_side.specs.Paces.{fits}
+use Rattle.vbi_side.specs.Sightings.{Shows}
+use Rattle.vbi_side.proofs.CleanRuns.{shown_is, twice_weighs, two_weigh}
+use Rattle.vbi_side.proofs.Filling.{shown_within}
+use Rattle.vbi_side.proofs.ThreeInRow.{greater}
+use Rattle.vbi_c.specs.declared.search.Seek.{Seek}
+use Rattle.vbi_c.specs.Leads.{Tells, Leads}
+use Rattle.vbi_c.specs.Seeking.{shown_at, shown_of}
+use Rattle.vbi_c.specs.Telling.{TellsFrom}
+use Rattle.vbi_c.proofs.Tellers.{told_other, first_told}
+
+-- what this many fields from this one on show
+abbrev pub part : Seek → List ℕ → ℕ → ℕ → List Sightings
+part seek bytes field k = map (shown_at seek bytes) (range_with_len field k)
+
+pub part_at : (seek : Seek) (bytes : List ℕ) (field k i : ℕ) → i < k
+    → slice_get (part seek bytes field k) i ≡ Some (shown_at seek bytes (field + i))
+part_at seek bytes field k i inside =
+    let other = shown_at seek bytes (field + i) in
+    slice_get-get_or (part seek bytes field k) i other
+    (omega (arith, inside, length-map-range_with_len (shown_at seek bytes) field k))
+    ∙ ap Some (get_or-map-range_with_len (shown_at seek bytes) field k i (field + i) other inside refl)
+
+-- a field of a part is one of the side
+same_field : (seek : Seek) (bytes : List ℕ) (count field k i : ℕ) → i < k → field + k ≤ count
+    → slice_get (part seek bytes field k) i ≡ slice_get (shown_of seek bytes count) (field + i)
+same_field seek bytes count field k i inside within =
+    let place : 0 + (field + i) ≡ field + i = omega arith in
+    part_at seek bytes field k i inside
+    ∙ sym (part_at seek bytes 0 count (field + i) (omega (arith, inside, within))
+    ∙ ap (λ (j : ℕ). Some (shown_at seek bytes j)) place)
+
+module _ (seek : Seek) (bytes : List ℕ) (count : ℕ) (clock : Clock) (number : ℕ → ℕ) (begin last : ℕ)
+    (each : (p : ℕ) → p ≤ last → IsReadTwice (shown_of seek bytes count) (begin + 2 * p) (number p))
+    (others : (i n : ℕ) → Shows (slice_get (shown_of seek bytes count) i) n
+    → (p : ℕ) × (p ≤ last) × (i ≡ begin + 2 * p))
+    (three : (p : ℕ) → p ≤ last → IsOneOfThree number last p)
+    (steps : (p : ℕ) → p ≤ last → kept clock (number p) ≡ kept clock (number 0) + p) where
+  -- ---- the run
+
+  -- its last field is one of the side
+  pub inside : begin + 2 * last < count
+  inside = omega (
+    arith,
+    shown_within (shown_of seek bytes count) (begin + 2 * last) (number last) (each last (omega arith)).1,
+    length-map-range_with_len (shown_at seek bytes) 0 count,
+  )
+
+  pub two_more : 2 ≤ last
+  two_more = let (q, from, to, within, one, two) = three 0 (omega arith) in omega (arith, within)
+
+  -- a greater number is a later picture's
+  in_order : (p r : ℕ) → p ≤ last → r ≤ last → number p < number r → p < r
+  in_order p r low high less = elim (leb_tells r p) [
+    | inr (f, lt) ↦ lt
+    | inl (t, le) ↦ elim (eqb_tells r p) [
+      | inl (u, same) ↦ absurd (omega (arith, less, ap number same))
+      | inr (u, other) ↦ absurd (omega (
+        arith,
+        less,
+        greater clock (number r) (number p)
+            (omega (arith, steps r high, steps p low, le, other)),
+      ))
+    ]
+  ]
+
+  in_order_too : (p r : ℕ) → p ≤ last → r ≤ last → number p ≤ number r → p ≤ r
+  in_order_too p r low high less = elim (leb_tells p r) [
+    | inl (t, le) ↦ le
+    | inr (f, lt) ↦
+        let up = greater clock (number r) (number p) (omega (arith, steps r high, steps p low, lt)) in
+        let same : number r ≡ number p = omega (arith, up, less) in
+        absurd (omega (arith, steps r high, steps p low, lt, ap (kept clock) same))
+  ]
+
+  -- ---- two pictures tell a number
+
+  -- a number that a field of a part shows is its picture's
+  pub in_part : (field k i n : ℕ) → field + k ≤ count → Shows (slice_get (part seek bytes field k) i) n
+      → (p : ℕ) × (p ≤ last) × (field + i ≡ begin + 2 * p) × (number p ≡ n) × (i < k)
+  in_part field k i n within shown =
+      let less : i < k = omega (
+        arith,
+        shown_within (part seek bytes field k) i n shown,
+        length-map-range_with_len (shown_at seek bytes) field k,
+      ) in
+      let (p, low, at, is) = shown_is number (shown_of seek bytes count) begin last each others three (field + i) n
+      (subst (λ o. Shows o n) (same_field seek bytes count field k i less within) shown) in
+      (p, low, at, is, less)
+
+  -- fields that tell a number show it, and that of another picture
+  told_two : (field k n : ℕ) → field + k ≤ count → TellsFrom seek bytes field k n
+      → (p : ℕ) × (p ≤ last) × (number p ≡ n) × (field ≤ begin + 2 * p) × (begin + 2 * p < field + k)
+      × (begin + 3 ≤ field + k) × (field + 2 ≤ begin + 2 * last)
+  told_two field k n within (i, shown, told) =
+      let (p, low, at, is, less) = in_part field k i n within shown in
+      let (j, m, apart, also) = told_other (part seek bytes field k) i n told in
+      let (r, high, there, same, more) = in_part field k j m within also in
+      let differ : p ≢ r = λ e. apart (omega (arith, at, there, e)) in (
+        p,
+        low,
+        is,
+        omega (arith, at),
+        omega (arith, at, less),
+        omega (arith, at, there, less, more, differ),
+        omega (arith, at, there, low, high, differ),
+      )
+
+  pub part_twice : (field k p : ℕ) → field ≤ begin + 2 * p → begin + 2 * p < field + k → field + k ≤ count → p ≤ last
+      → IsReadTwice (part seek bytes field k) (begin + 2 * p - field) (number p)
+  part_twice field k p from to within low =
+      let ((seen, at, first, second, same), shown) = each p low in
+      let place : field + (begin + 2 * p - field) ≡ begin + 2 * p = omega (arith, from) in
+      let here = same_field seek bytes count field k (begin + 2 * p - field) (omega (arith, from, to)) within
+      ∙ ap (λ (j : ℕ). slice_get (shown_of seek bytes count) j) place in
+      ((seen, here ∙ at, first, second, same), subst (λ o. Shows o (number p)) (sym here) shown)
+
+  -- two that go on tell the first one's
+  pair_tells : (field k p : ℕ) → field ≤ begin + 2 * p → begin + 2 * (p + 1) < field + k → field + k ≤ count
+      → p + 1 ≤ last → number (p + 1) ≡ number p + 1 → TellsFrom seek bytes field k (number p)
+  pair_tells field k p from to within low on =
+      let a = begin + 2 * p - field in
+      let b = begin + 2 * (p + 1) - field in
+      let here = part_twice field k p from (omega (arith, to)) within (omega (arith, low)) in
+      let there = part_twice field k (p + 1) (omega (arith, from)) to within low in
+      let much : 8 ≤ window_weight (fits Video a (number p)) (part seek bytes field k) a
+      = two_weigh (fits Video a (number p)) (part seek bytes field k) a a b (omega arith, omega arith)
+      (omega (arith, from), omega (arith, from)) (omega (arith, from))
+      (twice_weighs (fits Video a (number p) a) (part seek bytes field k) a (number p) here
+      (eq-eqb (a + 2 * number p) (a + 2 * number p) refl))
+      (twice_weighs (fits Video a (number p) b) (part seek bytes field k) b (number (p + 1)) there
+      (eq-eqb (b + 2 * number p) (a + 2 * number (p + 1)) (omega (arith, on, from)))) in
+      (a, here.1, inl (omega (arith, much)))
+
+  -- from each picture but the last one on two go on: itself and the next one, or these two
+  pair_from : (p : ℕ) → p + 1 ≤ last
+      → (r : ℕ) × (p ≤ r) × (r ≤ p + 1) × (r + 1 ≤ last) × (number (r + 1) ≡ number r + 1) × (p ≡ 0 → r ≡ 0)
+  pair_from p low =
+      let (q, from, to, within, one, two) = three p (omega (arith, low)) in
+      elim (eqb_tells q p) [
+        | inl (t, same) ↦ itself (ap (λ (x : ℕ). number (x + 1)) (sym same) ∙ one ∙ ap (λ (x : ℕ). number x + 1) same)
+        | inr (f, other) ↦ elim (eqb_tells (q + 1) p) [
+          | inl (t, same) ↦ itself (middle q same one two)
+          | inr (g, more) ↦
+              let (h, begins, ends, room, first, second) = three (p + 1) low in
+              elim (eqb_tells h p) [
+                | inl (t, same) ↦ itself
+                    (ap (λ (x : ℕ). number (x + 1)) (sym same) ∙ first ∙ ap (λ (x : ℕ). number x + 1) same)
+                | inr (i, apart) ↦ elim (eqb_tells (h + 1) p) [
+                  | inl (t, same) ↦ itself (middle h same first second)
+                  | inr (j, after) ↦
+                      let next : h ≡ p + 1 = omega (arith, begins, ends, apart, after) in (
+                        h,
+                        omega (arith, next),
+                        omega (arith, next),
+                        omega (arith, room),
+                        first,
+                        λ e. absurd (omega (arith, e, from, other, more, to)),
+                      )
+                ]
+              ]
+        ]
+      ]
+    where
+      itself : number (p + 1) ≡ number p + 1
+          → (r : ℕ) × (p ≤ r) × (r ≤ p + 1) × (r + 1 ≤ last) × (number (r + 1) ≡ number r + 1) × (p ≡ 0 → r ≡ 0)
+      itself on = (p, omega arith, omega arith, low, on, λ e. e)
+
+      middle : (q : ℕ) → q + 1 ≡ p → number (q + 1) ≡ number q + 1 → number (q + 2) ≡ number q + 2
+          → number (p + 1) ≡ number p + 1
+      middle q same one two =
+          let next : q + 2 ≡ p + 1 = omega (arith, same) in
+          omega (arith, one, two, ap number same, ap number next)
+
+  -- so from each field before the last picture on some fields tell a number, few of them once the run has begun
+  told_by : (field : ℕ) → field + 2 ≤ begin + 2 * last
+      → (k n : ℕ) × TellsFrom seek bytes field k n × (field + k ≤ count)
+      × ((field + k ≤ begin + 3) ⊎ ((begin < field) × (k ≤ 6)))
+  told_by field early =
+      let p = (field - begin + 1) / 2 in
+      let (r, from, to, low, on, zero_first) = pair_from p (omega (arith, early, two_more)) in
+      let k = begin + 2 * (r + 1) + 1 - field in (
+        k,
+        number r,
+        pair_tells field k r (omega (arith, from)) (omega (arith, from)) (omega (arith, inside, low, from)) low on,
+        omega (arith, inside, low, from),
+        elim (leb_tells field begin) [
+          | inl (t, before) ↦
+              let none : p ≡ 0 = omega (arith, before) in inl (omega (arith, zero_first none, before))
+          | inr (f, after) ↦ inr (after, omega (arith, to, from, after))
+        ],
+      )
+
+  -- ---- the first that tell
+
+  first_tells : (field : ℕ) → field + 2 ≤ begin + 2 * last
+      → (k n : ℕ) × TellsFrom seek bytes field k n
+      × ((j m : ℕ) → j < k → TellsFrom seek bytes field j m → ⊥) × (field + k ≤ count)
+      × ((field + k ≤ begin + 3) ⊎ ((begin < field) × (k ≤ 6)))
+  first_tells field early =
+      let (most, m, tells, within, near) = told_by field early in
+      let (k, n, few, told, none) = first_told (part seek bytes field) most m tells in (
+        k,
+        n,
+        told,
+        none,
+        omega (arith, few, within),
+        elim near [
+          | inl to ↦ inl (omega (arith, few, to))
+          | inr (after, most_six) ↦ inr (after, omega (arith, few, most_six))
+        ],
+      )
+
+  -- whichever tell a number end there
+  tells_near : (field k n : ℕ) → Tells seek bytes count field k n
+      → (field + k ≤ begin + 3) ⊎ ((begin < field) × (k ≤ 6))
+  tells_near field k n tells =
+      let (p, low, is, from, to, after, early) = told_two field k n tells.inside tells.tells in
+      let (j, m, told, none, within, near) = first_tells field early in
+      let least : k ≤ j = elim (leb_tells k j) [
+        | inl (t, le) ↦ le
+        | inr (f, lt) ↦ absurd (tells.first j m lt told)
+      ] in
+      elim near [ inl to ↦ inl (omega (arith, least, to)) | inr (late, six) ↦ inr (late, omega (arith, least, six)) ]
+
+  -- ---- they lead to each number
+
+  pub clean_leads : (q : ℕ) → q ≤ last → count + 16 ≤ 32 * last
+      → Leads seek bytes count (number q) (begin + 2 * q) (begin - 9) (begin + 2 * last - 2)
+  clean_leads q low large = record {
+    inside = omega (arith, inside);
+    part = omega (arith, large, two_more);
+    between = (omega arith, omega (arith, low, two_more));
+    told = λ field from to.
+        let (k, n, told, none, within, near) = first_tells field (omega (arith, to, two_more)) in
+        let few : k ≤ 12 = elim near [ inl e ↦ omega (arith, e, from) | inr e ↦ omega (arith, e.1) ] in
+        (k, n, few, record { few = omega (arith, few); inside = within; tells = told; first = none });
+    untold = λ field k n tells.
+        let (p, at, is, from, to, after, early) = told_two field k n tells.inside tells.tells in
+        elim (tells_near field k n tells) [
+          | inl e ↦ (omega (arith, after), omega (arith, e, early, two_more))
+          | inr e ↦ (omega (arith, after), omega (arith, e.0, e.1, early))
+        ];
+    lower = λ field k n tells less.
+        let (p, at, is, from, to, after, early) = told_two field k n tells.inside tells.tells in
+        let before = in_order p q at low (omega (arith, is, less)) in
+        elim (tells_near field k n tells) [
+          | inl e ↦ omega (arith, e, from, before)
+          | inr e ↦ omega (arith, e.0, e.1, from, before)
+        ];
+    higher = λ field k n tells more.
+        let (p, at, is, from, to, after, early) = told_two field k n tells.inside tells.tells in
+        let before = in_order_too q p low at (omega (arith, is, more)) in
+        omega (arith, before, to);
+  }

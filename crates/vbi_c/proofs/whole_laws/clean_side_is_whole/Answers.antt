@@ -1,0 +1,17 @@
+use Rattle.std.proofs.Common.{ap}
+use Rattle.vbi_side.specs.declared.verdict.Finding.{Finding}
+use Rattle.vbi_c.proofs.CleanJudged.{clean_whole}
+use Rattle.vbi_c.proofs.whole_laws.clean_side_is_whole.Goals as goal
+
+pub returns : goal.returns
+returns c number judging readings seen numbers ends siding both may_end begin last side is =
+    let e = clean_whole number judging readings seen numbers ends siding both may_end begin last side is is.asked
+    in (
+      ap (λ (f : Finding). f.verdict) e,
+      ap (λ (f : Finding). f.reasons) e,
+      ap (λ (f : Finding). f.tally.gaps) e,
+      ap (λ (f : Finding). f.tally.unread) e,
+      ap (λ (f : Finding). f.swap) e,
+      ap (λ (f : Finding). f.first) e,
+      ap (λ (f : Finding). f.last) e,
+    )

@@ -1,0 +1,156 @@
+-- Detours: what gaps are told to be, as they are found one by one.
+use Rattle.std.proofs.Common.{◌≡◌, ℕ, ◌+◌, ◌≤◌, Bool, true, false, List, [], ◌∷◌, ◌++◌, refl, arith, ap, sym, ◌∙◌}
+use Rattle.std.proofs.Common.{subst, inl, inr, length}
+use Rattle.std.specs.Prelude.{Option, Some, None, unwrap_or, ◌⊎◌, ◌&&◌, nat_lt, if◌then◌else◌}
+use Rattle.std.proofs.lemmas.List.{append_assoc, append-nil, length-append}
+use Rattle.vbi_side.specs.declared.clock.Clock.{Clock}
+use Rattle.vbi_side.specs.declared.gap.Gap.{Gap}
+use Rattle.vbi_side.specs.declared.gap.Tally.{Tally}
+use Rattle.vbi_side.specs.declared.pace.Pace.{Pace}
+use Rattle.vbi_side.specs.Clocks.{nearly_by}
+use Rattle.vbi_side.specs.Gaps.{inserted, replaced}
+use Rattle.vbi_side.specs.Detours.{may_turn, may_replace, is_inserted, detour_of, fields_by, turned, detoured_from, detoured}
+use Rattle.vbi_side.specs.Told.{AreTold, AreTelling}
+
+module _ (pace : Pace) (slack : ℕ) (clock : Clock) where
+  -- ---- two gaps
+
+  -- the first of two that are no detour is told as it is
+  pub no_detour : (a b : Gap) (more : List Gap) → detour_of pace slack clock a b ≡ None
+      → detoured_from pace slack clock (Some a) (b ∷ more) ≡ a ∷ detoured_from pace slack clock (Some b) more
+  unfolding detoured_from
+  no_detour a b more none = rw (none, detoured_from) refl
+
+  -- of two that are one both are told so
+  pub a_detour : (a b : Gap) (more : List Gap) (kind : ℕ) → detour_of pace slack clock a b ≡ Some kind
+      → detoured_from pace slack clock (Some a) (b ∷ more)
+      ≡ turned kind (fields_by clock pace kind a b) a ∷ turned kind 0 b ∷ detoured_from pace slack clock None more
+  unfolding detoured_from
+  a_detour a b more kind is = rw (is, detoured_from) refl
+
+  -- ---- one gap more
+
+  -- the first one waits
+  pub one_waits : (gaps : List Gap) (unread : ℕ) (tally : Tally) (away : ℕ) (old new : List Gap) (gap : Gap)
+      → AreTelling pace slack clock gaps unread None tally away old new
+      → AreTelling pace slack clock (gaps ++ gap ∷ []) unread (Some gap) tally away old new
+  unfolding detoured_from
+  one_waits gaps unread tally away old new gap telling = record {
+    settled = telling.settled;
+    goes_on = λ more. ap (detoured pace slack clock) (append_assoc gaps (gap ∷ []) more)
+        ∙ telling.goes_on (gap ∷ more);
+    told = telling.told;
+  }
+
+  -- the one before it is told, and it waits
+  pub one_told : (gaps : List Gap) (unread : ℕ) (tally next : Tally) (away then_away : ℕ) (old new then_new : List Gap)
+      (a b : Gap) → detour_of pace slack clock a b ≡ None
+      → (telling : AreTelling pace slack clock gaps unread (Some a) tally away old new)
+      → AreTold clock (telling.settled ++ a ∷ []) unread next then_away old then_new
+      → AreTelling pace slack clock (gaps ++ b ∷ []) unread (Some b) next then_away old then_new
+  one_told gaps unread tally next away then_away old new then_new a b none telling told = record {
+    settled = telling.settled ++ a ∷ [];
+    goes_on = λ more. ap (detoured pace slack clock) (append_assoc gaps (b ∷ []) more)
+        ∙ telling.goes_on (b ∷ more)
+        ∙ ap (λ (xs : List Gap). telling.settled ++ xs) (no_detour a b more none)
+        ∙ sym (append_assoc telling.settled (a ∷ []) (detoured_from pace slack clock (Some b) more));
+    told = told;
+  }
+
+  -- both are told
+  pub two_told : (gaps : List Gap) (unread : ℕ) (tally next : Tally) (away then_away : ℕ) (old new then_new : List Gap)
+      (a b : Gap) (kind : ℕ) → detour_of pace slack clock a b ≡ Some kind
+      → (telling : AreTelling pace slack clock gaps unread (Some a) tally away old new)
+      → AreTold clock ((telling.settled ++ turned kind (fields_by clock pace kind a b) a ∷ []) ++ turned kind 0 b ∷ [])
+      unread next then_away old then_new
+      → AreTelling pace slack clock (gaps ++ b ∷ []) unread None next then_away old then_new
+  two_told gaps unread tally next away then_away old new then_new a b kind is telling told =
+      let first = turned kind (fields_by clock pace kind a b) a in
+      let second = turned kind 0 b in
+      record {
+        settled = (telling.settled ++ first ∷ []) ++ second ∷ [];
+        goes_on = λ more. ap (detoured pace slack clock) (append_assoc gaps (b ∷ []) more)
+            ∙ telling.goes_on (b ∷ more)
+            ∙ ap (λ (xs : List Gap). telling.settled ++ xs) (a_detour a b more kind is)
+            ∙ sym (append_assoc telling.settled (first ∷ [])
+            (second ∷ detoured_from pace slack clock None more))
+            ∙ sym (append_assoc (telling.settled ++ first ∷ []) (second ∷ [])
+            (detoured_from pace slack clock None more));
+        told = told;
+      }
+
+  -- ---- the end
+
+  ends_as : (gaps : List Gap) (unread : ℕ) (last : Option Gap) (tally : Tally) (away : ℕ) (old new : List Gap)
+      → (telling : AreTelling pace slack clock gaps unread last tally away old new)
+      → detoured pace slack clock gaps ≡ telling.settled ++ detoured_from pace slack clock last []
+  ends_as gaps unread last tally away old new telling =
+      ap (detoured pace slack clock) (sym (append-nil gaps)) ∙ telling.goes_on []
+
+  pub none_waits : (gaps : List Gap) (unread : ℕ) (tally : Tally) (away : ℕ) (old new : List Gap)
+      → AreTelling pace slack clock gaps unread None tally away old new
+      → AreTold clock (detoured pace slack clock gaps) unread tally away old new
+  unfolding detoured_from
+  none_waits gaps unread tally away old new telling =
+      let as_is = ends_as gaps unread None tally away old new telling ∙ append-nil telling.settled in
+      subst (λ (xs : List Gap). AreTold clock xs unread tally away old new) (sym as_is) telling.told
+
+  pub last_told : (gaps : List Gap) (unread : ℕ) (tally next : Tally) (away then_away : ℕ) (old new then_new : List Gap)
+      (gap : Gap) → (telling : AreTelling pace slack clock gaps unread (Some gap) tally away old new)
+      → AreTold clock (telling.settled ++ gap ∷ []) unread next then_away old then_new
+      → AreTold clock (detoured pace slack clock gaps) unread next then_away old then_new
+  unfolding detoured_from
+  last_told gaps unread tally next away then_away old new then_new gap telling told =
+      let as_is = ends_as gaps unread (Some gap) tally away old new telling in
+      subst (λ (xs : List Gap). AreTold clock xs unread next then_away old then_new) (sym as_is) told
+
+  -- ---- as many are told as there are
+
+  abbrev pub count : Option Gap → ℕ
+  count None = 0
+  count (Some gap) = 1
+
+  pub detoured_length : (last : Option Gap) (gaps : List Gap)
+      → length (detoured_from pace slack clock last gaps) ≡ count last + length gaps
+  unfolding detoured_from
+  detoured_length None [] = refl
+  detoured_length (Some a) [] = refl
+  detoured_length None (b ∷ gaps) = omega (arith, detoured_length (Some b) gaps)
+  detoured_length (Some a) (b ∷ gaps) =
+      go (detour_of pace slack clock a b) refl (detoured_length (Some b) gaps) (detoured_length None gaps)
+    where
+      go : (o : Option ℕ) → detour_of pace slack clock a b ≡ o
+          → length (detoured_from pace slack clock (Some b) gaps) ≡ 1 + length gaps
+          → length (detoured_from pace slack clock None gaps) ≡ 0 + length gaps
+          → length (detoured_from pace slack clock (Some a) (b ∷ gaps)) ≡ 1 + length (b ∷ gaps)
+      go None e one none = omega (arith, ap (λ (xs : List Gap). length xs) (no_detour a b gaps e), one)
+      go (Some kind) e one none = omega (arith, ap (λ (xs : List Gap). length xs) (a_detour a b gaps kind e), none)
+
+  pub settled_few : (gaps : List Gap) (unread : ℕ) (last : Option Gap) (tally : Tally) (away : ℕ) (old new : List Gap)
+      → AreTelling pace slack clock gaps unread last tally away old new → tally.gaps ≤ length gaps
+  settled_few gaps unread last tally away old new telling =
+      omega (
+        arith,
+        ap (λ (t : Tally). t.gaps) telling.told.comes_to,
+        ap (λ (xs : List Gap). length xs) (ends_as gaps unread last tally away old new telling),
+        length-append telling.settled (detoured_from pace slack clock last []),
+        detoured_length None gaps,
+      )
+
+  -- ---- its kind
+
+  -- a detour is of one of two kinds
+  pub detour_kind : (a b : Gap) (kind : ℕ) → detour_of pace slack clock a b ≡ Some kind
+      → (kind ≡ replaced) ⊎ (kind ≡ inserted)
+  detour_kind a b kind =
+      go (nat_lt a.from b.to) (may_replace pace a.kind && may_replace pace b.kind
+      && nearly_by clock pace slack a.after a.from b.before b.to)
+      (may_turn a.kind && may_turn b.kind && is_inserted pace slack clock a b)
+    where
+      go : (order over leaves : Bool) → (if order then (if over then Some replaced
+          else (if leaves then Some inserted else None)) else None) ≡ Some kind
+          → (kind ≡ replaced) ⊎ (kind ≡ inserted)
+      go true true leaves e = inl (sym (ap (λ o. unwrap_or o 0) e))
+      go true false true e = inr (sym (ap (λ o. unwrap_or o 0) e))
+      go true false false e = absurd cc
+      go false near leaves e = absurd cc

@@ -1,0 +1,12 @@
+use Rattle.vbi_side.proofs.Costless.{away_is_no}
+use Rattle.vbi_side.proofs.DetourLaws.{is_left, out_of_order}
+use Rattle.vbi_side.proofs.detour_laws.inserted_is.Goals as goal
+
+pub returns-clause-left : goal.returns-clause-left
+returns-clause-left c = is_left
+
+pub returns-clause-out_of_order : goal.returns-clause-out_of_order
+returns-clause-out_of_order c = out_of_order
+
+pub returns-clause-verdict : goal.returns-clause-verdict
+returns-clause-verdict c = away_is_no

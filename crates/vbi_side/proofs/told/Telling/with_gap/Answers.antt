@@ -1,0 +1,51 @@
+use Rattle.std.proofs.Common.{◌∙◌, ◌++◌, ◌∷◌, [], sym, subst, ap}
+use Rattle.std.specs.Prelude.{Option}
+use Rattle.vbi_side.specs.declared.detour.Waiting.{Waiting}
+use Rattle.vbi_side.specs.declared.gap.Gap.{Gap}
+use Rattle.vbi_side.specs.Detours.{turned, fields_by}
+use Rattle.vbi_side.specs.Told.{AreTold, AreTelling, waiting}
+use Rattle.vbi_side.proofs.Detouring.{one_waits, one_told, two_told}
+use Rattle.vbi_side.proofs.told.Telling.with_gap.Goals as goal
+
+pub returns-in_default : goal.returns-in_default
+returns-in_default c = λ gaps unread old telling.
+    let rule = c.args.rule in
+    let told = c.args.self.told in
+    one_waits rule.pace rule.slack rule.numbering.clock gaps unread told.tally told.away old c.args.out.now
+    c.args.gap.gap
+    (subst (λ (last : Option Waiting). AreTelling rule.pace rule.slack rule.numbering.clock gaps unread (waiting last)
+    told.tally told.away old c.args.out.now) c.in_default.is telling)
+
+pub returns-in-None : goal.returns-in-None
+returns-in-None c = λ gaps unread old telling.
+    let rule = c.args.rule in
+    let told = c.args.self.told in
+    let now = subst (λ (last : Option Waiting). AreTelling rule.pace rule.slack rule.numbering.clock gaps unread
+    (waiting last) told.tally told.away old c.args.out.now) c.in-Some.is telling in
+    one_told rule.pace rule.slack rule.numbering.clock gaps unread told.tally c.with_gap.result.tally told.away
+    c.with_gap.result.away old c.args.out.now c.with_gap.new.out c.in-Some.first.gap c.args.gap.gap
+    (sym c.in-None.ensures) now (c.with_gap.ensures.told now.settled unread old now.told)
+
+pub returns-in-Some-detour : goal.returns-in-Some-detour
+returns-in-Some-detour c = λ gaps unread old telling.
+    let rule = c.args.rule in
+    let told = c.args.self.told in
+    let a = c.in-Some.first.gap in
+    let b = c.args.gap.gap in
+    let kind = c.in-Some-detour.kind in
+    let now = subst (λ (last : Option Waiting). AreTelling rule.pace rule.slack rule.numbering.clock gaps unread
+    (waiting last) told.tally told.away old c.args.out.now) c.in-Some.is telling in
+    let first = c.turned.ensures ∙ ap (λ fields. turned kind fields a) c.fields_by-fields.ensures in
+    let both = c.with_gap-in-Some-detour.ensures.told (now.settled ++ c.turned.result.gap ∷ []) unread old
+    (c.with_gap-told.ensures.told now.settled unread old now.told) in
+    two_told rule.pace rule.slack rule.numbering.clock gaps unread told.tally c.with_gap-in-Some-detour.result.tally
+    told.away c.with_gap-in-Some-detour.result.away old c.args.out.now c.with_gap-in-Some-detour.new.out a b kind
+    (sym c.in-Some-detour.ensures) now
+    (subst (λ (y : Gap). AreTold rule.numbering.clock
+    ((now.settled ++ turned kind (fields_by rule.numbering.clock rule.pace kind a b) a ∷ []) ++ y ∷ []) unread
+    c.with_gap-in-Some-detour.result.tally c.with_gap-in-Some-detour.result.away old
+    c.with_gap-in-Some-detour.new.out) c.turned-in-Some-detour.ensures
+    (subst (λ (x : Gap). AreTold rule.numbering.clock ((now.settled ++ x ∷ [])
+    ++ c.turned-in-Some-detour.result.gap ∷ []) unread
+    c.with_gap-in-Some-detour.result.tally c.with_gap-in-Some-detour.result.away old
+    c.with_gap-in-Some-detour.new.out) first both))

@@ -1,0 +1,22 @@
+//! Laws of the definitions of `specs/Ends.antt`. A function here does nothing: its contract is a law, which holds of
+//! every field.
+
+ghost use Rattle.std.specs.Prelude.{◌≡◌, ◌↔◌};
+ghost use Rattle.vbi_words.specs.declared.code.Code.TheVariants.{LeadIn, LeadOut};
+ghost use Rattle.vbi_side.specs.declared.lines.Shown.{Shown};
+ghost use Rattle.vbi_side.specs.Ends.{end_of, lead_in, lead_out};
+ghost use Rattle.vbi_side.specs.SoundEnds.{IsCodeToldSurely, IsSoundCode};
+
+/// A field is answered to be of lead-out exactly if line 17 or 18 shows that in pass 1, or both show it; and of lead-in
+/// exactly if this holds of lead-in, and not of lead-out. If the disc has it on neither line, a word of pass 1 was
+/// misread there, or two words were.
+pub fn ends_sound()
+    ensures outs_told { (line_17 line_18 : Shown)
+        → (end_of line_17 line_18 ≡ lead_out) ↔ IsCodeToldSurely LeadOut line_17 line_18 }
+    ensures ins_told { (line_17 line_18 : Shown) → (end_of line_17 line_18 ≡ lead_in)
+        ↔ (IsCodeToldSurely LeadIn line_17 line_18 × (IsCodeToldSurely LeadOut line_17 line_18 → ⊥)) }
+    ensures outs { (line_17 line_18 : Shown) → end_of line_17 line_18 ≡ lead_out
+        → IsSoundCode LeadOut line_17 line_18 }
+    ensures ins { (line_17 line_18 : Shown) → end_of line_17 line_18 ≡ lead_in
+        → IsSoundCode LeadIn line_17 line_18 }
+{}

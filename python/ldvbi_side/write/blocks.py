@@ -1,0 +1,169 @@
+"""The numbers that a capture shows, in runs: as long as numbers and fields go on together, the fields between two
+numbers that are read are taken with the first of these, whatever they show. What is taken together is a block."""
+
+from typing import Dict, List, NamedTuple, Optional, Sequence, Set, Tuple
+
+from ldvbi import Kind
+from ..answer.entries import Answer
+from ..judge.paces import Pace
+from .ranks import Ranks
+from .sources import Source, straightened
+
+
+KNOWN, SEEN, OPEN = range(3)  # how well it is known that a block has the fields of its numbers
+
+
+class Block(NamedTuple):
+    """Numbers that are taken together: `ranks` of them from a rank on, in `fields` consecutive fields from a field on.
+    The capture lacks `lead` fields of the first one and `trail` of the last one. The fields are `KNOWN` to be these
+    numbers' by the next one, or are `SEEN` to be by their frames and the colour alone; it is `OPEN` if one may be
+    another number's."""
+    rank: int
+    ranks: int
+    field: int
+    fields: int
+    lead: int = 0
+    trail: int = 0
+    doubt: int = KNOWN
+
+    @property
+    def is_sure(self) -> bool:
+        return self.doubt != OPEN
+
+    def end(self) -> int:
+        """The rank after it."""
+        return self.rank + self.ranks
+
+
+class Run(NamedTuple):
+    """Blocks of a capture that follow each other, in its fields and on the disc. `source` is the capture's index."""
+    source: int
+    blocks: List[Block]
+
+    def first(self) -> int:
+        """Its first rank."""
+        return self.blocks[0].rank
+
+    def end(self) -> int:
+        """The rank after it."""
+        return self.blocks[-1].end()
+
+
+class Anchor(NamedTuple):
+    """A number that is read: its rank, and the first and the last field that show it, as if swapped fields stood
+    right."""
+    rank: int
+    field: int
+    last: int
+
+
+def anchored(source: Source, ranks: Ranks) -> List[List[Anchor]]:
+    """The numbers that are read, in the order of their fields, in parts in which numbers and fields go on together."""
+    answer, pairs = source.answer, straightened(source.answer)
+    shown = sorted((Anchor(ranks.of(source.capture.ordinal(number)), pairs.get(first, first), pairs.get(last, last))
+                    for number, first, last in answer.showings), key=lambda one: one.field)
+    told = _told_before(source)
+    parts: List[List[Anchor]] = []
+    for one in shown:
+        if parts and (_fits(answer, parts[-1][-1], one, told) or _is_next(source, parts[-1][-1], one)):
+            parts[-1].append(one)
+        else:
+            parts.append([one])
+    if answer.pace != "both":
+        return parts
+    befores = [0, *(part[-1].last for part in parts)]
+    return [_aligned(part, max([before, *(field - 1 for field in range(before + 1, part[0].field + 1)
+                                          if told[field] > told[field - 1])])) for before, part in zip(befores, parts)]
+
+
+def _told_before(source: Source) -> List[int]:
+    """Of each field how many places there are before it at which the capture doesn't go on: breaks, fields of padding,
+    lead-in or lead-out, after which another side may begin, and a lost field where numbers don't show it."""
+    capture, fields = source.capture, source.answer.fields
+    counts = [0] * (fields + 2)
+    for field, is_pad in enumerate(source.facts.pad or (), 1):
+        counts[field] += is_pad
+    for one in capture.breaks:
+        counts[min(one.before, fields + 1)] += 1
+    for stretch in capture.answer.lead_in + capture.answer.lead_out:
+        counts[min(stretch.last + 1, fields + 1)] += 1
+    first, pairs = source.facts.first, straightened(capture.answer)
+    if first and capture.answer.pace == "both":  # whose numbers don't show the loss of one field
+        for field in range(2, fields + 1):
+            counts[field] += first[field - 1] == first[field - 2] and field not in pairs and field - 1 not in pairs
+    total = 0
+    for field, count in enumerate(counts):
+        total += count
+        counts[field] = total
+    return counts
+
+
+def _fits(answer: Answer, one: Anchor, other: Anchor, told: List[int]) -> bool:
+    """Whether two numbers are as many fields apart as on the disc, and nothing says that they don't go on."""
+    step, fields, pace = other.rank - one.rank, other.field - one.field, answer.pace
+    if step <= 0 or told[other.field] > told[one.field]:
+        return False
+    if pace == "minute":
+        return step == 1
+    return _is_apart(pace, one.rank, step, fields)
+
+
+def _is_next(source: Source, one: Anchor, other: Anchor) -> bool:
+    """Whether two fields have the next picture each and go on, so that a break between them is one of the clock."""
+    return (source.answer.pace == "video" and (other.rank - one.rank, other.field - one.field) == (1, 2)
+            and all(source.goes_on(field, field + 1) for field in (one.field, one.field + 1)))
+
+
+def _aligned(part: List[Anchor], before: int) -> List[Anchor]:
+    """Anchors of a disc with numbers on both fields, each of which has its picture's first field. A picture whose
+    second field alone was read is known by its neighbours. If its first field isn't there, since a field `before` it
+    is another number's, it is no anchor."""
+    row = min(one.field - 2 * one.rank for one in part)
+    found = [one._replace(field=row + 2 * one.rank) for one in part if row + 2 * one.rank > before]
+    return found or part
+
+
+def blocks_of(anchors: List[Anchor]) -> List[Block]:
+    """The blocks of a run: each goes to the next number that is read. The last one has a single field as yet."""
+    return [Block(one.rank, other.rank - one.rank, one.field, other.field - one.field)
+            for one, other in zip(anchors, anchors[1:])] + [Block(anchors[-1].rank, 1, anchors[-1].field, 1)]
+
+
+class Aside:
+    """The numbers of a capture that aren't believed. `all` has the ranks of those that a field shows; `sure` those that
+    it shows on two lines in pass 1, as a field does that a player jumped to."""
+
+    def __init__(self, source: Source, ranks: Ranks) -> None:
+        self.all: Dict[int, Set[int]] = {}
+        self.sure: Dict[int, Set[int]] = {}
+        seen: Set[Tuple[int, int]] = set()
+        self._pace = source.answer.pace
+        for one in source.answer.doubtful:
+            # of a time a line may show no more than a part
+            if one.kind == Kind.chapter or not (isinstance(one.number, int) or "." in str(one.number)):
+                continue
+            rank = ranks.of(source.capture.ordinal(one.number))
+            self.all.setdefault(one.field, set()).add(rank)
+            if one.pass_ == 1 and (one.field, rank) in seen:
+                self.sure.setdefault(one.field, set()).add(rank)
+            if one.pass_ == 1:
+                seen.add((one.field, rank))
+
+    def fits(self, anchor: Anchor, field: int) -> bool:
+        """Whether a field shows nothing else than it would if it went on to this number, or from it."""
+        return field not in self.all or self._fits(anchor.rank, anchor.field, field, self.all[field])
+
+    def unlike(self, block: Block) -> bool:
+        """Whether a field of a block surely shows another number than it would as the block's."""
+        return any(block.field < field < block.field + block.fields
+                   and not self._fits(block.rank, block.field, field, told) for field, told in self.sure.items())
+
+    def _fits(self, rank, first, field, told):
+        return any(_is_apart(self._pace, rank, one - rank, field - first) for one in told)
+
+
+def _is_apart(pace: Optional[str], rank: int, step: int, fields: int) -> bool:
+    """Whether two numbers are as many fields apart as on the disc."""
+    if pace == "film":
+        return Pace("film").least_off(fields, rank, step) == 0
+    return abs(fields - 2 * step) <= (pace == "both")

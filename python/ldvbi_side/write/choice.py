@@ -1,0 +1,125 @@
+"""Which run each rank is taken from: the cheapest way from the first rank to the last, by fields of padding, then by
+pictures that may have another's field, then by those whose fields only their frames and the colour show, then by
+samples in dropouts and changes from run to run."""
+
+from typing import Dict, List, NamedTuple, Optional, Sequence, Tuple
+
+from .blocks import KNOWN, OPEN, SEEN, Block, Run
+from .sources import Source
+
+CHANGE = 100000  # samples in dropouts that a change of the capture costs as much as
+BAD_LINE = 500  # the same of a bad line, if not each capture has dropouts
+PADDED = 1 << 80  # the price of a field of padding
+DOUBT = {KNOWN: 0, SEEN: 1 << 50, OPEN: 1 << 65}  # that of a block, by how well it is known
+
+
+class Node(NamedTuple):
+    """Ranks that are taken from one run, given by its index, or are padding (None), from `begin` on; and what comes
+    before."""
+    run: Optional[int]
+    begin: int
+    before: Optional["Node"]
+
+
+class _Way(NamedTuple):
+    """A way to some rank: what it costs, its last node, and the rank after the block in which it ends."""
+    cost: int
+    node: Optional[Node]
+    end: int
+
+
+class Choice:
+    """The cheapest ways to each rank in turn. There is one for each run in which it may end, and one that ends in
+    padding. A run is entered and left between two blocks alone."""
+
+    def __init__(self, runs: Sequence[Run], sources: Sequence[Source], change: int, padding: int) -> None:
+        """`change` is the price of a change in samples, `padding` that of a rank that no run has."""
+        self._runs, self._change, self._padding = runs, change, padding
+        self._damage = [damage_of(source, _have_dropouts(sources)) for source in sources]
+        self._begins: Dict[int, List[int]] = {}
+        for place, run in enumerate(runs):
+            self._begins.setdefault(run.first(), []).append(place)
+        self._ways: Dict[Optional[int], _Way] = {None: _Way(0, None, 0)}
+        self._next: Dict[int, int] = {}  # of each run that has a rank, the block that begins next
+
+    def nodes(self, ranks: range) -> List[Node]:
+        """The nodes of the cheapest way through these ranks."""
+        for rank in ranks:
+            self._step(rank)
+        node = self._cheapest(ranks.stop)[1]
+        nodes: List[Node] = []
+        while node is not None:
+            nodes.append(node)
+            node = node.before
+        return nodes[::-1]
+
+    def _cheapest(self, rank: int) -> Tuple[Optional[int], Optional[Node]]:
+        """What the cheapest way costs that comes to a rank between two blocks, and its node."""
+        best = None
+        for one in self._ways.values():
+            if one.end <= rank and (best is None or one.cost < best.cost):
+                best = one
+        return (best.cost, best.node) if best else (None, None)
+
+    def _step(self, rank: int) -> None:
+        """Goes on over a rank."""
+        for place in self._begins.get(rank, ()):
+            self._next[place] = 0
+        cost, node = self._cheapest(rank)
+        ways: Dict[Optional[int], _Way] = {}
+        if cost is not None:
+            is_padding = node is not None and node.run is None
+            ways[None] = _Way(cost + self._padding, node if is_padding else Node(None, rank, node), rank + 1)
+        for place in list(self._next):
+            blocks, index = self._runs[place].blocks, self._next[place]
+            way = self._ways.get(place)
+            if index < len(blocks) and blocks[index].rank == rank:
+                way = self._entered(place, blocks[index], way, cost, node)
+                self._next[place] += 1
+            if way:
+                ways[place] = way
+            if rank + 1 >= self._runs[place].end():
+                del self._next[place]
+        self._ways = ways
+
+    def _entered(self, place: int, block: Block, way: Optional[_Way], cost: Optional[int],
+                 node: Optional[Node]) -> Optional[_Way]:
+        """The cheapest way that ends in this block of a run: from within the run, or from the cheapest way."""
+        price = self._price(self._runs[place], block)
+        found = way
+        if cost is not None:
+            is_first = node is None or node.run is None and node.before is None
+            enter = cost + (0 if is_first else self._change)
+            if way is None or enter < way.cost:
+                found = _Way(enter, Node(place, block.rank, node), 0)
+        return _Way(found.cost + price, found.node, block.end()) if found else None
+
+    def _price(self, run: Run, block: Block) -> int:
+        sums = self._damage[run.source]
+        return ((block.lead + block.trail) * PADDED + DOUBT[block.doubt]
+                + sums[block.field + block.fields - 1] - sums[block.field - 1])
+
+
+def _have_dropouts(sources: Sequence[Source]) -> bool:
+    return all(source.facts.damage is not None for source in sources)
+
+
+def damage_of(source: Source, has_dropouts: bool) -> List[int]:
+    """How much is damaged of a capture up to the end of each field, from 0 on: samples in dropouts, or bad lines that
+    stand for them. A place where the colour's phase doesn't go on counts, too; swapped fields, which all captures may
+    have, don't."""
+    sums = [0] * (source.answer.fields + 1)
+    if has_dropouts:
+        sums[1:] = source.facts.damage or ()
+    else:
+        for one in source.answer.bad_lines:
+            sums[one.field] += BAD_LINE
+    if source.facts.phase:
+        for field in range(2, len(sums)):
+            if not source.goes_on(field - 1, field):
+                sums[field] += 2 * CHANGE
+    total = 0
+    for field, count in enumerate(sums):
+        total += count
+        sums[field] = total
+    return sums

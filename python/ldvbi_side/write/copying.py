@@ -1,0 +1,93 @@
+"""The samples of an output and its sound, copied from the captures."""
+
+import array
+import contextlib
+import itertools
+import os
+from typing import IO, Callable, Iterator, Optional, Sequence, Tuple
+
+from ldvbi import System, field_bytes
+from .inputs import Input
+from .plan import Plan
+from .stretches import Stretch
+from .told import SOUNDS, base_of
+
+PIECE = 1 << 26  # bytes that are copied at once
+Pad = Optional[Sequence[bool]]
+READ = 1 << 22  # bytes that are held, if the system can't copy by itself
+
+
+def copy_samples(new: IO[bytes], made: Plan, inputs: Sequence[Input], black: int) -> Iterator[int]:
+    """Writes the samples of each field: those of padding are black. Yields how many fields are written by then."""
+    size = field_bytes(System[made.system])
+    blank, most = black.to_bytes(2, "little") * (size // 2), max(PIECE // size, 1)
+    with contextlib.ExitStack() as stack:
+        files = [stack.enter_context(open(one.path, "rb")) for one in inputs]
+        for one in made.stretches:
+            for first in range(0, one.fields, most):
+                fields = min(one.fields - first, most)
+                if one.source is None or one.field is None:
+                    new.writelines(itertools.repeat(blank, fields))
+                else:
+                    copy_bytes(files[one.source], new, (one.field - 1 + first) * size, fields * size)
+                yield one.out - 1 + first + fields
+
+
+def copy_bytes(old: IO[bytes], new: IO[bytes], begin: int, size: int) -> None:
+    """Copies bytes of a file to the place of another one where it is written to; by the system itself, if it can."""
+    new.flush()
+    while size:
+        try:
+            count = os.copy_file_range(old.fileno(), new.fileno(), size, begin)
+        except OSError:  # between two file systems, say
+            data = os.pread(old.fileno(), min(size, READ), begin)
+            count = os.write(new.fileno(), data) if data else 0
+        if not count:
+            raise ValueError("%s was made shorter meanwhile" % old.name)
+        begin, size = begin + count, size - count
+
+
+def copy_sound(new: IO[bytes], made: Plan, inputs: Sequence[Input], pads: Sequence[Pad],
+               end: str) -> "array.array[int]":
+    """Writes the sound of each field, in step with the samples. The answer is the bytes of each field. `pads` says of
+    the fields of each capture which are padding already: such padding keeps its size."""
+    offsets = [array.array("Q", [0, *itertools.accumulate(one.sizes[end])]) for one in inputs]
+    silent, sizes = _silence(inputs[0].sizes[end], end), array.array("I")
+    with contextlib.ExitStack() as stack:
+        files = [stack.enter_context(open(base_of(one.path) + end, "rb")) for one in inputs]
+        for place, one in enumerate(made.stretches):
+            if one.source is None or one.field is None:
+                older = _older(made.stretches, place, pads)
+                more = inputs[older[0]].sizes[end][older[1]:older[1] + one.fields] if older else array.array(
+                    "I", map(silent, one.outs()))
+                sizes.extend(more)
+                new.write(bytes(sum(more)))
+            else:
+                first, last = one.field - 1, one.field - 1 + one.fields
+                begin = offsets[one.source][first]
+                copy_bytes(files[one.source], new, begin, offsets[one.source][last] - begin)
+                sizes.extend(inputs[one.source].sizes[end][first:last])
+    return sizes
+
+
+def _older(stretches: Sequence[Stretch], place: int, pads: Sequence[Pad]) -> Optional[Tuple[int, int]]:
+    """The capture and the first field there, from 0, of padding that is padding there already, beside a field of the
+    stretch before or after it; None if it is new."""
+    count = stretches[place].fields
+    for one, is_before in ((stretches[place - 1:place], True), (stretches[place + 1:place + 2], False)):
+        if one and one[0].source is not None and one[0].field is not None:
+            begin = one[0].field - 1 + one[0].fields if is_before else one[0].field - 1 - count
+            pad = pads[one[0].source]
+            if pad and begin >= 0 and all(pad[begin:begin + count]) and len(pad) >= begin + count:
+                return one[0].source, begin
+    return None
+
+
+def _silence(sizes: Sequence[int], end: str) -> Callable[[int], int]:
+    """How many bytes of silence a field of padding gets in the output: as many as keep the sound in step, by the mean
+    of the first capture. A file without silence gets none: of EFM it isn't known what would have been there."""
+    if end != ".pcm":
+        return lambda out: 0
+    size = next(sound.size for sound in SOUNDS if sound.end == end)
+    mean = sum(sizes) / size / max(len(sizes), 1)
+    return lambda out: size * (round(out * mean) - round((out - 1) * mean))

@@ -1,0 +1,76 @@
+"""How many fields the numbers have on the disc."""
+
+from typing import Callable, Dict, List, Optional, Sequence
+
+from ..judge.paces import Pace
+from .blocks import Block, anchored
+from .going import Going
+from .ranks import Ranks
+from .sources import Source
+
+NEARBY = 8  # numbers before or after one of film whose cadence counts for it
+
+
+class Lengths:
+    """The fields of each number: of film, the most that a capture shows, since fields get lost and not made; else by
+    its cadence. A number of video has two."""
+
+    def __init__(self, sources: Sequence[Source], ranks: Ranks) -> None:
+        self.is_film = any(source.answer.pace == "film" for source in sources)
+        self.has_clock = (sources[0].answer.system, sources[0].answer.unit) == ("NTSC", "time")
+        self._known: Dict[int, int] = {}
+        for source in sources if self.is_film else ():
+            self._add(source, ranks)
+
+    def _add(self, source: Source, ranks: Ranks) -> None:
+        """Takes in what a capture shows of film."""
+        going = Going(source)
+        for part in anchored(source, ranks):
+            for one, other in zip(part, part[1:]):
+                fields = other.field - one.field
+                if other.rank == one.rank + 1 and going.takes_turns(one.field, fields + 1):
+                    self._known[one.rank] = max(self._known.get(one.rank, 2), fields)
+
+    def of(self, rank: int, step: int = -1) -> int:
+        """The fields of a number; if no capture shows it, by the cadence before it, or after it (step 1)."""
+        if not self.is_film or rank in self._known:
+            return self._known.get(rank, 2)
+        return 3 if self._variant(rank, step) == 1 - rank % 2 else 2
+
+    def is_known(self, rank: int, step: int = -1) -> bool:
+        """Whether a number's fields are known, by a capture or by the cadence on that side."""
+        return not self.is_film or rank in self._known or self._variant(rank, step) is not None
+
+    def is_short(self, block: Block) -> bool:
+        """Whether a picture of film has fewer fields in a block than another capture shows."""
+        fields = block.lead + block.fields + block.trail
+        return self.is_film and block.ranks == 1 and fields < self._known.get(block.rank, 2)
+
+    def between(self, first: int, end: int, fits: Callable[[int], bool]) -> int:
+        """How many fields the numbers from the first one to before the end have, none of which is shown: of a disc
+        whose clock isn't known, fewer if only so `fits` what comes after; of film, the nearest count to the cadence on
+        either side that fits."""
+        count = end - first
+        if not self.is_film:
+            return 2 * count - 2 * (self.has_clock and count > 1 and not fits(2 * count) and fits(2 * count - 2))
+        variants = [self._variant(first, -1), self._variant(end - 1, 1)]
+        guesses = [Pace("film").between(first, count, one, one) for one in variants if one is not None]
+        guesses = guesses or [5 * count // 2]
+        for off in range(count + 2):
+            for one in [guess + sign * off for guess in guesses for sign in (1, -1)]:
+                if 2 * count <= one <= 3 * count and fits(one):
+                    return one
+        return guesses[0]
+
+    def _variant(self, rank: int, step: int) -> Optional[int]:
+        """Which pictures have three fields, by the known ones before a rank (step -1) or after it (1): those with an
+        odd number (0), those with an even one (1), none (2); None if nothing near says it."""
+        seen: List[int] = []
+        for at in range(rank + step, rank + step * (NEARBY + 1), step):
+            if at in self._known:
+                if self._known[at] == 3:
+                    return 1 - at % 2
+                seen.append(at)
+            if len(seen) == 2:
+                break
+        return 2 if len(seen) == 2 and abs(seen[0] - seen[1]) == 1 else None

@@ -1,0 +1,86 @@
+"""The output as it grows: fields of captures, and padding between them."""
+
+from typing import Iterator, List, Optional, Sequence
+
+from .sources import PHASES, Source, straightened
+from .stretches import PADDING, PARITY, PHASE, Stretch
+
+
+class Layout:
+    """The stretches of the output so far; `out` is its next field."""
+
+    def __init__(self, sources: Sequence[Source], is_film: bool) -> None:
+        self._sources, self._is_film = sources, is_film
+        self._pairs = [straightened(source.answer) for source in sources]
+        self._phases = PHASES[sources[0].answer.system]
+        self.stretches: List[Stretch] = []
+        self.out = 1
+
+    def fits(self, source: int, field: int, fields: int) -> bool:
+        """Whether a field of a capture can follow what is there, after so many fields of padding."""
+        return not any(self._seams(source, field, self.out + fields))
+
+    def _seams(self, source: int, field: int, out: int) -> Iterator[str]:
+        """The kinds of seams that there were if the field stood there."""
+        last = next((one for one in reversed(self.stretches) if one.source is not None), None)
+        if last is None or last.source is None or last.field is None:
+            return
+        ones, others = self._sources[source].facts, self._sources[last.source].facts
+        other, apart = last.field + last.fields - 1, out - last.outs()[-1]
+        if ones.first and others.first and (ones.first[field - 1] == others.first[other - 1]) != (apart % 2 == 0):
+            yield PARITY
+        if ones.phase and others.phase and ones.phase[field - 1] and others.phase[other - 1] and (
+                ones.phase[field - 1] - others.phase[other - 1] - apart) % self._phases:
+            yield PHASE
+
+    def pad(self, fields: int, first: Optional[int], last: Optional[int]) -> None:
+        """Adds padding in the place of these numbers."""
+        if fields > 0:
+            self._add(Stretch(self.out, fields, first, last, None, None, PADDING))
+
+    def take(self, source: int, field: int, fields: int, first: Optional[int], last: Optional[int], how: str) -> None:
+        """Adds fields of a capture, those of a swapped pair in their right order."""
+        pairs = self._pairs[source]
+        fields_there = range(field, field + fields)
+        places: Sequence[int] = [pairs.get(one, one) for one in fields_there] if pairs else fields_there
+        begin = 0
+        for place in range(1, fields + 1) if pairs else (fields,):
+            if place == fields or places[place] != places[place - 1] + 1:
+                self._take(source, places[begin], place - begin, first, last, how)
+                begin = place
+
+    def _take(self, source, field, fields, first, last, how):
+        if self._is_film and self.stretches and self.stretches[-1].source is None:
+            self._fit_padding(source, field)
+        self._add(Stretch(self.out, fields, first, last, source, field, how))
+
+    def _fit_padding(self, source, field):
+        """Makes the padding before a field a field or two longer or shorter, if only so the two go on as on the disc:
+        if a picture of film is lost in part, its length is a guess."""
+        padding = self.stretches[-1]
+        for off in (0, 1, -1, 2, -2):
+            if padding.fields + off >= 0 and self.fits(source, field, off):
+                self.out += off
+                self.stretches[-1:] = [padding._replace(fields=padding.fields + off)] * (padding.fields + off > 0)
+                return
+
+    def _add(self, one: Stretch) -> None:
+        before = self.stretches[-1] if self.stretches else None
+        self.out += one.fields
+        if before and _is_one(before, one):
+            self.stretches[-1] = before._replace(fields=before.fields + one.fields, last=one.last)
+        else:
+            self.stretches.append(one)
+
+    def shift(self) -> None:
+        """Puts one field of padding before all, which stands for no number."""
+        self.stretches = [Stretch(1, 1, None, None, None, None, PADDING),
+                          *(one._replace(out=one.out + 1) for one in self.stretches)]
+        self.out += 1
+
+
+def _is_one(before: Stretch, one: Stretch) -> bool:
+    """Whether two neighbours are one stretch."""
+    if (before.source, before.how, before.first is None) != (one.source, one.how, one.first is None):
+        return False
+    return before.field is None or before.field + before.fields == one.field

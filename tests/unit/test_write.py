@@ -1,0 +1,348 @@
+"""The command `write`: what is written of drawn captures, field by field beside the truth; the same written again; what
+is refused, and what is left then."""
+
+import contextlib
+import json
+import os
+import shutil
+import signal
+
+from captured import Disc, draw, entries_of, going_back, losing, places_in, standing, swapping
+from discs import LEAD_IN, LEAD_OUT, pictures, times
+from ldvbi_side.command import write as command
+from ldvbi_side.write import copying
+import pytest
+from room import IN_PLACE, in_database
+
+LEAD = [LEAD_IN] * 6
+
+
+def disc(rows, system="NTSC"):
+    return Disc(LEAD + rows + [LEAD_OUT] * 6, system)
+
+
+VIDEO, PAL = disc(pictures(range(1, 25))), disc(pictures(range(1, 25)), "PAL")
+FILM = disc(pictures(range(1, 21), 1))
+SECOND = Disc([LEAD_IN] * 7 + pictures(range(1, 15)) + [LEAD_OUT] * 6)  # pictures begin with second fields
+TIMES = disc(times(range(20), 25), "PAL")
+
+
+def inside(one):
+    """The places of a disc that are of its numbers."""
+    return list(range(6 + len(one.words) % 2, len(one.words) - 6))
+
+
+def lost(one, *spans):
+    """The fields of a capture that lost so many from each of these numbers on, or from a field after its first."""
+    return losing(one.order, *((one.at[number] + step, count) for number, step, count in spans))
+
+
+# Of each case its disc, and the captures: the orders of their fields, and what draw takes besides; and what is padding
+CASES = {
+    "whole": (VIDEO, [(VIDEO.order, {})], []),
+    "pictures lost": (VIDEO, [(lost(VIDEO, (9, 0, 6)), {})], range(VIDEO.at[9], VIDEO.at[9] + 6)),
+    "each lacks others": (VIDEO, [(lost(VIDEO, (9, 0, 6)), {}), (lost(VIDEO, (15, 0, 5)), {"jitter": 1})], []),
+    "a first field": (VIDEO, [(lost(VIDEO, (9, 0, 1)), {})], [VIDEO.at[9]]),
+    "a second field": (VIDEO, [(lost(VIDEO, (9, 1, 1)), {})], [VIDEO.at[9] + 1]),
+    "both": (VIDEO, [(lost(VIDEO, (9, 1, 2)), {})], [VIDEO.at[9] + 1, VIDEO.at[10]]),
+    "a still": (VIDEO, [(standing(VIDEO.order, VIDEO.at[9], 5), {})], []),
+    "a field twice": (VIDEO, [(standing(VIDEO.order, VIDEO.at[9] + 1, 2, 1), {})], []),
+    "swapped fields": (VIDEO, [(swapping(VIDEO.order, VIDEO.at[9]), {})], []),
+    "back": (VIDEO, [(going_back(VIDEO.order, VIDEO.at[15], VIDEO.at[8]), {})], []),
+    "ahead, filled": (VIDEO, [(lost(VIDEO, (9, 0, 20)), {}), (VIDEO.order[:VIDEO.at[21]], {})], []),
+    "unread": (VIDEO, [(VIDEO.order, {"unread": range(VIDEO.at[9], VIDEO.at[12])})], []),
+    "unread at the ends": (VIDEO, [(VIDEO.order, {"unread": [*range(6, 8), *range(52, 54)]})], []),
+    "worse": (VIDEO, [(VIDEO.order, {"worse": range(VIDEO.at[4], VIDEO.at[9])}), (VIDEO.order, {"jitter": 1})], []),
+    "second fields": (SECOND, [(SECOND.order, {})], []),
+    "PAL, eight fields": (PAL, [(lost(PAL, (9, 0, 8)), {})], range(PAL.at[9], PAL.at[9] + 8)),
+    "film": (FILM, [(lost(FILM, (9, 0, 7)), {})], range(FILM.at[9], FILM.at[9] + 7)),
+    "film, a third field": (FILM, [(lost(FILM, (9, 2, 1)), {})], [FILM.at[9] + 2]),
+    "film, filled": (FILM, [(lost(FILM, (9, 1, 7)), {}), (lost(FILM, (15, 0, 4)), {"jitter": 1})], []),
+    "times": (TIMES, [(losing(TIMES.order, (16, 6)), {})], range(16, 22))}
+
+
+def drawn(room, name, form="json"):
+    """The captures of a case; the answer is the words that write them."""
+    one, captures, _ = CASES[name]
+    for letter, (order, more) in zip("abc", captures):
+        draw(room.named(letter + ".tbc"), one, order, form=form, **more)
+    return "write out.tbc " + " ".join(letter + ".tbc" for letter in "abc"[:len(captures)])
+
+
+@pytest.mark.parametrize("form", ["json", "db"])
+@pytest.mark.parametrize("name", CASES)
+def test_what_is_written(room, name, form):
+    """Each field of the disc's numbers stands there once, in order, and padding only where no capture has one. The
+    output is judged in the same way by itself."""
+    one, captures, padding = CASES[name]
+    status, text, said = room.run_words(drawn(room, name, form))
+    assert said == "" and "otherwise" not in text
+    unread = [place for _, more in captures for place in more.get("unread", ())]
+    places = places_in(room.named("out.tbc"), one, unread)
+    wanted = [None if place in padding else place for place in inside(one)]
+    assert places == [None] * (len(one.words) % 2) + wanted
+    assert (status, text.split(":")[1].strip()[:3]) == ((1, "no") if padding else (0, "yes\n"[:3]))
+    status, text, _ = room.run_words("out.tbc --open-end")
+    assert (status, text[:10]) == ((1, "whole: no:") if padding else (0, "whole: yes"))
+    assert (" padding" in text.split("\n", maxsplit=1)[0]) == bool(padding)
+    assert sorted(set(room.names()) - {letter + end for letter in "abc" for end in (
+        ".tbc", ".pcm", ".efm", ".tbc.json", ".tbc.db")}) == [
+            "out.efm", "out.pcm", "out.stretches.csv", "out.tbc", "out.tbc." + form]
+
+
+def test_what_is_printed(room):
+    assert room.run_words(drawn(room, "pictures lost")) == (1, (
+        "whole: no: 3 pictures are padding (9 to 11); 1 picture may have another's field (8)\n"
+        "written: 48 fields, 4 stretches, 0 changes\na.tbc: 42 fields, 21 pictures\n"), "")
+    table = ("field,fields,frame,first,last,source,source field,how\n1,14,1,1,7,a.tbc,7,whole\n"
+             "15,2,8,8,8,a.tbc,21,unsure\n17,6,9,9,11,,,padding\n23,26,12,12,24,a.tbc,23,whole\n")
+    assert room.text("out.stretches.csv") == table
+    for name in room.names():
+        if name.startswith("out"):
+            os.unlink(room.named(name))
+    assert room.run_words("write out.tbc a.tbc --plan") == (1, table, "")
+    assert "out.tbc" not in room.names()
+
+
+@pytest.mark.parametrize("form", ["json", "db"])
+def test_an_output_is_written_again(room, form):
+    """Alone it stays the same, byte for byte; another capture fills its padding as if both had been there at first."""
+    one = FILM
+    draw(room.named("a.tbc"), one, lost(one, (5, 0, 7), (15, 0, 5)), form=form)
+    draw(room.named("b.tbc"), one, [place for place in one.order if one.at[3] <= place < one.at[10]], form=form)
+    for words in ("o.tbc a.tbc", "p.tbc o.tbc b.tbc", "q.tbc p.tbc", "r.tbc a.tbc b.tbc"):
+        assert room.run_words("write " + words)[0] == 1
+    ends = [".tbc", ".pcm", ".efm"] + [".tbc.json"] * (form == "json")
+    for other in "qr":
+        assert [room.read("p" + end) == room.read(other + end) for end in ends] == [True] * len(ends)
+    assert entries_of(room.named("p.tbc")) == entries_of(room.named("r.tbc"))
+    assert None in places_in(room.named("p.tbc"), one)
+
+
+def test_all_else_of_an_entry_comes_along(room):
+    words = drawn(room, "each lacks others")
+    room.run_words(words)
+    olds = {name: json.loads(room.text(name + ".json"))["fields"] for name in ("a.tbc", "b.tbc")}
+    new = json.loads(room.text("out.tbc.json"))["fields"]
+    for row in room.text("out.stretches.csv").split("\n")[1:-1]:
+        out, fields, _, _, _, name, field, _ = row.split(",")
+        for step in range(int(fields)):
+            old = olds[name][int(field) - 1 + step]
+            assert new[int(out) - 1 + step] == {**old, "seqNo": int(out) + step}
+
+
+def test_options(room):
+    drawn(room, "whole")
+    assert room.run_words("write out.tbc a.tbc --ends")[0] == 0
+    assert places_in(room.named("out.tbc"), VIDEO) == VIDEO.order
+    draw(room.named("b.tbc"), VIDEO, VIDEO.order[VIDEO.at[9]:])
+    status, text, _ = room.run_words("write out.tbc b.tbc --from 1")
+    assert (status, text.split("\n")[0]) == (1, "whole: no: 8 pictures are padding (1 to 8)")
+    assert places_in(room.named("out.tbc"), VIDEO) == [None] * 16 + inside(VIDEO)[16:]
+    assert room.run_words("write out.tbc b.tbc")[1].split("\n")[0] == "whole: no: begins at 9, ends at 24"
+    draw(room.named("a.tbc"), VIDEO, lost(VIDEO, (9, 0, 8)))
+    assert room.run_words("write out.tbc a.tbc --sure")[1].startswith(
+        "whole: no: 4 pictures are padding (9 to 12); 1 picture lacks fields (8)\n")
+    draw(room.named("t.tbc"), TIMES, TIMES.order[20:])
+    assert room.run_words("write time.tbc t.tbc --from 0:00:00.05")[1].startswith(
+        "whole: no: 2 times are padding (0:00:00.05 to 0:00:00.06)")
+    assert room.run_words("write o.tbc a.tbc --meta a.tbc.json --recovered")[0] == 1
+
+
+def test_it_cant_be_told(room):
+    """A player stood still in a frame of film that shows no number."""
+    draw(room.named("a.tbc"), FILM, standing(FILM.order, FILM.at[11] + 1, 4))
+    status, text, _ = room.run_words("write out.tbc a.tbc")
+    assert (status, text.split("\n")[0]) == (4, "whole: can't tell: 1 picture may have another's field (11)")
+    assert places_in(room.named("out.tbc"), FILM) == inside(FILM)
+
+
+def test_sound_that_one_lacks_is_left_out(room):
+    words = drawn(room, "each lacks others")
+    os.unlink(room.named("b.pcm"))
+    assert room.run_words(words)[0] == 0
+    assert "out.pcm" not in room.names() and "out.efm" in room.names()
+
+
+def test_dropouts_of_another_form(room):
+    """They count for none."""
+    words = drawn(room, "worse")
+    document = json.loads(room.text("b.tbc.json"))
+    for field in document["fields"]:
+        field["dropOuts"] = {"endx": 3}
+    room.write("b.tbc.json", json.dumps(document))
+    assert room.run_words(words)[0] == 0
+    assert places_in(room.named("out.tbc"), VIDEO) == inside(VIDEO)
+
+
+def test_seams(room):
+    """The colour's phase of b is one on in all its fields."""
+    words = drawn(room, "ahead, filled")
+    document = json.loads(room.text("b.tbc.json"))
+    for field in document["fields"]:
+        field["fieldPhaseID"] = field["fieldPhaseID"] % 4 + 1
+    room.write("b.tbc.json", json.dumps(document))
+    text = room.run_words(words)[1]
+    assert text.startswith("whole: no: 1 seam\n") and text.endswith("\nseam after field 36: phase\n")
+
+
+def test_what_is_read_otherwise_is_said(room, monkeypatch):
+    words = drawn(room, "whole")
+    made = command.plan
+
+    def turned(*given):
+        found = made(*given)
+        one = found.stretches[0]
+        return found._replace(stretches=[one._replace(fields=20), one._replace(
+            out=21, fields=28, field=one.field + 21)])
+    monkeypatch.setattr(command, "refuse_wrong", lambda *_: None)
+    monkeypatch.setattr(command, "plan", turned)
+    status, text, _ = room.run_words(words)
+    assert status == 1 and text.startswith("whole: no: read otherwise: ") and "read otherwise: 12 in field 22, " in text
+
+
+# ---- Refusals, after which nothing is left
+
+def broken(name, change):
+    """Changes the first capture's metadata."""
+    def breaks(room):
+        document = json.loads(room.text(name))
+        change(document)
+        room.write(name, json.dumps(document))
+    return breaks
+
+
+def appended(name, data):
+    return lambda room: room.write(name, room.read(name) + data)
+
+
+REFUSED = {
+    "another system": ("", lambda room: draw(room.named("b.tbc"), PAL, PAL.order),
+                       "system of a.tbc is NTSC, of b.tbc PAL: decode both in one way"),
+    "other levels": ("", broken("b.tbc.json", lambda one: one["videoParameters"].update(white16bIre=51000)),
+                     "white16bIre of a.tbc is 51200, of b.tbc 51000: decode both in one way"),
+    "fewer fields": ("", broken("b.tbc.json", lambda one: one["fields"].pop()),
+                     "b.tbc has 55 whole fields, and b.tbc.json has 54"),
+    "a field of another number": ("", broken("b.tbc.json", lambda one: one["fields"][3].update(seqNo=9)),
+                                  "b.tbc.json: field 4: its seqNo is 9"),
+    "cut": ("", appended("b.tbc", b"12"), "b.tbc: its last field is cut: 2 bytes; head -c makes it whole"),
+    "other sound": ("", appended("b.pcm", b"1234"),
+                    "b.pcm has 161896 bytes, and its fields' audioSamples come to 161892"),
+    "no counts of sound": ("", broken("b.tbc.json", lambda one: one["fields"][2].pop("efmTValues")),
+                           "b.efm has 2413 bytes, and its fields' efmTValues come to no sum"),
+    "no metadata": ("", lambda room: os.unlink(room.named("b.tbc.json")),
+                    "b.tbc: no b.tbc.json or b.tbc.db beside it"),
+    "an input": (" b.tbc", lambda room: os.link(room.named("a.tbc"), room.named("out.tbc")), IN_PLACE % "out.tbc"),
+    "older sound": ("", lambda room: (os.unlink(room.named("b.pcm")), room.write("out.pcm", "old")),
+                    "out.pcm is there, and would be taken for a part of what is written: remove it"),
+    "a number of another kind": (" --from 0:00:01.00", lambda room: None, "--from 0:00:01.00: a.tbc has pictures"),
+    "too much padding": (" --from 0 --most-padding 1", lambda room: None,
+                         "2 of 50 fields would be padding; see --most-padding"),
+    "a folder": ("", lambda room: os.mkdir(room.named("out.tbc")), "out.tbc is no file"),
+}
+
+
+@pytest.mark.parametrize("name", REFUSED)
+def test_refused(room, name):
+    more, prepare, text = REFUSED[name]
+    words = drawn(room, "each lacks others")
+    prepare(room)
+    before = room.files()
+    room.refused(text, words + more)
+    assert room.files() == before
+
+
+def test_refused_forms(room):
+    draw(room.named("a.tbc"), VIDEO, VIDEO.order)
+    draw(room.named("b.tbc"), VIDEO, VIDEO.order, form="db")
+    room.refused("metadata of one form is needed: a.tbc.json, b.tbc.db", "write out.tbc a.tbc b.tbc")
+    room.write("side.vbi.json", '{"version":2}')
+    room.refused("side.vbi.json is a document: fields are taken from TBC files", "write out.tbc side.vbi.json")
+    for statements, text in (
+            (["CREATE TRIGGER more AFTER INSERT ON vbi BEGIN SELECT 1; END"],
+             "its trigger more of the table vbi may write something else"),
+            (["DROP TRIGGER more", "UPDATE field_record SET field_id = 99 WHERE field_id = 3"],
+             "the fields' numbers, field_id, leave some out, or have one twice"),
+            (["ALTER TABLE field_record RENAME COLUMN is_first_field TO other"],
+             "no table, or more than one, has the fields"),
+            (["ALTER TABLE vbi RENAME COLUMN vbi0 TO other"], "no table vbi with field_id, vbi0, vbi1 and vbi2")):
+        in_database(room.named("b.tbc.db"), *statements)
+        room.refused("b.tbc.db: " + text, "write out.tbc b.tbc")
+    for words, text in (("out.raw a.tbc", "the name of what is written has to end with .tbc"),
+                        ("out.tbc a.tbc b.tbc --meta a.tbc.json", "--meta names the metadata of one capture"),
+                        ("out.tbc a.tbc --from x", "argument --from: no picture and no time: 'x'"),
+                        ("out.tbc a.tbc --change x", "argument --change: no number: 'x'")):
+        status, printed, said = room.run_words("write " + words)
+        assert (status, printed, said.split(": error: ")[1]) == (2, "", text + "\n")
+
+
+def test_a_full_disk(room, monkeypatch):
+    words = drawn(room, "whole")
+    before = room.files()
+    monkeypatch.setattr(os, "statvfs", lambda _: os.statvfs_result([4096, 4096, 0, 0, 100] + [0] * 5))
+    status, _, said = room.run_words(words)
+    assert status == 2 and said.endswith(": 0 MB are free, and 24 MB are needed\n")
+    assert room.files() == before
+
+
+def changed_after(monkeypatch, change):
+    """Has something happen as soon as the sound is written."""
+    copy = copying.copy_sound
+
+    def copied(*given):
+        change()
+        return copy(*given)
+    monkeypatch.setattr(command, "copy_sound", copied)
+
+
+def test_a_capture_that_changes(room, monkeypatch):
+    words = drawn(room, "each lacks others")
+    shutil.copy(room.named("a.tbc"), room.named("out.tbc"))
+    before = room.files()
+    changed_after(monkeypatch, lambda: os.utime(room.named("b.tbc")))
+    room.refused("b.tbc was changed meanwhile", words)
+    assert room.files() == before
+
+
+def test_a_capture_that_gets_shorter(room, monkeypatch):
+    words = drawn(room, "whole")
+    changed_after(monkeypatch, lambda: os.truncate(room.named("a.pcm"), 100))
+    room.refused("out.tbc: %s was made shorter meanwhile" % "a.pcm", words)
+
+
+def test_a_failing_disk(room, monkeypatch):
+    words = drawn(room, "whole", "db")
+    before = room.files()
+    monkeypatch.setattr("ldvbi_side.write.rows._KEPT", "CREATE TEMP TABLE no")
+    status, _, said = room.run_words(words)
+    assert status == 2 and said.startswith("ldvbi-side: out.tbc: SQLite can't write the metadata: ")
+    assert room.files() == before
+
+
+def test_it_ends_in_order(room, monkeypatch):
+    words = drawn(room, "each lacks others")
+    before = room.files()
+    changed_after(monkeypatch, lambda: os.kill(os.getpid(), signal.SIGINT))
+    with contextlib.chdir(room.folder), pytest.raises(KeyboardInterrupt):
+        command.write_side("ldvbi-side", words.split()[1:])
+    assert room.files() == before
+
+
+def test_without_the_systems_own_copy(room, monkeypatch):
+    words = drawn(room, "whole")
+
+    def none(*_):
+        raise OSError("not here")
+    monkeypatch.setattr(os, "copy_file_range", none)
+    assert room.run_words(words)[0] == 0
+    assert places_in(room.named("out.tbc"), VIDEO) == inside(VIDEO)
+
+
+def test_a_text_that_stands_in_more_bytes_than_characters(room):
+    """Before its fields, and in them."""
+    draw(room.named("a.tbc"), VIDEO, VIDEO.order)
+    text = room.text("a.tbc.json")
+    room.write("a.tbc.json", text.replace('"diskLoc"', '"\u00fc":"\u20ac","diskLoc"'))
+    assert room.run_words("write out.tbc a.tbc")[0] == 0
+    assert places_in(room.named("out.tbc"), VIDEO) == inside(VIDEO)
+    assert all(one["\u00fc"] == "\u20ac" for one in entries_of(room.named("out.tbc")))
