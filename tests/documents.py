@@ -211,8 +211,27 @@ def measured():
 
 
 # Each check, with the least that it has to look at
-CHECKS = {"links": (links, 70), "paths": (paths, 120), "names": (names, 800), "faults": (faults, 28),
-          "numbers": (numbers, 100), "measured": (measured, 20)}
+# The most lines of definitions that have to be believed for a promise of README
+MOST_BELIEVED = 150
+
+
+def promises():
+    """Each promise that README calls proved has a section of texts/promised.txt, from which texts/definitions.py
+    prints what has to be read for it, and that is little."""
+    sys.path.insert(0, "texts")
+    import definitions
+    bullets = re.findall(r"^- (.*)$", part("README.md", "\nProved for every input:\n", "\n\n["), re.M)
+    begins = {section.bullet: mark for mark, section in definitions.SECTIONS.items() if section.bullet}
+    for bullet in bullets:
+        fits = [begin for begin in begins if bullet.startswith(begin)]
+        yield len(fits) == 1, f"README.md: no section of texts/promised.txt, or several, begin as '{bullet}'"
+        lines = definitions.lines_in(definitions.believed(begins[fits[0]])) if fits else 0
+        yield lines <= MOST_BELIEVED, f"texts/promised.txt: {begins[fits[0]]} has {lines} lines to be believed"
+    yield len(begins) == len(bullets), f"README.md has {len(bullets)} promises, and texts/promised.txt {len(begins)}"
+
+
+CHECKS = {"promises": (promises, 15), "links": (links, 70), "paths": (paths, 120), "names": (names, 800),
+          "faults": (faults, 28), "numbers": (numbers, 100), "measured": (measured, 20)}
 
 
 def main():

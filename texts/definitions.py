@@ -1,9 +1,11 @@
 #!/usr/bin/env python3
-"""What one has to believe: the definitions of specs/ on which the contracts of SECTIONS rest, as their source has them.
+"""What one has to believe: the definitions of specs/ on which the contracts of promised.txt rest, as their source has
+them.
 
-Into docs/PROMISES.md go those of LINE that PRINTED names, and how many two contracts rest on. A definition comes
-after those that it rests on. A function of RELATIONS gives way to a relation that is the same, as a law says. The
-command counts and prints all, file by file.
+For a section the command prints the contracts themselves; then the definitions **to be believed**, of which their
+statements speak; then those **only between** code and law: a law holds of whatever a call answers, so nothing of what
+that is has to be believed. A definition comes after those that it rests on. A function of RELATIONS gives way to a
+relation that is the same, as a law says. Into docs/PROMISES.md go those of LINE that PRINTED names, and the counts.
 
 usage: python3 texts/definitions.py [SECTION..]
 """
@@ -11,35 +13,37 @@ import functools
 import os
 import re
 import sys
+import textwrap
 from typing import Callable, Dict, Iterable, Iterator, List, NamedTuple, Optional, Tuple
 
 import numbers_of
 from program import TOP
 
 Key = Tuple[str, str, str]    # a definition: its crate, its file and its name
-# The sections by their marks, and the contracts that each is for: source files with their functions
-SECTIONS = {mark: [tuple(one.split()) for one in text.split(";")] for mark, text in {
-    "line": "vbi_line/src/reading.rt read_bytes_twice",
-    "fields": "vbi_field/src/run.rt extract",
-    "worn": "vbi_field/src/run.rt extract_recovered",
-    "counts": "vbi_line/src/tries.rt read_once write_once; "
-              "vbi_line/src/line.rt clear start_pass next_sample next_block",
-    "nearest": "vbi_near/src/pile.rt nearest_of_lines",
-    "recovered": "vbi_near/src/recovery.rt recover_rows",
-    "belief": "vbi_side/src/laws.rt sound on_the_disc sound_still",
-    "judge": "vbi_side/src/answers.rt judge; vbi_side/src/found.rt found_pace; vbi_side/src/laws.rt whole_found; "
-             "vbi_side/src/seek.rt first_of",
-    "words": "vbi_side/src/lines.rt sightings; vbi_side/src/laws.rt misread_words",
-    "votes": "vbi_side/src/votes.rt elected; vbi_side/src/completion.rt completed_time; "
-             "vbi_side/src/vote_laws.rt elected_is_right completed_is_told completed_is_right",
-    "chapters": "vbi_side/src/chapters.rt chapters_shown judge_chapters; vbi_side/src/chapter_laws.rt chapters_sound",
-    "field": "vbi_side/src/laws.rt same_in_part; vbi_side/src/answers.rt judge_one",
-    "stops": "vbi_side/src/stops.rt judge_stop; vbi_side/src/stop_laws.rt stops_in_words",
-    "whole": "vbi_side/src/verdict.rt judge_whole; vbi_side/src/ends.rt judge_end; "
-             "vbi_side/src/gap_laws.rt cut_found whole_yes nearly_whole lost_sound; "
-             "vbi_side/src/clean_laws.rt yes_complete clean_runs_are; "
-             "vbi_side/src/end_laws.rt ends_sound",
-}.items()}
+
+
+class Section(NamedTuple):
+    """What is promised in one place. `bullet` is how README begins to say it, or empty."""
+    bullet: str
+    contracts: List[Tuple[str, str]]    # source files, each with a function
+    between: List[str]                  # definitions of which nothing has to be believed
+
+
+def sections_of(text: str) -> Dict[str, Section]:
+    found: Dict[str, Section] = {}
+    for line in filter(None, (line.partition("#")[0].rstrip() for line in text.split("\n"))):
+        first, *names = line.split()
+        if line[0] != " ":
+            mark, _, bullet = line.partition(": ")
+            found[mark] = Section(bullet, [], [])
+        elif first == "between":
+            found[mark].between.extend(names)
+        else:
+            found[mark].contracts.extend((first, name) for name in names)
+    return found
+
+
+SECTIONS = sections_of(numbers_of.read("texts/promised.txt"))
 LINE = "line"
 # Those of this section that the page prints; their comments and names say what the others are
 PRINTED = "Shows Viable FirstHopeless IsOutcome".split()
@@ -58,6 +62,10 @@ OWN = re.compile(r"Rattle\.(vbi_\w+)\.specs\.(?!declared$)(\w+)$")
 
 def read(path: str) -> str:
     return numbers_of.read("crates/" + path)
+
+
+def indent_of(line: str) -> int:
+    return len(line) - len(line.lstrip())
 
 
 class Definition(NamedTuple):
@@ -82,7 +90,9 @@ class Module:
         for line in lines:
             text = line.strip()
             around = around if not text or line[0] == " " else []
-            if IMPORT.match(text):
+            if item and text.startswith("--") and indent_of(line) > indent_of(item[0]):
+                item.append(line)
+            elif IMPORT.match(text):
                 self.take_import(*IMPORT.match(text).groups())
             elif not text or text.startswith("--"):
                 comment, item = [*comment, line] if text and not item else [line] if text else [], []
@@ -172,18 +182,39 @@ def ordered(items: Iterable, before: Callable[..., Iterable]) -> List:
     return list(order)
 
 
+def contract_of(path: str, function: str) -> str:
+    """Returns the contract of a function as the source has it, with its comment."""
+    head = r"(?:^ *///[^\n]*\n)*(?:^ *#\[[^\n]*\n)*^ *pub (?:extern \"C\" )?fn %s\b.*?\n(?= *\{)" % function
+    found = re.search(head, read(path), re.M | re.S)
+    if not found:
+        raise SystemExit("definitions: %s has no function %s" % (path, function))
+    return found[0]
+
+
 def named_by(mark: str) -> Iterator[Key]:
     """Yields the definitions that the contracts of a section name."""
-    for path, *functions in SECTIONS[mark]:
-        for function in functions:
-            contract = re.search(r"pub fn %s\b.*?\n *\{\}?\n" % function, read(path), re.S)[0]
-            yield from map(meant, module(path).cited(contract))
+    for path, function in SECTIONS[mark].contracts:
+        yield from map(meant, module(path).cited(re.sub("(?m)^ *///.*", "", contract_of(path, function))))
 
 
 @functools.lru_cache(maxsize=None)
 def all_of(mark: str) -> List[Key]:
     """Returns all definitions on which the contracts of a section rest, each after those on which it rests."""
     return ordered(named_by(mark), rests_on)
+
+
+@functools.lru_cache(maxsize=None)
+def believed(mark: str) -> List[Key]:
+    """Returns those of them that have to be believed."""
+    between = SECTIONS[mark].between
+    unknown = set(between) - {key[2] for key in all_of(mark)}
+    if unknown:
+        raise SystemExit("definitions: %s doesn't rest on %s" % (mark, ", ".join(sorted(unknown))))
+
+    def kept(keys: Iterable[Key]) -> List[Key]:
+        return [key for key in keys if key[2] not in between]
+
+    return ordered(kept(named_by(mark)), lambda key: kept(rests_on(key)))
 
 
 def by_file(keys: List[Key]) -> Iterator[Tuple[Module, List[str]]]:
@@ -210,31 +241,55 @@ def block(keys: List[Key], with_heads: bool) -> str:
     return "\n".join([*lines[:-1], "```", "", ""])
 
 
+def lines_in(keys: Iterable[Key]) -> int:
+    """Returns how many lines these definitions have, without comments."""
+    return sum(not line.strip().startswith("--") for key in keys for line in definition(key).lines)
+
+
+def between(mark: str) -> List[Key]:
+    return [key for key in all_of(mark) if key not in believed(mark)]
+
+
 def rests(mark: str) -> str:
     """Returns on how many definitions the contracts of a section rest."""
-    names = ", ".join(function for _, *functions in SECTIONS[mark] for function in functions)
-    lines = sum(len(definition(key).lines) for key in all_of(mark))
-    return "%s: %d definitions in %d lines, for %s" % (mark, len(all_of(mark)), lines, names)
+    return "%s: %d definitions in %d lines to be believed, %d in %d lines only between, for %s" % (
+        mark, len(believed(mark)), lines_in(believed(mark)), len(between(mark)), lines_in(between(mark)),
+        ", ".join(function for _, function in SECTIONS[mark].contracts))
+
+
+def told(mark: str) -> str:
+    """Returns a section: its contracts, and both lists."""
+    contracts = "\n".join("// %s\n%s" % (path, contract_of(path, function))
+                          for path, function in SECTIONS[mark].contracts)
+    return "\n".join(("== " + rests(mark), "", "```rust", contracts.rstrip(), "```", "", "-- To be believed", "",
+                      block(believed(mark), True), "-- Only between", "",
+                      block(between(mark), True) if between(mark) else "none\n"))
 
 
 def printed() -> str:
-    """Returns what the page has: some definitions, how many there are in all, and what prints them."""
+    """Returns what the page has: some definitions, and for each of README's promises how much has to be believed."""
     keys = [key for key in all_of(LINE) if key[2] in PRINTED]
     if len(keys) != len(PRINTED):
         raise SystemExit("definitions: of %s there are %d" % (" ".join(PRINTED), len(keys)))
-    return ("\n%s`read_bytes_twice` rests on %d definitions, and `extract` on %d: `python3 texts/definitions.py` prints"
-            " all.\n\n" % (block(keys, False), len(all_of(LINE)), len(all_of("fields"))))
+    rows = "".join("| `%s` | %d in %d lines | %d |\n" % (mark, len(believed(mark)), lines_in(believed(mark)),
+                                                       len(between(mark)))
+                   for mark, section in SECTIONS.items() if section.bullet)
+    said = textwrap.fill(
+        "`python3 texts/definitions.py SECTION` prints a promise of README: its contracts, the definitions of which they"
+        " speak, which you have to believe, and those only between code and law. Other sections: %s." % ", ".join(
+            "`%s`" % mark for mark, section in SECTIONS.items() if not section.bullet), 120)
+    return "\n%s%s\n\n| Section | To be believed | Only between |\n|---|---|---|\n%s\n" % (
+        block(keys, False), said, rows)
 
 
 PARTS = {LINE: ("specs", printed)}
 
 
 def main() -> None:
-    marks = sys.argv[1:] or list(SECTIONS)
+    marks = sys.argv[1:]
     if not set(marks) <= set(SECTIONS):
         raise SystemExit("usage: python3 texts/definitions.py [%s].." % " | ".join(SECTIONS))
-    print(*map(rests, marks), "", sep="\n")
-    print(block(ordered((key for mark in marks for key in all_of(mark)), rests_on), True).rstrip())
+    print(*(map(told, marks) if marks else map(rests, SECTIONS)), sep="\n")
 
 
 if __name__ == "__main__":

@@ -9,6 +9,7 @@ from typing import Any, Dict, Iterable, List, Tuple
 import definitions
 import measured
 import numbers_of
+import places
 from program import COMMANDS_OF_LDVBI, TOP, Program, ldvbi, ldvbi_side
 
 Schema = Dict[str, Any]
@@ -97,5 +98,5 @@ PARTS = {
         "disagreements": (JOIN, lambda: items(why_rows(JOIN, "disagreements"))),
     },
     **measured.PARTS,
-    "docs/PROMISES.md": definitions.PARTS,
+    "docs/PROMISES.md": {**definitions.PARTS, **places.PARTS},
 }
