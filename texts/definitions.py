@@ -275,8 +275,8 @@ def printed() -> str:
                                                        len(between(mark)))
                    for mark, section in SECTIONS.items() if section.bullet)
     said = textwrap.fill(
-        "`python3 texts/definitions.py SECTION` prints a promise of README: its contracts, the definitions of which they"
-        " speak, which you have to believe, and those only between code and law. Other sections: %s." % ", ".join(
+        "`python3 texts/definitions.py SECTION` prints a promise of README: its contracts, the definitions of which"
+        " they speak, which you have to believe, and those only between code and law. Other sections: %s." % ", ".join(
             "`%s`" % mark for mark, section in SECTIONS.items() if not section.bullet), 120)
     return "\n%s%s\n\n| Section | To be believed | Only between |\n|---|---|---|\n%s\n" % (
         block(keys, False), said, rows)
