@@ -39,6 +39,9 @@ SCHEMAS := ldvbi.schema.json ldvbi-join.schema.json ldvbi-recovered.schema.json 
 	ldvbi-side.schema.json
 SHARED := $(addprefix share/schema/,$(SCHEMAS))
 DOCUMENTS := $(ROOT)/share/doc/ldvbi
+PAGES := README.md CHANGELOG.md $(wildcard docs/*.md)
+# A page without the comments that say what in it is made from the source
+UNMARKED := sed '/^<!--.*-->$$/d; s/<!--[^>]*-->//g'
 PYTHON := $(wildcard python/*/*.py python/*/*/*.py)
 # What is installed and packed: what was proved and built here (proved), or what `make rust` leaves in rust/ (rust). If
 # nobody says which, it is the proved one, unless only the other is there.
@@ -147,8 +150,8 @@ install: places said-from $(BUILT)ldvbi $(if $(wildcard $(BUILT)libldvbi.a),inst
 	install -d $(patsubst %/,$(ROOT)/share/ldvbi/%,$(sort $(dir $(PYTHON))))
 	$(foreach module,$(PYTHON),install -m 644 $(module) $(ROOT)/share/ldvbi/$(module) &&) :
 	install -d $(DOCUMENTS)/docs/pictures $(DOCUMENTS)/examples/rust/src/bin
-	install -m 644 README.md CHANGELOG.md LICENSE $(DOCUMENTS)
-	install -m 644 $(wildcard docs/*.md) $(DOCUMENTS)/docs
+	install -m 644 LICENSE $(DOCUMENTS)
+	$(foreach page,$(PAGES),$(UNMARKED) $(page) > $(DOCUMENTS)/$(page) && chmod 644 $(DOCUMENTS)/$(page) &&) :
 	install -m 644 $(wildcard docs/pictures/*.svg docs/pictures/*.png) $(DOCUMENTS)/docs/pictures
 	install -m 644 $(wildcard examples/*.*) $(DOCUMENTS)/examples
 	install -m 644 examples/rust/Cargo.toml $(DOCUMENTS)/examples/rust

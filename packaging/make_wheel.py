@@ -66,7 +66,9 @@ def description(name, version):
             *["Classifier: " + one for one in lists["classifiers"]],
             "Requires-Python: " + project["requires-python"], "Description-Content-Type: text/markdown"]
     scripts = "[console_scripts]\nldvbi-side = %s\n" % project["ldvbi-side"]
-    return "\n".join(head) + "\n\n" + text_of(project["readme"]), scripts
+    # Without the comments that say what in it is made from the source
+    page = re.sub(r"(?m)^<!--.*-->\n|<!--[^>]*-->", "", text_of(project["readme"]))
+    return "\n".join(head) + "\n\n" + page, scripts
 
 
 def members(library, name, version, tag):

@@ -8,7 +8,7 @@ from .answer.whole import UNITS
 from .judge.paces import RATES
 
 _WANTED = re.compile(r"(?P<picture>[0-9]+)|(?P<time>[0-9]+:[0-9]+:[0-9]+\.[0-9]+)"
-                     r"|(?P<part>[0-9]+:[0-9]{2}(:[0-9]{2})?)|chapter (?P<chapter>[0-9]+)")
+                     r"|(?P<part>[0-9]+:[0-9]{2}(:[0-9]{2})?)|(?i:chapter) (?P<chapter>[0-9]+)")
 _TIME_FORMS = {2: "%d:%02d", 3: "%d:%02d:%02d", 4: "%d:%02d:%02d.%02d"}
 
 

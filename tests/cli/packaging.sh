@@ -67,6 +67,8 @@ installs() {
     find "$folder" ! -type l -printf '%m %y %p\n' |
         awk '$1 != ($2 == "d" || $3 ~ /\/bin\/ldvbi(-side)?$|\/libldvbi\.so\.1$/ ? 755 : 644)' > err
     check "$name: it is for all" [ ! -s err ]
+    grep -r -e '<!--' "$folder/share/doc/ldvbi" > err
+    check "$name: documents are without marks" [ ! -s err ]
     PYTHONDONTWRITEBYTECODE=1 bounded "$folder/bin/ldvbi-side" --help < empty > out 2> err || status=$?
     check "$name: ldvbi-side finds its module" [ "$status $(head -c 18 out)" = '0 usage: ldvbi-side ' ]
     made uninstall "$@"

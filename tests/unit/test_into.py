@@ -252,6 +252,8 @@ REFUSED_RUNS = """
     side.vbi.json --meta 12.json --recovered | side.vbi.json is a document, and --recovered is for a TBC file
     side.tbc --meta 12.db --into used | used-journal is there: used is in use, or was left unfinished
     side.tbc --meta 12.db --into /dev/null | /dev/null is no file
+    side.tbc --meta 12.db --into a.json | 12.db is a database, and the name of a.json ends like that of a JSON document
+    side.tbc --meta 13.json --into a.db | 13.json is a JSON document, and the name of a.db ends like that of a database
 """
 
 

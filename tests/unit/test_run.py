@@ -44,7 +44,7 @@ CHAPTERS = (
     (NTSC, "L 1..6 7:13/2=-/c1/c1", ("0,1001/60000,2,0.033367,6,0.100100,Chapter 0",
                                      "1,1001/60000,6,0.100100,13,0.216883,Chapter 1")),
     (PAL, "L 1..6 7:13/2=-/c21/c21", ("0,1/50,2,0.040000,6,0.120000,Chapter 0",
-                                      "1,1/50,6,0.120000,13,0.260000,Chapter 21")), (NTSC, "Bx4", ()))
+                                      "1,1/50,6,0.120000,13,0.260000,Chapter 21")))
 
 
 def test_the_library_is_needed(drawn):
@@ -109,6 +109,29 @@ def test_chapters(drawn, setup, words, wanted):
     assert re.sub("encoder=.*\n", "", found) == drawn.text("side.ffmeta").replace("\n\n", "\n")
     assert drawn.text("side.txt").splitlines() == ["\t".join(row.split(",")[place] for place in (3, 5, 6))
                                                    for row in wanted]
+
+
+def test_no_chapters(drawn):
+    """A player would take its own chapters away for a file that has none. An older file stays."""
+    write_stream(drawn.path, NTSC, words_of("Bx4"))
+    drawn.write("old.txt", b"old")
+    for name in ("old.txt", "new.txt"):
+        said = "ldvbi-side: no chapter of the side is believed: %s isn't written\n" % name
+        assert drawn.run_words("side.tbc LEVELS --chapters " + name) == (0, "", said)
+    assert drawn.read("old.txt") == b"old" and not os.path.exists(drawn.named("new.txt"))
+
+
+@pytest.mark.parametrize("option", ("--map", "--chapters", "--svg", "--html"))
+def test_files_on_standard_output(drawn, option):
+    """By either of its names, as a pipe or a file. It takes one thing."""
+    write_stream(drawn.path, NTSC, words_of("L 1..6 7:13/2=-/c1/c1"))
+    shown = drawn.printed("side.tbc LEVELS %s -" % option)
+    drawn.printed("side.tbc LEVELS %s file" % option)
+    assert drawn.read("file") == shown.replace(b" %s -" % option.encode(), b" %s file" % option.encode())
+    assert drawn.printed("side.tbc LEVELS %s /dev/stdout" % option) == shown.replace(b" -\n", b" /dev/stdout\n")
+    for more in ("--csv", "--seek 3", "--svg -" if option == "--map" else "--map -"):
+        status, text, said = drawn.run_command("side.tbc LEVELS %s - %s" % (option, more))
+        assert (status, text) == (2, b"") and said.endswith("error: standard output takes one thing\n")
 
 
 def test_the_pictures_of_the_documents(drawn):

@@ -48,6 +48,7 @@ SOUGHT = """
 
 def test_texts():
     for text, wanted in (("00123", ("picture", (123,))), ("1:09", ("time", (1, 9))), ("chapter 3", ("chapter", (3,))),
+                         ("Chapter 3", ("chapter", (3,))), ("CHAPTER 3", ("chapter", (3,))),
                          ("1:9:3.7", ("time", (1, 9, 3, 7))), ("1:09:30", ("time", (1, 9, 30)))):
         assert wanted_of(text) == wanted
     for text in ("", "x", "-1", "1:2", "1:02:3", "1:02:03.", "chapter", "chapter  3", "1.5", " 1", "1:09:30.12.1"):

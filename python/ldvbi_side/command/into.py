@@ -15,6 +15,10 @@ from .faults import no_metadata
 from .outputs import make_folder, refuse_inputs, whole_file, whole_path
 from .progress import Progress
 
+# How the names of a document and of a database end, and what they are
+ENDS = (".json", ".db")
+FORMS = ("a JSON document", "a database")
+
 
 class Into:
     """The copy with this name of the metadata of a side. Its `places` have to be given the fields and members of the
@@ -39,7 +43,11 @@ class Into:
         if not stat.S_ISREG(os.stat(self._old).st_mode):
             raise ValueError("%s is no file that can be copied" % self._old)
         with open(self._old, "rb") as file:
-            if is_database(file.read(16)):
+            is_of_rows = is_database(file.read(16))
+            if self._path.endswith(ENDS[not is_of_rows]):
+                raise ValueError("%s is %s, and the name of %s ends like that of %s" % (
+                    self._old, FORMS[is_of_rows], self._path, FORMS[not is_of_rows]))
+            if is_of_rows:
                 from ..into.rows import BESIDE, Rows  # the smallest Pythons have no sqlite3
                 refuse_inputs([self._path], [self._old + end for end in BESIDE])
                 self._rows = Rows(self._old)

@@ -19,7 +19,7 @@ from .faults import fault_text, naming
 from .folders import Task
 from .into import Into
 from .map import COLUMNS as MAP_COLUMNS, head_rows, map_rows
-from .outputs import refuse_inputs, whole_file
+from .outputs import STANDARD_OUTPUT, refuse_inputs, whole_file
 from .parser import settings_in, words_of
 from .parsers import parser_of_side
 from .progress import Progress
@@ -72,9 +72,7 @@ def _write_files(side, options, is_tbc, into):
             answer = side.analysis.answer
             _print_table(MAP_COLUMNS, [*head_rows(answer, side.levels), *map_rows(answer)], file)
     if options.chapters:
-        from .chapters import chapters_text
-        with whole_file(options.chapters) as file:
-            file.write(chapters_text(side.analysis.answer, options.chapters))
+        _write_chapters(side.analysis.answer, options.chapters)
     if options.html:
         from ..draw.page import page_of
         from ..draw.plotting import plotter
@@ -84,14 +82,27 @@ def _write_files(side, options, is_tbc, into):
                                None if options.side == "-" else options.side, options.words))
 
 
+def _write_chapters(answer, path):
+    """Writes the chapters, if there are any: a program that gets a file without one would take its own away."""
+    from .chapters import chapters_text
+    if not answer.chapters:
+        say("no chapter of the side is believed: %s isn't written" % path)
+        return
+    with whole_file(path) as file:
+        file.write(chapters_text(answer, path))
+
+
 def _files(options):
     """The files that are written beside what is printed; None for one that isn't asked for."""
     return [options.into, *_drawn(options)]
 
 
+_DRAWN = ("svg", "map", "chapters", "html")
+
+
 def _drawn(options):
     """Those of them that have what the words mean."""
-    return [options.svg, options.map, options.chapters, options.html]
+    return [getattr(options, name) for name in _DRAWN]
 
 
 def _is_printed(options):
@@ -127,12 +138,17 @@ def _options(words, settings=None):
     options = parser.parse_args(words, settings)
     if not (_is_printed(options) or any(_files(options))):
         options.summary = True
+    for name in _DRAWN:
+        if getattr(options, name) == "/dev/stdout":
+            setattr(options, name, STANDARD_OUTPUT)
     if "" in (options.meta, options.output, *_files(options)):
         parser.error("a file has to have a name")
     if options.recovered and (not (options.document or options.into) or options.no_recover):
         parser.error("--recovered goes with --document or --into, not with --no-recover")
     if options.as_read and not options.into:
         parser.error("--as-read is of --into")
+    if _files(options).count(STANDARD_OUTPUT) + _is_printed(options) > 1 and STANDARD_OUTPUT in _files(options):
+        parser.error("standard output takes one thing")
     is_open = options.into or None in settings_given(options)
     options.waits = True  # if the side is a pipe
     options.is_alone = settings is None  # not one of several
@@ -199,7 +215,8 @@ def _print_place(answer, wanted):
 def _run(options):
     """What the options ask for. The answer is the exit status."""
     inputs = [0 if options.side == "-" else options.side, options.meta]
-    refuse_inputs([1 if options.output is None else options.output, *_files(options)], inputs)
+    files = [None if path == STANDARD_OUTPUT else path for path in _files(options)]
+    refuse_inputs([1 if options.output is None else options.output, *files], inputs)
     if options.output is None:
         return _answer(options)
     with whole_file(options.output) as file, contextlib.redirect_stdout(file):

@@ -7,10 +7,12 @@ import os
 import re
 import shutil
 import stat
+import sys
 from typing import IO, Iterable, Iterator, List, Sequence, Union
 
 from ..outside import raise_lost
 
+STANDARD_OUTPUT = "-"  # in place of a file's name
 Place = Union[str, int, None]  # a file: its path, the number of an open one, or none
 _LONGEST_NAME = 255  # bytes of a file's name
 _PART = ".ldvbi-"  # with what the names of parts begin
@@ -21,12 +23,15 @@ _NAME_OF_PART = re.compile(re.escape(_PART) + r".*\.([0-9a-f]{8})-([1-9][0-9]{0,
 def whole_file(path: str) -> Iterator[IO[str]]:
     """A text file to write to. It gets its name, which may be that of an older file, when the block ends without an
     exception; else nothing is left of it. Something that isn't a file, such as a pipe or a terminal, is written to as
-    it is."""
-    target = _target_of(path)
-    if os.path.exists(target) and not os.path.isfile(target):
-        with _named_where_written(path), _opened(path, target, "w") as file:
+    it is, and `-` is standard output."""
+    if path == STANDARD_OUTPUT:
+        yield sys.stdout
+        return
+    if os.path.exists(path) and not os.path.isfile(path):
+        with _named_where_written(path), _opened(path, path, "w") as file:
             yield file
         return
+    target = _target_of(path)
     part = _part_of(target)
     try:
         with _named_where_written(path), _opened(path, part, "x") as file:
