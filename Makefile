@@ -9,8 +9,8 @@
 # for another machine by `make rust TARGET=..`; `make rust-compare` compares that with what is proved.
 #
 # Once the program is built, these need no toolchain: `make install PREFIX=DIR` copies it and `ldvbi-side` to DIR/bin,
-# the manual pages, completions, schema, the Python module, documents and examples to DIR/share, and
-# the library with its header to DIR/lib (or LIBDIR) and DIR/include where it is built, too; `make install-lib` installs
+# the manual pages, completions, schema, the Python module, documents and examples to DIR/share (below /usr and
+# /usr/local the system's python3 finds the module), and the library with its header to DIR/lib (or LIBDIR) and DIR/include where it is built, too; `make install-lib` installs
 # the library alone; DESTDIR goes before all of them; `make uninstall PREFIX=DIR` takes all of it away; `make wheel`
 # packs the Python module with the library for pip, and `make venv` puts it into a virtual environment, .venv; `make
 # deb` makes a package of Debian's of what is installed; `make check PROGRAM=./ldvbi` runs the gate's scripts on the
@@ -39,6 +39,10 @@ SCHEMAS := ldvbi.schema.json ldvbi-join.schema.json ldvbi-recovered.schema.json 
 	ldvbi-side.schema.json
 SHARED := $(addprefix share/schema/,$(SCHEMAS))
 DOCUMENTS := $(ROOT)/share/doc/ldvbi
+# Where the system's Python looks for modules below PREFIX. A file there names the folder that ours are in.
+SITE = $(shell /usr/bin/python3 -c 'import site, sys; print(*[place for place in site.getsitepackages() \
+    if place.startswith(sys.argv[1])][:1])' $(PREFIX)/lib/ 2> /dev/null)
+PTH = $(DESTDIR)$(SITE)/ldvbi.pth
 PAGES := README.md CHANGELOG.md $(wildcard docs/*.md)
 # A page without the comments that say what in it is made from the source
 UNMARKED := sed '/^<!--.*-->$$/d; s/<!--[^>]*-->//g'
@@ -149,6 +153,7 @@ install: places said-from $(BUILT)ldvbi $(if $(wildcard $(BUILT)libldvbi.a),inst
 	install -m 644 $(SHARED) $(ROOT)/share/ldvbi
 	install -d $(patsubst %/,$(ROOT)/share/ldvbi/%,$(sort $(dir $(PYTHON))))
 	$(foreach module,$(PYTHON),install -m 644 $(module) $(ROOT)/share/ldvbi/$(module) &&) :
+	$(if $(SITE),install -d $(dir $(PTH)) && echo $(PREFIX)/share/ldvbi/python > $(PTH) && chmod 644 $(PTH))
 	install -d $(DOCUMENTS)/docs/pictures $(DOCUMENTS)/examples/rust/src/bin
 	install -m 644 LICENSE $(DOCUMENTS)
 	$(foreach page,$(PAGES),$(UNMARKED) $(page) > $(DOCUMENTS)/$(page) && chmod 644 $(DOCUMENTS)/$(page) &&) :
@@ -192,7 +197,7 @@ install-lib: places $(if $(BUILT),rust/libldvbi.a rust/libldvbi.so.$(ABI),lib)
 uninstall: places
 	rm -f $(COMMANDS:%=$(ROOT)/bin/%) $(COMMANDS:%=$(MANUALS)/%.1) $(COMMANDS:%=$(BASH_COMPLETIONS)/%) \
 	    $(COMMANDS:%=$(ZSH_COMPLETIONS)/_%)
-	rm -rf $(ROOT)/share/ldvbi $(DOCUMENTS)
+	rm -rf $(ROOT)/share/ldvbi $(DOCUMENTS) $(if $(SITE),$(PTH))
 	rm -f $(ROOT)/include/ldvbi.h $(LIBRARIES)/libldvbi.a $(LIBRARIES)/libldvbi.so $(LIBRARIES)/libldvbi.so.$(ABI) \
 	    $(LIBRARIES)/pkgconfig/ldvbi.pc
 	rm -rf $(LIBRARIES)/cmake/ldvbi

@@ -55,6 +55,7 @@ check 'the package is installed with what it depends on' in_bare two 'apt-get in
 check 'its program' in_bare two 'ldvbi extract side.tbc > side.vbi.json'
 in_bare two 'ldvbi-side side.tbc'
 check 'its command' [ "$status $(head -n 1 out)" = "1 $(grep -m 1 '^whole: ' "$top/README.md")" ]
+check "its module, by the system's Python" in_bare two 'python3 -c "import ldvbi, ldvbi_side; ldvbi.find_pace"'
 in_bare two 'rm ldvbi_*.deb; apt-get purge ldvbi'
 check 'nothing of it is left' [ "$status $(find two -name '*ldvbi*')" = '0 ' ]
 finish

@@ -49,7 +49,19 @@ has() {
 } > files
 printf '%s\n' include/ldvbi.h lib/cmake/ldvbi/ldvbi-config-version.cmake lib/cmake/ldvbi/ldvbi-config.cmake \
     lib/libldvbi.a lib/libldvbi.so lib/libldvbi.so.1 lib/pkgconfig/ldvbi.pc | cat files - > files_of_both
-{ sed 's,/ldvbi/.*,/ldvbi-other/file,; t; s,\([^/.]*\)\([^/]*\)$,\1-other\2,' files_of_both; echo lib/libldvbi.so.0; } |
+# by_python FILES PREFIX: these files, and what says to the system's Python where the module is
+by_python() {
+    cat "$1"
+    /usr/bin/python3 -c "import site
+for place in site.getsitepackages():
+    if place.startswith('$2/lib/'):
+        print(place[len('$2/'):] + '/ldvbi.pth')
+        break"
+}
+by_python files /usr/local > files_local
+by_python files_of_both /usr > files_of_debian
+{ sed 's,/ldvbi/.*,/ldvbi-other/file,; t; s,\([^/.]*\)\([^/]*\)$,\1-other\2,' files_of_both files_local
+    echo lib/libldvbi.so.0; } |
     sort -u > others
 # installs NAME FILES FOLDER WORD..: installs with these words, and takes that away
 installs() {
@@ -77,7 +89,7 @@ installs() {
 made uninstall PREFIX="$work/nothing/usr"
 check 'make uninstall where nothing of ours is' [ $status = 0 ]
 installs 'a prefix' files one/usr PREFIX="$work/one/usr"
-installs 'a prefix below DESTDIR' files two/usr/local DESTDIR="$work/two"
+installs 'a prefix below DESTDIR' files_local two/usr/local DESTDIR="$work/two"
 
 # What is refused, with nothing installed; and before `make rust` nothing is taken from there
 while IFS='|' read -r words said; do
@@ -155,7 +167,7 @@ if [ -e "$built/libldvbi.a" ]; then
     installs 'both' files_of_both both/usr PREFIX="$work/both/usr"
     in_debian="DESTDIR=$work/debian PREFIX=/usr LIBDIR=/usr/lib/x86_64-linux-gnu"
     made install $in_debian
-    check 'a library below its architecture' has debian/usr files_of_both 's,^lib/x86_64-linux-gnu,lib,'
+    check 'a library below its architecture' has debian/usr files_of_debian 's,^lib/x86_64-linux-gnu,lib,'
     made uninstall $in_debian
     check 'nothing of it is left' has debian empty
     made install-lib DESTDIR="$work/apart" PREFIX=/usr LIBDIR=/elsewhere/lib
@@ -167,7 +179,7 @@ if [ -e "$built/libldvbi.a" ]; then
     check 'a wheel and a package beside it' [ "$status $(echo tree/dist/*.whl tree/dist/*.deb | wc -w)" = '0 2' ]
     dpkg-deb -x tree/dist/*.deb package
     printf 'share/%s\n' doc/ldvbi/changelog.Debian.gz doc/ldvbi/copyright lintian/overrides/ldvbi |
-        cat - files_of_both | grep -v /LICENSE > files_of_package
+        cat - files_of_debian | grep -v /LICENSE > files_of_package
     check 'what is in the package' has package/usr files_of_package 's,^lib/x86_64-linux-gnu,lib,; s/[.]1[.]gz$/.1/'
     touch tree/crates.txt
     made dist
