@@ -28,7 +28,7 @@ done
 [ -z "$gate" ] || [ -x /usr/sbin/debootstrap ] || missing="$missing debootstrap"
 # The system's Python, whose packages are Debian's, runs a command of docs/RECIPES.md, and the wheel is tried by it. Its
 # pytest runs the tests of the Python package, on all processors by xdist, and its coverage records which lines run.
-for pair in jsonschema coverage pytest xdist:pytest-xdist hypothesis ensurepip:venv ${gate:+setuptools wheel}; do
+for pair in jsonschema coverage pytest xdist:pytest-xdist hypothesis ensurepip:venv ${gate:+wheel}; do
     /usr/bin/python3 -c "import ${pair%:*}" 2> /dev/null || missing="$missing python3-${pair#*:}"
 done
 for crate in ${rust:+arrayvec byteorder clap itoa serde-json thiserror} ${gate:+libc}; do

@@ -1,4 +1,4 @@
-"""The packages of python/: pyproject.toml names each, none imports one above it, each public function has types, and
+"""The packages of python/: none imports one above it, each public function has types, and
 mypy finds nothing that they rule out."""
 
 import ast
@@ -22,11 +22,6 @@ ORDER = ["ldvbi", ROOMS[0], "ldvbi_side", *ROOMS[1:]]
 
 def package_of(name):
     return name.rpartition(".")[0]
-
-
-def test_each_file_is_of_a_named_package():
-    named = re.search(r"^packages = \[(.*?)\]$", pathlib.Path(TOP, "pyproject.toml").read_text("utf-8"), re.M | re.S)[1]
-    assert set(map(package_of, MODULES)) == set(re.findall(r'"(.*?)"', named))
 
 
 def imported_by(name):
