@@ -1,14 +1,15 @@
--- A plan by which one file of a disc is made from captures of it: which of their fields stand where, what is padding, and
--- when it is done. The fields of all captures are counted through from 0. The rule is this project's own.
+-- A plan by which one file of a disc is made from captures of it: which of their fields stand where, what is padding,
+-- and when it is done. The fields of all captures are counted through from 0. The rule is this project's own.
 use Rattle.std.specs.Prelude.{◌≡◌, ◌≢◌, ℕ, zero, suc, ◌+◌, ◌*◌, ◌<◌, ◌≤◌, ◌⊎◌, List, length, Option, Some, None}
-use Rattle.std.specs.Prelude.{slice_get, Bool, true, false}
+use Rattle.std.specs.Prelude.{slice_get, Bool, true, false, [], ◌∷◌, ◌++◌, ◌==◌, if◌then◌else◌, replicate}
 use Rattle.vbi_side.specs.declared.number.Number.{Number}
 use Rattle.vbi_side.specs.declared.plan.Capture.{Capture}
 use Rattle.vbi_side.specs.declared.plan.Layout.{Layout}
 use Rattle.vbi_side.specs.declared.plan.Spacing.{Spacing}
 use Rattle.vbi_side.specs.declared.plan.Spacing.TheVariants.{Video, Both, Film, Rising}
 use Rattle.vbi_side.specs.declared.plan.Stretch.{Stretch}
-use Rattle.vbi_side.specs.Clocks.{kept}
+use Rattle.vbi_side.specs.declared.pace.Pace.TheVariants as pace
+use Rattle.vbi_side.specs.Clocks.{kept, DiscCountsBy}
 use Rattle.vbi_side.specs.Numbers.{IsMarked}
 
 -- ---- what stands where
@@ -146,6 +147,46 @@ pub record IsFirstFault (layout : Layout) (numbers : List Number) (captures : Li
   pub before : (k : ℕ) → k < i → IsGood layout numbers captures plan k
   pub breaks : Breaks layout numbers captures plan rule i
 
+-- ---- the file
+
+-- what stands in so many fields that are taken from field f on
+unfoldable pub taken_from : {A : Type 0} → List A → ℕ → ℕ → List (Option A)
+taken_from fields f zero = []
+taken_from fields f (suc count) = slice_get fields f ∷ taken_from fields (suc f) count
+
+-- what stands in a stretch: what its capture has there, or nothing if it is padding
+abbrev pub given_by : {A : Type 0} → List A → Stretch → List (Option A)
+given_by fields stretch =
+    if stretch.padding == 0 then taken_from fields stretch.field stretch.fields else replicate stretch.fields None
+
+-- what stands in the file, of what the captures have in their fields
+unfoldable pub shown : {A : Type 0} → List A → List Stretch → List (Option A)
+shown fields [] = []
+shown fields (stretch ∷ plan) = given_by fields stretch ++ shown fields plan
+
+-- the field of the captures that stands in field j of stretch i, if it isn't padding, is field f
+pub record Takes (plan : List Stretch) (i j f : ℕ) : Type 0 where
+  pub stretch : Stretch
+  pub there : slice_get plan i ≡ Some stretch
+  pub taken : stretch.padding ≡ 0
+  pub inside : j < stretch.fields
+  pub is : f ≡ stretch.field + j
+
+-- each field of the captures is a later one on the disc than the one before it, from field f to field g
+abbrev pub RiseFrom : (ℕ → ℕ) → ℕ → ℕ → Type 0
+RiseFrom place f g = (k : ℕ) → f ≤ k → k < g → place k < place (suc k)
+
+-- a disc of video that counts by the clock, of which the plan's first number is in field d; the believed numbers of the
+-- captures are those that their fields have there
+pub record IsOfDisc (layout : Layout) (disc : ℕ → Option ℕ) (place : ℕ → ℕ) (numbers : List Number)
+    (plan : List Stretch) (d : ℕ) : Type 0 where
+  pub spacing : layout.spacing ≡ Video
+  pub counts : DiscCountsBy layout.clock pace.Video disc
+  pub right : (f n : ℕ) → IsMarked numbers f n → disc (place f) ≡ Some n
+  pub first : ℕ
+  pub begins : disc d ≡ Some first
+  pub is_first : kept layout.clock first ≡ rank_at layout plan 0
+
 -- ---- as far as a check has come
 
 -- rank r stands in field f: that is the plan's first number, or, if each number counts on from the one before it, one
@@ -155,8 +196,8 @@ Origin layout numbers plan i j f r = ((f ≡ layout.begin) × (r ≡ rank_at lay
     ⊎ ((is_both layout.spacing ≡ false) × ((k : ℕ) × (h : ℕ) × (m : ℕ) × IsBefore k h i j × Shows numbers plan k h m
     × (f ≡ out_at plan k + h) × (r ≡ kept layout.clock m)))
 
--- what counts on from rank r in field f counts on from the plan's first number, and from each that the file shows before
--- field j of stretch i
+-- what counts on from rank r in field f counts on from the plan's first number, and from each that the file shows
+-- before field j of stretch i
 pub record IsReached (layout : Layout) (numbers : List Number) (plan : List Stretch) (i j f r : ℕ) : Type 0 where
   pub from_first : CountsOn layout.spacing layout.begin (rank_at layout plan 0) f r
   pub from_each : (k h m : ℕ) → IsBefore k h i j → Shows numbers plan k h m

@@ -35,6 +35,7 @@ mod pace;
 mod place;
 mod plan;
 mod plan_check;
+pub mod plan_laws;
 pub mod reason_laws;
 pub mod rule_laws;
 mod seek;
