@@ -33,3 +33,4 @@ pub mod Drifts
 pub mod CleanRuns
 pub mod SoundEnds
 pub mod Witnesses
+pub mod Plans

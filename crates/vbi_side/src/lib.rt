@@ -33,6 +33,9 @@ pub mod long_laws;
 mod number;
 mod pace;
 mod place;
+mod plan;
+mod plan_check;
+pub mod plan_laws;
 pub mod reason_laws;
 pub mod rule_laws;
 mod seek;
@@ -62,6 +65,10 @@ pub use gaps::find_gaps;
 pub use lines::{Counted, Shown, sightings};
 pub use number::{BELIEVED, DOUBTFUL, DUE, NOTHING, Number};
 pub use pace::Pace;
+pub use plan::{Capture, Layout, Spacing, Stretch};
+pub use plan_check::{
+    Checked, DISORDERED, HIDDEN, MISPLACED, NOT_THERE, PLANNED, TWICE, check_plan,
+};
 pub use seek::first_of;
 pub use sighting::{Sighting, Sightings};
 pub use stops::judge_stop;
