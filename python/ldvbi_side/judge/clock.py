@@ -18,7 +18,7 @@ out numbers in both ways."""
 
 import itertools
 from collections import Counter
-from typing import Iterator, List, NamedTuple, Set, Tuple
+from typing import List, NamedTuple, Set, Tuple
 
 from ldvbi import Clock, ClockKind
 
@@ -66,16 +66,6 @@ def left_out_in(clock: Clock, first: int, last: int) -> Set[int]:
 def _with_rest(period, rest, first, last):
     """The numbers from the first to the last that leave this rest."""
     return range(first + (rest - first) % period, last + 1, period)
-
-
-def kept_in(clock: Clock, first: int, last: int) -> Iterator[Tuple[int, int]]:
-    """The stretches of numbers from the first to the last between those that a clock leaves out."""
-    for number in sorted(left_out_in(clock, first, last)):
-        if first < number:
-            yield first, number - 1
-        first = number + 1
-    if first <= last:
-        yield first, last
 
 
 def open_in(gaps: List[Gap], runs: List[Tuple[int, int]]) -> Set[int]:
