@@ -204,7 +204,7 @@ def test_the_order_of_all_reasons():
     assert [one.why for one in known.reasons] == ["order"]
     known = known._replace(
         numbers=known.numbers._replace(least=11), lost=[Lost(9, 10, 2, "number")], lead_in=[Stretch(40, 40, 1)],
-        lines={**known.lines, 18: known.lines[18]._replace(pass1=0, pass2=0)}, breaks=[Break("back", 9, 10, 5, 4, 1)],
+        breaks=[Break("back", 9, 10, 5, 4, 1)],
         swapped=[Swapped(9, None)], speeds=[Speed(9, 49, "2")], metadata_fields=999, fields=500, cut_field=Cut(501, 1),
         missing=[Missing(9, 9, 1, why, 9, 10) for why in ("undecided", "unread", "lost")],
         stray=[Stray(field, 17, 0x87FFFF, Kind.clv_mark, 1, "format") for field in (9, 10)], doubtful=[
@@ -217,7 +217,7 @@ def test_the_order_of_all_reasons():
         return [one.why for one in reasons_of(known, *words) if one.whole in kinds]
 
     unit = Unit("picture", 30)
-    others = ["open", "off", "undecided", "ends", "order", "line", "doubtful"]
+    others = ["open", "off", "undecided", "ends", "order", "doubtful"]
     no = ["lost", "jumps", "speed", "missing", "swapped", "begins", "unread", "lead-out", "joined", "format",
           "metadata", "cut"]
     assert (whys(gaps, unit, True), whys(gaps, unit, True, kinds=["no"])) == (no + ["numbers"] + others, no)

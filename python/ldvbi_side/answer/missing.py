@@ -11,7 +11,7 @@ from ..judge.places import Break, Places, Showing
 from ..judge.readings import Codes
 from .ends import Begin, first_of, ordinal_of
 from .entries import Lost, Missing, Repeated
-from .gaps import Gaps
+from .gaps import Between, Gaps
 
 _BLANK = frozenset(["blank"])
 FAR = 10  # numbers passed over to one that fields may be there for: from here on most of them are sure to be lost
@@ -22,28 +22,29 @@ def missing_of(places: Places, gaps: Gaps, codes: Codes, begin: Optional[Begin])
     """The numbers that no field has, in stretches of one reason: those between the least and the greatest, and those
     that are lost before the least one, as `begin` says; and those that the disc's clock left out. A number is lost only
     in a gap that lacks fields."""
-    unit, breaks, unshown = places.numbers.unit, places.breaks, [(one, one) for one in places.unshown]
+    unit, breaks, unshown = places.numbers.unit, places.breaks, set(places.unshown)
     firsts = {one.number: one.first for one in reversed(places.showings)}
-    lost = sorted((one.after, one.before) for one in gaps.breaks + gaps.at_speed if one.kind == "lost")
+    lost = [(one.after, one.before) for one in gaps.breaks + gaps.at_speed if one.kind == "lost"]
     others = [(one.from_ + 1, one.to - 1) for one in gaps.at_speed if one.kind == "lost"]
     if begin and begin.fields > 0:
         number, start = ordinal_of(begin.lacks, unit.rate), first_of(unit.name, unit.rate) - 1
-        lost.insert(0, (begin.after, begin.before))
+        lost.append((begin.after, begin.before))
         others.append((0, number - 1))
         if number == min(firsts) and firsts[number] == begin.before:  # as if the disc's first one stood before the loss
             breaks = [Break("lost", begin.after, begin.before, start, number, begin.fields)] + breaks
-            unshown += [(one, one) for one in left_out_in(places.numbers.clock, start + 1, number - 1)]
+            unshown |= left_out_in(places.numbers.clock, start + 1, number - 1)
             firsts[start] = begin.after
-    losses = _Losses(lost)
+    losses = Between(lost)
     passed = _passed_over(places, breaks, losses, codes)
-    whys = PassedOver([("clock", [(one, one) for one in places.left_out]), ("unread", _unread_in(places)),
-                       ("unshown", unshown), *passed, ("lost", others)])
+    unread = places.without_field.union([number for number, _ in places.due])
+    known = (("clock", places.left_out), ("unread", unread), ("unshown", unshown))
+    whys = PassedOver([*((why, [(one, one) for one in ones]) for why, ones in known), *passed, ("lost", others)])
     found: Dict[bool, List[List[Any]]] = {False: [], True: []}
     numbers = sorted(firsts)
     for one, other in zip(numbers, numbers[1:]):
         ends = firsts[one], firsts[other]
         for first, last, why in whys.parts(one + 1, other - 1) if other - one > 1 else ():
-            if why == "lost" and ends[0] < ends[1] and not losses.are_between(*ends):
+            if why == "lost" and ends[0] < ends[1] and not losses.meet(*ends):
                 why = "undecided"
             stretches = found[why == "clock"]
             if stretches and stretches[-1][1:] == [first - 1, why, ends]:
@@ -53,17 +54,6 @@ def missing_of(places: Places, gaps: Gaps, codes: Codes, begin: Optional[Begin])
     missing, left_out = ([Missing(unit.text_of(first), unit.text_of(last), last - first + 1, why, *ends)
                           for first, last, why, ends in ones] for ones in found.values())
     return missing, left_out
-
-
-class _Losses:
-    """The fields between which some are lost, in order."""
-
-    def __init__(self, lost: List[Tuple[int, int]]) -> None:
-        self.after, self.before = [after for after, _ in lost], [before for _, before in lost]
-
-    def are_between(self, first: int, last: int) -> bool:
-        """Whether some are lost in a gap that lies between these two fields, or holds some of those between them."""
-        return bisect.bisect(self.before, first) < bisect.bisect_left(self.after, last)
 
 
 # ---- Lost or unread
@@ -118,18 +108,13 @@ def _merged(spans):
     return ends
 
 
-def _unread_in(places):
-    """The numbers that are due, each as a span."""
-    return [(one, one) for one in places.without_field.union([number for number, _ in places.due])]
-
-
-def _passed_over(places: Places, breaks: List[Break], losses: _Losses, codes: Codes) -> Spans:
+def _passed_over(places: Places, breaks: List[Break], losses: Between, codes: Codes) -> Spans:
     """Why numbers aren't there that were passed over between two believed ones, or between two sides. Numbers are lost
     only in a gap that lacks fields, and none that a field in it shows in pass 1 on both lines."""
     spans: Dict[str, List[Tuple[int, int]]] = {
         "unread": [], "undecided": [(one, one) for one in places.open], "lost": []}
     for one in breaks:
-        if one.from_ < one.to and (one.kind == "held" or losses.are_between(one.after, one.before)):
+        if one.from_ < one.to and (one.kind == "held" or losses.meet(one.after, one.before)):
             for why, first, last in Passed(one.from_ + 1, one.to - 1, *_fate(one, places.numbers, codes.fields)).parts():
                 spans[why].append((first, last))
             shown = map(codes.sure_picture, range(one.after + 1, one.before))
@@ -167,35 +152,10 @@ def lost_fields(places: Places, gaps: Gaps, first: Sequence[bool]) -> List[Lost]
     swapped, numbered = _swapped_parity(places.numbers, first), places.numbers.fields
     fields = [field for field in range(numbered[0] + 1, min(numbered[-1], len(first)) + 1)
               if first[field - 1] == first[field - 2]] if numbered else []
+    sides = Between([(before.field, after.field) for before, after in places.joins] +
+                    [(one.after, one.before) for one in gaps.joins])
     return _with_parity(lost, [(field, "undecided" if places.numbers.go_on_before(field) else "parity")
-                               for field in fields if field not in swapped and
-                               not _is_between_sides(places, gaps, field)])
-
-
-def _is_between_sides(places, gaps, field):
-    """Whether a field stands between the numbers of two sides."""
-    return any(before.field < field <= after.field for before, after in places.joins) or any(
-        one.after < field <= one.before for one in gaps.joins)
-
-
-def own_breaks(places: Places) -> List[Break]:
-    """The breaks of the numbers that are believed here. If a picture was read in one of its two fields, it isn't known
-    in which. So if one field is lost, such pictures before the loss may stand after it, if their field is taken for the
-    first one. (The chain of numbers has the break as late as it can be.)"""
-    pace = places.numbers.pace
-    if not pace or pace.kind != "both":
-        return places.breaks
-    return [one._replace(after=_first_after(places.numbers, one.after)) if one.kind == "lost" and one.fields == 1
-            else one for one in places.breaks]
-
-
-def _first_after(numbers, after):
-    """The first field after which the one may be lost that is lost after this one."""
-    place = bisect.bisect(numbers.fields, after) - 1
-    while place > 0 and numbers.believed[place].variant == 0 and numbers.off(
-            numbers.believed[place - 1], numbers.believed[place]) == 0:
-        place -= 1
-    return numbers.fields[place]
+                               for field in fields if field not in swapped and not sides.meet(field - 1, field)])
 
 
 def _swapped_parity(numbers, first):

@@ -1,19 +1,14 @@
 """Which readings are believed. Those that the library believes are: they are the anchors of a side (`anchored`). Where
 the library leaves it open, at most one reading a field is chosen, so that their weight less the price of their breaks
 is greatest. Such a choice is a chain, drawn from one anchor to the next (`chosen`). Chapters are chosen in this way,
-too, and so are minutes, of which the library believes none. The pace (paces.py) says by how many fields two readings
-are off, and `price` says what that costs:
+too, and so are minutes, of which the library believes none:
 
     field    1   3    5   7   9     each number weighs 4, as a word on two lines does
     number   1   2  903   4   5     without 903 the chain is worth 16, with it 20 less two breaks of 12
 
-The price of a step depends only on its two readings. So a best chain that ends with a reading goes on from a best one
-that ends with an earlier reading, and one pass over the readings finds them all. Only some earlier ones are asked: the
-last few, the last one whose numbers go on to this one, the last one with the same number, and the one at which the best
-chain of all ends. So a better chain may be missed. What a pace leaves open of a number, its variant, is found last.
-
-readings.py says what words weigh, and paces.py what fits and what breaks cost. If these, or the choice here, change,
-docs/SIDES.md changes, too, and so does what was measured."""
+The price of a step depends only on its two readings, so one pass over these finds a best chain that ends with each. Of
+the earlier ones only some are asked (`_Earlier`), so a better chain may be missed. What a pace leaves open of a number,
+its variant, is found last. docs/SIDES.md has the rules."""
 
 import contextlib
 import functools
@@ -120,7 +115,8 @@ def chain(readings: List[Reading], pace: AnyPace) -> List[Reading]:
 
 
 class _Earlier:
-    """The earlier readings that are asked."""
+    """The earlier readings that are asked: the last few, the last one whose numbers go on to this one, the last one
+    with the same number, and the one at which the best chain of all ends."""
 
     def __init__(self, pace: AnyPace) -> None:
         self.pace = pace
