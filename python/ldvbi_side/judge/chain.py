@@ -46,7 +46,16 @@ def judged_of(fields: Fields, counted: Counted) -> JudgedSide:
             if found.clock.kind != ClockKind.plain or not found.gaps or any(map(is_dropped, _believed(found.numbers))):
                 return found
             return min(found, judge(clock=DROP_FRAME), key=lambda one: len(one.gaps))
-    return judge()
+    found = judge()
+    return judge(pace=JudgedPace.video) if found.pace == JudgedPace.film and _is_on_both(found.numbers) else found
+
+
+def _is_on_both(numbers):
+    """Whether most numbers stand on the field before as well, as on no film: at a third of the speed numbers on both
+    fields may look like those of film."""
+    shown = [number if state in (State.believed, State.doubtful) else None for number, state in numbers]
+    again = sum(one == other is not None for one, other in zip(shown, shown[1:]))
+    return 2 * again > len(shown) - shown.count(None)
 
 
 def _believed(numbers):

@@ -74,7 +74,9 @@ def with_speeds(numbers: Numbers, readings: List[Reading],
         return numbers
     loose, stays = _loose(numbers, readings)
     lines = _lines(loose, kind == "both") + _slow_lines(stays)
-    fields = [one.field for one in readings] if lines else []
+    if not lines:
+        return numbers
+    fields, numbers = [one.field for one in readings], numbers.believing(list(numbers.believed))
     for line, ones in sorted(lines, key=lambda found: -sum(one.weight for one in found[1])):
         first, last = _extent(numbers, line, ones)
         if _is_free(numbers.speeds, first, last):
@@ -83,7 +85,7 @@ def with_speeds(numbers: Numbers, readings: List[Reading],
             known = {one.field for one in near}
             ones += complete(line, [field for field in range(first, last + 1, 2) if field not in known])
             numbers = _with_stretch(numbers, Stretch(first, last, line), sorted(ones, key=lambda one: one.field))
-    return numbers
+    return numbers._replace()
 
 
 def _is_free(speeds, first, last):
@@ -94,7 +96,7 @@ def _is_free(speeds, first, last):
 
 def _with_stretch(numbers, stretch, ones):
     """These numbers, with those readings of a stretch, if they weigh more than what was believed in its fields and two
-    changes of the speed cost."""
+    changes of the speed cost. Their lists are changed: to copy these for each stretch would take long."""
     inside = numbers.believed_in(stretch.first, stretch.last)
     fields = {one.field for one in ones}
     if 2 * sum(one.weight for one in inside if one.field not in fields) > sum(one.weight for one in ones):
@@ -105,7 +107,10 @@ def _with_stretch(numbers, stretch, ones):
     if _worth(changed, before, ones, after) - 2 * price(1) <= _worth(numbers, before, inside, after):
         return numbers
     begin, end = bisect.bisect_left(numbers.fields, stretch.first), bisect.bisect(numbers.fields, stretch.last)
-    return changed.believing(numbers.believed[:begin] + ones + numbers.believed[end:])
+    changed.believed[begin:end] = ones
+    changed.fields = numbers.fields
+    changed.fields[begin:end] = [one.field for one in ones]
+    return changed
 
 
 def _worth(numbers, before, ones, after):
