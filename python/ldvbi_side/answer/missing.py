@@ -4,6 +4,7 @@ gaps; and numbers that are shown again."""
 import bisect
 from typing import Any, Dict, Iterator, List, NamedTuple, Optional, Sequence, Set, Tuple
 
+from ldvbi import ClockKind
 from ..judge.believed import stretch_at
 from ..judge.clock import left_out_in
 from ..judge.order import pairs_of
@@ -28,9 +29,12 @@ def missing_of(places: Places, gaps: Gaps, codes: Codes, begin: Optional[Begin])
     others = [(one.from_ + 1, one.to - 1) for one in gaps.at_speed if one.kind == "lost"]
     if begin and begin.fields > 0:
         number, start = ordinal_of(begin.lacks, unit.rate), first_of(unit.name, unit.rate) - 1
-        lost.append((begin.after, begin.before))
-        others.append((0, number - 1))
-        if number == min(firsts) and firsts[number] == begin.before:  # as if the disc's first one stood before the loss
+        is_first = number == min(firsts) and firsts[number] == begin.before
+        if is_first or places.numbers.clock.kind != ClockKind.plain or codes.fields.system != "NTSC" or (
+                unit.name != "time"):  # else an unknown clock may have left out some
+            lost.append((begin.after, begin.before))
+            others.append((0, number - 1))
+        if is_first:  # as if the number before the disc's first one stood before the lost fields
             breaks = [Break("lost", begin.after, begin.before, start, number, begin.fields)] + breaks
             unshown |= left_out_in(places.numbers.clock, start + 1, number - 1)
             firsts[start] = begin.after

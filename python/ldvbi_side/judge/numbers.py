@@ -13,7 +13,7 @@ to each other. docs/SIDES.md has the rules."""
 
 from typing import Dict, List, NamedTuple, Optional
 
-from ldvbi import Counted, Kind
+from ldvbi import Counted, JudgedSide, Kind, State
 from .believed import Line, Numbers
 from .chain import anchored, chain, judged_of, pace_of
 from .detours import without_replaced, without_rows
@@ -48,6 +48,14 @@ class Times(NamedTuple):
                 joined = known.setdefault(lines, (16,) + lines) if near == field else (16,)
                 readings.append(Reading(field, value * self.whole + part, weight, joined))
         return readings
+
+    def with_voted(self, readings: List[Reading], judged: JudgedSide) -> List[Reading]:
+        """These readings, and the times of fields without a minute to which the library gave one by vote."""
+        known = {one.field for one in readings}
+        more = [Reading(field, number, self.codes.weight(field, (16,)), (16,))
+                for field in self.parts.keys() - known for number, state in [judged.numbers[field - 1]]
+                if number is not None and state in (State.believed, State.doubtful)]
+        return sorted(readings + more) if more else readings
 
     def nearest(self, due: int, field: int) -> int:
         """The time with this field's second and picture that is nearest to the one that is due."""
@@ -127,6 +135,7 @@ def _believed(times, readings):
     judged, detours = without_replaced(judged_of(codes.fields, Counted.times))
     pace = pace_of(judged)
     others = set().union(*map(codes.sure_fields, (Kind.chapter, Kind.cx_on, Kind.cx_off)))
+    readings = times.with_voted(readings, judged)
     known = without_rows(readings, detours, judged, pace)
     believed = anchored(known, pace, judged)
     numbers = Numbers(Unit("time", times.rate), pace, believed, others, judged=judged)
