@@ -132,4 +132,4 @@ def test_fates(passed, fates):
             spans[why].append(tuple(span))
     found = PassedOver(list(spans.items()))
     for first, last, why in (fate.replace("-", " ").split() for fate in fates.split(", ")):
-        assert {found.why(number) for number in range(int(first), int(last) + 1)} == {why}
+        assert {one for *_, one in found.parts(int(first), int(last))} == {why}

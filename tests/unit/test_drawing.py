@@ -18,7 +18,7 @@ from ldvbi_side.draw.marks import Mark, marks_of
 from ldvbi_side.draw.svg import shortened, Svg
 from ldvbi_side.join.captures import capture_of
 from ldvbi_side.join.joined import join
-from ldvbi_side.judge.places import Break, Still
+from ldvbi_side.judge.places import Break, Showing
 from ldvbi_side.judge.readings import Stray
 import pytest
 
@@ -29,7 +29,7 @@ ENTRIES = {
     "breaks": Break("held", 9, 12, 5, 6, 4),
     "doubtful": Doubt(7, 18, 0xF79999, Kind.picture, 2, "lines", 79999, None, None),
     "stray": Stray(7, 16, 0x87FFFF, Kind.clv_mark, 1, "line"), "swapped": Swapped(9, 5),
-    "speeds": Speed(9, 49, "1/3"), "stills": Still(5, 9, 15), "repeated": Repeated(5, 6, 21, 23, 9)}
+    "speeds": Speed(9, 49, "1/3"), "stills": Showing(5, 9, 15), "repeated": Repeated(5, 6, 21, 23, 9)}
 PLACE, LOST = ", after field 9, before field 13: ", " between fields 9 and 10, "
 DOUBT, PASS_2 = "doubtful 7: doubtful: picture 79999 in field 7, line 18", ", read only after smoothing: "
 # The list, what is other there, and the lane, its fields, and what it says

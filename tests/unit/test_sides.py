@@ -2,11 +2,13 @@
 side isn't whole, or why that can't be told, in order of weight. And how many calls the analysis of noise takes."""
 
 import cProfile
+import math
 import os
 import random
+import time
 
 from compact import cells_of, check_row, made, rows, table_in
-from discs import answer, minutes, picture, plain, second, side, times, typed
+from discs import LEAD_IN, LEAD_OUT, answer, minutes, picture, plain, second, side, times, typed
 import ldvbi
 from ldvbi import Kind, Reason
 from ldvbi.readings import Cut
@@ -22,6 +24,8 @@ import pytest
 from streams import TOP
 
 MOST = 16  # fields whose calls a field of noise may take
+LENGTHS = 20000, 80000  # fields of sides of which one may take longer than the other as this power of their lengths
+EXPONENT = 1.15
 ROWS = list(table_in(os.path.join(os.path.dirname(__file__), "sides.txt")))
 
 
@@ -171,6 +175,47 @@ def test_the_worst_sides():
         assert calls(fields) < most
 
 
+# Patterns of sides, of any length: clean; lead-in in each twelfth field; noise that leaves a third of the numbers;
+# numbers below 60 by chance; each 150 fields a stretch at three times the speed; each 22 fields a picture lost; of NTSC
+# CLV likewise, with lead-out after each 500.
+def chance(dice, most):
+    return "- {0} {0}".format(picture(dice.randrange(most)))
+
+
+PATTERNS = {
+    "clean": lambda count, dice: rows("1..%d" % (count // 2)),
+    "lead-in": lambda count, dice: [LEAD_IN if place % 12 == 11 else row
+                                    for place, row in enumerate(rows("1..%d" % (count // 2)))],
+    "noise": lambda count, dice: [row if dice.random() < 0.35 else chance(dice, 80000) if dice.random() < 0.5 else "- ? ?"
+                                  for row in rows("1..%d" % (count // 2))],
+    "small": lambda count, dice: [chance(dice, 60) if place % 2 else "- - -" for place in range(count)],
+    "fast": lambda count, dice: rows(" ".join("%d..%d/3 %d..%d" % (begin, begin + 72, begin + 73, begin + 122)
+                                              for begin in range(0, count * 123 // 150, 123))),
+    "lost": lambda count, dice: [row for place, row in enumerate(rows("1..%d" % (count * 11 // 20)))
+                                 if place % 22 not in (4, 5)],
+    "lost times": lambda count, dice: [LEAD_OUT if place % 500 == 0 else row for place, row in enumerate(
+        times(range(count * 11 // 20), 30)) if place % 22 not in (4, 5)]}
+
+
+@pytest.mark.unrecorded
+@pytest.mark.parametrize("name", PATTERNS)
+def test_time_grows_with_the_length(name):
+    """The least times of some runs of a short and of a long side, until they are near enough: a busy machine makes
+    single ones longer."""
+    system = "NTSC" if name == "lost times" else "PAL"
+    sides = [plain(PATTERNS[name](count, random.Random(7)), system) for count in LENGTHS]
+    least = [math.inf, math.inf]
+    for _ in range(12):
+        for place, fields in enumerate(sides):
+            begin = time.process_time()
+            analyse(fields)
+            least[place] = min(least[place], time.process_time() - begin)
+        exponent = math.log(least[1] / least[0], LENGTHS[1] / LENGTHS[0])
+        if exponent <= EXPONENT:
+            return
+    assert exponent <= EXPONENT
+
+
 def test_counts_of_lines():
     """In pass 1, in pass 2, recovered, blank, unfinished, change and hold."""
     assert " ".join(made("B")["lines"]["16"]) == "pass1 pass2 near blank unfinished change hold"
@@ -204,7 +249,7 @@ def test_the_order_of_all_reasons():
     assert [one.why for one in known.reasons] == ["order"]
     known = known._replace(
         numbers=known.numbers._replace(least=11), lost=[Lost(9, 10, 2, "number")], lead_in=[Stretch(40, 40, 1)],
-        lines={**known.lines, 18: known.lines[18]._replace(pass1=0, pass2=0)}, breaks=[Break("back", 9, 10, 5, 4, 1)],
+        breaks=[Break("back", 9, 10, 5, 4, 1)],
         swapped=[Swapped(9, None)], speeds=[Speed(9, 49, "2")], metadata_fields=999, fields=500, cut_field=Cut(501, 1),
         missing=[Missing(9, 9, 1, why, 9, 10) for why in ("undecided", "unread", "lost")],
         stray=[Stray(field, 17, 0x87FFFF, Kind.clv_mark, 1, "format") for field in (9, 10)], doubtful=[
@@ -217,7 +262,7 @@ def test_the_order_of_all_reasons():
         return [one.why for one in reasons_of(known, *words) if one.whole in kinds]
 
     unit = Unit("picture", 30)
-    others = ["open", "off", "undecided", "ends", "order", "line", "doubtful"]
+    others = ["open", "off", "undecided", "ends", "order", "doubtful"]
     no = ["lost", "jumps", "speed", "missing", "swapped", "begins", "unread", "lead-out", "joined", "format",
           "metadata", "cut"]
     assert (whys(gaps, unit, True), whys(gaps, unit, True, kinds=["no"])) == (no + ["numbers"] + others, no)

@@ -11,7 +11,6 @@ from typing import Any, Dict, List, NamedTuple, Sequence
 
 from ldvbi import Clock, Kind
 from ldvbi.collector import paused
-from ..judge.clock import NO_CLOCK
 from ..judge.numbers import numbers_of
 from ..judge.order import pairs_of
 from ..judge.places import Break, Places, places_of, showings_of
@@ -23,7 +22,7 @@ from .ends import begin_of, unseen_between
 from .entries import Answer, Extent, Lost, Speed, Swapped, Unread
 from .gaps import Gaps, gaps_of
 from .lines import bad_lines_of, levels_of, rates_of
-from .missing import lost_fields, missing_before, missing_of, own_breaks, repeated_of
+from .missing import lost_fields, missing_of, repeated_of
 from .parts import chapters_of, ends_of, padding_of, status_of, stops_of, users_of
 from .whole import reasons_of, whole_of
 
@@ -57,12 +56,12 @@ def analysed(fields: Fields) -> Analysis:
         version=VERSION, system=fields.system, format=codes.format, unit=numbers.unit.name, fields=len(fields.words),
         cut_field=fields.cut, frame_begin=begin, pace=numbers.pace.kind if numbers.pace else None,
         bad_lines=bad, lines=rates, levels=levels_of(rates, bad, fields), metadata_fields=fields.expected,
-        open_end=fields.may_end, **_of_numbers(places, gaps, doubts), **_of_losses(places, gaps, codes),
-        **_of_parts(codes, places, doubts, begin))
-    answer = _with_lost_before(answer, places, gaps, codes)
+        open_end=fields.may_end, missing=[], left_out=[], lost=[], padding=padding_of(fields),
+        **_of_numbers(places, gaps, doubts), **_of_parts(codes, places, doubts, begin))
+    answer = _with_losses(answer, places, gaps, codes)
     reasons = reasons_of(answer, gaps, numbers.unit, fields.is_strict, fields.may_end, unseen_between(numbers))
-    return Analysis(answer._replace(whole=whole_of(reasons), reasons=reasons), _breaks(places, own_breaks(places)),
-                    gaps.judged.clock if gaps.judged else NO_CLOCK)
+    return Analysis(answer._replace(whole=whole_of(reasons), reasons=reasons), _breaks(places, places.breaks),
+                    numbers.clock)
 
 
 def _of_numbers(places: Places, gaps: Gaps, doubts: Doubts) -> Dict[str, Any]:
@@ -80,7 +79,10 @@ def _of_numbers(places: Places, gaps: Gaps, doubts: Doubts) -> Dict[str, Any]:
         "unread": [Unread(text_of(number), field, read.get(field)) for number, field in places.due],
         "breaks": _breaks(places, gaps.breaks), "detours": _breaks(places, gaps.detours),
         "stills": [one._replace(number=text_of(one.number)) for one in places.stills],
-        "repeated": repeated_of(places)}
+        "repeated": repeated_of(places),
+        "speeds": [Speed(one.first, one.last, one.line.name()) for one in places.numbers.speeds],
+        "swapped": [Swapped(begin, places.number_at(field))
+                    for begin, field in pairs_of(places.numbers.swapped).items()]}
 
 
 def _breaks(places: Places, breaks: List[Any]) -> List[Any]:
@@ -89,25 +91,15 @@ def _breaks(places: Places, breaks: List[Any]) -> List[Any]:
     return [one._replace(from_=text_of(one.from_), to=text_of(one.to)) for one in breaks]
 
 
-def _of_losses(places: Places, gaps: Gaps, codes: Codes) -> Dict[str, Any]:
-    """What isn't there, or isn't in the disc's order: these members of the answer."""
-    numbers, fields = places.numbers, codes.fields
-    missing, left_out = missing_of(places, gaps, codes)
-    return {
-        "missing": missing, "left_out": left_out,
-        "lost": lost_fields(places, gaps, (fields.first or ())[:len(fields.words)]), "padding": padding_of(fields),
-        "speeds": [Speed(one.first, one.last, one.line.name()) for one in numbers.speeds],
-        "swapped": [Swapped(begin, places.number_at(field)) for begin, field in pairs_of(numbers.swapped).items()]}
-
-
-def _with_lost_before(answer: Answer, places: Places, gaps: Gaps, codes: Codes) -> Answer:
-    """The answer with what the side lacks before its first number, if that is the least one."""
-    begin = begin_of(answer, gaps.judged, places.numbers.unit)
-    if not begin or begin.fields <= 0 or answer.showings[0].first != begin.before or (
-            begin.lacks != answer.numbers.least):
-        return answer
-    return answer._replace(missing=missing_before(places, codes, begin) + answer.missing,
-                           lost=[Lost(begin.after, begin.before, begin.fields, "number")] + answer.lost)
+def _with_losses(answer: Answer, places: Places, gaps: Gaps, codes: Codes) -> Answer:
+    """The answer with what isn't there. Of what the side lacks before its first number it says so if that is the least
+    one."""
+    begin, first = begin_of(answer, gaps.judged, places.numbers.unit), codes.fields.first or ()
+    missing, left_out = missing_of(places, gaps, codes, begin)
+    lost = lost_fields(places, gaps, first[:answer.fields])
+    if begin and begin.fields > 0 and (begin.before, begin.lacks) == (answer.showings[0].first, answer.numbers.least):
+        lost = [Lost(begin.after, begin.before, begin.fields, "number")] + lost
+    return answer._replace(missing=missing, left_out=left_out, lost=lost)
 
 
 def _of_parts(codes: Codes, places: Places, doubts: Doubts, begin: int) -> Dict[str, Any]:

@@ -9,10 +9,7 @@ from typing import Any, Callable, Dict, List, Optional, Sequence, Tuple
 from ldvbi import Kind
 from ldvbi.codes import name_of
 from ldvbi.collector import paused
-from ldvbi.readings import Cut
-from ..judge.places import Showing
-from ..judge.readings import Stray, Unknown
-from .entries import Answer, Doubt, FewWords, Rates, Stop
+from .entries import Answer, Doubt, FewWords
 
 Members = Dict[str, Any]
 _KINDS = {kind: name_of(kind) for kind in Kind}
@@ -44,36 +41,12 @@ def _names_of(kind: Any) -> Tuple[str, ...]:
 
 # ---- Members of other forms
 
-def _cut(cut: Optional[Cut]) -> Optional[Members]:
-    return cut and {"seqNo": cut.field, "bytes": cut.bytes}
-
-
-def _showings(showings: List[Showing]) -> List[List[Any]]:
-    return list(map(list, showings))
-
-
 def _doubtful(doubtful: List[Doubt]) -> List[Members]:
     """Doubtful words, of which there may be many: between two numbers all of them have the same ones beside them."""
     beside = {one: one and entry(one) for one in {one for doubt in doubtful for one in (doubt.before, doubt.after)}}
     return [{"field": field, "line": line, "word": "%06X" % word, "kind": _KINDS[kind], "pass": of_pass, "why": why,
              "number": number, "before": beside[before], "after": beside[after]}
             for field, line, word, kind, of_pass, why, number, before, after in doubtful]
-
-
-def _stray(stray: List[Stray]) -> List[Members]:
-    return [entry(one, word="%06X" % one.word, kind=_KINDS[one.kind]) for one in stray]
-
-
-def _unknown(unknown: List[Unknown]) -> List[Members]:
-    return [entry(one, word="%06X" % one.word) for one in unknown]
-
-
-def _stops(stops: List[Stop]) -> List[Members]:
-    return [entry(one, lines=list(one.lines)) for one in stops]
-
-
-def _lines(lines: Dict[int, Rates]) -> Dict[str, Members]:
-    return {str(line): entry(rates) for line, rates in lines.items()}
 
 
 def _levels(levels: Optional[FewWords]) -> Optional[Members]:
@@ -84,5 +57,10 @@ def _levels(levels: Optional[FewWords]) -> Optional[Members]:
 
 
 _FORMS: Dict[str, Callable[[Any], Any]] = {
-    "cutField": _cut, "numbers": entry, "showings": _showings, "completed": list, "confirmed": list,
-    "doubtful": _doubtful, "stops": _stops, "stray": _stray, "unknown": _unknown, "lines": _lines, "levels": _levels}
+    "cutField": lambda cut: cut and {"seqNo": cut.field, "bytes": cut.bytes},
+    "showings": lambda ones: list(map(list, ones)),
+    "stops": lambda ones: [entry(one, lines=list(one.lines)) for one in ones],
+    "stray": lambda ones: [entry(one, word="%06X" % one.word, kind=_KINDS[one.kind]) for one in ones],
+    "unknown": lambda ones: [entry(one, word="%06X" % one.word) for one in ones],
+    "lines": lambda lines: {str(line): entry(rates) for line, rates in lines.items()},
+    "numbers": entry, "completed": list, "confirmed": list, "doubtful": _doubtful, "levels": _levels}

@@ -19,15 +19,12 @@ def with_confirmed(places: Places, nearest_word: Optional[NearestWord]) -> Place
     unit = places.numbers.unit
     if nearest_word is None or unit.name not in _PILES:
         return places
-    confirmed = [(number, field) for number, field in places.due if _is_nearest(number, field, unit, nearest_word)]
-    if not confirmed:
-        return places
-    shown = set(confirmed)
+    confirmed = {one for one in places.due if _is_nearest(*one, unit, nearest_word)}
     showings = places.showings + [Showing(number, field, field) for number, field in confirmed]
     return places._replace(
         showings=sorted(showings, key=lambda showing: showing.first),
         confirmed=tuple(sorted(field for _, field in confirmed)),
-        due=[one for one in places.due if one not in shown])
+        due=[one for one in places.due if one not in confirmed])
 
 
 def _is_nearest(number: int, field: int, unit: Unit, nearest_word: NearestWord) -> bool:

@@ -35,35 +35,30 @@ class Beside(NamedTuple):
     after: Optional[Neighbour] = None
 
 
-class AllBeside:
-    """What is beside the fields of a side. Between two believed readings it is the same, so it is kept by their
-    place."""
+BesideOf = Callable[..., Beside]  # of a field, and whether its lines differ
 
-    def __init__(self, numbers: Numbers) -> None:
-        self.numbers = numbers
-        self.found: Dict[int, Beside] = {}
-        self.known: Dict[int, Optional[Neighbour]] = {-1: None, len(numbers.fields): None}  # believed readings by place
 
-    def at(self, field: int, is_conflict: bool = False) -> Beside:
-        """What is beside a field, and why a number of it is set aside: because there is another one, or else because of
-        the numbers around it."""
-        fields = self.numbers.fields
+def beside_in(numbers: Numbers) -> BesideOf:
+    """What is beside a field, and why a number of it is set aside: because there is another one, or else because of the
+    numbers around it. Between two believed readings it is the same, so it is kept by their place."""
+    fields = numbers.fields
+
+    @functools.lru_cache(maxsize=None)
+    def reading_at(place: int) -> Optional[Neighbour]:
+        one = numbers.believed[place] if 0 <= place < len(fields) else None
+        return one and Neighbour(one.field, numbers.unit.text_of(one.number))
+
+    @functools.lru_cache(maxsize=None)
+    def at(place: int, is_believed: bool, is_conflict: bool) -> Beside:
+        around = numbers.believed[place - 1:place] + numbers.believed[place + is_believed:place + is_believed + 1]
+        why = "lines" if is_conflict else "neighbours" if len(around) == 2 and numbers.fit(around) else "alone"
+        return Beside(why, reading_at(place - 1), reading_at(place + is_believed))
+
+    def beside(field: int, is_conflict: bool = False) -> Beside:
         place = bisect.bisect_left(fields, field)
-        is_believed = place < len(fields) and fields[place] == field
-        key = 4 * place + 2 * is_believed + is_conflict
-        found = self.found.get(key)
-        if found is None:
-            before, after = self._reading(place - 1), self._reading(place + is_believed)
-            why = "lines" if is_conflict else self.numbers.why(self.numbers.around(field))
-            found = self.found[key] = Beside(why, before, after)
-        return found
+        return at(place, place < len(fields) and fields[place] == field, is_conflict)
 
-    def _reading(self, place: int) -> Optional[Neighbour]:
-        """The believed reading of this place as the answer has it."""
-        if place not in self.known:
-            one = self.numbers.believed[place]
-            self.known[place] = Neighbour(one.field, self.numbers.unit.text_of(one.number))
-        return self.known[place]
+    return beside
 
 
 def doubts_in(codes: Codes, found: Found) -> Doubts:
@@ -72,7 +67,8 @@ def doubts_in(codes: Codes, found: Found) -> Doubts:
     if numbers.unit.name == "time":
         doubtful, conflicts = _times_aside(times, numbers)
     else:
-        doubtful, conflicts = _numbers_aside(codes, numbers, readings)
+        doubtful, conflicts = aside_of(codes, Kind.picture if numbers.unit.name == "picture" else Kind.time, readings,
+                                       numbers.taken, beside_in(numbers), numbers.unit.text_of)
     if times is not None:
         doubtful = _off_the_clock(codes, times) + doubtful
         if numbers.unit.name != "time":
@@ -102,54 +98,26 @@ def conflict_of(field: int, said: Iterable[Tuple[Any, Lines]], taken: Any) -> Co
 def read_in(doubtful: List[Doubt], fields: Collection[int]) -> Dict[int, Any]:
     """What was read in these fields instead of a number that is due there, as text or number: the first word of each
     field that is set aside, by its number or, if no clock shows that, by its digits."""
-    found: Dict[int, Any] = {}
-    for one in doubtful:
-        if one.field in fields:
-            found.setdefault(one.field, one.said())
-    return found
+    return {one.field: one.said() for one in reversed(doubtful) if one.field in fields}
 
 
-def chapters_aside(codes: Codes, readings: List[Reading],
-                   taken: Mapping[int, int]) -> Tuple[List[Doubt], List[Conflict]]:
-    """The chapters that aren't believed, and the fields whose lines differ. `taken` has the believed ones by field."""
-    doubtful: List[Doubt] = []
-    said: Dict[int, Dict[Any, Lines]] = {}
-    aside = {reading.field for reading in readings if taken.get(reading.field) != reading.number % 100}
-    for reading in readings:
-        if reading.field not in aside:
-            continue
-        chapter = reading.number % 100
-        said.setdefault(reading.field, {})[chapter] = reading.lines
-        if taken.get(reading.field) != chapter:
-            doubtful += doubts_of(codes, Kind.chapter, reading.field, reading.lines, chapter, Beside("chapter"))
-    return doubtful, [conflict_of(field, ones.items(), taken.get(field))
-                      for field, ones in said.items() if len(ones) > 1]
-
-
-def _numbers_aside(codes: Codes, numbers: Numbers, readings: List[Reading]) -> Tuple[List[Doubt], List[Conflict]]:
-    """The readings that aren't believed, and the fields whose lines differ."""
-    text_of, taken, words, passes = numbers.unit.text_of, numbers.taken, codes.fields.words, codes.fields.passes
-    kind, beside = Kind.picture if numbers.unit.name == "picture" else Kind.time, AllBeside(numbers)
-    aside = _aside(numbers, readings)
+def aside_of(codes: Codes, kind: Kind, readings: List[Reading], taken: Mapping[int, int], beside: BesideOf,
+             text_of: Callable[[int], Any] = int) -> Tuple[List[Doubt], List[Conflict]]:
+    """The readings of a kind that aren't believed, and the fields whose lines differ. `taken` has the believed numbers
+    by field."""
+    get, words, passes = taken.get, codes.fields.words, codes.fields.passes
+    aside = {one.field for one in readings if get(one.field) != one.number}
+    said: Dict[int, List[Reading]] = {}
+    for one in readings if aside else ():
+        if one.field in aside:
+            said.setdefault(one.field, []).append(one)
     doubtful = [_doubt((field, line, words[field - 1][line - 16], kind, passes[field - 1][line - 16], why,
                         text_of(one.number), before, after))
-                for field, ones in aside.items() for why, before, after in [beside.at(field, len(ones) > 1)]
-                for one in ones if taken.get(field) != one.number for line in one.lines]
+                for field, ones in said.items() for why, before, after in [beside(field, len(ones) > 1)]
+                for one in ones if get(field) != one.number for line in one.lines]
     return doubtful, [conflict_of(field, [(text_of(one.number), one.lines) for one in ones],
                                   text_of(taken[field]) if field in taken else None)
-                      for field, ones in aside.items() if len(ones) > 1]
-
-
-def _aside(numbers, readings):
-    """The readings of each field with a number that isn't taken."""
-    rest = numbers.rest_of(readings)
-    if len(rest) < len(readings):
-        aside = {one.field for one in rest}
-        rest = [one for one in readings if one.field in aside] if rest else rest
-    said = {}
-    for one in rest:
-        said.setdefault(one.field, []).append(one)
-    return said
+                      for field, ones in said.items() if len(ones) > 1]
 
 
 def _second_rows(codes: Codes, numbers: Numbers, rest: List[Reading]) -> List[SecondRow]:
@@ -199,7 +167,7 @@ def _off_the_clock(codes, times):
 
 def _times_aside(times, numbers):
     """The minutes and the seconds that aren't believed, each for itself, and the fields whose lines differ."""
-    taken, doubtful, conflicts, all_beside = numbers.taken, [], [], AllBeside(numbers)
+    taken, doubtful, conflicts, all_beside = numbers.taken, [], [], beside_in(numbers)
     for field in sorted(times.parts.keys() | times.minutes.keys()):
         said, number = times.minutes.get(field, {}), taken.get(field)
         if number is not None and (not said or len(said) == 1 and number // times.whole in said):
@@ -220,12 +188,12 @@ def _field_aside(times, numbers, field, said, number, all_beside):
     else:
         if field in times.parts:
             text = "%02d.%02d" % divmod(times.parts[field], times.rate)
-            doubtful += doubts_of(times.codes, Kind.clv_picture, field, (16,), text, all_beside.at(field))
+            doubtful += doubts_of(times.codes, Kind.clv_picture, field, (16,), text, all_beside(field))
         for near in numbers.around(field) if said else ():
             if near:  # a field between two pictures may belong to either
                 due = near.number + (field - near.field) // 2
                 fits.update(((due - 1) // times.whole, due // times.whole, (due + 1) // times.whole))
-    beside = all_beside.at(field, len(said) > 1) if said else None
+    beside = all_beside(field, len(said) > 1) if said else None
     for value, lines in said.items():
         if value not in fits:
             doubtful += doubts_of(times.codes, Kind.time, field, lines, minute_text(value), beside)

@@ -8,7 +8,7 @@ from typing import Any, Dict, List, NamedTuple, Optional, Sequence, Set, Tuple
 from ldvbi import Kind
 from ldvbi.readings import Cut
 from ..judge.detours import Detour
-from ..judge.places import Break, Showing, Still
+from ..judge.places import Break, Showing
 from ..judge.readings import Stray, Unknown
 
 
@@ -253,7 +253,7 @@ class Answer(NamedTuple):
     confirmed: List[int]
     unread: List[Unread]
     breaks: List[Break]
-    stills: List[Still]
+    stills: List[Showing]
     repeated: List[Repeated]
     missing: List[Missing]
     left_out: List[Missing]

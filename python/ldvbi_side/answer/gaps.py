@@ -4,7 +4,7 @@ speed (rule 6), and which field of a picture was read if both have its number. A
 explained."""
 
 import bisect
-from typing import Dict, List, NamedTuple, Optional, Set, Tuple
+from typing import Dict, Iterable, List, NamedTuple, Optional, Set, Tuple, Union
 
 from ldvbi import Gap, GapKind, JudgedSide, Pace as JudgedPace, Reason, State
 from ..judge.detours import KINDS, Detour, detour_of, pairs_of
@@ -37,6 +37,23 @@ class Gaps(NamedTuple):
     detours: List[Detour] = []
 
 
+class Between:
+    """Stretches, each given by the field before it and the one after it. None holds another one."""
+
+    def __init__(self, ends: Iterable[Tuple[int, int]]) -> None:
+        both = sorted(ends)
+        self.after, self.before = [after for after, _ in both], [before for _, before in both]
+
+    def meet(self, after: int, before: int) -> bool:
+        """Whether one of them has something of what lies between these two fields."""
+        return bisect.bisect(self.before, after) < bisect.bisect_left(self.after, before)
+
+    def hold(self, after: int, before: int) -> bool:
+        """Whether one of them has all that lies between these two fields."""
+        place = bisect.bisect(self.after, after) - 1
+        return place >= 0 and before <= self.before[place]
+
+
 def gaps_of(places: Places, shown: ByField, lead_out: Set[int]) -> Gaps:
     """The gaps that the library reports, without those that are explained; for minutes alone the breaks that are known
     here. `shown` has the picture numbers that fields show, with their lines; `lead_out` has the fields of lead-out."""
@@ -44,32 +61,93 @@ def gaps_of(places: Places, shown: ByField, lead_out: Set[int]) -> Gaps:
     if judged is None:
         return Gaps(None, places.breaks)
     found: Dict[str, List[Break]] = {name: [] for name in ("breaks", "open", "joins", "at_speed")}
-    losses = [(one.after, one.before) for one in places.breaks if one.kind == "lost"]
-    pairs = [pair for pair in pairs_of(judged.gaps) if not any(
-        _is_at_speed(places, gap.after + 1, gap.before + 1) for gap in pair)]
+    known = _Known(places, judged, shown)
+    pairs = [pair for pair in pairs_of(judged.gaps) if not any(map(known.is_at_speed, pair))]
     away = {gap for pair in pairs for gap in pair}
     for gap in judged.gaps:
-        fate = None if gap in away else _fate(places, losses, gap, judged.on_both)
-        if fate == "breaks" and (_are_rows(places, shown, gap) or _is_video(judged, gap)):
-            fate = "open"
+        fate = None if gap in away else known.fate(gap)
         if fate:
             _add(found[fate], _entry(places, gap, judged.on_both))
-    inside = [one for one in places.breaks if any(
-        gap.after < one.before and one.after < gap.before for gap in found["at_speed"])]
-    found["breaks"] = sorted(found["breaks"] + inside, key=lambda one: one.after)
+    at_speed = Between((gap.after, gap.before) for gap in found["at_speed"])
+    found["breaks"] += [one for one in places.breaks if at_speed.meet(one.after, one.before)]
     if judged.reasons & Reason.no_numbers:
         # What this package believes besides may show a loss, if too little for the library was read.
-        may_skip = [not places.open.isdisjoint(range(one.from_ + 1, one.to)) for one in places.breaks]
-        found["breaks"], found["open"] = ([one for one, is_open in zip(places.breaks, may_skip) if is_open == wanted]
-                                          for wanted in (False, True))
-    found["open"] = sorted(found["open"] + [one for one in places.breaks if is_outside(judged, one)],
-                           key=lambda one: one.after)
+        found["breaks"], found["open"] = ([one for one in places.breaks if known.may_skip(one) == is_open]
+                                          for is_open in (False, True))
+    found["open"] += [one for one in places.breaks if is_outside(judged, one)]
     is_off = judged.reasons & Reason.is_off and not judged.reasons & _BY_GAPS
-    known = [one for one in _off_in(places, judged) if not any(
-        gap.after <= one.after and one.before <= gap.before for gap in found["open"])] if is_off else []
-    found["breaks"] = sorted(found["breaks"] + known, key=lambda one: one.after)
-    more = None if not is_off or known or _is_explained(places, judged, lead_out) else _more(places.numbers)
+    opened = Between((one.after, one.before) for one in found["open"])
+    off = [one for one in _off_in(places, judged) if not opened.hold(one.after, one.before)] if is_off else []
+    found["breaks"] += off
+    for name in ("breaks", "open"):
+        found[name].sort(key=lambda one: one.after)
+    more = None if not is_off or off or _is_explained(places, judged, lead_out) else _more(places.numbers)
     return Gaps(judged, more=more, detours=[detour_of(*pair) for pair in pairs], **found)
+
+
+class _Known:
+    """What is known here of the places of the library's gaps."""
+
+    def __init__(self, places: Places, judged: JudgedSide, shown: ByField) -> None:
+        self.places, self.judged, self.shown = places, judged, shown
+        self.is_time = places.numbers.unit.name == "time"
+        self.joins = {(one.field, other.field) for one, other in places.joins}
+        self.losses = Between((one.after, one.before) for one in places.breaks if one.kind == "lost")
+        self.speeds = Between((one.first - 1, one.last + 1) for one in places.numbers.speeds)
+        self.open = sorted(places.open)
+        stills = [(one.after, one.before) for one in judged.gaps if one.kind == GapKind.still]
+        self.still_after, self.still_before = dict(stills), {before: after for after, before in stills}
+
+    def is_at_speed(self, gap: Gap) -> bool:
+        """Whether some of its fields were played at another speed."""
+        return self.speeds.meet(gap.after + 1, gap.before + 1)
+
+    def may_skip(self, gap: Union[Gap, Break]) -> bool:
+        """Whether an unknown clock may leave out some of its numbers."""
+        return bisect.bisect(self.open, gap.from_) < bisect.bisect_left(self.open, gap.to)
+
+    def fate(self, gap: Gap) -> Optional[str]:
+        """Which of the lists of `Gaps` has it; None of a still. An open one counts if it is a loss that is known here,
+        and no clock can explain it."""
+        first, last = gap.after + 1, gap.before + 1
+        # the library takes a number that is the same before and after lead-out for one that stays
+        if gap.kind == GapKind.joined or (first, last) in self.joins:
+            return "joins"
+        if gap.kind == GapKind.still:
+            return None
+        if self.is_at_speed(gap):
+            return "at_speed"
+        if gap.kind == GapKind.open:
+            is_lost = self.is_time and self.losses.meet(first - 1, last) and not self.may_skip(gap)
+        else:
+            is_lost = gap.kind not in KINDS and not (self._is_clocks(gap) or self._are_rows(gap) or self._is_video(gap))
+        return "breaks" if is_lost else "open"
+
+    def _is_clocks(self, gap):
+        """Whether it has just the fields of the numbers that the clock leaves out, or may be what a clock leaves out
+        that the library didn't find: with numbers on both fields it takes that for lost."""
+        return (gap.kind == GapKind.held and gap.fields == 2 * self.places.numbers.left_out(gap.from_, gap.to) or
+                gap.kind == GapKind.lost and self.judged.on_both and self.is_time and self.may_skip(gap))
+
+    def _are_rows(self, gap):
+        """Whether lines 17 and 18 have numbers of their own there, and the one row goes on: then the gap may be no more
+        than the place from which on the library believes the other row."""
+        if gap.kind not in (GapKind.lost, GapKind.held) or self.places.numbers.unit.name != "picture":
+            return False
+        first, last = gap.after + 1, gap.before + 1
+        rows = [(number, gap.to) for number in self.shown.get(first, ()) if number != gap.from_]
+        rows += [(gap.from_, number) for number in self.shown.get(last, ()) if number != gap.to]
+        pace = self.places.numbers.pace
+        return any(last - first == pace.between(one, other - one, 0, 0) for one, other in rows)
+
+    def _is_video(self, gap):
+        """Whether a film may have video there, with two fields to each picture: it has fields for all of that. If a
+        number stands between that is one off, it looks like a still with the one before or after it."""
+        if self.judged.pace != JudgedPace.film or gap.kind != GapKind.lost:
+            return False
+        count, after, before = 2 * (gap.to - gap.from_), gap.after, gap.before
+        spans = self.still_after.get(before, after) - after, before - self.still_before.get(after, before)
+        return before - after >= count or count in spans
 
 
 def _is_explained(places, judged, lead_out):
@@ -123,60 +201,6 @@ def _more(numbers):
     return judged.last - judged.first - judged.tally.stood - away - fields
 
 
-def _fate(places: Places, losses: List[Tuple[int, int]], gap: Gap, is_on_both: bool) -> Optional[str]:
-    """Which of the lists of `Gaps` has this one; None of a still. `losses` are the fields around each loss
-    that is known here: an open one counts if no clock can explain it."""
-    first, last = gap.after + 1, gap.before + 1
-    # the library takes a number that is the same before and after lead-out for one that stays
-    if gap.kind == GapKind.joined or (first, last) in [(one.field, other.field) for one, other in places.joins]:
-        return "joins"
-    if gap.kind == GapKind.still:
-        return None
-    if _is_at_speed(places, first, last):
-        return "at_speed"
-    if gap.kind in KINDS:
-        return "open"
-    if gap.kind == GapKind.held and gap.fields == 2 * places.numbers.left_out(gap.from_, gap.to):
-        return "open"  # there are just the fields of the numbers that the clock leaves out
-    is_time = places.numbers.unit.name == "time"
-    may_skip = is_time and not places.open.isdisjoint(range(gap.from_ + 1, gap.to))
-    if gap.kind == GapKind.lost and is_on_both and may_skip:
-        return "open"  # the library takes what a clock leaves out for lost there, if it finds none
-    if gap.kind != GapKind.open:
-        return "breaks"
-    place = bisect.bisect(losses, (last,)) - 1
-    is_lost = is_time and place >= 0 and first <= losses[place][1]
-    return "breaks" if is_lost and not may_skip else "open"
-
-
-def _is_at_speed(places, first, last):
-    """Whether some of these fields were played at another speed."""
-    return any(one.first <= last and first <= one.last for one in places.numbers.speeds)
-
-
-def _are_rows(places, shown, gap):
-    """Whether lines 17 and 18 have numbers of their own there, and the one row goes on: then the gap may be no more
-    than the place from which on the library believes the other row."""
-    if gap.kind not in (GapKind.lost, GapKind.held) or places.numbers.unit.name != "picture":
-        return False
-    first, last = gap.after + 1, gap.before + 1
-    rows = [(number, gap.to) for number in shown.get(first, ()) if number != gap.from_]
-    rows += [(gap.from_, number) for number in shown.get(last, ()) if number != gap.to]
-    pace = places.numbers.pace
-    return any(last - first == pace.between(one, other - one, 0, 0) for one, other in rows)
-
-
-def _is_video(judged, gap):
-    """Whether a film may have video there, with two fields to each picture: it has fields for all of that. If a number
-    stands between that is one off, it looks like a still with the one before or after it."""
-    if judged.pace != JudgedPace.film or gap.kind != GapKind.lost:
-        return False
-    stills = [one for one in judged.gaps if one.kind == GapKind.still]
-    spans = [one.before - gap.after for one in stills if one.after == gap.before]
-    spans += [gap.before - one.after for one in stills if one.before == gap.after]
-    return 2 * (gap.to - gap.from_) in spans or gap.before - gap.after >= 2 * (gap.to - gap.from_)
-
-
 def _add(entries, one):
     """Adds an entry. A field that was frozen is one, of all its fields too many."""
     last = entries[-1] if entries else None
@@ -209,10 +233,8 @@ def _off(places, gap):
 def _fields_on_both(numbers, gap, kind):
     """How many fields are lost, or too many. Both fields of a picture have its number, and the library doesn't ask
     which of the two was read: so it may be one less, if that isn't known here."""
-    ends = []
-    for field, number in ((gap.after + 1, gap.from_), (gap.before + 1, gap.to)):
-        place = bisect.bisect_left(numbers.fields, field)
-        ends += [one for one in numbers.believed[place:place + 1] if (one.field, one.number) == (field, number)]
+    ends = [one for field, number in ((gap.after + 1, gap.from_), (gap.before + 1, gap.to))
+            for one in numbers.believed_in(field, field) if one.number == number]
     off = numbers.off(*ends) if len(ends) == 2 else None
     if off and (off < 0) == (kind == "lost"):
         return abs(off)

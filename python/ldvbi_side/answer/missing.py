@@ -4,102 +4,60 @@ gaps; and numbers that are shown again."""
 import bisect
 from typing import Any, Dict, Iterator, List, NamedTuple, Optional, Sequence, Set, Tuple
 
-from ldvbi import ClockKind, Reason
+from ldvbi import ClockKind
 from ..judge.believed import stretch_at
-from ..judge.clock import kept_in, left_out_in
+from ..judge.clock import left_out_in
 from ..judge.order import pairs_of
-from ..judge.paces import RATES, Unit
 from ..judge.places import Break, Places, Showing
 from ..judge.readings import Codes
 from .ends import Begin, first_of, ordinal_of
 from .entries import Lost, Missing, Repeated
-from .gaps import Gaps
+from .gaps import Between, Gaps
 
 _BLANK = frozenset(["blank"])
 FAR = 10  # numbers passed over to one that fields may be there for: from here on most of them are sure to be lost
+Spans = List[Tuple[str, List[Tuple[int, int]]]]
 
 
-def missing_of(places: Places, gaps: Gaps, codes: Codes) -> Tuple[List[Missing], List[Missing]]:
-    """The numbers between the least and the greatest that no field has, in stretches of one reason; and those that the
-    disc's clock left out. A number is lost only in a gap that lacks fields."""
-    firsts, losses = _first_fields(places.showings), _Losses(gaps, places.numbers.unit)
-    passed, unread = _passed_over(places, losses, gaps, codes), {number for number, _ in places.due}
-    unread |= places.without_field
-    known = sorted(unread.union(places.unshown, places.open, places.left_out))
+def missing_of(places: Places, gaps: Gaps, codes: Codes, begin: Optional[Begin]) -> Tuple[List[Missing], List[Missing]]:
+    """The numbers that no field has, in stretches of one reason: those between the least and the greatest, and those
+    that are lost before the least one, as `begin` says; and those that the disc's clock left out. A number is lost only
+    in a gap that lacks fields."""
+    unit, breaks, unshown = places.numbers.unit, places.breaks, set(places.unshown)
+    firsts = {one.number: one.first for one in reversed(places.showings)}
+    lost = [(one.after, one.before) for one in gaps.breaks + gaps.at_speed if one.kind == "lost"]
+    others = [(one.from_ + 1, one.to - 1) for one in gaps.at_speed if one.kind == "lost"]
+    if begin and begin.fields > 0:
+        number, start = ordinal_of(begin.lacks, unit.rate), first_of(unit.name, unit.rate) - 1
+        is_first = number == min(firsts) and firsts[number] == begin.before
+        if is_first or places.numbers.clock.kind != ClockKind.plain or codes.fields.system != "NTSC" or (
+                unit.name != "time"):  # else an unknown clock may have left out some
+            lost.append((begin.after, begin.before))
+            others.append((0, number - 1))
+        if is_first:  # as if the number before the disc's first one stood before the lost fields
+            breaks = [Break("lost", begin.after, begin.before, start, number, begin.fields)] + breaks
+            unshown |= left_out_in(places.numbers.clock, start + 1, number - 1)
+            firsts[start] = begin.after
+    losses = Between(lost)
+    passed = _passed_over(places, breaks, losses, codes)
+    unread = places.without_field.union([number for number, _ in places.due])
+    known = (("clock", places.left_out), ("unread", unread), ("unshown", unshown))
+    whys = PassedOver([*((why, [(one, one) for one in ones]) for why, ones in known), *passed, ("lost", others)])
     found: Dict[bool, List[List[Any]]] = {False: [], True: []}
     numbers = sorted(firsts)
     for one, other in zip(numbers, numbers[1:]):
         ends = firsts[one], firsts[other]
-        for first, last in _parts(one + 1, other - 1, passed, known) if other - one > 1 else ():
-            why = _why(places, first, unread, passed)
-            if why == "lost" and ends[0] < ends[1] and not losses.are_between(*ends):
+        for first, last, why in whys.parts(one + 1, other - 1) if other - one > 1 else ():
+            if why == "lost" and ends[0] < ends[1] and not losses.meet(*ends):
                 why = "undecided"
             stretches = found[why == "clock"]
             if stretches and stretches[-1][1:] == [first - 1, why, ends]:
                 stretches[-1][1] = last
             elif why != "unshown":
                 stretches.append([first, last, why, ends])
-    missing, left_out = ([_stretch(one, places.numbers.unit) for one in ones] for ones in found.values())
+    missing, left_out = ([Missing(unit.text_of(first), unit.text_of(last), last - first + 1, why, *ends)
+                          for first, last, why, ends in ones] for ones in found.values())
     return missing, left_out
-
-
-def missing_before(places: Places, codes: Codes, begin: Begin) -> List[Missing]:
-    """The numbers before the least one that aren't there because the side lacks fields before it, in the form of
-    `missing_of`."""
-    unit = places.numbers.unit
-    first, number = first_of(unit.name, unit.rate), ordinal_of(begin.lacks, unit.rate)
-    one = Break("lost", begin.after, begin.before, first - 1, number, begin.fields)
-    passed = Passed(first, number - 1, *_fate(one, places.numbers, codes.fields))
-    return [_stretch((*part, why, (begin.after, begin.before)), unit) for low, high, why in _in_order(passed)
-            for part in kept_in(places.numbers.clock, low, high)]
-
-
-def _in_order(passed):
-    """The parts of numbers that are passed over, each with its reason, of which those at the ends are undecided."""
-    whys = PassedOver([(why, [(first, last) for other, first, last in passed.parts() if other == why])
-                       for why in ("undecided", "lost")])
-    begins = [begin for begin in whys.begins if begin <= passed.last]
-    return [(begin, last, whys.why(begin)) for begin, last in zip(
-        begins, [begin - 1 for begin in begins[1:]] + [passed.last])]
-
-
-class _Losses:
-    """The fields between which some are lost: by the gaps, and before the library's first number, if there are none for
-    those before it. If an NTSC disc's clock isn't known, it may leave out times there."""
-
-    def __init__(self, gaps: Gaps, unit: Unit) -> None:
-        lost = sorted((one.after, one.before) for one in gaps.breaks + gaps.at_speed if one.kind == "lost")
-        self.begin, judged = None, gaps.judged
-        if judged and judged.reasons & Reason.begins_late and (
-                judged.clock.kind != ClockKind.plain or (unit.name, unit.rate) != ("time", RATES["NTSC"])):
-            self.begin = judged.numbers[judged.first or 0].number
-            lost.insert(0, (0, (judged.first or 0) + 1))
-        self.after, self.before = [after for after, _ in lost], [before for _, before in lost]
-
-    def are_between(self, first: int, last: int) -> bool:
-        """Whether some are lost in a gap that lies between these two fields, or holds some of those between them."""
-        return bisect.bisect(self.before, first) < bisect.bisect_left(self.after, last)
-
-
-def _parts(first, last, passed, known):
-    """The numbers from the first to the last in parts of one reason each: those that are known are for themselves."""
-    cuts = {first, *passed.begins[bisect.bisect(passed.begins, first):bisect.bisect(passed.begins, last)]}
-    for number in known[bisect.bisect_left(known, first):bisect.bisect(known, last)]:
-        cuts |= {number, number + 1}
-    begins = sorted(cut for cut in cuts if cut <= last)
-    return zip(begins, [begin - 1 for begin in begins[1:]] + [last])
-
-
-def _first_fields(showings):
-    firsts = {}
-    for one in showings:
-        firsts.setdefault(one.number, one.first)
-    return firsts
-
-
-def _stretch(stretch, unit):
-    first, last, why, fields = stretch
-    return Missing(unit.text_of(first), unit.text_of(last), last - first + 1, why, *fields)
 
 
 # ---- Lost or unread
@@ -126,19 +84,21 @@ class Passed(NamedTuple):
 
 
 class PassedOver:
-    """Why numbers that were passed over aren't there, by spans of numbers in the order of their weight. If a number was
-    passed over more than once, one field for it is enough. If it is in no span, the reason isn't known."""
+    """Why numbers aren't there, by spans of numbers in the order of their weight. If a number was passed over more than
+    once, one field for it is enough. If it is in no span, as what is only between two sides, that isn't known."""
 
-    def __init__(self, spans: List[Tuple[str, List[Tuple[int, int]]]]) -> None:
+    def __init__(self, spans: Spans) -> None:
         ends = [(why, _merged(ones)) for why, ones in spans]
         # from each of these to the next one all numbers have one reason
         self.begins = sorted({begin for _, ones in ends for begin in ones})
         self._whys = ["undecided", *(next((why for why, ones in ends if bisect.bisect(ones, begin) % 2), "undecided")
                                      for begin in self.begins)]
 
-    def why(self, number: int) -> str:
-        """Why a number isn't there. One that is only between the numbers of two sides is of neither."""
-        return self._whys[bisect.bisect(self.begins, number)]
+    def parts(self, first: int, last: int) -> Iterator[Tuple[int, int, str]]:
+        """The numbers from the first to the last in parts of one reason each."""
+        begin, end = bisect.bisect(self.begins, first), bisect.bisect(self.begins, last)
+        cuts = [first, *self.begins[begin:end], last + 1]
+        return zip(cuts, [cut - 1 for cut in cuts[1:]], self._whys[begin:end + 1])
 
 
 def _merged(spans):
@@ -152,33 +112,19 @@ def _merged(spans):
     return ends
 
 
-def _passed_over(places: Places, losses: _Losses, gaps: Gaps, codes: Codes) -> PassedOver:
+def _passed_over(places: Places, breaks: List[Break], losses: Between, codes: Codes) -> Spans:
     """Why numbers aren't there that were passed over between two believed ones, or between two sides. Numbers are lost
     only in a gap that lacks fields, and none that a field in it shows in pass 1 on both lines."""
-    spans: Dict[str, List[Tuple[int, int]]] = {"unread": [], "undecided": [], "lost": []}
-    for one in places.breaks:
-        if one.from_ < one.to and (one.kind == "held" or losses.are_between(one.after, one.before)):
-            passed = Passed(one.from_ + 1, one.to - 1, *_fate(one, places.numbers, codes.fields))
-            for why, first, last in passed.parts():
+    spans: Dict[str, List[Tuple[int, int]]] = {
+        "unread": [], "undecided": [(one, one) for one in places.open], "lost": []}
+    for one in breaks:
+        if one.from_ < one.to and (one.kind == "held" or losses.meet(one.after, one.before)):
+            for why, first, last in Passed(one.from_ + 1, one.to - 1, *_fate(one, places.numbers, codes.fields)).parts():
                 spans[why].append((first, last))
             shown = map(codes.sure_picture, range(one.after + 1, one.before))
             spans["undecided"] += [(number, number) for number in shown if number is not None]
     between = (sorted((before.number, after.number)) for before, after in places.joins)
-    others = [(0, losses.begin - 1)] if losses.begin else []
-    others += [(one.from_ + 1, one.to - 1) for one in gaps.at_speed if one.kind == "lost"]
-    return PassedOver([*spans.items(), ("unshown", [(low + 1, high - 1) for low, high in between]), ("lost", others)])
-
-
-def _why(places: Places, number: int, unread: Set[int], passed: PassedOver) -> str:
-    """Why a number isn't there. `unread` are those that are due in a field."""
-    if number in places.left_out:
-        return "clock"
-    if number in unread:
-        return "unread"
-    if number in places.unshown:
-        return "unshown"
-    why = passed.why(number)
-    return why if why == "unread" or number not in places.open else "undecided"
+    return [*spans.items(), ("unshown", [(low + 1, high - 1) for low, high in between])]
 
 
 def _fate(one, numbers, fields):
@@ -210,35 +156,10 @@ def lost_fields(places: Places, gaps: Gaps, first: Sequence[bool]) -> List[Lost]
     swapped, numbered = _swapped_parity(places.numbers, first), places.numbers.fields
     fields = [field for field in range(numbered[0] + 1, min(numbered[-1], len(first)) + 1)
               if first[field - 1] == first[field - 2]] if numbered else []
+    sides = Between([(before.field, after.field) for before, after in places.joins] +
+                    [(one.after, one.before) for one in gaps.joins])
     return _with_parity(lost, [(field, "undecided" if places.numbers.go_on_before(field) else "parity")
-                               for field in fields if field not in swapped and
-                               not _is_between_sides(places, gaps, field)])
-
-
-def _is_between_sides(places, gaps, field):
-    """Whether a field stands between the numbers of two sides."""
-    return any(before.field < field <= after.field for before, after in places.joins) or any(
-        one.after < field <= one.before for one in gaps.joins)
-
-
-def own_breaks(places: Places) -> List[Break]:
-    """The breaks of the numbers that are believed here. If a picture was read in one of its two fields, it isn't known
-    in which. So if one field is lost, such pictures before the loss may stand after it, if their field is taken for the
-    first one. (The chain of numbers has the break as late as it can be.)"""
-    pace = places.numbers.pace
-    if not pace or pace.kind != "both":
-        return places.breaks
-    return [one._replace(after=_first_after(places.numbers, one.after)) if one.kind == "lost" and one.fields == 1
-            else one for one in places.breaks]
-
-
-def _first_after(numbers, after):
-    """The first field after which the one may be lost that is lost after this one."""
-    place = bisect.bisect(numbers.fields, after) - 1
-    while place > 0 and numbers.believed[place].variant == 0 and numbers.off(
-            numbers.believed[place - 1], numbers.believed[place]) == 0:
-        place -= 1
-    return numbers.fields[place]
+                               for field in fields if field not in swapped and not sides.meet(field - 1, field)])
 
 
 def _swapped_parity(numbers, first):

@@ -4,20 +4,19 @@ codes."""
 import bisect
 from typing import List, Tuple
 
-from ldvbi import Kind, judge_chapters
+from ldvbi import Kind, State, judge_chapters, judge_stops
 from ..judge.believed import Numbers
 from ..judge.chain import chosen, sure_in
 from ..judge.paces import ChapterPace
 from ..judge.places import Places
-from ..judge.readings import WEIGHTS, Codes, Fields, Reading, Stray
-from .doubts import chapters_aside
+from ..judge.readings import Codes, Fields, Reading, Stray
+from .doubts import Beside, aside_of
 from .entries import Chapter, Conflict, Doubt, Status, Stop, Stretch, Users, frame_of
 
 LEAST_SHARE = 200  # fields to a chapter code at most: of a disc with chapters each picture has one
 APART = 100  # fields without the code between two stretches of lead-in or lead-out: a scratch on a disc is shorter
 FEW = 2  # fields with a number or a chapter that may be read wrongly inside a stretch
 _OTHERS = (Kind.picture, Kind.clv_picture, Kind.time, Kind.chapter)
-_STOP_LINES = (16, 17)  # on which a disc has its stops; line 18 alone makes none
 
 
 # ---- Chapters
@@ -44,8 +43,11 @@ def chapters_of(codes: Codes, places: Places, begin: int) -> Tuple[List[Chapter]
     believed = chosen(readings, ChapterPace(), sure)
     if LEAST_SHARE * (len(believed) + len(inside)) < len(codes.fields.words):
         believed, readings = [], codes.readings(found)
-    aside = chapters_aside(codes, readings, {reading.field: reading.number % 100 for reading in believed})
-    return (_chapters(believed, places, begin), *aside)
+    chapters = [one._replace(number=one.number % 100) for one in believed]
+    readings = [one._replace(number=one.number % 100) for one in readings]
+    aside = aside_of(codes, Kind.chapter, readings, {one.field: one.number for one in chapters},
+                     lambda field, is_conflict: Beside("chapter"))
+    return (_chapters(chapters, places, begin), *aside)
 
 
 def _in_order(sure):
@@ -68,8 +70,7 @@ def _inside(found, sure):
 
 def _chapters(believed, places, begin):
     chapters = []
-    for reading in believed:
-        number, field = reading.number % 100, reading.field
+    for field, number, *_ in believed:
         if chapters and chapters[-1].chapter == number:
             chapters[-1] = chapters[-1]._replace(last=field)
         else:
@@ -103,38 +104,32 @@ def ends_of(codes: Codes, kind: Kind, numbers: Numbers) -> Tuple[List[Stretch], 
         return field - last <= APART and between <= FEW and bisect.bisect(numbers.fields, last) == place
 
     found: List[Stretch] = []
-    stray: List[Stray] = []
+    stray: List[int] = []
     is_minute = numbers.unit.name == "minute"
-    for field, values in sorted(codes.kinds[kind].items()):
+    for field in sorted(codes.kinds[kind]):
         place = bisect.bisect(numbers.fields, field)
         has_number = place > 0 and numbers.fields[place - 1] == field
         if has_number or numbers.fit(numbers.around(field)) and not is_minute:
-            stray += codes.strays({field: values}, "place")
+            stray.append(field)
         elif found and is_one_with(found[-1].last, field, place):
             found[-1] = Stretch(found[-1].first, field, found[-1].count_ + 1)
         else:
             found.append(Stretch(field, field, 1))
-    single = [one for one in found if one.count_ == 1 and numbers.fit(numbers.around(one.first))]
-    for one in single:
-        stray += codes.strays({one.first: codes.kinds[kind][one.first]}, "place")
-    return [one for one in found if one not in single], stray
+    single = {one.first for one in found if one.count_ == 1 and numbers.fit(numbers.around(one.first))}
+    return [one for one in found if one.first not in single], codes.strays(kind, [*stray, *single], "place")
 
 
 # ---- Stops and other codes
 
 def stops_of(codes: Codes, places: Places, begin: int) -> Tuple[List[Stop], List[Stray]]:
-    """The fields with a picture stop, each with its picture, and the lines on which a stop isn't believed, as stray
-    ones. A stop is believed as by the library's judge: if line 16 or 17 shows it in pass 1, or both show it. `begin` is
-    the first field that begins a frame."""
-    found: List[Stop] = []
-    stray: List[Stray] = []
-    for field, values in sorted(codes.kinds[Kind.picture_stop].items()):
-        lines = [line for lines in values.values() for line in lines]
-        if codes.weight(field, [line for line in lines if line in _STOP_LINES]) >= WEIGHTS[1]:
-            found.append(Stop(field, frame_of(field, begin), places.number_at(field), lines))
-        else:
-            stray += codes.strays({field: values}, "unsure")
-    return found, stray
+    """The fields with a picture stop that the library believes, each with its picture, and the lines of others, as
+    stray ones. `begin` is the first field that begins a frame."""
+    stops = codes.kinds[Kind.picture_stop]
+    states = judge_stops(codes.fields.packed) if stops else []
+    believed = {field for field in stops if states[field - 1] == State.believed}
+    found = [Stop(field, frame_of(field, begin), places.number_at(field), sum(stops[field].values(), ()))
+             for field in sorted(believed)]
+    return found, codes.strays(Kind.picture_stop, stops.keys() - believed, "unsure")
 
 
 def status_of(codes: Codes) -> List[Status]:

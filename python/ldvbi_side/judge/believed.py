@@ -10,7 +10,7 @@ from typing import Dict, FrozenSet, Iterator, List, Mapping, NamedTuple, Optiona
 
 from ldvbi import Clock, JudgedSide
 from .clock import NO_CLOCK, left_out_below
-from .paces import RATES, MinutePace, Pace, Unit
+from .paces import MinutePace, Pace, Unit
 from .readings import Reading
 
 APART = 100  # fields from one reading of a stretch to the next, at most
@@ -167,21 +167,6 @@ class Numbers(_Numbers):  # so that it can keep what was found of it
         place = bisect.bisect_left(self.fields, field)
         return isinstance(self.pace, Pace) and 0 < place < len(self.fields) and (
             self.off(*self.believed[place - 1:place + 1]) == 0)
-
-    def why(self, around: Around) -> str:
-        """Why a number between these two is set aside."""
-        return "neighbours" if self.fit(around) else "alone"
-
-
-def numbers_of_readings(unit: Unit, pace: Union[Pace, MinutePace, None], believed: List[Reading], others: Set[int],
-                        judged: Optional[JudgedSide] = None) -> Numbers:
-    """The numbers of these believed readings, each in its own place and at the disc's own speed."""
-    return Numbers(unit, pace, believed, others, judged=judged)
-
-
-def no_numbers(system: str, judged: Optional[JudgedSide] = None) -> Numbers:
-    """The numbers of a side without any. This is the library's answer for it."""
-    return numbers_of_readings(Unit(None, RATES[system]), None, [], set(), judged)
 
 
 # ---- At another speed

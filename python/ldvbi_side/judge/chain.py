@@ -1,19 +1,14 @@
 """Which readings are believed. Those that the library believes are: they are the anchors of a side (`anchored`). Where
 the library leaves it open, at most one reading a field is chosen, so that their weight less the price of their breaks
 is greatest. Such a choice is a chain, drawn from one anchor to the next (`chosen`). Chapters are chosen in this way,
-too, and so are minutes, of which the library believes none. The pace (paces.py) says by how many fields two readings
-are off, and `price` says what that costs:
+too, and so are minutes, of which the library believes none:
 
     field    1   3    5   7   9     each number weighs 4, as a word on two lines does
     number   1   2  903   4   5     without 903 the chain is worth 16, with it 20 less two breaks of 12
 
-The price of a step depends only on its two readings. So a best chain that ends with a reading goes on from a best one
-that ends with an earlier reading, and one pass over the readings finds them all. Only some earlier ones are asked: the
-last few, the last one whose numbers go on to this one, the last one with the same number, and the one at which the best
-chain of all ends. So a better chain may be missed. What a pace leaves open of a number, its variant, is found last.
-
-readings.py says what words weigh, and paces.py what fits and what breaks cost. If these, or the choice here, change,
-docs/SIDES.md changes, too, and so does what was measured."""
+The price of a step depends only on its two readings, so one pass over these finds a best chain that ends with each. Of
+the earlier ones only some are asked (`_Earlier`), so a better chain may be missed. What a pace leaves open of a number,
+its variant, is found last. docs/SIDES.md has the rules."""
 
 import contextlib
 import functools
@@ -51,7 +46,16 @@ def judged_of(fields: Fields, counted: Counted) -> JudgedSide:
             if found.clock.kind != ClockKind.plain or not found.gaps or any(map(is_dropped, _believed(found.numbers))):
                 return found
             return min(found, judge(clock=DROP_FRAME), key=lambda one: len(one.gaps))
-    return judge()
+    found = judge()
+    return judge(pace=JudgedPace.video) if found.pace == JudgedPace.film and _is_on_both(found.numbers) else found
+
+
+def _is_on_both(numbers):
+    """Whether most numbers stand on the field before as well, as on no film: at a third of the speed numbers on both
+    fields may look like those of film."""
+    shown = [number if state in (State.believed, State.doubtful) else None for number, state in numbers]
+    again = sum(one == other is not None for one, other in zip(shown, shown[1:]))
+    return 2 * again > len(shown) - shown.count(None)
 
 
 def _believed(numbers):
@@ -120,7 +124,8 @@ def chain(readings: List[Reading], pace: AnyPace) -> List[Reading]:
 
 
 class _Earlier:
-    """The earlier readings that are asked."""
+    """The earlier readings that are asked: the last few, the last one whose numbers go on to this one, the last one
+    with the same number, and the one at which the best chain of all ends."""
 
     def __init__(self, pace: AnyPace) -> None:
         self.pace = pace

@@ -5,20 +5,14 @@ field is missing there, only the number:
     evenly         fields  797  799  801  803    numbers 398 399 401 402
     at a minute    fields 3597 3599 3601 3603    0:00:59.28 0:00:59.29 0:01:00.02 0:01:00.03
 
-A capture that lost a picture or two looks just the same. What tells them apart is where the side's other gaps are. So
-the library finds the clock of the whole side (`ldvbi.find_clock`), and judges the side by it. This module counts by the
-clock that was found: `Numbers.off` (believed.py) asks it how far two numbers are apart, and places.py which numbers in
-between have no field. To the chain each such place is a break still, which costs 3 or 4.
-
-The library believes in a clock if a side shows three places that it explains. If it finds none (few numbers were
-played, or many losses hide the clock), drop-frame is tried (`judged_of` in chain.py). Else gaps that one may have made
-are open, unless what was played rules that out (`open_in`). At another speed `off_at_speed` (believed.py) lets a gap of
-one number pass without asking. A change here changes rule 9 of docs/SIDES.md; the simulated discs of the tests leave
-out numbers in both ways."""
+A capture that lost a picture or two looks just the same. So the library finds the clock of the whole side from three
+places or more (`ldvbi.find_clock`), and judges by it. This module counts by the clock that was found. If it finds none,
+drop-frame is tried (`judged_of` in chain.py). Else gaps that a clock may have made are open, unless what was played
+rules that out (`open_in`): rule 9 of docs/SIDES.md."""
 
 import itertools
 from collections import Counter
-from typing import Iterator, List, NamedTuple, Set, Tuple
+from typing import List, NamedTuple, Set, Tuple
 
 from ldvbi import Clock, ClockKind
 
@@ -66,16 +60,6 @@ def left_out_in(clock: Clock, first: int, last: int) -> Set[int]:
 def _with_rest(period, rest, first, last):
     """The numbers from the first to the last that leave this rest."""
     return range(first + (rest - first) % period, last + 1, period)
-
-
-def kept_in(clock: Clock, first: int, last: int) -> Iterator[Tuple[int, int]]:
-    """The stretches of numbers from the first to the last between those that a clock leaves out."""
-    for number in sorted(left_out_in(clock, first, last)):
-        if first < number:
-            yield first, number - 1
-        first = number + 1
-    if first <= last:
-        yield first, last
 
 
 def open_in(gaps: List[Gap], runs: List[Tuple[int, int]]) -> Set[int]:

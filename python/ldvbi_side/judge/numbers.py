@@ -2,23 +2,19 @@
 joined of the minutes on lines 17 and 18 and of the second and picture on line 16. The steps are the same for both:
 
 1. The codes become readings: a number of a field, with its weight.
-2. The library says at which pace the numbers go on, and which it believes (`judged_of`). For times, it first gives
-   fields without a minute one by vote. Numbers in the place of others are set aside (detours.py).
+2. The library says at which pace the numbers go on, and which it believes (`judged_of`). Numbers in the place of others
+   are set aside (detours.py).
 3. `anchored` takes these, and chooses among the other readings, each in its own field.
-4. `with_speeds`, `with_turned` and `with_swaps` find what the chain takes for stills or breaks, or sets aside:
-   stretches that were played at another speed or turned by hand, and fields that were written in each other's place.
-   Speeds come before swaps: a swap is found between two numbers that fit, and those of another speed fit only once it
-   is known.
+4. `with_speeds`, `with_turned` and `with_swaps` find what the chain takes for stills or breaks, or sets aside. Speeds
+   come before swaps: a swap is found between two numbers that fit, and those of another speed fit only once it is known.
 
-Each step returns new `Numbers`, and leaves those that it was given as they were. All later modules ask `Numbers.off` or
-`Numbers.fit` (believed.py) how two numbers stand to each other; these know the pace, the speeds and the swaps. So
-another order of fields is one more step here. `off` has to know it, or all others take its ends for breaks. A new pace
-belongs in paces.py, and places.py says in which fields its numbers are due. docs/SIDES.md has the rules."""
+Each step returns new `Numbers`. All later modules ask `Numbers.off` or `Numbers.fit` (believed.py) how two numbers stand
+to each other. docs/SIDES.md has the rules."""
 
 from typing import Dict, List, NamedTuple, Optional
 
 from ldvbi import Counted, JudgedSide, Kind, State
-from .believed import Line, Numbers, no_numbers, numbers_of_readings
+from .believed import Line, Numbers
 from .chain import anchored, chain, judged_of, pace_of
 from .detours import without_replaced, without_rows
 from .order import with_speeds, with_swaps, with_turned
@@ -96,13 +92,13 @@ def _pictures_of(codes):
     judged, detours = without_replaced(judged_of(codes.fields, Counted.pictures))
     known = codes.readings(codes.kinds[Kind.picture])
     if not known:
-        return Found(no_numbers(system, judged), [])
+        return Found(Numbers(Unit(None, RATES[system]), None, [], set(), judged=judged), [])
     pace = pace_of(judged)
     readings = without_rows(known, detours, judged, pace)
     # a field with a chapter is the second one of its picture, unless both have the number
     others = set() if pace.kind == "both" else codes.sure_fields(Kind.chapter)
     unit, believed = Unit("picture", RATES[system]), anchored(readings, pace, judged)
-    numbers = numbers_of_readings(unit, pace, believed, others, judged)
+    numbers = Numbers(unit, pace, believed, others, judged=judged)
     numbers = with_turned(with_speeds(numbers, readings), readings)
     return Found(with_swaps(numbers, readings, {reading.field for reading in readings}), known)
 
@@ -125,9 +121,10 @@ def _minutes_alone(times):
     readings = [Reading(field, value, codes.weight(field, lines), lines)
                 for field, values in times.minutes.items() for value, lines in values.items()]
     if not readings:
-        return Found(no_numbers(system, judged_of(codes.fields, Counted.times)), [], times)
+        return Found(Numbers(Unit(None, RATES[system]), None, [], set(),
+                             judged=judged_of(codes.fields, Counted.times)), [], times)
     pace = MinutePace(system)
-    numbers = numbers_of_readings(Unit("minute", RATES[system]), pace, chain(readings, pace), set())
+    numbers = Numbers(Unit("minute", RATES[system]), pace, chain(readings, pace), set())
     return Found(numbers, readings, times)
 
 
@@ -138,18 +135,16 @@ def _believed(times, readings):
     judged, detours = without_replaced(judged_of(codes.fields, Counted.times))
     pace = pace_of(judged)
     others = set().union(*map(codes.sure_fields, (Kind.chapter, Kind.cx_on, Kind.cx_off)))
-    all_readings = times.with_voted(readings, judged)
-    readings = without_rows(all_readings, detours, judged, pace)
-    believed = anchored(readings, pace, judged)
-    numbers = numbers_of_readings(Unit("time", times.rate), pace, believed, others, judged)
-    more = _completions(times, numbers, readings)
+    readings = times.with_voted(readings, judged)
+    known = without_rows(readings, detours, judged, pace)
+    believed = anchored(known, pace, judged)
+    numbers = Numbers(Unit("time", times.rate), pace, believed, others, judged=judged)
+    more = _completions(times, numbers, known)
     if more:
-        known = sorted(readings + more, key=lambda one: one.field)
-        numbers = numbers.believing(anchored(known, pace, judged))
-    numbers = with_speeds(numbers, readings, times.of_line)
-    numbers = with_swaps(numbers, readings, times.parts)
+        numbers = numbers.believing(anchored(sorted(known + more, key=lambda one: one.field), pace, judged))
+    numbers = with_swaps(with_speeds(numbers, known, times.of_line), known, times.parts)
     completed = frozenset(reading.field for reading in numbers.believed if reading.lines == (16,))
-    return Found(numbers._replace(completed=completed), all_readings, times)
+    return Found(numbers._replace(completed=completed), readings, times)
 
 
 def _completions(times, numbers, readings):

@@ -4,9 +4,10 @@ times each; and in fields that a capture has written in each other's place, so t
 after its own."""
 
 import bisect
+import collections
+import itertools
 import math
 import operator
-from collections import Counter
 from typing import Callable, Collection, Dict, List, Mapping
 
 from .believed import APART, SLOW, Line, Numbers, Stretch, line_from, meeting
@@ -73,7 +74,9 @@ def with_speeds(numbers: Numbers, readings: List[Reading],
         return numbers
     loose, stays = _loose(numbers, readings)
     lines = _lines(loose, kind == "both") + _slow_lines(stays)
-    fields = [one.field for one in readings] if lines else []
+    if not lines:
+        return numbers
+    fields, numbers = [one.field for one in readings], numbers.believing(list(numbers.believed))
     for line, ones in sorted(lines, key=lambda found: -sum(one.weight for one in found[1])):
         first, last = _extent(numbers, line, ones)
         if _is_free(numbers.speeds, first, last):
@@ -82,7 +85,7 @@ def with_speeds(numbers: Numbers, readings: List[Reading],
             known = {one.field for one in near}
             ones += complete(line, [field for field in range(first, last + 1, 2) if field not in known])
             numbers = _with_stretch(numbers, Stretch(first, last, line), sorted(ones, key=lambda one: one.field))
-    return numbers
+    return numbers._replace()
 
 
 def _is_free(speeds, first, last):
@@ -93,7 +96,7 @@ def _is_free(speeds, first, last):
 
 def _with_stretch(numbers, stretch, ones):
     """These numbers, with those readings of a stretch, if they weigh more than what was believed in its fields and two
-    changes of the speed cost."""
+    changes of the speed cost. Their lists are changed: to copy these for each stretch would take long."""
     inside = numbers.believed_in(stretch.first, stretch.last)
     fields = {one.field for one in ones}
     if 2 * sum(one.weight for one in inside if one.field not in fields) > sum(one.weight for one in ones):
@@ -104,7 +107,10 @@ def _with_stretch(numbers, stretch, ones):
     if _worth(changed, before, ones, after) - 2 * price(1) <= _worth(numbers, before, inside, after):
         return numbers
     begin, end = bisect.bisect_left(numbers.fields, stretch.first), bisect.bisect(numbers.fields, stretch.last)
-    return changed.believing(numbers.believed[:begin] + ones + numbers.believed[end:])
+    changed.believed[begin:end] = ones
+    changed.fields = numbers.fields
+    changed.fields[begin:end] = [one.field for one in ones]
+    return changed
 
 
 def _worth(numbers, before, ones, after):
@@ -136,34 +142,28 @@ def _loose(numbers, readings):
 
 def _lines(loose, is_both):
     """The lines on which enough of these readings are, each with its readings."""
-    found, rows = [], []
-    for phase in (0, 1) if len(loose) >= LEAST else ():
+    found = []
+    for step, phase in itertools.product(STEPS, (0, 1)) if len(loose) >= LEAST else ():
         # if both fields of a picture have its number, it begins with an odd one or with an even one
-        near = loose if is_both else [one for one in loose if one.field % 2 == phase]
-        rows.append((phase, near, [one.number for one in near], [(one.field - phase) // 2 for one in near]))
-    for step in STEPS:
-        for phase, near, numbers, pictures in rows:
-            for ones in _groups(near, list(map(operator.sub, numbers, map(step.__mul__, pictures)))):
-                begin = ones[0].field - (ones[0].field - phase) % 2
-                found.append((Line(step, 2, begin, ones[0].number), ones))
+        rows = collections.defaultdict(list)
+        for one in loose:
+            if is_both or one.field % 2 == phase:
+                rows[one.number - step * ((one.field - phase) // 2)].append(one)
+        for ones in (ones for row in rows.values() if len(row) >= LEAST for ones in _groups(row)):
+            begin = ones[0].field - (ones[0].field - phase) % 2
+            found.append((Line(step, 2, begin, ones[0].number), ones))
     return found
 
 
-def _groups(readings, keys):
-    """The readings that are on a line, as those with the same key are, in groups that are large enough."""
-    counts = Counter(keys)
-    is_often = max(counts.values(), default=0) >= LEAST
-    often = {key for key, count in counts.items() if count >= LEAST} if is_often else ()
-    last, groups = {}, []
-    for one, key in zip(readings, keys) if often else ():
-        if key not in often:
-            continue
-        ones = last.get(key)
-        if ones is None or one.field - ones[-1].field > APART:
-            last[key] = ones = []
-            groups.append(ones)
-        ones.append(one)
-    return [ones for ones in groups if _is_enough(ones)]
+def _groups(row):
+    """These readings of one line in groups that are near each other, and large enough."""
+    groups, before = [], -math.inf
+    for one in row:
+        if one.field - before > APART:
+            groups.append([])
+        groups[-1].append(one)
+        before = one.field
+    return filter(_is_enough, groups)
 
 
 def _is_enough(ones):

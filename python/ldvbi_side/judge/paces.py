@@ -86,21 +86,30 @@ class Pace:
         return (2 * fields + 1) // 5 if self.kind == "film" else fields // 2
 
 
-class MinutePace:
-    """The pace of minutes, each of which stands on all its fields. A minute has about `fields` of them, at least
-    `shortest` and at most `longest`."""
-    kind, variants, change, period, least, steps = "minute", 1, 0, 1, 1, (0, -1)
-
-    def __init__(self, system: str) -> None:
-        self.shortest, self.fields, self.longest = MINUTE_FIELDS[system]
+class _Whole:
+    """A pace of numbers that stand on all their fields. Nothing is left open of one."""
+    kind = ""
+    variants, change, period, steps = 1, 0, 1, (0, -1)
 
     def row(self, field: int, number: int) -> int:
         """As `Pace` has it."""
         return number
 
+    def off(self, fields: int, number: int, step: int, variant: int = 0, other: int = 0) -> int:
+        """As `Pace` has it."""
+        raise NotImplementedError
+
     def least_off(self, fields: int, number: int, step: int) -> int:
         """As `Pace` has it."""
         return self.off(fields, number, step)
+
+
+class MinutePace(_Whole):
+    """The pace of minutes. A minute has about `fields` of them, at least `shortest` and at most `longest`."""
+    kind, least = "minute", 1
+
+    def __init__(self, system: str) -> None:
+        self.shortest, self.fields, self.longest = MINUTE_FIELDS[system]
 
     def off(self, fields: int, number: int, step: int, variant: int = 0, other: int = 0) -> int:
         return fields - step * self.fields if step < 0 or self.least_wrong(fields, step) else 0
@@ -115,23 +124,15 @@ class MinutePace:
         return min(fields - few, 0) or max(fields - many, 0)
 
 
-class ChapterPace:
+class ChapterPace(_Whole):
     """The pace of chapters, which have any length. The next chapter is no break. Each one that is passed over counts as
     a picture would. Going back counts as all 80 would, since that can't be without a break of the pictures' numbers.
     One chapter that is passed over in many fields may have been there without being read. The numbers here are 100
     times the count of breaks up to the field, plus the chapter: at such a break any chapter may follow, for the least
     price."""
-    kind, variants, change, period, steps = "chapter", 1, 0, 100, (0, -1)
+    kind, period = "chapter", 100
     ALL = 80  # chapters, 0 to 79
     MANY = 18  # fields
-
-    def row(self, field: int, number: int) -> int:
-        """As `Pace` has it."""
-        return number
-
-    def least_off(self, fields: int, number: int, step: int) -> int:
-        """As `Pace` has it."""
-        return self.off(fields, number, step)
 
     def off(self, fields: int, number: int, step: int, variant: int = 0, other: int = 0) -> int:
         chapters = (number + step) % 100 - number % 100

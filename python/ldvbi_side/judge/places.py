@@ -19,7 +19,7 @@ Due = List[Tuple[int, int]]
 
 
 class Showing(NamedTuple):
-    """A number that is shown, as a count or as the answer has it, and its first and last field."""
+    """A number that is shown, or that stays, as a count or as the answer has it, and its first and last field."""
     number: Any
     first: int
     last: int
@@ -34,13 +34,6 @@ class Break(NamedTuple):
     from_: Any
     to: Any
     fields: int
-
-
-class Still(NamedTuple):
-    """A number that stays, as a count or as the answer has it, and its first and last field."""
-    number: Any
-    first: int
-    last: int
 
 
 _showing = cast(Callable[[Iterable[Any]], Showing], functools.partial(tuple.__new__, Showing))
@@ -63,7 +56,7 @@ class Places(NamedTuple):
     showings: List[Showing]
     breaks: List[Break]
     joins: List[Tuple[Reading, Reading]]
-    stills: List[Still]
+    stills: List[Showing]
     due: Due
     without_field: Set[int]
     open: Set[int]
@@ -100,8 +93,9 @@ def places_of(numbers: Numbers, codes: Codes) -> Places:
     # of all other believed readings the next one is that of the next number
     steps = [_step(numbers, place) for place in numbers.odd_places]
     last = _begin_of_last(numbers.values)
-    joins = [(step.before, step.after) for step in steps if ends and _is_join(
-        step, ends if step.place <= last else sorted(lead_in))]
+    begins = sorted(lead_in)
+    joins = [(step.before, step.after) for step in steps
+             if ends and _is_join(step, ends if step.place <= last else begins)]
     joined = set(joins)
     steps = [_joined(step) if (step.before, step.after) in joined else step for step in steps]
     due, without_field, unshown, unseen = _due(numbers, steps, codes)
@@ -173,7 +167,7 @@ def _stills(steps):
         if is_still and step.kind in ("same", "still"):
             stills[-1] = stills[-1]._replace(last=step.after.field)
         elif step.kind == "still":
-            stills.append(Still(step.after.number, begin, step.after.field))
+            stills.append(Showing(step.after.number, begin, step.after.field))
         if step.kind != "same":
             begin = step.after.field
         last = step.place

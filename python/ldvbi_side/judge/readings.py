@@ -78,14 +78,15 @@ class Codes(NamedTuple):
     stray: List[Stray]
     unknown: List[Unknown]
 
-    def strays(self, found: ByField, why: str) -> List[Stray]:
-        """Each line of these fields of a kind, as stray."""
-        return _strays(self.fields, found, why)
+    def strays(self, kind: Kind, fields: Iterable[int], why: str) -> List[Stray]:
+        """The lines of these fields that have a code of this kind, as stray."""
+        return [_stray(self.fields, field, line, why)
+                for field in fields for lines in self.kinds[kind][field].values() for line in lines]
 
     def weight(self, field: int, lines: Iterable[int]) -> int:
         """What the words of these lines of a field weigh together. A word of the line itself weighs more than one of
         its smoothed levels or a recovered one, more of which are wrong."""
-        return _WEIGHTS[self.fields.passes[field - 1], tuple(lines)]
+        return _weight(self.fields.passes[field - 1], tuple(lines))
 
     def sure_picture(self, field: int) -> Optional[int]:
         """The picture number that a field shows in pass 1 on both lines, or None."""
@@ -97,15 +98,15 @@ class Codes(NamedTuple):
         passes, found = self.fields.passes, set()
         for field, values in self.kinds[kind].items():
             lines = sum(values.values(), ()) if len(values) > 1 else next(iter(values.values()))
-            if _WEIGHTS[passes[field - 1], lines] >= WEIGHTS[1]:
+            if _weight(passes[field - 1], lines) >= WEIGHTS[1]:
                 found.add(field)
         return found
 
     def readings(self, found: ByField) -> List[Reading]:
         """The values of these fields as readings."""
-        passes, weights = self.fields.passes, _WEIGHTS
+        passes = self.fields.passes
         make = cast(Callable[..., Reading], functools.partial(tuple.__new__, Reading))  # there are many
-        return [make((field, value, weights[passes[field - 1], lines], lines, 0))
+        return [make((field, value, _weight(passes[field - 1], lines), lines, 0))
                 for field, values in found.items() for value, lines in values.items()]
 
     def words_of(self, kinds: Iterable[Kind]) -> List[Tuple[int, int, int, int]]:
@@ -115,37 +116,23 @@ class Codes(NamedTuple):
         for kind in kinds:
             place = STANDARD_LINES[kind][0] - LINES[0]
             for field in self.kinds[kind]:
-                word = self.fields.words[field - 1][place]
-                one = found.get(word)
-                if one is None:
-                    one = found[word] = [0, field, field]
-                one[0] += 1
-                one[2] = field
-        return sorted([(word, count, first, last) for word, (count, first, last) in found.items()],
+                found.setdefault(self.fields.words[field - 1][place], []).append(field)
+        return sorted([(word, len(fields), fields[0], fields[-1]) for word, fields in found.items()],
                       key=lambda one: one[2])
 
     def minutes(self) -> ByField:
         """The minutes of CLV times: the values of each field with their lines. Minutes that no clock shows are left
         out."""
-        found = {}
-        for field, values in self.kinds[Kind.time].items():
-            if None in values:
-                values = {value: lines for value, lines in values.items() if value is not None}
-            if values:
-                found[field] = values
-        return found
+        shown = {field: values if None not in values else {
+            value: lines for value, lines in values.items() if value is not None}
+                 for field, values in self.kinds[Kind.time].items()}
+        return {field: values for field, values in shown.items() if values}
 
 
-class _Weights(Dict[Tuple[Lines, Lines], int]):
+@functools.lru_cache(maxsize=None)
+def _weight(passes: Lines, lines: Lines) -> int:
     """What the words of lines of a field with these passes weigh together: few of either differ."""
-
-    def __missing__(self, key: Tuple[Lines, Lines]) -> int:
-        passes, lines = key
-        self[key] = weight = sum(WEIGHTS[passes[line - LINES[0]]] for line in lines)
-        return weight
-
-
-_WEIGHTS = _Weights()
+    return sum(WEIGHTS[passes[line - LINES[0]]] for line in lines)
 
 
 def codes_of(fields: Fields) -> Codes:
@@ -156,7 +143,7 @@ def codes_of(fields: Fields) -> Codes:
     unknown = [Unknown(field, line, *_said(fields, field, line)) for field, line, is_code in aside if not is_code]
     name, others = _format_of(kinds)
     for kind in others:
-        stray += _strays(fields, kinds[kind], "format")
+        stray += Codes(fields, kinds, name, [], []).strays(kind, kinds[kind], "format")
         kinds[kind] = {}
     return Codes(fields, kinds, name, stray, unknown)
 
@@ -227,16 +214,11 @@ def _format_of(kinds):
     return ("cav", CLV_KINDS) if len(cav) >= len(clv) else ("clv", CAV_KINDS)
 
 
-def _said(fields, field, line):
-    """The word of a line of a field, and its pass."""
-    return fields.words[field - 1][line - LINES[0]], fields.passes[field - 1][line - LINES[0]]
-
-
 def _stray(fields, field, line, why):
     word, of_pass = _said(fields, field, line)
     return Stray(field, line, word, code_of(word).kind, of_pass, why)
 
 
-def _strays(fields, found, why):
-    return [_stray(fields, field, line, why)
-            for field, values in found.items() for lines in values.values() for line in lines]
+def _said(fields, field, line):
+    """The word of a line of a field, and its pass."""
+    return fields.words[field - 1][line - LINES[0]], fields.passes[field - 1][line - LINES[0]]
