@@ -89,6 +89,20 @@ git init -q "$work/ldvbi-$version"
 git -C "$work/ldvbi-$version" add -A
 git -C "$work/ldvbi-$version" -c user.name=test -c user.email=test@localhost commit -qm crate || exit 1
 
+# The repository's own address: no `make` has been before, and python3 writes the modules.
+git init -q "$work/repository"
+(cd "$top" && tar -cf - --exclude=out crates rust/hand rust/erase.py) | tar -C "$work/repository" -xf - || exit 1
+git -C "$work/repository" add -A
+git -C "$work/repository" -c user.name=test -c user.email=test@localhost commit -qm repository || exit 1
+bounded cargo new --quiet --vcs none "$work/asking"
+[ ! "$sources" ] || cp -r "$sources" "$work/asking"
+printf '%s\n' 'fn main() { println!("{:?}", ldvbi::System::named("PAL")); }' > "$work/asking/src/main.rs"
+cd "$work/asking" || exit 1
+check 'cargo adds the repository' \
+    quiet env ${sources:+CARGO_HOME="$work/home"} cargo add --quiet --git "file://$work/repository" ldvbi
+check 'and a project is built on it' quiet env ${sources:+CARGO_HOME="$work/home"} cargo run --quiet
+check 'and runs' grep -qx 'Some(Pal)' "$work/out"
+
 # The example project: a player, with the crate by its path, and by git
 cp -r "$top/examples/rust" "$work/example"
 [ ! "$sources" ] || cp -r "$sources" "$work/example"
