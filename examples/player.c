@@ -1,7 +1,10 @@
-/* A player: finds a picture of a CAV side in a TBC file, or plays on to the next stop, and prints the field, from 1,
- * and the picture that it shows. Misread numbers are neither found nor shown, since the library judges each number by
- * the fields around it. Status 1: a command found nothing; 2: something can't be read, and standard error says what.
- *     cc -o player player.c -lldvbi && ./player side.tbc NTSC 16384 51200 search 12345 play play */
+/* A player. It does each command in turn, and prints the field that it shows then, from 1, and its picture. `search N`
+ * or `search H:MM:SS.PP` goes to a picture; if the capture lacks it, to the next one that it has. `chapter N`, `next`
+ * and `previous` go to where a chapter begins, `play` to the next stop, and `still` stays. All but `play` find their
+ * way by halving and fetch a few MB. So numbers and chapters have to rise, and on a worn side one may be missed. System
+ * and levels are the first rows of a map (ldvbi-side side.tbc --map side.map). Status 1: something wasn't found; 2:
+ * something can't be read, and standard error says what. It is C++, too.
+ *     cc -o player player.c -lldvbi && ./player side.tbc side.map search 12345 play next still */
 #define _DEFAULT_SOURCE
 #include <fcntl.h>
 #include <ldvbi.h>
@@ -10,50 +13,108 @@
 #include <string.h>
 #include <sys/mman.h>
 #include <unistd.h>
-
+typedef struct { uint32_t system, black, white; const uint8_t *bytes; size_t length, fields; } Side;
+typedef struct { size_t from, count; LdvbiFieldReadings read[LDVBI_PART]; LdvbiSightings seen[LDVBI_PART];
+                 LdvbiNumber shown[LDVBI_PART]; uint32_t states[LDVBI_PART]; } Part;
 static void require(int holds, const char *fault) { if (!holds) exit((fprintf(stderr, "player: %s\n", fault), 2)); }
 static void check(uint32_t status) { require(status == LDVBI_DONE, ldvbi_status_text(status)); }
-
-static uint32_t parse_number(const char *text) {
-    size_t length = strspn(text, "0123456789");
-    require(0 < length && length < 10 && text[length] == '\0', "a level or a picture is not a whole number");
-    return (uint32_t)strtoul(text, NULL, 10);
+static Side open_side(const char *path, const char *map) {
+    const char *rows = "kind,number,field,frame,how system,%4[A-Z],1,1,side black,%5u,1,1,side white,%5u";
+    Side side = {0, 0, 0, NULL, 0, 0};
+    char name[5];
+    FILE *file = fopen(map, "r");
+    require(file && fscanf(file, rows, name, &side.black, &side.white) == 3, "no system and levels in the map");
+    side.system = strcmp(name, "NTSC") == 0 ? LDVBI_NTSC : strcmp(name, "PAL") == 0 ? LDVBI_PAL : 0;
+    check(ldvbi_recover_fields(side.system, side.black, side.white, NULL, 0, NULL, 0)); /* tests the numbers */
+    int samples = open(path, O_RDONLY);
+    side.fields = (size_t)lseek(samples, 0, SEEK_END) / ldvbi_field_bytes(side.system);
+    side.length = side.fields * ldvbi_field_bytes(side.system);
+    void *bytes = mmap(NULL, side.length, PROT_READ, MAP_SHARED, samples, 0);
+    require(bytes != MAP_FAILED, "no field of the file can be mapped");
+    madvise(bytes, side.length, MADV_RANDOM); /* few pages are read: read none ahead */
+    side.bytes = (const uint8_t *)bytes;
+    return side;
+}
+static Part read_around(const Side *side, size_t field, size_t reach) { /* and as many before it, as far as they go */
+    size_t bytes = ldvbi_field_bytes(side->system), from = field < reach ? 0 : field - reach;
+    Part p;
+    p.from = from, p.count = (side->fields - field > reach ? field + reach + 1 : side->fields) - from;
+    check(ldvbi_recover_fields(side->system, side->black, side->white, side->bytes + from * bytes, p.count * bytes,
+                               p.read, p.count));
+    return p;
+}
+static int has_picture(const Side *side, size_t field, uint32_t *number) {
+    Part p = read_around(side, field, 2 * LDVBI_REACH); /* so many that this is the answer of the whole side's judge */
+    check(ldvbi_judge(side->system, LDVBI_PICTURES, LDVBI_FIND_PACE, p.read, p.count, p.seen, p.count, p.shown,
+                      p.count));
+    *number = p.shown[field - p.from].number;
+    return p.shown[field - p.from].state == LDVBI_BELIEVED || p.shown[field - p.from].state == LDVBI_DUE;
+}
+/* ---- Where commands lead: to a field, or to the count of all fields if it isn't found */
+static int chapter_of(const Side *side, size_t field) { /* the last one up to it; 80 in lead-out, -1 before all */
+    Part p = read_around(side, field, LDVBI_REACH);
+    check(ldvbi_judge_chapters(p.read, p.count, p.seen, p.count, p.shown, p.count));
+    check(ldvbi_judge_ends(p.read, p.count, p.states, p.count));
+    for (size_t i = field - p.from + 1; i-- > 0;)
+        if (p.states[i] == LDVBI_IS_LEAD_OUT || p.shown[i].state == LDVBI_BELIEVED)
+            return p.states[i] == LDVBI_IS_LEAD_OUT ? 80 : (int)p.shown[i].number;
+    return -1;
+}
+static size_t seek_chapter(const Side *side, int least) { /* the first field of this chapter, or of a later one */
+    size_t low = 0, high = side->fields, middle;
+    while (low < high)
+        if (chapter_of(side, middle = low + (high - low) / 2) < least) low = middle + 1;
+        else high = middle;
+    return low < side->fields && chapter_of(side, low) < 80 ? low : side->fields;
+}
+static size_t search(const Side *side, int is_chapter, const char *place, uint32_t *lacked) {
+    uint32_t n[4] = {0, 0, 0, 0}, counted = LDVBI_PICTURES, rate = side->system == LDVBI_NTSC ? 30 : 25;
+    int parts = place[strspn(place, "0123456789:.")] ? 0 : sscanf(place, "%5u:%2u:%2u.%2u", n, n + 1, n + 2, n + 3);
+    require(parts == 1 ? !is_chapter || n[0] < 80 : parts == 4 && !is_chapter && n[1] < 60 && n[2] < 60 &&
+            n[3] < rate, "no picture, no time, and no chapter");
+    if (parts == 4) counted = LDVBI_TIMES, n[0] = ((n[0] * 60 + n[1]) * 60 + n[2]) * rate + n[3];
+    LdvbiSought sought = {is_chapter ? seek_chapter(side, (int)n[0]) : side->fields, {0, 0}, 0, 0};
+    while (!is_chapter && sought.field == side->fields && *lacked < 1000) /* these fetch few fields more */
+        check(ldvbi_seek(side->system, side->black, side->white, counted, LDVBI_FIND_PACE, side->bytes, side->length,
+                         n[0] + (*lacked)++, &sought));
+    *lacked = is_chapter ? sought.field < side->fields && chapter_of(side, sought.field) != (int)n[0] : *lacked - 1;
+    return sought.field;
+}
+static int is_stop(const Side *side, size_t field) {
+    Part p = read_around(side, field, 0);
+    check(ldvbi_judge_stops(p.read, 1, p.states, 1));
+    return p.states[0] == LDVBI_BELIEVED;
+}
+static size_t next_stop(const Side *side, size_t field) { /* the first one, if all fields of a picture have its stop */
+    uint32_t last, now;
+    for (int had = is_stop(side, field), has; ++field < side->fields; had = has)
+        if ((has = is_stop(side, field)) && (!had || (has_picture(side, field, &now)
+                && !(has_picture(side, field - 1, &last) && last == now)))) break;
+    return field;
 }
 
 int main(int count, char **words) {
-    require(count > 5, "usage: player FILE NTSC|PAL BLACK WHITE search N|play ..");
-    uint32_t system = strcmp(words[2], "NTSC") == 0 ? LDVBI_NTSC : strcmp(words[2], "PAL") == 0 ? LDVBI_PAL : 0;
-    uint32_t black = parse_number(words[3]), white = parse_number(words[4]);
-    check(ldvbi_recover_fields(system, black, white, NULL, 0, NULL, 0)); /* no fields: tests the numbers */
-    int file = open(words[1], O_RDONLY);
-    size_t bytes = ldvbi_field_bytes(system), fields = (size_t)lseek(file, 0, SEEK_END) / bytes;
-    void *side = mmap(NULL, fields * bytes, PROT_READ, MAP_SHARED, file, 0);
-    LdvbiFieldReadings *read = calloc(fields, sizeof *read);
-    LdvbiSightings *seen = calloc(fields, sizeof *seen);
-    LdvbiNumber *shown = calloc(fields, sizeof *shown);
-    uint32_t *stops = calloc(fields, sizeof *stops);
-    require(side != MAP_FAILED && read && seen && shown && stops, "no field of the file can be mapped");
-    madvise(side, fields * bytes, MADV_RANDOM); /* few pages of a field are read: read none ahead */
-    check(ldvbi_recover_fields(system, black, white, side, fields * bytes, read, fields));
-    check(ldvbi_judge(system, LDVBI_PICTURES, LDVBI_FIND_PACE, read, fields, seen, fields, shown, fields));
-    check(ldvbi_judge_stops(read, fields, stops, fields));
-    for (size_t i = fields - 1; i > 0; i--) /* if all fields of a picture have its stop, the first one counts */
-        if (stops[i - 1] == LDVBI_BELIEVED
-                && (shown[i].state == LDVBI_NOTHING || shown[i].number == shown[i - 1].number))
-            stops[i] = LDVBI_NOTHING;
-    for (size_t i = 5, field = 0; i < (size_t)count; i++) {
-        const char *command = words[i];
-        if (strcmp(command, "play") == 0) {
-            while (++field < fields && stops[field] != LDVBI_BELIEVED) {}
-        } else {
-            require(strcmp(command, "search") == 0 && words[i + 1] != NULL, "no such command");
-            field = ldvbi_first_of(shown, fields, parse_number(words[++i]));
-        }
-        if (field >= fields) return printf("%s: not found\n", command), 1;
-        printf("%s: field %zu", command, field + 1);
-        if (shown[field].state == LDVBI_BELIEVED || shown[field].state == LDVBI_DUE)
-            printf(" picture %u", (unsigned)shown[field].number);
-        putchar('\n');
+    require(count > 3, "usage: player FILE MAP search PLACE|chapter N|next|previous|play|still ..");
+    Side side = open_side(words[1], words[2]);
+    size_t shown = 0, field;
+    uint32_t picture, is_missed = 0;
+    for (char **word = words + 3; *word; word++) {
+        const char *name = *word;
+        uint32_t lacked = 0;
+        if (strcmp(name, "search") == 0 || strcmp(name, "chapter") == 0)
+            field = search(&side, *name == 'c', word[1] ? *++word : "-", &lacked);
+        else if (strcmp(name, "next") == 0) field = seek_chapter(&side, chapter_of(&side, shown) + 1);
+        else if (strcmp(name, "previous") == 0) {
+            size_t begin = seek_chapter(&side, chapter_of(&side, shown));
+            field = seek_chapter(&side, begin == 0 ? -1 : chapter_of(&side, begin - 1));
+        } else if (strcmp(name, "play") == 0) field = next_stop(&side, shown);
+        else require(strcmp(name, "still") == 0, "no such command"), field = shown;
+        uint32_t is_lacking = lacked > 0 || field == side.fields;
+        printf("%s:%s", name, is_lacking ? " not found" : "");
+        if (field < side.fields) printf("%s field %zu", is_lacking ? "," : "", (shown = field) + 1);
+        if (field < side.fields && has_picture(&side, field, &picture)) printf(" picture %u", picture);
+        puts("");
+        is_missed |= is_lacking;
     }
-    return 0;
+    return (int)is_missed;
 }

@@ -1,49 +1,130 @@
 #!/usr/bin/env python3
-"""A player: finds a picture of a CAV side in a TBC file, or plays on to the next stop, and prints the field, from 1,
-and the picture that it shows. Misread numbers are neither found nor shown, since the library judges each number by the
-fields around it. Status 1: a command found nothing; 2: something can't be read, and standard error says what.
+"""A player. It does each command in turn, and prints the field that it shows then, from 1, and its picture. `search N`
+or `search H:MM:SS.PP` goes to a picture; if the capture lacks it, to the next one that it has. `chapter N`, `next` and
+`previous` go to where a chapter begins, `play` to the next stop, and `still` stays. All but `play` find their way by
+halving and fetch a few MB. So numbers and chapters have to rise, and on a worn side one may be missed. System and
+levels are those of the metadata beside the file. Status 1: something wasn't found; 2: something can't be read, and
+standard error says what.
 
-    PYTHONPATH=python python3 examples/player.py side.tbc NTSC 16384 51200 search 12345 play play
+    PYTHONPATH=python python3 examples/player.py side.tbc search 12345 play next still
 """
 
+import re
 import signal
 import sys
 
 import ldvbi
+from ldvbi.metadata import beside, read_metadata, settings_of
+
+REACH = 24  # fields before a field, and after it, by which its chapter is judged; twice as many tell its number
+LEAD_OUT = 80  # above all chapters
+KNOWN = (ldvbi.State.believed, ldvbi.State.due)
 
 
-def stops_of(pictures, readings):
-    """The fields with a stop. If all fields of a picture have its stop, the first one counts."""
-    stops = [stop == ldvbi.State.believed for stop in ldvbi.judge_stops(readings)]
-    return [place for place, stop in enumerate(stops) if stop and not (
-        place and stops[place - 1] and pictures[place].number in (None, pictures[place - 1].number))]
+def around(side, place, reach):
+    """The readings around a field, and which of them is its own."""
+    begin = max(0, place - reach)
+    return side[begin:place + reach + 1], place - begin
+
+
+def picture_of(side, place):
+    """The picture of a field, by so many fields that this is the answer of the whole side's judge."""
+    readings, own = around(side, place, 2 * REACH)
+    number, state = ldvbi.judge(readings, side.system)[own]
+    return number if state in KNOWN else None
+
+
+def chapter_of(side, place):
+    """The last chapter that is believed up to a field; -1 before all of them."""
+    readings, own = around(side, place, REACH)
+    told = list(zip(ldvbi.judge_chapters(readings), ldvbi.judge_ends(readings)))
+    for chapter, end in reversed(told[:own + 1]):
+        if end == ldvbi.End.lead_out:
+            return LEAD_OUT
+        if chapter.state == ldvbi.State.believed:
+            return chapter.number
+    return -1
+
+
+def seek_chapter(side, least):
+    """The first field of this chapter, or of a later one."""
+    low, high = 0, len(side)
+    while low < high:
+        middle = (low + high) // 2
+        low, high = (middle + 1, high) if chapter_of(side, middle) < least else (low, middle)
+    return low if low < len(side) and chapter_of(side, low) < LEAD_OUT else None
+
+
+def search(side, text):
+    """The field of a picture or a time, and whether this is the one that was asked for."""
+    time = re.fullmatch("([0-9]):([0-5]?[0-9]):([0-5]?[0-9])[.]([0-9]{1,2})", text)
+    rate = 30 if side.system == ldvbi.System.NTSC else 25
+    if not (int(time[4]) < rate if time else re.fullmatch("[0-9]{1,5}", text)):
+        raise ValueError("neither a picture nor a time: " + text)
+    number, counted = int(text) if not time else 0, "times" if time else "pictures"
+    if time:
+        hours, minutes, seconds, picture = map(int, time.groups())
+        number = ((hours * 60 + minutes) * 60 + seconds) * rate + picture
+    for lacked in range(1000):  # all after the first fetch few fields more
+        sought = ldvbi.seek(side, number + lacked, counted)
+        if sought is not None:
+            return sought.field, not lacked
+    return None, False
+
+
+def play(side, place):
+    """The next stop. If all fields of a picture have its stop, the first one counts."""
+    had = None
+    for now in range(place, len(side)):
+        has = ldvbi.judge_stops(side[now:now + 1])[0] == ldvbi.State.believed
+        if has and now > place and not (had and picture_of(side, now) in (None, picture_of(side, now - 1))):
+            return now
+        had = has
+    return None
+
+
+def previous(side, place):
+    begin = seek_chapter(side, chapter_of(side, place))
+    return seek_chapter(side, chapter_of(side, begin - 1) if begin else -1)
+
+
+def done(side, place, command, words):
+    """Where a command leads, and whether that is what was asked for."""
+    if command == "search":
+        return search(side, next(words, ""))
+    if command == "chapter":
+        number = int(next(words, ""))
+        if not 0 <= number < LEAD_OUT:
+            raise ValueError("no chapter from 0 to 79: %d" % number)
+        found = seek_chapter(side, number)
+        return found, found is not None and chapter_of(side, found) == number
+    if command not in ("next", "previous", "play", "still"):
+        raise ValueError("no such command: " + command)
+    found = (seek_chapter(side, chapter_of(side, place) + 1) if command == "next" else
+             previous(side, place) if command == "previous" else play(side, place) if command == "play" else place)
+    return found, found is not None
 
 
 def main():
-    if len(sys.argv) < 6:
-        raise ValueError("usage: player.py FILE NTSC|PAL BLACK WHITE search N|play ..")
-    path, system, black, white = sys.argv[1:5]
-    with ldvbi.Stream(path, system, int(black), int(white), recover=True) as side:
-        readings = b"".join(side.packed(0, len(side)))
-    if not readings:
-        raise ValueError("no field in " + path)
-    pictures = ldvbi.judge(readings, system)
-    stops = stops_of(pictures, readings)
-    place, words = 0, iter(sys.argv[5:])
-    for command in words:
-        if command == "play":
-            place = next((stop for stop in stops if stop > place), None)
-        elif command == "search":
-            place = ldvbi.first_of(pictures, int(next(words, "")))
-        else:
-            raise ValueError("no such command: " + command)
-        if place is None:
-            print(command + ": not found")
-            return 1
-        number, state = pictures[place]
-        picture = " picture %d" % number if state in (ldvbi.State.believed, ldvbi.State.due) else ""
-        print("%s: field %d%s" % (command, place + 1, picture))
-    return 0
+    if len(sys.argv) < 3:
+        raise ValueError("usage: player.py FILE search PLACE|chapter N|next|previous|play|still ..")
+    path = sys.argv[1]
+    metadata = beside(path)
+    settings = settings_of(read_metadata(metadata) if metadata else None)
+    place, status, words = 0, 0, iter(sys.argv[2:])
+    with ldvbi.Stream(path, settings.system, settings.black, settings.white, recover=True) as side:
+        if not side:
+            raise ValueError("no field in " + path)
+        for command in words:
+            found, is_right = done(side, place, command, words)
+            status |= not is_right
+            said = command + ":" + ("" if is_right else " not found")
+            if found is not None:
+                place, picture = found, picture_of(side, found)
+                said += "%s field %d%s" % ("" if is_right else ",", found + 1,
+                                           "" if picture is None else " picture %d" % picture)
+            print(said)
+    return status
 
 
 if __name__ == "__main__":

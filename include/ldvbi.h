@@ -1,27 +1,27 @@
 /* SPDX-License-Identifier: MIT OR Apache-2.0 */
 /* ldvbi: the code words of LaserDisc lines (IEC 60857 and IEC 60856), for C99 and C++98 and later. A player in short:
  *
- *     size_t bytes = ldvbi_field_bytes(LDVBI_NTSC);
  *     int file = open("side.tbc", O_RDONLY);
- *     size_t count = (size_t)lseek(file, 0, SEEK_END) / bytes;
- *     void *side = mmap(NULL, count * bytes, PROT_READ, MAP_SHARED, file, 0);
- *     madvise(side, count * bytes, MADV_RANDOM);
- *     LdvbiFieldReadings *read = calloc(count, sizeof *read);
- *     LdvbiSightings *seen = calloc(count, sizeof *seen);
- *     LdvbiNumber *numbers = calloc(count, sizeof *numbers);
- *     uint32_t *stops = calloc(count, sizeof *stops);
- *     if (ldvbi_recover_fields(LDVBI_NTSC, 16384, 51200, side, count * bytes, read, count) != LDVBI_DONE) return 2;
- *     if (ldvbi_judge(LDVBI_NTSC, LDVBI_PICTURES, LDVBI_FIND_PACE, read, count, seen, count, numbers, count)) return 2;
- *     if (ldvbi_judge_stops(read, count, stops, count) != LDVBI_DONE) return 2;
- *     size_t field = ldvbi_first_of(numbers, count, 12345);
- *     printf("picture 12345 is in field %zu of %zu\n", field + 1, count);
- *     while (field < count && stops[field] != LDVBI_BELIEVED) field++;
- *     printf("the player stops in field %zu\n", field + 1);
+ *     size_t bytes = ldvbi_field_bytes(LDVBI_NTSC), count = (size_t)lseek(file, 0, SEEK_END) / bytes;
+ *     size_t length = count * bytes;
+ *     char *side = mmap(NULL, length, PROT_READ, MAP_SHARED, file, 0);
+ *     madvise(side, length, MADV_RANDOM);
+ *     LdvbiSought at;
+ *     if (ldvbi_seek(LDVBI_NTSC, 16384, 51200, LDVBI_PICTURES, LDVBI_FIND_PACE, side, length, 12345, &at)) return 2;
+ *     printf("picture 12345 is in field %zu of %zu\n", at.field + 1, count);
+ *     LdvbiFieldReadings read;
+ *     uint32_t stop = LDVBI_NOTHING;
+ *     for (size_t i = at.field; i < count && stop != LDVBI_BELIEVED; i++) {
+ *         if (ldvbi_recover_fields(LDVBI_NTSC, 16384, 51200, side + i * bytes, bytes, &read, 1)) return 2;
+ *         if (ldvbi_judge_stops(&read, 1, &stop, 1)) return 2;
+ *         if (stop == LDVBI_BELIEVED) printf("the player stops in field %zu\n", i + 1);
+ *     }
  *
- * If nothing is found, `field` is `count`. Without the call of madvise the system reads ahead, ten pages or more for
- * each one that is wanted. The programs in examples/ also test what the system answers. In docs/, LIBRARY.md says how
- * to link, which line has which code, and how to read frames, lines of other sample rates and mapped files; PROMISES.md
- * says what is proved. Both folders are installed in share/doc/ldvbi.
+ * If it isn't found, `at.field` is `count`. Seeking fetches 2 MB of 50 GB. Without the call of madvise the system reads
+ * ahead, ten pages or more for each one that is wanted. The programs in examples/ also test what the system answers, and
+ * player.c goes to chapters, too, and on from pictures that the capture lacks. In docs/, LIBRARY.md says how to link,
+ * which line has which code, and how to read frames, lines of other sample rates and mapped files; PROMISES.md says
+ * what is proved. Both folders are installed in share/doc/ldvbi.
  *
  * Samples have 16 bits, the low byte first, as in ld-decode's TBC files: line after line, field after field. Black and
  * white are samples too: black16bIre and white16bIre of the .tbc.json. A sample above the middle of the two is high.
@@ -138,7 +138,7 @@ LDVBI_RESULT LDVBI_POINTER(6) uint32_t ldvbi_read_field(uint32_t system, uint32_
 
 /* The same for `count` fields, one after the other, as in a mapped TBC file. `length` has to be count *
  * ldvbi_field_bytes(system). If the system reads nothing ahead (MADV_RANDOM), only two or three pages of each field are
- * read. examples/seek.c has the system fetch them in advance, which takes a quarter of the time. */
+ * read. examples/whole.c has the system fetch them in advance, which takes a quarter of the time. */
 LDVBI_RESULT uint32_t ldvbi_read_fields(uint32_t system, uint32_t black, uint32_t white, const void *samples,
     size_t length, LdvbiFieldReadings *readings, size_t count);
 

@@ -1,6 +1,7 @@
 #!/usr/bin/env python3
 """Writes the proved source as one plain Rust crate: contracts are taken out, and nothing of what runs is changed.
 usage: erase.py CRATES HAND CRATE
+       erase.py CRATES FILE     writes the modules alone, as one file (rust/hand/build.rs)
 
 CRATES is the folder of the project's crates, HAND has the files that are written by hand, and CRATE is made anew. What
 goes: ghost lines, requires and ensures, models, tactics, modules of laws. What is written otherwise: paths of
@@ -14,6 +15,8 @@ import sys
 
 MODULES = {"vbi_words": "words", "vbi_line": "line", "vbi_field": "field", "vbi_meta": "meta", "vbi_cli": "cli",
            "vbi_near": "near", "vbi_side": "side", "vbi_c": "c"}
+# Those that need a feature of the crate
+ATTRIBUTES_OF = {"meta": '#[cfg(feature = "metadata")]\n', "cli": '#[cfg(feature = "cli")]\n'}
 # A comment, a text or a character, in which nothing is code
 APART = re.compile(r"""//[^\n]*|b?"(?:\\.|[^"\\])*"|b?'(?:\\[^'\n]+|[^'\\\n])'""", re.S)
 GHOST = re.compile(r"^[ \t]*(?:pub )?ghost ", re.M)
@@ -174,16 +177,33 @@ def as_module(text, module):
     return text
 
 
-def main(crates, hand, target):
+def modules(crates):
+    """Yields the module and the file of each source, and what is left of it."""
     for crate, module in MODULES.items():
         for path in sorted((crates / crate / "src").glob("*.rt")):
             text = erased(path)
             if text is not None:
-                place = target / "src" / module / (("mod" if path.stem == "lib" else path.stem) + ".rs")
-                place.parent.mkdir(parents=True, exist_ok=True)
-                place.write_text(as_module(text, module), encoding="utf-8")
+                yield module, "mod" if path.stem == "lib" else path.stem, as_module(text, module)
+
+
+def write_crate(crates, hand, target):
+    for module, name, text in modules(crates):
+        place = target / "src" / module / (name + ".rs")
+        place.parent.mkdir(parents=True, exist_ok=True)
+        place.write_text(text, encoding="utf-8")
     shutil.copytree(hand, target, dirs_exist_ok=True)
 
 
+def write_file(crates, target):
+    """Writes a file that stands for the line `mod words;`, and for those of the other modules."""
+    files = {(module, name): text for module, name, text in modules(crates)}
+    with open(target, "w", encoding="utf-8") as file:
+        for module in MODULES.values():
+            text = re.sub(r"^((?:pub )?mod (\w+));$", lambda one: f"{one[1]} {{\n{files[module, one[2]]}}}",
+                          files[module, "mod"], flags=re.M)
+            file.write(f"{ATTRIBUTES_OF.get(module, '')}#[allow(dead_code, unused_imports)]\n"
+                       f"mod {module} {{\n{text}}}\n")
+
+
 if __name__ == "__main__":
-    main(*map(pathlib.Path, sys.argv[1:4]))
+    (write_crate if len(sys.argv) > 3 else write_file)(*map(pathlib.Path, sys.argv[1:4]))

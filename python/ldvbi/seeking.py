@@ -6,7 +6,7 @@ from typing import NamedTuple, Optional, Union
 
 from .judging import Number, State
 from .library import Counted, Pace, check, counted_number, later_call, number_of, pace_number
-from .stream import Stream
+from .stream import Stream, Use
 
 _PACKED_SOUGHT = struct.Struct("@NIIII")  # LdvbiSought
 
@@ -30,9 +30,10 @@ def seek(stream: Stream, number: int, counted: Union[Counted, str] = Counted.pic
     `find_pace` answers for the side."""
     call = later_call("ldvbi_seek")
     packed = ctypes.create_string_buffer(_PACKED_SOUGHT.size)
-    system, black, white, address, length = stream.arguments()
-    check(call(system, black, white, counted_number(counted), pace_number(pace), address, length,
-               number_of("number", number), packed))
+    with Use(stream):
+        system, black, white, address, length = stream.arguments()
+        check(call(system, black, white, counted_number(counted), pace_number(pace), address, length,
+                   number_of("number", number), packed))
     field, found, state, found_pace, looked = _PACKED_SOUGHT.unpack(packed)
     if field == len(stream):
         return None

@@ -3,6 +3,7 @@
 import ctypes
 import os
 import struct
+import threading
 from typing import Any, Iterable, Iterator, List, Optional, Tuple
 
 from .dropouts import Dropouts, refuse_dropouts
@@ -18,6 +19,19 @@ _PACKED_RECORD = struct.Struct("=I448s")  # LdvbiRecord of ldvbi.h
 StreamDropouts = Optional[Iterable[Tuple[int, int, int, int]]]
 
 
+class Use:
+    """A `with` block in which a stream's file and memory stay, even if another thread closes it meanwhile."""
+
+    def __init__(self, stream: "Stream") -> None:
+        self._stream = stream
+
+    def __enter__(self) -> None:
+        self._stream._begin_use()
+
+    def __exit__(self, *_: object) -> None:
+        self._stream._end_use()
+
+
 class Stream(Fields):
     """A stream of fields: a TBC file, given by its path, or a buffer. It is a sequence of the `FieldReadings` of its
     whole fields: it has a length, an index from 0 (or from -1, backwards), slices, which are lists, and a loop over all
@@ -31,11 +45,13 @@ class Stream(Fields):
     Only lines 16, 17 and 18 are read from a file, and a loop has the system fetch those of the next fields ahead. If
     the file is made shorter meanwhile, asking for a field that has gone raises a ValueError that says so. But `seek`
     maps the file, and a mapped file that is made shorter ends the process by SIGBUS. `close`, or the end of a `with`
-    block, releases the file or buffer. After that, asking for a field raises a ValueError."""
+    block, releases the file or buffer. After that, asking for a field raises a ValueError. Threads may share a stream,
+    and any of them may close it: what another one is reading then is released when that call ends."""
 
     def __init__(self, source: Any, system: AnySystem, black: int, white: int, recover: bool = False,
                  dropouts: StreamDropouts = None) -> None:
         refuse_dropouts(recover, dropouts)
+        self._lock, self._is_open, self._uses = threading.RLock(), True, 0
         self._setup = setup_of(system, black, white)
         self._read = later_call("ldvbi_recover_fields") if recover else library().ldvbi_read_fields
         self._setup.check(self._read(*self._setup, None, 0, None, 0))
@@ -53,14 +69,18 @@ class Stream(Fields):
         else:
             self._samples = Samples(source)
             self._bytes = self._samples.length
-        self._is_open = True
         self._count, self.cut_bytes = divmod(self._bytes, self._size)
         self.dropouts = Dropouts(dropouts, self._count)
         if self.dropouts:
             self._read = later_call("ldvbi_recover_fields_without")
 
     def close(self) -> None:
-        self._is_open = False
+        with self._lock:
+            self._is_open = False
+            if not self._uses:
+                self._release()
+
+    def _release(self) -> None:
         if self._samples is not None:
             self._samples.release()
             self._samples = None
@@ -98,39 +118,56 @@ class Stream(Fields):
         if not 0 <= field < self._bytes // size:
             raise IndexError("field %d of a stream of %d fields" % (field, self._bytes // size))
         begin = field * size + 15 * line
-        if self._file is not None:
-            return self._file.read(begin, 3 * line)
-        return ctypes.string_at(self._memory().address + begin, 3 * line)
+        with Use(self):
+            if self._file is not None:
+                return self._file.read(begin, 3 * line)
+            return ctypes.string_at(self._memory().address + begin, 3 * line)
 
     def arguments(self) -> Tuple[int, int, int, int, int]:
         """What the library's calls get of the stream: its system, black and white, its address, and its length. This
-        maps a file."""
+        maps a file. The address holds as long as a `Use` of the stream."""
         samples = self._memory()
         return self._setup.system, self._setup.black, self._setup.white, samples.address, samples.length
 
     def _memory(self) -> Samples:
-        self._refuse_closed()
-        if self._samples is None:
-            assert self._file is not None
-            self._samples = Samples(self._file.mapped() if self._bytes else b"")
-        return self._samples
+        """All bytes of the stream. They stay where they are as long as a `Use` of the stream."""
+        with self._lock:
+            self._refuse_closed()
+            if self._samples is None:
+                assert self._file is not None
+                self._samples = Samples(self._file.mapped() if self._bytes else b"")
+            return self._samples
 
     def _refuse_closed(self) -> None:
         if not self._is_open:
             raise ValueError("the stream is closed")
 
+    def _begin_use(self) -> None:
+        with self._lock:
+            self._refuse_closed()
+            self._uses += 1
+
+    def _end_use(self) -> None:
+        with self._lock:
+            self._uses -= 1
+            if not self._is_open and not self._uses:
+                self._release()
+
     def packed(self, begin: int, end: int) -> Iterator[Any]:
         """Yields the readings of the fields from `begin` to before `end` in blocks, as the library writes them: three
         readings a field, of 8 bytes each, `struct`'s "=BBHI": cause, pass, column and word."""
         self._refuse_closed()
-        if self._file is None:
-            for first, last in self._ahead(begin, end):
-                yield self._packed_block(self._memory().address + first * self._size, first, last)
-        elif begin < end:
-            window = Window(self._file, min(BLOCK, end - begin), self._line, self._size)
-            for first, last in self._ahead(begin, end):
-                window.read(first, last)
-                yield self._packed_block(window.address, first, last)
+        window = None
+        for first, last in self._ahead(begin, end):
+            with Use(self):
+                if self._file is None:
+                    address = self._memory().address + first * self._size
+                else:
+                    window = window or Window(self._file, min(BLOCK, end - begin), self._line, self._size)
+                    window.read(first, last)
+                    address = window.address
+                block = self._packed_block(address, first, last)
+            yield block
 
     def _ahead(self, begin: int, end: int) -> Iterator[Tuple[int, int]]:
         """Yields the first field of each block of these, and the one after it. Of a file the system fetches the lines
@@ -142,9 +179,10 @@ class Stream(Fields):
             yield first, last
 
     def _fetch(self, first: int, last: int) -> None:
-        if self._file is not None:
-            for field in range(first, last):
-                self._file.fetch(field * self._size + 15 * self._line, 3 * self._line)
+        with Use(self):
+            if self._file is not None:
+                for field in range(first, last):
+                    self._file.fetch(field * self._size + 15 * self._line, 3 * self._line)
 
     def records(self) -> Iterator[List[str]]:
         """Yields the records of all fields in the document with recovered words, version 3, as the library writes them,

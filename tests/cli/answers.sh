@@ -50,16 +50,21 @@ by_side() {
         *) finds $command --seek "$question" ;;
     esac
 }
+# A place is searched, but `chapter N` is a command of its own.
 plays_in() {
-    player=./player_$1
-    [ "$1" != python ] || player="python3 $top/examples/player.py"
-    plays " picture $4" $player "$2.tbc" $3 search "$4"
+    player="./player_$1 $2.tbc $2.map"
+    [ "$1" != python ] || player="python3 $top/examples/player.py $2.tbc"
+    case $4 in
+        chapter*) plays '\( picture [0-9]*\)\?' $player $4 ;;
+        *:*) plays '\( picture [0-9]*\)\?' $player search $4 ;;
+        *) plays " picture $4" $player search $4 ;;
+    esac
 }
 asks c 'searches c'
 asks c++ 'searches cpp'
 asks python 'searches python' '[0-9cwg].*'
 for language in c cpp python; do
-    asks player "plays_in $language" '[0-9]*'
+    asks player "plays_in $language" '[0-9c].*'
 done
 asks side by_side '[0-9csw].*'
 finish

@@ -16,9 +16,9 @@ in_rust() {
                 out > answer ;;
         'whole to lead-out') says ./whole "$1.tbc" $2 ;;
         whole | gaps) says ./whole "$1.tbc" $2 cut ;;
-        chapter*) plays '\( picture [0-9]*\)\?' ./player "$1.tbc" $2 $3 ;;
-        *:*) plays '\( picture [0-9]*\)\?' ./player "$1.tbc" $2 search $3 ;;
-        *) plays "\( picture $3\)\?" ./player "$1.tbc" $2 search $3 ;;
+        chapter*) plays '\( picture [0-9]*\)\?' ./player "$1.tbc" $3 ;;
+        *:*) plays '\( picture [0-9]*\)\?' ./player "$1.tbc" search $3 ;;
+        *) plays "\( picture $3\)\?" ./player "$1.tbc" search $3 ;;
     esac
 }
 # What `Side::seek` finds, which the example prints, too; the player has it of the judged side.

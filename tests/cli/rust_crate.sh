@@ -48,12 +48,14 @@ while IFS='|' read -r name words; do
 done << END
 no warning of rustc and clippy|cargo clippy --quiet --all-targets
 none of those of the program either|cargo clippy --quiet --all-targets --features cli
+nor of what opens sides|cargo clippy --quiet --all-targets --features metadata
 none of its documents|cargo doc --quiet --no-deps
 it is laid out by rustfmt|cargo fmt --check
 bits_above is the plain loop|rustc --edition 2021 --test -A dead_code -O -o $work/bits_above src/bits_above.rs
 at every position and of every value|$work/bits_above
 the example in its documents|cargo test --doc --quiet
 its interface on drawn sides|cargo test --quiet --test facade --test whole
+sides that it opens|cargo test --quiet --features metadata --test opened
 END
 # The way of 64-bit ARM, with functions that do what its five instructions do
 sed 's/"x86_64"/"none"/; s/"aarch64"/"x86_64"/; s/std::arch::aarch64/crate::neon/' src/bits_above.rs > "$work/neon.rs"
@@ -87,6 +89,20 @@ git init -q "$work/ldvbi-$version"
 git -C "$work/ldvbi-$version" add -A
 git -C "$work/ldvbi-$version" -c user.name=test -c user.email=test@localhost commit -qm crate || exit 1
 
+# The repository's own address: no `make` has been before, and python3 writes the modules.
+git init -q "$work/repository"
+(cd "$top" && tar -cf - --exclude=out crates rust/hand rust/erase.py) | tar -C "$work/repository" -xf - || exit 1
+git -C "$work/repository" add -A
+git -C "$work/repository" -c user.name=test -c user.email=test@localhost commit -qm repository || exit 1
+bounded cargo new --quiet --vcs none "$work/asking"
+[ ! "$sources" ] || cp -r "$sources" "$work/asking"
+printf '%s\n' 'fn main() { println!("{:?}", ldvbi::System::named("PAL")); }' > "$work/asking/src/main.rs"
+cd "$work/asking" || exit 1
+check 'cargo adds the repository' \
+    quiet env ${sources:+CARGO_HOME="$work/home"} cargo add --quiet --git "file://$work/repository" ldvbi
+check 'and a project is built on it' quiet env ${sources:+CARGO_HOME="$work/home"} cargo run --quiet
+check 'and runs' grep -qx 'Some(Pal)' "$work/out"
+
 # The example project: a player, with the crate by its path, and by git
 cp -r "$top/examples/rust" "$work/example"
 [ ! "$sources" ] || cp -r "$sources" "$work/example"
@@ -94,11 +110,11 @@ cd "$work/example" || exit 1
 manifest=$(cat Cargo.toml)
 # depends ON: makes the crate that which these words name
 depends() {
-    printf '%s\n' "$manifest" | sed "s|{ path = \"../../rust/crate\" }|{ $1 }|" > Cargo.toml
+    printf '%s\n' "$manifest" | sed "s|{ path = \"../../rust/crate\", .* }|{ $1 }|" > Cargo.toml
 }
-depends "git = \"file://$work/ldvbi-$version\""
+depends "git = \"file://$work/ldvbi-$version\", features = [\"metadata\"]"
 check 'a project that depends on it by git' quiet env ${sources:+CARGO_HOME="$work/home"} cargo check --quiet
-depends "path = \"$top/rust/crate\""
+depends "path = \"$top/rust/crate\", features = [\"metadata\"]"
 check 'no warning of the example project' quiet cargo clippy --quiet
 check 'the example project is built' quiet cargo build --quiet
 player=$CARGO_TARGET_DIR/debug/player
@@ -107,29 +123,32 @@ cd "$work" || exit 1
 # What it answers of drawn sides is tried by tests/cli/rust_answers.sh; here what it plays, and what it refuses.
 bounded sh "$top/examples/side.sh" "$program" || exit 1
 head -c 100 side.tbc > cut.tbc
+cp side.tbc absent.tbc
 printf '%s\n' '- F00001 F00001' '- 800DDD 800DDD' '- F00002 F00002' '- 800DDD 800DDD' '82CFFF 82CFFF F00003' \
     '82CFFF 82CFFF 800DDD' '82CFFF 82CFFF F00004' '82CFFF 82CFFF 800DDD' '- F00005 F00005' > twice.words
 output_of draw $ntsc twice.words > twice.tbc
-on='NTSC 16384 51200'
+for name in twice cut; do cp side.tbc.json $name.tbc.json; done
 while IFS='|' read -r ended words played said; do
     printf "$played" > wanted_text
     said_line "${said:+player: $said}"
     does "$player" $words
     check "the player: $words" ended $ended wanted_text wanted
 done << END
-0|side.tbc $on search 30 play search 7 play chapter 0|search: field 65 picture 30\nplay: field 97 picture 46\n\
-search: field 21 picture 7\nplay: field 33 picture 17\nchapter: field 10\n|
-1|twice.tbc $on play play play|play: field 5 picture 3\nplay: field 7 picture 4\nplay: not found\n|
-2|side.tbc $on search||usage: player FILE SYSTEM BLACK WHITE search PLACE, chapter N, play ..
-2|side.tbc SECAM 16384 51200 play||system is neither NTSC nor PAL
-2|side.tbc $on search 1:2||neither a picture nor a time: 1:2
-2|side.tbc $on stop||no such command: stop
-2|cut.tbc $on play||a field has 478660 bytes, and these are 100
+0|side.tbc search 30 play search 7 play still chapter 0|search: field 65 picture 30\nplay: field 97 picture 46\n\
+search: field 21 picture 7\nplay: field 33 picture 17\nstill: field 33 picture 17\nchapter: field 10\n|
+1|side.tbc search 10 search 79999 chapter 1 next next previous chapter 3|search: not found, field 27 picture 14\n\
+search: not found\nchapter: field 36\nnext: field 78\nnext: not found\nprevious: field 36\nchapter: not found\n|
+1|twice.tbc play play play|play: field 5 picture 3\nplay: field 7 picture 4\nplay: not found\n|
+2|side.tbc search||usage: player FILE search PLACE, chapter N, next, previous, play, still ..
+2|side.tbc search 1:2||neither a picture nor a time: 1:2
+2|side.tbc stop||no such command: stop
+2|cut.tbc play||cut.tbc: a field has 478660 bytes, and these are 100
+2|absent.tbc play||absent.tbc.json: No such file or directory (os error 2)
 END
 does ${CC:-cc} -shared -fPIC -I"$top/include" -o advised.so "$tests/library/advised.c" -ldl
-does env ADVISED=advice LD_PRELOAD="$work/advised.so" "$player" side.tbc $on search 30
+does env ADVISED=advice LD_PRELOAD="$work/advised.so" "$player" side.tbc search 30
 check 'the player: nothing is read ahead' [ "$(head -n 1 advice)" = "random 0 $(wc -c < side.tbc)" ]
 # The pipe is closed before the player writes.
-{ sleep 1; "$player" side.tbc $on search 30 play 2> err; echo $? > piped; } | :
+{ sleep 1; "$player" side.tbc search 30 play 2> err; echo $? > piped; } | :
 check 'the player: a closed pipe' [ "$(cat piped; cat err)" = 141 ]
 finish

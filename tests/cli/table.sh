@@ -12,16 +12,23 @@ path, rate, setup = sys.argv[1:]
 streams.write_stream(path, getattr(streams, setup), words_of(sys.stdin.read(), int(rate)))' "$1.tbc" $2 $3
 }
 
+# settles NAME SYSTEM BLACK WHITE: writes these settings beside a side, as metadata and as the first rows of a map
+settles() {
+    printf '{"videoParameters":{"system":"%s","black16bIre":%s,"white16bIre":%s}}' "$2" "$3" "$4" > "$1.tbc.json"
+    printf '%s,1,1,side\n' "system,$2" "black,$3" "white,$4" | sed '1i kind,number,field,frame,how' > "$1.map"
+}
+
 # draws_sides: draws the side NAME.tbc of each name in the table
 draws_sides() {
     output_of draw $ntsc "$top/examples/cav.words" > cav.tbc
     output_of draw $pal "$top/examples/clv.words" > clv.tbc
     bounded sh "$top/examples/side.sh" "$program"
+    for settled in "cav $on_cav" "clv $on_clv" "side $on_cav"; do settles $settled; done
     sed -n 's/^= \([a-z]* [A-Z]*\) .*/\1/p' "$here/answers.txt" | uniq > sides
     while read -r side system; do
         case $system in
-            NTSC) draw_side "$side" 30 NTSC ;;
-            PAL) draw_side "$side" 25 PAL ;;
+            NTSC) draw_side "$side" 30 NTSC && settles "$side" $on_cav ;;
+            PAL) draw_side "$side" 25 PAL && settles "$side" $on_clv ;;
         esac || exit 1
     done < sides
 }

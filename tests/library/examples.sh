@@ -5,7 +5,7 @@
 # Needs libldvbi.so.1 beside the program, or at the top of the repository (`make lib`).
 # usage: sh tests/library/examples.sh PROGRAM
 # runs: library rust
-# fails where: examples/seek.py|s/else 79999/else 80000/
+# fails where: examples/seek.py|s/wanted, 79999/wanted, 80000/
 
 . "$(dirname "$0")/../helpers.sh"
 . "$here/library_helpers.sh"
@@ -13,18 +13,20 @@
 
 with_python
 
-# The examples, of which some answer alike; a player has at most 60 lines. That all are built, answers.sh checks.
-seek='seek seek.py'
+# The examples, of which some answer alike. That all are built, answers.sh checks; what a search fetches, fetched.sh.
+seek='seek seek_cpp seek.py'
 stops='stops stops_cpp'
 player='player player_cpp player.py'
 whole='whole whole_cpp whole.py'
 for name in seek stops player whole pixels; do
     bounded $cc -std=c99 $strict -o $name "$top/examples/$name.c" $linked
 done
-for name in stops.cpp player.cpp whole.c; do
+for name in stops.cpp player.c seek.c whole.c; do
     bounded $cxx -x c++ -std=c++17 $strict -o ${name%.*}_cpp "$top/examples/$name" $linked
 done
-check 'a player has at most 60 lines' [ -z "$(awk 'FNR == 61 { print FILENAME }' "$top"/examples/player.*)" ]
+for most in player.c:120 seek.c:80; do
+    check "${most%:*} has at most ${most#*:} lines" [ "$(wc -l < "$top/examples/${most%:*}")" -le ${most#*:} ]
+done
 # answers_so NAME STATUS OUT SAID COMMAND: whether a line for the shell ends with this status, and writes these lines,
 # which ; parts. It says nothing, or this line after the example's name, for which % stands in it, or one line of its
 # own where that is *.
@@ -78,6 +80,9 @@ ln -s /dev/null null.tbc
 draw_side misread 30 NTSC
 draw_side clock 30 NTSC
 bounded sh "$top/examples/side.sh" "$program"
+# The settings of all, as players take them: metadata, and the first rows of a map
+for side in nowhere folder null empty cav side stops both misread worn stops_4_478659; do settles $side $on_cav; done
+settles clv $on_clv
 # Parts of a side: so many fields, and bytes of the next one
 for part in 4_478659 5_1 8_32760; do
     head -c $((478660 * ${part%_*} + ${part#*_})) stops.tbc > stops_$part.tbc
@@ -90,22 +95,17 @@ off="first and last number don't fit"
 gaps=$(awk 'BEGIN { for (part = 0; part < 10; part++)
     printf "lost 190: field %d has %d, field %d has %d;", 10 * part + 9, 100 * part + 5, 10 * part + 11, \
         100 * part + 101 }')
-few='of this side is supported by those around it, so this is what the lines say'
 awk -F '|' -v OFS='|' '{ count = split($4, sides, ";"); many = split($5, words, ";")
     for (i = 1; i <= count; i++) for (j = 1; j <= many; j++) print $1, $2, $3, sides[i], words[j], $6 }' > rows << END
 $seek|0|field 5|stops|@ 3|
-$seek|1|not found|few;empty|@ 2;@ 7|
-$seek|3|field 1|few|@ 1|no number $few
-$seek|1|not found|marks|@ 0:00:00.02|
-$seek|3|field 5|marks|@ 1:09:00.03|no number $few
-$seek|3|field 7|clv|@ 0:1:0.0|no number $few
-$seek|3|field 8|clv|@ chapter 1|no chapter $few
+$seek|1|not found|stops|@ 7;@ 79999|
+$seek|1|not found|few;marks;clv|@ 1;@ 0:00:00.02;@ chapter 1|
 $seek|0|field 23|worn|@ 12|
-$seek|1|not found|stops_4_478659|@ 3|$cut 5 has 478659 of 478660 bytes
-$seek|0|field 5|stops_8_32760|@ 3|$cut 9 has 32760 of 478660 bytes
+$seek|1|not found|stops_4_478659|@ 3|
+$seek|0|field 5|stops_8_32760|@ 3|
 $seek|2||cav|@;@ chapter 3 4;@ 3 4;@ 3 chapter;@ xyz;@ 3x;@ -3;@ 80000;@ 4294967299;@ chapter 80;@ chapter -1|*
-$seek|2||cav|@ chapter 3x;@ chapter 256;@ chapter 0:00:00.00;@ 0:00:60.00;@ 0:100:00.00;@ 0:00:00.100|*
-$seek|2||cav|@ 10:00:00.00;@ 0:00:00;@ 0:00:00.00.00|*
+$seek|2||cav|@ chapter 3x;@ chapter 256;@ chapter 0:00:00.00;@ 0:00:60.00;@ 0:60:00.00;@ 0:00:00.30|*
+$seek|2||cav|@ 10:00:00.00;@ 0:00:00;@ 0:00:00.00.00;@ 0:00:00.0x|*
 $seek|2||empty|NTSC 51200 16384 3|*
 $seek $player $whole|2||nowhere;folder;null|@ &|*
 $player $whole|2||empty|@ &|*
@@ -118,18 +118,22 @@ $stops|0|field 5 picture 3;1 stops|stops_5_1|@|$cut 6 has 1 of 478660 bytes
 $stops|2||folder|@|*
 $stops|2||cav|@ cav.tbc|*
 $player|1|search: field 65 picture 30;play: field 97 picture 46;search: field 21 picture 7;play: field 33 picture 17\
-;search: not found|side|@ search 30 play search 7 play search 79999|
+;still: field 33 picture 17;search: not found;still: field 33 picture 17\
+;search: not found, field 27 picture 14|side|@ search 30 play search 7 play still search 79999 still search 10|
+$player|1|chapter: field 36;next: field 78;next: not found;previous: field 36;previous: field 10;chapter: not found\
+|side|@ chapter 1 next next previous previous chapter 3|
 $player|1|search: field 7 picture 4;play: field 8;play: field 9 picture 5;play: not found|stops\
 |@ search 4 play play play|
 $player|1|play: field 2;play: field 3 picture 2;play: field 5 picture 3;play: not found|both|@ play play play play|
 $player|0|play: field 23 picture 112;play: field 35 picture 118|misread|@ play play|
 $player|0|search: field 23 picture 12;play: field 39 picture 20|worn|@ search 12 play|
-$player|1|search: not found|clv|@ search 3|
+$player|1|search: not found|clv|@ search 3;@ search 9:59:59.24|
 $player|1|play: not found|stops_4_478659|@ play|
-$player|2||cav|@;@ search 3x;@ search;@ stop|*
-$seek $stops $player $whole|2||cav|NTSC 51200 16384 &;SECAM 16384 51200 &;pal 1 2 &;1 16384 51200 &;NTSC 16384 81920 &|*
-$seek $stops $player $whole|2||cav|NTSC -1 51200 &;NTSC 16384x 51200 &;NTSC 16384 4294967297 &|*
-$seek $stops $player $whole|2||cav|NTSC 16384 16384 &;NTSC 16384 xyz &;NTSC 16384 99999999999999999999 &|*
+$player|2||cav|@;@ search 3x;@ search -3;@ search 0:60:00.00;@ search 0:00:00.30;@ search 1:2;@ search;@ stop|*
+$player|2||cav|@ chapter;@ chapter 80;@ chapter 0:00:00.00;@ chapter x|*
+$seek $stops $whole|2||cav|NTSC 51200 16384 &;SECAM 16384 51200 &;pal 1 2 &;1 16384 51200 &;NTSC 16384 81920 &|*
+$seek $stops $whole|2||cav|NTSC -1 51200 &;NTSC 16384x 51200 &;NTSC 16384 4294967297 &|*
+$seek $stops $whole|2||cav|NTSC 16384 16384 &;NTSC 16384 xyz &;NTSC 16384 99999999999999999999 &|*
 $whole|0|whole: yes|cav|@;@ cut|
 $whole|0|whole: yes|ten;worn|@ cut|
 $whole|4|whole: can't tell: no lead-out|ten|@|
@@ -145,10 +149,11 @@ while IFS='|' read -r examples ended text side words said; do
     on=$on_cav
     case $side in clv | marks) on=$on_clv ;; esac
     for name in $examples; do
-        case $name in seek*) asked=3 ;; player*) asked='search 3' ;; *) asked= ;; esac
+        case $name in seek*) asked=3 ;; player*) asked='search 3' on= ;; *) asked= ;; esac
         asked=$(echo "$words" | sed "s/@/$on/; s/&/$asked/")
         case $name in
             stops*) command="./$name $asked < $side.tbc" ;;
+            player | player_cpp) command="./$name $side.tbc $side.map $asked" ;;
             *.py) command="python3 $top/examples/$name $side.tbc $asked" ;;
             *) command="./$name $side.tbc $asked" ;;
         esac
@@ -158,21 +163,42 @@ while IFS='|' read -r examples ended text side words said; do
     done
 done < rows
 
-# The pages with lines 16 to 18 are asked for ahead, once.
+# A player's settings that can't be right
+while read -r settings; do
+    settles cav $settings
+    for command in './player cav.tbc cav.map' './player_cpp cav.tbc cav.map' "python3 $top/examples/player.py cav.tbc"; do
+        name=$(basename "${command%% cav*}")
+        check "$name, told $settings" answers_so ${name%_cpp} 2 '' '*' "$command play"
+    done
+done << END
+NTSC 51200 16384
+NTSC 16384 16384
+NTSC 16384 65536
+NTSC 16384 -1
+NTSC 16384 xyz
+SECAM 16384 51200
+END
+rm cav.map cav.tbc.json
+check 'player: no map' answers_so player 2 '' '*' './player cav.tbc cav.map play'
+check 'player.py: no metadata' answers_so player.py 2 '' '*' "python3 $top/examples/player.py cav.tbc play"
+
+# Of a side that is read as a whole the pages with lines 16 to 18 are asked for ahead, once; of all that map a side
+# nothing else is read ahead. Of a file on standard input few bytes are read, and of a pipe all; it may begin after the
+# file's first field.
 bounded $cc -std=c99 -Wall -Wextra -Werror -shared -fPIC -o advised.so "$here/advised.c" -ldl
 awk -v fields=129 'BEGIN {
     print "random", 0, 478660 * fields
     for (rows = 15 * 1820; asked++ < fields; rows += 478660) print "asks", rows - rows % 4096, rows + 3 * 1820
 }' > wanted_advice
-check 'seek finds the last field so' prints 0 'field 129' \
-    env ADVISED=advice LD_PRELOAD="$work/advised.so" ./seek long.tbc $on_cav 65
-check 'seek asks for the pages ahead' cmp advice wanted_advice
-# The others that map a side have nothing read ahead. Of a file on standard input few bytes are read, and of a pipe all;
-# it may begin after the file's first field.
-for asked in 'player play' 'player_cpp play' 'whole cut' 'whole_cpp cut'; do
-    name=${asked% *}
-    does env ADVISED=$name.advice LD_PRELOAD="$work/advised.so" ./$name long.tbc $on_cav ${asked#* }
-    check "$name has nothing read ahead" [ "$(head -n 1 $name.advice)" = "random 0 $((478660 * 129))" ]
+settles long $on_cav
+for asked in 'whole cut' 'whole_cpp cut'; do
+    does env ADVISED=${asked% *}.advice LD_PRELOAD="$work/advised.so" ./${asked% *} long.tbc $on_cav ${asked#* }
+    check "${asked% *} asks for the pages ahead" cmp ${asked% *}.advice wanted_advice
+done
+for asked in 'player long.map play' 'player_cpp long.map play' "seek $on_cav 65" "seek_cpp $on_cav 65"; do
+    name=${asked%% *}
+    does env ADVISED=$name.advice LD_PRELOAD="$work/advised.so" ./$name long.tbc ${asked#* }
+    check "$name has nothing read ahead" [ "$(cat $name.advice)" = "random 0 $((478660 * 129))" ]
 done
 for name in $stops; do
     bounded sh -c "./$name $on_cav < long.tbc > out && sed -n 's/^rchar: //p' /proc/\$\$/io" > count
@@ -185,15 +211,13 @@ for name in $stops; do
         "$cut 5 has 1 of 478660 bytes" "sh -c '{ head -c 478660 > skipped; ./$name $on_cav; } < stops_5_1.tbc'"
 done
 
-# A file that can't be mapped; and want of memory for what is judged of 220,000 fields, of which the file has no block
+# A file that can't be mapped
 truncate -s $((478660 * 220000)) great.tbc
-check 'seek: a file that cannot be mapped' answers_so seek 2 '' 'great.tbc: Cannot allocate memory' \
+check 'seek: a file that cannot be mapped' answers_so seek 2 '' 'no field of the file can be mapped' \
     "sh -c 'ulimit -v 500000 && exec ./seek great.tbc $on_cav 3'"
-check 'seek: no memory' answers_so seek 2 '' 'Cannot allocate memory' \
-    "sh -c 'ulimit -d 4000 && exec ./seek great.tbc $on_cav 3'"
 
 # Nobody reads what these print: the pipe is closed before they write. One in C ends so by itself.
-for words in "seek.py cav.tbc $on_cav 3" "player.py cav.tbc $on_cav search 3 play"; do
+for words in "seek.py cav.tbc $on_cav 3" "player.py long.tbc search 3 play"; do
     { sleep 1; bounded python3 "$top"/examples/$words 2> err; echo $? > ended; } | :
     check "${words%% *}: its output isn't read" [ "$(cat ended err)" = 141 ]
 done

@@ -63,7 +63,7 @@ check 'its versions, its texts, and that a call is left and the next one returns
 {
     printf '#include <%s>\n' fcntl.h ldvbi.h stdio.h stdlib.h sys/mman.h unistd.h
     echo 'int main(void) {'
-    sed -n '1,/^ \* If nothing/s/^ \*     //p' "$top/include/ldvbi.h"
+    sed -n "1,/^ \* If it isn't found/s/^ \*     //p" "$top/include/ldvbi.h"
     echo 'return 0; }'
 } > quick.c
 check 'the quick start is built' does $cc -std=c99 -D_DEFAULT_SOURCE $warned -I"$top/include" -o quick quick.c \

@@ -4,6 +4,8 @@ import gc
 import itertools
 import os
 import pathlib
+import subprocess
+import sys
 from unittest import mock
 
 import ldvbi
@@ -142,3 +144,45 @@ def test_lines_are_fetched_ahead(room, monkeypatch, setup):
             assert notes == lines[:count]
     monkeypatch.setattr(ldvbi.rows, "_ADVISE", None)
     assert numbers_of(ldvbi.Stream(room.path, *setup)[10:12]) == [10, 11]
+
+
+# Opens a stream again and again, and closes it while two other threads read it or seek in it: they end by a ValueError
+# that says so, and nothing else. The first argument is what they do, the second one how they get the stream.
+CLOSING = """
+import sys, threading, time
+import ldvbi
+sys.setswitchinterval(1e-5)
+work, given, path = sys.argv[1:]
+faults = []
+
+def reads(side, begun):
+    begun.set()
+    try:
+        while True:
+            list(side) if work == "read" else side.rows(1) if work == "rows" else ldvbi.seek(side, 1000)
+    except Exception as fault:
+        faults.append(repr(fault))
+
+for turn in range(150):
+    side = ldvbi.Stream(path if given == "file" else open(path, "rb").read(), "NTSC", 16384, 51200, recover=True)
+    begun = [threading.Event() for _ in range(2)]
+    threads = [threading.Thread(target=reads, args=(side, one)) for one in begun]
+    for thread in threads:
+        thread.start()
+    for one in begun:
+        one.wait()
+    time.sleep(turn % 10 / 10000)
+    side.close()
+    for thread in threads:
+        thread.join()
+print(len(faults), *set(faults))
+"""
+
+
+@pytest.mark.parametrize("work, given", [("read", "file"), ("rows", "file"), ("seek", "file"), ("read", "buffer"),
+                                         ("seek", "buffer")])
+def test_closed_by_another_thread(room, work, given):
+    stream(room, 40).close()
+    ended = subprocess.run([sys.executable, "-c", CLOSING, work, given, room.path], stdout=subprocess.PIPE,
+                           stderr=subprocess.STDOUT, check=False, timeout=120)
+    assert (ended.returncode, ended.stdout.decode()) == (0, "300 ValueError('the stream is closed')\n")

@@ -1,10 +1,13 @@
-//! A player: seeks, plays to the next stop, and prints the field that it reaches, from 1. Status 1: nothing is found.
-//!     cargo run -- side.tbc NTSC 16384 51200 search 12345 play chapter 3 play search 0:59:29.07
-use ldvbi::{Counted, Levels, Place, Side, System};
-use player::map;
+//! A player. It does each command in turn, and prints the field that it shows then, from 1, and its picture. `search N`
+//! or `search H:MM:SS.PP` goes to a picture; if the capture lacks it, to the next one that it has. `chapter N`, `next`
+//! and `previous` go to where a chapter begins, `play` to the next stop, and `still` stays. All but `play` find their
+//! way by halving and fetch a few MB. So numbers and chapters have to rise, and on a worn side one may be missed. System
+//! and levels are those of the metadata beside the file. Status 1: something wasn't found; 2: something can't be read.
+//!     cargo run -- side.tbc search 12345 play chapter 3 next search 0:59:29.07
+use ldvbi::{Counted, Field, Place, Side};
 use std::{error::Error, io, io::Write, process::ExitCode};
 
-fn place(text: &str) -> Result<Place, String> {
+fn place_of(text: &str) -> Result<Place, String> {
     match text.split(&[':', '.'][..]).map(|part| part.parse().ok()).collect::<Option<Vec<u32>>>().as_deref() {
         Some(&[picture]) => Ok(Place::Picture(picture)),
         Some(&[hours, minutes, seconds, picture]) => Ok(Place::Time(hours, minutes, seconds, picture)),
@@ -12,35 +15,52 @@ fn place(text: &str) -> Result<Place, String> {
     }
 }
 
+fn picture_of(side: &Side, index: usize) -> Option<u32> {
+    side.number(Counted::Pictures, index)?.known()
+}
+
+/// The next stop. If all fields of a picture have its stop, the first one counts.
+fn play(side: &Side, at: usize) -> Option<Field> {
+    let mut next = at;
+    side.stops(at).find(|stop| {
+        let follows = stop.index == next && next > at;
+        let is_same = || [None, picture_of(side, stop.index - 1)].contains(&picture_of(side, stop.index));
+        let is_passed = stop.index == at || follows && is_same();
+        next = stop.index + 1;
+        !is_passed
+    })
+}
+
 fn run() -> Result<ExitCode, Box<dyn Error>> {
     let mut words = std::env::args().skip(1);
-    let mut word = || words.next().ok_or("usage: player FILE SYSTEM BLACK WHITE search PLACE, chapter N, play ..");
-    let (bytes, system) = (map(&word()?)?, System::named(&word()?).ok_or("system is neither NTSC nor PAL")?);
-    let side = Side::new(bytes, system, Levels::new(word()?.parse()?, word()?.parse()?)?)?;
-    let (judged, pictures, mut at) = (side.judged(), side.numbers(Counted::Pictures), 0);
+    let mut word = || words.next().ok_or("usage: player FILE search PLACE, chapter N, next, previous, play, still ..");
+    let (side, mut at, mut status) = (Side::open(word()?)?, 0, 0);
     while let Ok(command) = word() {
+        let alone = |field| (field, 0);
         let found = match command.as_str() {
-            "search" => judged.seek(place(&word()?)?),
-            "chapter" => judged.seek(Place::Chapter(word()?.parse()?)),
-            "play" => {
-                let mut next = at; // All fields of a picture may have its stop. Those that follow are passed.
-                side.stops(at).find(|stop| {
-                    let is_same = [None, pictures[at].known()].contains(&pictures[stop.index].known());
-                    let is_passed = stop.index == next && (next == at || is_same);
-                    next += usize::from(is_passed);
-                    !is_passed
-                })
-            }
+            "search" => side.seek_on(place_of(&word()?)?, 1000),
+            "chapter" => side.seek_on(Place::Chapter(word()?.parse()?), 80),
+            "next" => side.next_chapter(at).map(alone),
+            "previous" => side.previous_chapter(at).map(alone),
+            "play" => play(&side, at).map(alone),
+            "still" => side.field(at).map(alone),
             _ => return Err(format!("no such command: {command}").into()),
         };
-        at = match found {
-            Some(field) => field.index,
-            None => return Ok(writeln!(io::stdout(), "{command}: not found").map(|()| ExitCode::from(1))?),
+        let said = match found {
+            Some((field, passed)) => {
+                at = field.index;
+                status |= u8::from(passed > 0);
+                let picture = picture_of(&side, at).map_or(String::new(), |number| format!(" picture {number}"));
+                format!("{} field {}{picture}", if passed > 0 { " not found," } else { "" }, at + 1)
+            }
+            None => {
+                status = 1;
+                " not found".to_owned()
+            }
         };
-        let picture = pictures[at].known().map_or(String::new(), |number| format!(" picture {number}"));
-        println!("{command}: field {}{picture}", at + 1);
+        writeln!(io::stdout(), "{command}:{said}")?;
     }
-    Ok(ExitCode::SUCCESS)
+    Ok(ExitCode::from(status))
 }
 
 fn main() -> ExitCode {

@@ -44,12 +44,12 @@
 //! ```
 //!
 //! Errors: [`Levels::new`] returns [`LevelsFault`], and [`Word24::new`] returns [`WordFault`]. [`Error`] is returned if
-//! bytes are no side or no line, or a clock is none. Two calls panic on what they can't take: [`draw_line`] on less
-//! than a line, and [`Word24::half`] from 48 on.
+//! bytes are no side or no line, or a clock is none; `Side::open` returns `OpenError`. Two calls panic on what they
+//! can't take: [`draw_line`] on less than a line, and [`Word24::half`] from 48 on.
 //!
 //! The calls below this interface are the source of the library for C, without the contracts that were proved of it.
-//! docs/PROMISES.md has what they promise. This interface itself is tested. With the feature `cli` the crate also has
-//! the program `ldvbi`, which needs more crates.
+//! docs/PROMISES.md has what they promise. This interface itself is tested. With the feature `metadata` the crate also
+//! has `Side::open`, which needs serde_json, and with `cli` the program `ldvbi`, which needs clap, too.
 #![deny(unsafe_code)]
 // Names that contracts alone speak of
 #![allow(unused_labels, unused_variables)]
@@ -70,38 +70,56 @@
     clippy::too_many_arguments
 )]
 
+// The modules of the source. From the repository itself, as a git address has it, build.rs makes them one file.
+#[cfg(one_file)]
+include!(concat!(env!("OUT_DIR"), "/modules.rs"));
+
 #[allow(unsafe_code)]
 mod bits_above;
+#[cfg(not(one_file))]
 #[allow(dead_code, unused_imports)]
 mod c;
 #[cfg(feature = "cli")]
 mod clap;
-#[cfg(feature = "cli")]
+#[cfg(all(feature = "cli", not(one_file)))]
 #[allow(dead_code, unused_imports)]
 mod cli;
 #[allow(unsafe_code)]
 mod exports;
+#[cfg(not(one_file))]
 #[allow(dead_code, unused_imports)]
 mod field;
+mod fields;
 mod judged;
+#[cfg(not(one_file))]
 #[allow(dead_code, unused_imports)]
 mod line;
 mod lines;
-#[cfg(feature = "cli")]
+#[cfg(all(feature = "metadata", not(one_file)))]
 #[allow(dead_code, unused_imports)]
 mod meta;
+#[cfg(not(one_file))]
 #[allow(dead_code, unused_imports)]
 mod near;
+#[cfg(all(feature = "metadata", unix, target_pointer_width = "64"))]
+#[allow(unsafe_code)]
+mod opened;
+#[cfg(not(one_file))]
 #[allow(dead_code, unused_imports)]
 mod side;
 mod sides;
 mod whole;
+#[cfg(not(one_file))]
 #[allow(dead_code, unused_imports)]
 mod words;
 
 pub use crate::judged::Judged;
 pub use crate::lines::{Error, Feeder};
+#[cfg(feature = "metadata")]
+pub use crate::meta::MetaFault;
 pub use crate::near::Near;
+#[cfg(all(feature = "metadata", unix, target_pointer_width = "64"))]
+pub use crate::opened::OpenError;
 pub use crate::side::{Counted, Tally};
 pub use crate::sides::{Field, Number, Place, Side};
 pub use crate::whole::{Clock, Gap, GapKind, Reason, SideOptions, Verdict, Whole};

@@ -5,6 +5,7 @@ use crate::words::{Levels, Outcome, Reading, System, Word24};
 
 /// Why what was given can't be right. Nothing was read.
 #[derive(Clone, Copy, Debug, PartialEq, Eq, thiserror::Error)]
+#[non_exhaustive]
 pub enum Error {
     /// From [`Side::new`](crate::Side::new): there are bytes, but fewer than a field has.
     #[error("a field has {field} bytes, and these are {bytes}")]

@@ -1,6 +1,7 @@
 //! Sides: what their fields show, which number each field has, where a place is found, and where a player stops.
 
 use crate::c::{self, LdvbiFieldReadings, LdvbiSought};
+use crate::fields::Each;
 use crate::judged::{Judged, FIND_PACE, NO_NUMBER};
 use crate::lines::{check_lines, done, number_of, reading, recover, rows_of, Error};
 use crate::near::{nearest_of_lines, Near};
@@ -39,6 +40,7 @@ impl Number {
 
 /// A place that is sought on a side.
 #[derive(Clone, Copy, Debug, PartialEq, Eq)]
+#[non_exhaustive]
 pub enum Place {
     /// A picture of a CAV disc, from 0 to 79999.
     Picture(u32),
@@ -65,6 +67,7 @@ impl Place {
 
 /// A field of a side.
 #[derive(Clone, Copy, Debug, PartialEq, Eq)]
+#[non_exhaustive]
 pub struct Field {
     /// Its place on the side, counted from 0.
     pub index: usize,
@@ -77,13 +80,15 @@ pub struct Field {
 ///
 /// | Call | Reads |
 /// |---|---|
-/// | `new`, `cut_bytes`, `line`, `nearest` | nothing of the side |
-/// | `fields`, `stops` | each field that the iterator comes to, each time |
-/// | `seek` of a picture or a time | at most 1,000 fields; if it isn't found there, the whole side |
-/// | `seek` of a chapter, `numbers`, `chapters`, `whole`, `gaps`, `find_clock`, `judged` | the whole side, once |
+/// | `new`, `open`, `len`, `cut_bytes`, `line`, `nearest` | nothing of the side |
+/// | `field`; `fields`, `stops` | one field; each that the iterator yields or stops at, each time |
+/// | `number`, `chapter` | at most 97 fields; at most 49 |
+/// | `seek`, `seek_on`, `next_chapter`, `previous_chapter` | at most 1,000 fields, or 49 for each halving |
+/// | `numbers`, `chapters`, `whole`, `gaps`, `find_clock`, `judged` | the whole side, once |
 ///
-/// What is judged of the whole side is kept, 48 bytes a field, and clones and threads share it. Map a file with
-/// `MADV_RANDOM`: without it, the system reads far more of the file. docs/RUST.md says what the calls cost.
+/// What is judged of the whole side is kept, 48 bytes a field, and clones and threads share it. `open` maps a file. If
+/// you map it yourself, do so with `MADV_RANDOM`: without it, the system reads far more of the file. docs/RUST.md says
+/// what the calls cost.
 #[derive(Clone)]
 pub struct Side<'a> {
     bytes: &'a [u8],
@@ -97,8 +102,7 @@ pub struct Side<'a> {
 impl std::fmt::Debug for Side<'_> {
     fn fmt(&self, f: &mut std::fmt::Formatter<'_>) -> std::fmt::Result {
         let is_judged = matches!(self.kept.try_lock(), Ok(kept) if kept.is_some());
-        let fields = self.fields().len();
-        f.debug_struct("Side").field("fields", &fields).field("is_judged", &is_judged).finish_non_exhaustive()
+        f.debug_struct("Side").field("fields", &self.len()).field("is_judged", &is_judged).finish_non_exhaustive()
     }
 }
 
@@ -117,9 +121,25 @@ impl<'a> Side<'a> {
         self.bytes.len() % self.system.field_bytes()
     }
 
-    /// What lines 16, 17 and 18 of each field show.
+    /// How many whole fields there are.
+    pub fn len(&self) -> usize {
+        self.bytes.len() / self.system.field_bytes()
+    }
+
+    /// Whether there is no whole field.
+    pub fn is_empty(&self) -> bool {
+        self.len() == 0
+    }
+
+    /// What lines 16, 17 and 18 of each field show. Fields that are skipped, as by `nth`, `skip` or `step_by`, aren't
+    /// read.
     pub fn fields(&self) -> impl ExactSizeIterator<Item = [Reading; 3]> + DoubleEndedIterator + 'a {
-        self.read(0).map(|field| field.lines.map(reading))
+        Each(self.read(0), |field: LdvbiFieldReadings| field.lines.map(reading))
+    }
+
+    /// The field with this index, counted from 0, if there is one. No other is read.
+    pub fn field(&self, index: usize) -> Option<Field> {
+        self.fields().nth(index).map(|readings| Field { index, readings })
     }
 
     /// What a line shows by itself, in pass 1 or 2. [`Error::NoLine`] if the bytes aren't those of a line.
@@ -161,17 +181,32 @@ impl<'a> Side<'a> {
         })
     }
 
-    /// The first field for which this number or chapter is believed or due.
+    /// The first field for which this number or chapter is believed or due, if halving finds one. A picture or a time
+    /// is sought as `ldvbi_seek` of the library for C does it, at the pace of the fields that are read.
     ///
-    /// A picture or a time is sought by halving, as `ldvbi_seek` of the library for C does, at the pace of the fields
-    /// that are read. If that finds none, and for a chapter, the whole side is judged. So if a capture goes back and
-    /// has a number more than once, this may be a later field with the number. [`Judged::seek`] always finds the first.
+    /// On the sides that were tried it is found if the player runs on and each line is read. Otherwise it may be
+    /// missed; and if a capture goes back and has a number more than once, this may be a later field with the number.
+    /// [`Judged::seek`] reads the whole side, misses none, and always finds the first.
     pub fn seek(&self, place: Place) -> Option<Field> {
+        let index = match place.counted(self.system)? {
+            (Some(counted), number) => self.halved(counted, number),
+            (None, number) => self.first_from(number).filter(|index| self.chapter(*index) == Some(number)),
+        };
+        self.field(index?)
+    }
+
+    /// The same, or else the field of the next place after it, among so many, that halving finds; and how many places
+    /// were passed over. A player shows it for a picture that the capture lacks. The fields that are read for all these
+    /// are mostly the same ones. After a chapter follows the next one that the side has.
+    pub fn seek_on(&self, place: Place, most: u32) -> Option<(Field, u32)> {
         let (counted, number) = place.counted(self.system)?;
-        match counted.and_then(|counted| self.halved(counted, number)) {
-            Some(index) => self.read(index).next().map(|field| Field { index, readings: field.lines.map(reading) }),
-            None => self.judged().seek(place),
-        }
+        let (index, passed) = match counted {
+            Some(counted) => {
+                (0..=most).find_map(|passed| Some((self.halved(counted, number.checked_add(passed)?)?, passed)))?
+            }
+            None => self.first_from(number).and_then(|index| Some((index, self.chapter(index)?.checked_sub(number)?)))?,
+        };
+        (passed <= most).then_some((self.field(index)?, passed))
     }
 
     /// The first field in a row with this number, if halving finds one.
@@ -189,11 +224,11 @@ impl<'a> Side<'a> {
     ) -> impl ExactSizeIterator<Item = LdvbiFieldReadings> + DoubleEndedIterator + 'a {
         let (bytes, system, levels, size) = (self.bytes, self.system, self.levels, self.system.field_bytes());
         let fields = bytes[from.saturating_mul(size).min(bytes.len())..].chunks_exact(size);
-        fields.map(move |field| recover(system, levels, &field[rows_of(system)]))
+        Each(fields, move |field: &[u8]| recover(system, levels, &field[rows_of(system)]))
     }
 
     /// The television system.
-    pub(crate) fn system(&self) -> System {
+    pub fn system(&self) -> System {
         self.system
     }
 }

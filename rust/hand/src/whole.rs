@@ -27,6 +27,7 @@ impl SideOptions {
 /// Which numbers a disc leaves out. NTSC counts 30 pictures to a second, which has 29.97; to keep to the clock, CLV
 /// discs leave out numbers.
 #[derive(Clone, Copy, Debug, PartialEq, Eq)]
+#[non_exhaustive]
 pub enum Clock {
     /// None, or it isn't known which.
     Plain,
@@ -69,6 +70,7 @@ pub enum Verdict {
 
 /// A reason why a capture isn't whole, or why it can't be told.
 #[derive(Clone, Copy, Debug, PartialEq, Eq)]
+#[non_exhaustive]
 pub enum Reason {
     /// Fields of the disc are lost.
     IsLost,
@@ -119,6 +121,7 @@ const REASONS: [(u32, Reason); 13] = [
 
 /// The answer for the capture of a side.
 #[derive(Clone, Debug, PartialEq, Eq)]
+#[non_exhaustive]
 pub struct Whole {
     /// Whether it is whole.
     pub verdict: Verdict,
@@ -152,6 +155,7 @@ impl Whole {
 
 /// The kind of a gap.
 #[derive(Clone, Copy, Debug, PartialEq, Eq)]
+#[non_exhaustive]
 pub enum GapKind {
     /// Fields of the disc are lost.
     Lost,
@@ -177,6 +181,7 @@ pub enum GapKind {
 
 /// Two neighbouring believed numbers that don't go on, and what is between them.
 #[derive(Clone, Copy, Debug, PartialEq, Eq)]
+#[non_exhaustive]
 pub struct Gap {
     /// Its kind.
     pub kind: GapKind,

@@ -3,7 +3,7 @@
 mod drawn;
 
 use drawn::{digits, draw, levels, picture, time};
-use ldvbi::{classify, format_of, Code, Counted, Error, Feeder, Field, Format, Levels, LevelsFault, Near};
+use ldvbi::{classify, format_of, Code, Counted, Error, Feeder, Format, Levels, LevelsFault, Near};
 use ldvbi::{Number, Outcome, Place, Reading, Side, System, Word24, WordFault};
 use std::sync::Arc;
 
@@ -136,7 +136,8 @@ fn a_misread_number_is_never_answered() {
             assert_eq!(found, Some(2 * number as usize), "picture {number}");
         }
         let misread = [0, picture(79999), 0].map(shown);
-        assert_eq!(side.seek(Place::Picture(30)), Some(Field { index: 60, readings: misread }));
+        let found = side.seek(Place::Picture(30));
+        assert_eq!(found.map(|field| (field.index, field.readings)), Some((60, misread)));
         for place in [Place::Picture(40), Place::Picture(79999), Place::Chapter(79), Place::Time(0, 0, 1, 0)] {
             assert_eq!(side.seek(place), None);
         }
@@ -244,22 +245,83 @@ fn judges_a_side_once() {
 }
 
 #[test]
-fn seeks_by_halving_and_on_the_whole_side() {
+fn seeks_without_judging_the_whole_side() {
     for (system, .., rate) in SYSTEMS {
         let (cav, clv) = (draw(system, &cav()), draw(system, &clv(rate)));
         let [pictures, times] = [&cav, &clv].map(|bytes| Side::new(bytes, system, levels()).unwrap());
-        assert_eq!(pictures.seek(Place::Picture(30)).map(|field| field.index), Some(60));
-        assert_eq!(times.seek(Place::Time(1, 0, 0, 3)).map(|field| field.index), Some(2 * rate as usize + 6));
-        assert_eq!(pictures.seek(Place::Time(0, 0, 60, 0)), None);
-        assert!(!is_judged(&pictures) && !is_judged(&times));
-        for (bytes, place, found) in [
-            (&cav, Place::Picture(40), None),
-            (&cav, Place::Chapter(1), Some(41)),
-            (&clv, Place::Time(1, 0, 1, 0), None),
+        for (side, place, found) in [
+            (&pictures, Place::Picture(30), Some(60)),
+            (&pictures, Place::Time(0, 0, 60, 0), None),
+            (&pictures, Place::Picture(40), None),
+            (&pictures, Place::Chapter(0), Some(1)),
+            (&pictures, Place::Chapter(1), Some(41)),
+            (&pictures, Place::Chapter(2), None),
+            (&times, Place::Time(1, 0, 0, 3), Some(2 * rate as usize + 6)),
+            (&times, Place::Time(1, 0, 1, 0), None),
+            (&times, Place::Chapter(7), Some(1)),
         ] {
-            let side = Side::new(bytes, system, levels()).unwrap();
-            assert_eq!((side.seek(place).map(|field| field.index), is_judged(&side)), (found, true));
+            assert_eq!(side.seek(place).map(|field| field.index), found, "{place:?}");
+            assert_eq!(side.seek_on(place, 0).map(|(field, passed)| (field.index, passed)), found.map(|at| (at, 0)));
         }
+        assert!(!is_judged(&pictures) && !is_judged(&times));
+    }
+}
+
+#[test]
+fn goes_on_to_what_a_capture_has() {
+    // Pictures 0 to 29 and 33 to 59, of chapters 0 and 2, with eight fields of lead-in before and of lead-out after them
+    let disc = (0..30).chain(33..60).flat_map(|number| {
+        let chapter = chapter(if number < 30 { 0 } else { 2 });
+        [[0, picture(number), picture(number)], [0, chapter, chapter]]
+    });
+    let rows = [[0, 0x88FFFF, 0x88FFFF]; 8].into_iter().chain(disc).chain([[0, 0x80EEEE, 0x80EEEE]; 8]);
+    let rows: Vec<_> = rows.collect();
+    for (system, ..) in SYSTEMS {
+        let bytes = draw(system, &rows);
+        let side = Side::new(&bytes, system, levels()).unwrap();
+        let on = |place, most| side.seek_on(place, most).map(|(field, passed)| (field.index, passed));
+        assert_eq!((on(Place::Picture(30), 3), on(Place::Picture(32), 1)), (Some((68, 3)), Some((68, 1))));
+        assert_eq!((on(Place::Picture(30), 2), on(Place::Picture(60), 9)), (None, None));
+        assert_eq!((on(Place::Chapter(1), 80), on(Place::Chapter(3), 80)), (Some((69, 1)), None));
+        let chapters = [0, 8, 9, 67, 68, 69, 121, 122, 129].map(|index| side.chapter(index));
+        let [first, last] = [Some(0), Some(2)];
+        assert_eq!(chapters, [None, None, first, first, first, last, last, None, None]);
+        let index = |field: Option<ldvbi::Field>| field.map(|field| field.index);
+        assert_eq!((index(side.next_chapter(0)), index(side.next_chapter(9))), (Some(9), Some(69)));
+        assert_eq!((index(side.next_chapter(69)), index(side.next_chapter(129))), (None, None));
+        assert_eq!((index(side.previous_chapter(121)), index(side.previous_chapter(67))), (Some(9), None));
+        let numbers: Vec<_> = (0..side.len()).filter_map(|index| side.number(Counted::Pictures, index)).collect();
+        assert_eq!((numbers, side.number(Counted::Pictures, side.len())), (side.numbers(Counted::Pictures), None));
+    }
+}
+
+#[cfg(target_os = "linux")]
+extern "C" {
+    fn mmap(at: *mut u8, length: usize, access: i32, kind: i32, file: i32, offset: i64) -> *mut u8;
+    fn mprotect(at: *mut u8, length: usize, access: i32) -> i32;
+}
+
+#[test]
+#[cfg(target_os = "linux")]
+fn reads_no_field_that_is_skipped() {
+    // Only the last field's lines may be read at all: memory before them ends the process.
+    const COUNT: usize = 1000;
+    for (system, line, field, ..) in SYSTEMS {
+        let (length, rows) = (COUNT * field, (COUNT - 1) * field + 15 * line);
+        let readable = rows / 65536 * 65536;
+        let bytes = unsafe {
+            let start = mmap(std::ptr::null_mut(), length, 0, 0x22, -1, 0);
+            assert_eq!(mprotect(start.add(readable), length - readable, 3), 0);
+            std::slice::from_raw_parts_mut(start, length)
+        };
+        bytes[rows..rows + 3 * line].copy_from_slice(&draw(system, &[[0, picture(7), 0]])[15 * line..18 * line]);
+        let side = Side::new(bytes, system, levels()).unwrap();
+        let wanted = Some([0, picture(7), 0].map(shown));
+        assert_eq!((side.len(), side.field(COUNT)), (COUNT, None));
+        assert_eq!(side.field(COUNT - 1).map(|field| field.readings), wanted);
+        assert_eq!((side.fields().nth(COUNT - 1), side.fields().last()), (wanted, wanted));
+        assert_eq!((side.fields().skip(COUNT - 1).last(), side.fields().nth_back(0)), (wanted, wanted));
+        assert_eq!((side.fields().count(), side.stops(COUNT - 1).next()), (COUNT, None));
     }
 }
 

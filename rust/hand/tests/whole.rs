@@ -30,10 +30,10 @@ fn cut_off(counted: Counted) -> SideOptions {
     SideOptions { may_end: true, ..SideOptions::new(counted) }
 }
 
-fn judged(system: System, rows: &Rows, options: SideOptions) -> (Whole, Vec<Gap>) {
+fn judged(system: System, rows: &Rows, options: SideOptions) -> (Whole, Vec<Parts>) {
     let bytes = draw(system, rows);
     let side = Side::new(&bytes, system, levels()).unwrap();
-    (side.whole(options), side.gaps(options))
+    (side.whole(options), side.gaps(options).iter().map(parts).collect())
 }
 
 #[test]
@@ -48,9 +48,16 @@ fn a_whole_side() {
     }
 }
 
+/// What a gap has: its kind, the fields and the numbers around it, how many fields, and how many that show a number.
+type Parts = (GapKind, [usize; 2], [u32; 2], u64, u64);
+
+fn parts(gap: &Gap) -> Parts {
+    (gap.kind, [gap.after, gap.before], [gap.from, gap.to], gap.fields, gap.shown)
+}
+
 /// A gap between these fields and numbers, in which no field shows a number.
-fn gap(kind: GapKind, [after, before]: [usize; 2], [from, to]: [u32; 2], fields: u64) -> Gap {
-    Gap { kind, after, before, from, to, fields, shown: 0 }
+fn gap(kind: GapKind, around: [usize; 2], numbers: [u32; 2], fields: u64) -> Parts {
+    (kind, around, numbers, fields, 0)
 }
 
 #[test]
@@ -186,7 +193,8 @@ fn a_side_by_its_clock() {
         assert_eq!(side.gaps_by_clock(options, Clock::Plain), Ok(side.gaps(options)));
         let clock = Clock::OneIn { period: 1000, phase };
         let whole = side.whole_by_clock(options, clock).unwrap();
-        (whole.verdict, whole.reasons, whole.tally.lost_numbers, side.gaps_by_clock(options, clock).unwrap())
+        let gaps: Vec<_> = side.gaps_by_clock(options, clock).unwrap().iter().map(parts).collect();
+        (whole.verdict, whole.reasons, whole.tally.lost_numbers, gaps)
     };
     // Number 12 is left out, and then also lost are the picture before it, or the one after it.
     let whole = [times(0, 11), times(13, 24)].concat();

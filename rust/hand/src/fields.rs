@@ -1,0 +1,121 @@
+//! Fields one by one: an iterator that reads what it yields alone, and what the fields around one say of it.
+
+use crate::c::{self, LdvbiFieldReadings};
+use crate::judged::{rooms, FIND_PACE};
+use crate::lines::{done, number_of};
+use crate::side::{self, Counted, BELIEVED};
+use crate::sides::{Field, Number, Side};
+
+/// What a function makes of each item. It isn't called for items that are skipped, as it is by `Map`.
+pub(crate) struct Each<I, F>(pub(crate) I, pub(crate) F);
+
+impl<I: Iterator, B, F: FnMut(I::Item) -> B> Iterator for Each<I, F> {
+    type Item = B;
+
+    fn next(&mut self) -> Option<B> {
+        self.0.next().map(&mut self.1)
+    }
+
+    fn nth(&mut self, n: usize) -> Option<B> {
+        self.0.nth(n).map(&mut self.1)
+    }
+
+    fn size_hint(&self) -> (usize, Option<usize>) {
+        self.0.size_hint()
+    }
+
+    fn count(self) -> usize {
+        self.0.count()
+    }
+
+    fn last(mut self) -> Option<B> {
+        self.0.last().map(&mut self.1)
+    }
+}
+
+impl<I: DoubleEndedIterator, B, F: FnMut(I::Item) -> B> DoubleEndedIterator for Each<I, F> {
+    fn next_back(&mut self) -> Option<B> {
+        self.0.next_back().map(&mut self.1)
+    }
+
+    fn nth_back(&mut self, n: usize) -> Option<B> {
+        self.0.nth_back(n).map(&mut self.1)
+    }
+}
+
+impl<I: ExactSizeIterator, B, F: FnMut(I::Item) -> B> ExactSizeIterator for Each<I, F> {}
+
+/// How many fields before a field, and after it, tell its chapter. Twice as many tell its number.
+const REACH: usize = 24;
+
+/// What is told of a field: chapters are between the two.
+const BEFORE_CHAPTERS: i64 = -1;
+const LEAD_OUT: i64 = 80;
+/// `LDVBI_IS_LEAD_OUT` of the library for C.
+const IS_LEAD_OUT: u32 = 1;
+
+impl Side<'_> {
+    /// The number of a field, as [`numbers`](Side::numbers) has it at the same pace: it is judged by 48 fields before
+    /// the field and as many after it, and the pace is found by these. `None` if there is no such field.
+    pub fn number(&self, counted: Counted, index: usize) -> Option<Number> {
+        let (first, readings) = self.around(index, 2 * REACH)?;
+        let (mut seen, mut numbers) = rooms(readings.len());
+        let (system, counted) = (number_of(self.system()), counted as u32 + 1);
+        done(c::ldvbi_judge(system, counted, FIND_PACE, &readings, &mut seen, &mut numbers));
+        Some(Number::of(&numbers[index - first]))
+    }
+
+    /// The chapter of a field: the last one that is believed up to it. `None` before the first one, in lead-out, if
+    /// there is none within 24 fields, or no such field.
+    pub fn chapter(&self, index: usize) -> Option<u32> {
+        self.told(index).and_then(|told| u32::try_from(told).ok()).filter(|chapter| i64::from(*chapter) < LEAD_OUT)
+    }
+
+    /// The first field of the next chapter after that of this field, if halving finds one.
+    pub fn next_chapter(&self, index: usize) -> Option<Field> {
+        let least = u32::try_from(self.told(index)? + 1).ok()?;
+        self.field(self.first_from(least)?)
+    }
+
+    /// The first field of the chapter before that of this field, if halving finds one.
+    pub fn previous_chapter(&self, index: usize) -> Option<Field> {
+        let first = self.first_from(self.chapter(index)?)?;
+        let chapter = self.chapter(first.checked_sub(1)?)?;
+        self.field(self.first_from(chapter)?)
+    }
+
+    /// The first field of this chapter, or of a later one, by halving.
+    pub(crate) fn first_from(&self, least: u32) -> Option<usize> {
+        let (mut low, mut high) = (0, self.len());
+        while low < high {
+            let middle = low + (high - low) / 2;
+            if self.told(middle)? < i64::from(least) {
+                low = middle + 1;
+            } else {
+                high = middle;
+            }
+        }
+        self.chapter(low).map(|_| low)
+    }
+
+    /// What the fields up to this one tell of its chapter.
+    fn told(&self, index: usize) -> Option<i64> {
+        let (first, readings) = self.around(index, REACH)?;
+        let ((mut seen, mut chapters), mut ends) = (rooms(readings.len()), vec![0; readings.len()]);
+        done(c::ldvbi_judge_chapters(&readings, &mut seen, &mut chapters));
+        done(c::ldvbi_judge_ends(&readings, &mut ends));
+        let told = |(chapter, end): (&side::Number, &u32)| match (*end, chapter.state) {
+            (IS_LEAD_OUT, _) => Some(LEAD_OUT),
+            (_, BELIEVED) => Some(i64::from(chapter.number)),
+            _ => None,
+        };
+        let up_to = ..=index - first;
+        Some(chapters[up_to].iter().zip(&ends[up_to]).rev().find_map(told).unwrap_or(BEFORE_CHAPTERS))
+    }
+
+    /// The readings of a field and of so many on either side of it, as far as there are any, and which is the first.
+    fn around(&self, index: usize, reach: usize) -> Option<(usize, Vec<LdvbiFieldReadings>)> {
+        let first = index.saturating_sub(reach);
+        (index < self.len()).then(|| (first, self.read(first).take(index - first + reach + 1).collect()))
+    }
+}

@@ -1,0 +1,61 @@
+//! Files that are opened as sides, with the metadata beside them.
+#![cfg(all(feature = "metadata", unix, target_pointer_width = "64"))]
+
+mod drawn;
+
+use drawn::{draw, picture};
+use ldvbi::{Counted, Number, OpenError, Side, System};
+use std::path::{Path, PathBuf};
+use std::{env, fs, process};
+
+/// A folder of this process, with a PAL side of 20 pictures and this metadata beside it.
+fn folder(name: &str, metadata: Option<&str>) -> PathBuf {
+    let folder = env::temp_dir().join(format!("ldvbi-opened-{}-{name}", process::id()));
+    fs::create_dir(&folder).unwrap();
+    let rows: Vec<_> = (0..20).flat_map(|number| [[0, picture(number), picture(number)], [0; 3]]).collect();
+    fs::write(folder.join("side.tbc"), draw(System::Pal, &rows)).unwrap();
+    if let Some(metadata) = metadata {
+        fs::write(folder.join("side.tbc.json"), metadata).unwrap();
+    }
+    folder
+}
+
+/// What opening says, of which the folder is left out.
+fn said(folder: &Path) -> String {
+    let fault = Side::open(folder.join("side.tbc")).unwrap_err();
+    fault.to_string().replace(&format!("{}/", folder.display()), "")
+}
+
+const PARAMETERS: &str = r#"{"videoParameters":{"system":"PAL","black16bIre":16384,"white16bIre":51200}}"#;
+
+#[test]
+fn takes_the_settings_beside_the_file() {
+    let folder = folder("right", Some(PARAMETERS));
+    let side = Side::open(folder.join("side.tbc")).unwrap();
+    assert_eq!((side.system(), side.len(), side.cut_bytes()), (System::Pal, 40, 0));
+    assert_eq!(side.number(Counted::Pictures, 24), Some(Number::Believed(12)));
+    fs::remove_dir_all(folder).unwrap();
+}
+
+#[test]
+fn names_the_file_that_has_a_fault() {
+    for (name, metadata, wanted) in [
+        ("absent", None, "side.tbc.json: No such file or directory (os error 2)"),
+        ("text", Some("PAL"), "side.tbc.json: metadata is not JSON"),
+        ("empty", Some("{}"), "side.tbc.json: metadata has no videoParameters"),
+        ("unlevelled", Some(r#"{"videoParameters":{"system":"PAL"}}"#), "side.tbc.json: no black level given"),
+    ] {
+        let folder = folder(name, metadata);
+        assert_eq!(said(&folder), wanted);
+        fs::remove_dir_all(folder).unwrap();
+    }
+    let folder = folder("short", Some(PARAMETERS));
+    fs::write(folder.join("side.tbc"), [0; 7]).unwrap();
+    assert_eq!(said(&folder), "side.tbc: a field has 710510 bytes, and these are 7");
+    assert!(matches!(Side::open(folder.join("side.tbc")), Err(OpenError::Side { .. })));
+    fs::remove_file(folder.join("side.tbc")).unwrap();
+    assert_eq!(said(&folder), "side.tbc: No such file or directory (os error 2)");
+    fs::create_dir(folder.join("side.tbc")).unwrap();
+    assert_eq!(said(&folder), "side.tbc: it is no file");
+    fs::remove_dir_all(folder).unwrap();
+}

@@ -1,0 +1,93 @@
+"""A side of 50 GB for fetched.sh, and what is to be answered of it.
+
+usage: great.py draw PATH              draws it: a file with holes, in which lines 16 to 18 have words
+       great.py answers PATH           prints commands of a player and what it has to say, by the whole side's judge
+       great.py run PATH COMMAND..     runs a command with the side out of memory, and prints how many MB it fetched
+
+The side is of a CAV disc: 400 fields of lead-in, pictures 1 to 51,741 without 30,001 to 30,012, a chapter for each
+1,500 of them, a stop for each 1,000, and 600 fields of lead-out."""
+
+import os
+import pathlib
+import subprocess
+import sys
+
+import ldvbi
+from ldvbi import State
+
+SETUP, FIELDS, LEAD_IN, LEAD_OUT = ("NTSC", 16384, 51200), 104458, 400, 600
+STOP = 0x82CFFF
+sys.path.insert(0, str(pathlib.Path(__file__).parents[2] / "bench"))
+
+
+def digits(number):
+    return int(str(number), 16)
+
+
+def words():
+    """The words of lines 16 to 18 of each field."""
+    for _ in range(LEAD_IN):
+        yield [0, 0x88FFFF, 0x88FFFF]
+    for place in range((FIELDS - LEAD_IN - LEAD_OUT) // 2):
+        picture = place + 1 if place < 30000 else place + 13
+        word, chapter = 0xF00000 + digits(picture), 0x800DDD + 0x1000 * digits(picture // 1500)
+        yield [STOP, STOP, word] if picture % 1000 == 350 else [0, word, word]
+        yield [0, chapter, chapter]
+    for _ in range(LEAD_OUT):
+        yield [0, 0x80EEEE, 0x80EEEE]
+
+
+def draw(path):
+    size, line = ldvbi.field_bytes("NTSC"), ldvbi.line_bytes("NTSC")
+    drawn = {word: ldvbi.draw_line(word, *SETUP) for word in (0, STOP)}
+    with open(path, "wb", buffering=0) as file:
+        file.truncate(FIELDS * size)
+        for place, field in enumerate(words()):
+            rows = [drawn[word] if word in drawn else ldvbi.draw_line(word, *SETUP) for word in field]
+            skipped = 0 if field[0] else 1
+            os.pwrite(file.fileno(), b"".join(rows[skipped:]), place * size + (15 + skipped) * line)
+        os.fsync(file.fileno())
+
+
+def answers(path):
+    with ldvbi.Stream(path, *SETUP, recover=True) as side:
+        readings = b"".join(side.packed(0, len(side)))
+    pictures, chapters = ldvbi.judge(readings, "NTSC"), ldvbi.judge_chapters(readings)
+    stops = [place for place, stop in enumerate(ldvbi.judge_stops(readings)) if stop == State.believed]
+    known = {number for number, state in pictures if state in (State.believed, State.due)}
+
+    def said(command, place, how=""):
+        number, state = pictures[place]
+        shown = " picture %d" % number if state in (State.believed, State.due) else ""
+        return "%s:%s field %d%s" % (command, how, place + 1, shown)
+
+    def search(number):
+        found = min(one for one in known if one >= number)
+        return said("search", ldvbi.first_of(pictures, found), "" if found == number else " not found,")
+
+    def chapter(number, command="chapter"):
+        return said(command, ldvbi.first_of(chapters, number))
+
+    begin = ldvbi.first_of(pictures, 12000)
+    print("search 12345", search(12345), sep="|")
+    print("search 30005", search(30005), sep="|")
+    print("search 60000", "search: not found", sep="|")
+    print("chapter 5", chapter(5), sep="|")
+    print("search 12000 play", search(12000), said("play", next(one for one in stops if one > begin)), sep="|")
+    print("search 12345 next", search(12345), chapter(12345 // 1500 + 1, "next"), sep="|")
+    print("search 50000 previous still", search(50000), chapter(50000 // 1500 - 1, "previous"),
+          chapter(50000 // 1500 - 1, "still"), sep="|")
+
+
+def run(path, command):
+    from fetched import bytes_in_memory, put_out  # bench/fetched.py
+    put_out(path)
+    ended = subprocess.run(command, check=False, stdout=subprocess.PIPE)
+    sys.stdout.write(ended.stdout.decode())
+    print("%.1f" % (bytes_in_memory(path) / 1e6), file=sys.stderr)
+    return ended.returncode
+
+
+if __name__ == "__main__":
+    asked, place, *rest = sys.argv[1:]
+    sys.exit(run(place, rest) if asked == "run" else {"draw": draw, "answers": answers}[asked](place))
