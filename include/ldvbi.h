@@ -505,7 +505,8 @@ LDVBI_RESULT uint32_t ldvbi_judge_stops(const LdvbiFieldReadings *readings, size
  *
  * With a number on one field of each picture: if each field stands later on the disc than the one before it, and the
  * numbers at both ends of each LDVBI_LOST gap are right, the capture lacks at least `tally.lost` fields of the disc
- * between `first` and `last`. If the numbers around gaps of LDVBI_REPLACED are right, on video, as many fields are
+ * between `first` and `last`. If those of a LDVBI_HELD gap are right, at least `fields` fields more stand between them
+ * than the disc has there. If the numbers around gaps of LDVBI_REPLACED are right, on video, as many fields are
  * skipped between as are repeated. If also each field stands later on the disc than the one before it, none is, and the
  * run's numbers at the two gaps are wrong. And in whatever order the fields stand, if the words misread within
  * LDVBI_REACH fields of each end of a gap of video weigh less than 10, the capture isn't one run of the disc from

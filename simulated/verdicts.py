@@ -143,11 +143,11 @@ def true_of(side, may_end=False):
 
 def library_says(side, fields, clock="find"):
     """The library's answer for a side; times are judged with the minutes that it completes."""
+    completed, counted = None, "pictures"
     if side.layout.startswith("clv"):
-        packed, counted = ldvbi.complete_times(fields.packed, fields.system), "times"
-    else:
-        packed, counted = fields.packed, "pictures"
-    return ldvbi.judge_side(packed, fields.system, counted, may_end=fields.may_end, clock=clock)
+        completed, counted = ldvbi.complete_times(fields.packed, fields.system), "times"
+    return ldvbi.judge_side(fields.packed, fields.system, counted, may_end=fields.may_end, clock=clock,
+                            completed=completed)
 
 
 def said_of(side, may_end=False, by_library=False):

@@ -84,8 +84,9 @@ def complete_times(readings: Any, system: AnySystem) -> bytes:
     and neither line 17 nor line 18 shows a time. The times read in the 240 fields before it and the 240 after it that
     go on with these, whatever their minute, vote with their weight. The minute that has more than half of the weight,
     and 4 of it or more (two lines of pass 1), is put on line 17, as a word of line 16's pass. `readings` are as for
-    `judge`. They are returned packed, as `Stream.packed` has them: to count times, give them to `judge` or `judge_side`
-    in place of the readings.
+    `judge`. They are returned packed, as `Stream.packed` has them. To count times, give them to `judge`, `find_pace`
+    and `find_clock` in place of the readings, and to `judge_side` as `completed`. Judge chapters and ends by the
+    readings themselves, since line 17 may have shown one.
 
     If the disc ran on within these fields, and the votes that were read wrongly weigh less than those that were read
     rightly, or less than 4, a field gets no other time than the one on the disc."""

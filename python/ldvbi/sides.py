@@ -142,19 +142,20 @@ class _Fields(NamedTuple):
 
 def judge_side(readings: Any, system: AnySystem, counted: Union[Counted, str] = Counted.pictures,
                pace: Union[Pace, str] = Pace.find, both: Union[Both, str] = Both.find,
-               may_end: bool = False, clock: Union[Clock, str, None] = None) -> JudgedSide:
+               may_end: bool = False, clock: Union[Clock, str, None] = None, completed: Any = None) -> JudgedSide:
     """Judges a whole side: which number each field shows, where numbers and fields don't go on together, and whether
     the capture is whole. `readings`, `system`, `counted` and `pace` are as for `judge`. `both` is a `Both` or its name,
     and `may_end` says that the capture may end before the disc does. `clock` says which numbers the disc leaves out: a
     `Clock`, or "find" for the one that `find_clock` finds. None says that it leaves out none, or that it isn't known
-    which; then an NTSC CLV disc has a gap at each of these places.
+    which; then an NTSC CLV disc has a gap at each of these places. `completed` is what `complete_times` makes of the
+    readings: numbers are judged by it then, lead-in and lead-out by the readings themselves.
 
     If a capture of video is `whole`, its fields stand in the disc's order, the disc counts on (by the clock), the words
     misread around the first number and around the last weigh less than 10, and the clock leaves out no number within 12
     of these two, then no field of the disc is lost from 24 fields after the first to 24 before the last. Some faults go
     unseen: ldvbi.h says which."""
     call, packed = _judge_by(clock)
-    fields = _fields_of(readings, system, counted, pace, both)
+    fields = _fields_of(readings, system, counted, pace, both, completed)
     if clock == "find":
         packed = [_found_clock(fields)]
     asked = [*fields.asked, fields.pace, fields.on_both, bool(may_end), *packed]
@@ -194,17 +195,20 @@ def _judge_by(clock: Any) -> Tuple[Any, List[bytes]]:
     return call, [packed]
 
 
-def _fields_of(readings, system, counted, pace, both):
-    """What the library judges of the fields of a side."""
+def _fields_of(readings, system, counted, pace, both, completed=None):
+    """What the library judges of the fields of a side: of the completed readings, if there are any, the numbers."""
     judge, judge_ends, find_both = map(later_call, ("ldvbi_judge", "ldvbi_judge_ends", "ldvbi_find_both"))
     asked = system_number(system), counted_number(counted)
     check(judge(*asked, pace_number(pace), None, 0, None, 0, None, 0))  # of no field the library tests these alone
     both = both_of(both)
     packed, count = packed_of(readings)
-    found = find_pace(packed, system, counted) if pace_number(pace) == Pace.find else Pace(pace_number(pace))
+    shown, length = (packed, count) if completed is None else packed_of(completed)
+    if length != count:
+        raise ValueError("of %d fields there are %d completed ones" % (count, length))
+    found = find_pace(shown, system, counted) if pace_number(pace) == Pace.find else Pace(pace_number(pace))
     seen, numbers, ends = (ctypes.create_string_buffer(size * count)
                            for size in (SIGHTINGS_BYTES, PACKED_NUMBER.size, PACKED_STATE.size))
-    check(judge(*asked, found, packed, count, seen, count, numbers, count))
+    check(judge(*asked, found, shown, count, seen, count, numbers, count))
     check(judge_ends(packed, count, ends, count))
     # of film the library doesn't ask
     on_both = found == Pace.video and bool(find_both(numbers, count) if both == Both.find else both)

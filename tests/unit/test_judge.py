@@ -3,6 +3,7 @@ the bytes of a side. What the library answers have tests/library/judged.txt and 
 as the judge answers it of the whole side, and how many fields are read at most, is proved."""
 
 import ctypes
+import functools
 import mmap
 
 from compact import made, words_of
@@ -95,6 +96,18 @@ def test_times_that_are_completed():
     completed = asked(ldvbi.complete_times, text)
     assert completed == wanted.readings.data
     assert ldvbi.judge(completed, "PAL", "times")[::2] == [(number, State.believed) for number in range(1496, 1503)]
+
+
+def test_ends_of_times_that_are_completed():
+    """Lead-out stands on line 17 of a field whose line 16 shows second and picture, 42 fields after the last time: line
+    17 is completed there, and the side ends by the readings themselves."""
+    one = made("t1496..1502 Bx40 s0.23/80EEEE/-", side)
+    completed = ldvbi.complete_times(one.readings, one.system)
+    ended = functools.partial(ldvbi.judge_side, one.readings, one.system, "times")
+    assert ldvbi.judge_ends(completed)[-1] != ldvbi.judge_ends(one.readings)[-1] == ldvbi.End.lead_out
+    assert Reason.end_unseen not in ended(completed=completed).reasons
+    assert ended(completed=completed).numbers == ldvbi.judge(completed, one.system, "times")
+    assert reason(ended, completed=completed[24:]) == "of 55 fields there are 54 completed ones"
 
 
 def test_what_stands_beside():

@@ -1,7 +1,7 @@
 -- What the gaps of a capture say of it.
 use Rattle.vbi_side.proofs.Truth.{near_same}
 use Rattle.std.proofs.Common.{◌-◌, ◌≡◌, ◌≢◌, ℕ, zero, suc, ◌+◌, ◌*◌, ◌<◌, ◌≤◌, Bool, true, false, List, [], ◌∷◌, ◌++◌}
-use Rattle.std.proofs.Common.{arith, ap, sym, ◌∙◌, subst, inl, inr, length}
+use Rattle.std.proofs.Common.{arith, ap, sym, ◌∙◌, subst, inl, inr, length, refl}
 use Rattle.std.specs.Prelude.{Option, Some, None, ◌⊎◌, nat_le, nat_lt, if◌then◌else◌, ◌&&◌}
 use Rattle.std.proofs.lemmas.Bool.Decides.{leb_tells, eqb_tells}
 use Rattle.std.proofs.lemmas.List.{length_push}
@@ -10,7 +10,7 @@ use Rattle.vbi_side.specs.declared.number.Number.{Number}
 use Rattle.vbi_side.specs.declared.gap.Gap.{Gap}
 use Rattle.vbi_side.specs.declared.pace.Pace.{Pace}
 use Rattle.vbi_side.specs.declared.pace.Pace.TheVariants.{Video, Film}
-use Rattle.vbi_side.specs.Paces.{nearly, stays}
+use Rattle.vbi_side.specs.Paces.{nearly, fits, stays}
 use Rattle.vbi_side.specs.Clocks.{kept, nearly_by, DiscCountsBy}
 use Rattle.vbi_side.specs.Numbers.{believed, IsMarked}
 use Rattle.vbi_side.specs.Side.{captured, AreLost}
@@ -19,7 +19,7 @@ use Rattle.vbi_side.specs.declared.gap.Numbering.{Numbering}
 use Rattle.vbi_side.specs.Gaps.{lost, held, back, still, joined, open_gap, has_stills, is_open, lacking_by, gap_as}
 use Rattle.vbi_side.specs.Gaps.{kind_of}
 use Rattle.vbi_side.specs.Gaps.{fields_of, ended_between, shown_between, AreNeighbours, IsGap, AreGaps}
-use Rattle.vbi_side.specs.Gaps.{CountTo, HasRightEnds, LostAtLeast}
+use Rattle.vbi_side.specs.Gaps.{CountTo, HasRightEnds, LostAtLeast, HeldAtLeast, lacking}
 use Rattle.std.proofs.lemmas.Bool.{and_parts}
 use Rattle.vbi_side.proofs.Truth.{video_fits, film_fits}
 use Rattle.vbi_side.proofs.Telling.{gap_is, some_is}
@@ -114,6 +114,82 @@ gap_least Film slack disc place numbering seen answers ends gap runs is kind (fi
 pub none_found : (b : Bool) (one gap : Gap) → b ≡ true → (if b then None else Some one) ≡ Some gap → ⊥
 none_found true one gap e found = absurd cc
 none_found false one gap e found = absurd (let h : false ≡ true = e in cc)
+
+-- between numbers that are told to have too many fields none is too few
+kind_held : (pace : Pace) (numbering : Numbering) (ended : Bool) (i m k n : ℕ)
+    → kind_of pace numbering ended i m k n ≡ held → lacking_by numbering.clock pace i m k n ≡ 0
+kind_held pace numbering ended i m k n =
+    go (has_stills numbering && stays i m k n) ended (nat_lt n m) (is_open pace numbering i m k n)
+    (leb_tells 1 (lacking_by numbering.clock pace i m k n))
+  where
+    go : (a b c d : Bool) → ((nat_le 1 (lacking_by numbering.clock pace i m k n) ≡ true)
+        × (1 ≤ lacking_by numbering.clock pace i m k n))
+        ⊎ ((nat_le 1 (lacking_by numbering.clock pace i m k n) ≡ false)
+        × (lacking_by numbering.clock pace i m k n < 1))
+        → (if a then still else (if b then joined else (if c then back else (if d then open_gap
+        else (if nat_le 1 (lacking_by numbering.clock pace i m k n) then lost else held))))) ≡ held
+        → lacking_by numbering.clock pace i m k n ≡ 0
+    go true b c d l e = absurd (omega (arith, e))
+    go false true c d l e = absurd (omega (arith, e))
+    go false false true d l e = absurd (omega (arith, e))
+    go false false false true l e = absurd (omega (arith, e))
+    go false false false false (inl (t, le)) e = let h : lost ≡ held = rw t at e in absurd (omega (arith, h))
+    go false false false false (inr (f, lt)) e = omega (arith, lt)
+
+-- of a gap with too many fields so many are too many between its numbers, and none is too few
+held_holds : (pace : Pace) (slack : ℕ) (numbering : Numbering) (seen : List Sightings) (answers : List Number)
+    (ends : List ℕ) (gap : Gap) → IsGap pace slack numbering seen answers ends gap
+    → gap.kind ≡ held
+    → (gap.fields ≡ lacking_by numbering.clock pace gap.before gap.to gap.after gap.from - slack)
+    × (lacking_by numbering.clock pace gap.after gap.from gap.before gap.to ≡ 0)
+held_holds pace slack numbering seen answers ends gap is kind =
+    let e = gap_is pace slack numbering (ended_between ends gap.after gap.before)
+    (shown_between seen gap.after gap.from gap.before gap.to) gap.after gap.from gap.before gap.to gap is.found in (
+      gap_fields pace slack numbering seen answers ends gap is
+          ∙ ap (λ (k : ℕ). fields_of pace slack k gap.after (kept numbering.clock gap.from) gap.before
+          (kept numbering.clock gap.to)) kind,
+      kind_held pace numbering (ended_between ends gap.after gap.before) gap.after gap.from gap.before gap.to
+          (sym (ap (λ (g : Gap). g.kind) e) ∙ kind),
+    )
+
+-- numbers of film that don't fit and don't lack a field have one too many
+film_apart : (i m k n : ℕ) → (fits Film i m k n ≡ true → ⊥) → lacking Film i m k n ≡ 0
+    → 2 * i + 5 * n + 2 < 2 * k + 5 * m
+film_apart i m k n apart none =
+    elim (leb_tells (2 * k + 5 * m) (2 * i + 5 * n + 2)) [
+      | inr (f, more) ↦ more
+      | inl (t, le) ↦ elim (leb_tells (2 * i + 5 * n) (2 * k + 5 * m + 2)) [
+        | inl (u, few) ↦ absurd (apart (rw (t, u) refl))
+        | inr (u, less) ↦ absurd (omega (arith, none, less))
+      ]
+    ]
+
+-- so many at least are there in place of the disc's
+pub gap_more : (pace : Pace) (slack : ℕ) (disc : ℕ → Option ℕ) (place : ℕ → ℕ) (numbering : Numbering)
+    (seen : List Sightings) (answers : List Number) (ends : List ℕ)
+    (gap : Gap) → DiscCountsBy numbering.clock pace disc → IsGap pace slack numbering seen answers ends gap
+    → gap.kind ≡ held
+    → HasRightEnds (captured disc place) gap → HeldAtLeast place gap.after gap.before gap.fields
+gap_more Video slack disc place numbering seen answers ends gap runs is kind (first, last) =
+    let p = held_holds Video slack numbering seen answers ends gap is kind in
+    let on = video_fits (place gap.after) (kept numbering.clock gap.from) (place gap.before)
+    (kept numbering.clock gap.to)
+    (runs (place gap.after) (place gap.before) gap.from gap.to first last) in
+    let order : gap.after < gap.before = is.neighbours.order in
+    omega (arith, p.0, p.1, on, order)
+gap_more Film slack disc place numbering seen answers ends gap runs is kind (first, last) =
+    let p = held_holds Film slack numbering seen answers ends gap is kind in
+    let on = film_fits (place gap.after) (kept numbering.clock gap.from) (place gap.before)
+    (kept numbering.clock gap.to)
+    (runs (place gap.after) (place gap.before) gap.from gap.to first last) in
+    let order : gap.after < gap.before = is.neighbours.order in
+    let apart = film_apart gap.after (kept numbering.clock gap.from) gap.before (kept numbering.clock gap.to)
+    (λ near. none_found (nearly_by numbering.clock Film slack gap.after gap.from gap.before gap.to)
+    (gap_as numbering.clock Film slack
+    (kind_of Film numbering (ended_between ends gap.after gap.before) gap.after gap.from gap.before gap.to)
+    (shown_between seen gap.after gap.from gap.before gap.to) gap.after gap.from gap.before gap.to) gap near is.found)
+    p.1 in
+    omega (arith, p.0, apart, on.0, on.1, order)
 
 -- ---- neighbours
 

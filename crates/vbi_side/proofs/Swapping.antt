@@ -1,7 +1,8 @@
 -- Where a swap is found, and where none is.
 use Rattle.std.proofs.Common.{◌≡◌, ℕ, ◌+◌, ◌*◌, true, false, List, sym, subst, arith, ◌∙◌}
-use Rattle.std.proofs.Common.{eq-eqb, ap}
+use Rattle.std.proofs.Common.{eq-eqb, ap, ◌<◌, ◌≤◌, inl, inr}
 use Rattle.std.specs.Prelude.{Option, Some, None, IfSome, slice_get}
+use Rattle.std.proofs.lemmas.Bool.Decides.{eqb_tells}
 use Rattle.vbi_side.specs.declared.number.Number.{Number}
 use Rattle.vbi_side.specs.declared.place.Place.{Place}
 use Rattle.vbi_side.specs.declared.pace.Pace.TheVariants.{Video}
@@ -54,6 +55,23 @@ swap_found clock seen answers k n place (Some f) last at near strays = record {
   stray = strays.2;
 }
 
+-- a swap that ends at the next number shows what stands off from the last one
+stray_of : (clock : Clock) (seen : List Sightings) (answers : List Number) (k n : ℕ) (place : Place)
+    → IsLast answers k (Some place) → IsMarked answers k n
+    → (f : ℕ) (swap : IsSwap clock seen answers f) → swap.j ≡ k
+    → (place.field < f) × (f < k) × (is_stray clock answers place.field place.number f (slice_get seen f) ≡ true)
+stray_of clock seen answers k n place last at f swap same =
+    let here = subst (λ j. AreNeighbours answers swap.i swap.m j swap.n) same swap.neighbours in
+    let there = neighbours_of answers k n place last at in
+    let first = same_before answers swap.i swap.m k swap.n place.field place.number n here there in
+    let from = same_number answers place.field swap.m place.number
+    (subst (λ i. IsMarked answers i swap.m) first here.here) there.here in (
+      omega (arith, first, swap.after),
+      omega (arith, same, swap.before),
+      subst (λ m. is_stray clock answers place.field m f (slice_get seen f) ≡ true) from
+          (subst (λ i. is_stray clock answers i swap.m f (slice_get seen f) ≡ true) first swap.stray),
+    )
+
 -- where none stands off, none was swapped
 pub none_found : (clock : Clock) (seen : List Sightings) (answers : List Number) (k n : ℕ) (place : Place)
     (stray : Option ℕ)
@@ -62,11 +80,18 @@ pub none_found : (clock : Clock) (seen : List Sightings) (answers : List Number)
     → (f : ℕ) (swap : IsSwap clock seen answers f) → swap.j ≡ k → ⊥
 none_found clock seen answers k n place (Some g) last at strays e f swap same = absurd (let h = e in cc)
 none_found clock seen answers k n place None last at strays e f swap same =
-    let here = subst (λ j. AreNeighbours answers swap.i swap.m j swap.n) same swap.neighbours in
-    let there = neighbours_of answers k n place last at in
-    let first = same_before answers swap.i swap.m k swap.n place.field place.number n here there in
-    let from = same_number answers place.field swap.m place.number
-    (subst (λ i. IsMarked answers i swap.m) first here.here) there.here in
-    strays f (omega (arith, first, swap.after)) (omega (arith, same, swap.before))
-    (subst (λ m. is_stray clock answers place.field m f (slice_get seen f) ≡ true) from
-    (subst (λ i. is_stray clock answers i swap.m f (slice_get seen f) ≡ true) first swap.stray))
+    let (after, before, stray) = stray_of clock seen answers k n place last at f swap same in
+    strays f after before stray
+
+-- before the first one that stands off none was swapped, but for those before an earlier number
+pub first_found : (clock : Clock) (seen : List Sightings) (answers : List Number) (k n : ℕ) (place : Place)
+    (stray : Option ℕ)
+    → IsLast answers k (Some place) → IsMarked answers k n → AreStrays clock seen answers (Some place) k stray
+    → IfSome stray (λ g. (f : ℕ) → f < g → (swap : IsSwap clock seen answers f) → k ≤ swap.j → ⊥)
+first_found clock seen answers k n place None last at strays = tt
+first_found clock seen answers k n place (Some g) last at strays = λ f less swap far. elim (eqb_tells swap.j k) [
+  | inl (t, same) ↦ let (after, before, stray) = stray_of clock seen answers k n place last at f swap same in
+      strays.3 f after less stray
+  | inr (t, other) ↦ swap.neighbours.between k n (omega (arith, swap.after, less, strays.1))
+      (omega (arith, far, other)) at
+]

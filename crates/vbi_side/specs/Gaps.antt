@@ -233,3 +233,7 @@ HasRightEnds recorded gap = (recorded gap.after ≡ Some gap.from) × (recorded 
 -- of the fields of the disc between those of capture fields i and j this many at least are lost
 abbrev pub LostAtLeast : (ℕ → ℕ) → ℕ → ℕ → ℕ → Type 0
 LostAtLeast place i j lost = place i + (j - i) + lost ≤ place j
+
+-- there are this many fields more at least from capture field i to field j than the disc has between
+abbrev pub HeldAtLeast : (ℕ → ℕ) → ℕ → ℕ → ℕ → Type 0
+HeldAtLeast place i j held = place j + held ≤ place i + (j - i)

@@ -50,15 +50,17 @@ pub record IsSwap (clock : Clock) (seen : List Sightings) (answers : List Number
   pub before : k < j
   pub stray : is_stray clock answers i m k (slice_get seen k) ≡ true
 
--- of a disc of video with a number on one field of its pictures: a field was swapped, the one that is named, or none
--- was
+-- of a disc of video with a number on one field of its pictures: the field that is named was swapped and none before it,
+-- or none was
 abbrev pub IsSwapTold : Clock → Pace → ℕ → List Sightings → List Number → ℕ → Bool → Type 0
 IsSwapTold clock pace slack seen answers field true =
     (pace ≡ Video) × (slack ≡ 0) × IsSwap clock seen answers field
+    × ((k : ℕ) → k < field → IsSwap clock seen answers k → ⊥)
 IsSwapTold clock pace slack seen answers field false =
     (field ≡ 0) × (pace ≡ Video → slack ≡ 0 → (k : ℕ) → IsSwap clock seen answers k → ⊥)
 
--- of the fields after the last number and before this one, the one that was found stands off, or none does
+-- of the fields after the last number and before this one, the one that was found is the first that stands off, or none
+-- does
 abbrev pub AreStrays : Clock → List Sightings → List Number → Option Place → ℕ → Option ℕ → Type 0
 AreStrays clock seen answers None field None = Unit {0}
 AreStrays clock seen answers None field (Some k) = ⊥
@@ -67,3 +69,5 @@ AreStrays clock seen answers (Some place) field None =
     → is_stray clock answers place.field place.number k (slice_get seen k) ≡ true → ⊥
 AreStrays clock seen answers (Some place) field (Some k) =
     (place.field < k) × (k < field) × (is_stray clock answers place.field place.number k (slice_get seen k) ≡ true)
+    × ((j : ℕ) → place.field < j → j < k
+    → is_stray clock answers place.field place.number j (slice_get seen j) ≡ true → ⊥)

@@ -30,6 +30,13 @@ all_read disc count = map (λ d. read_as (disc d)) (range_with_len 0 count)
 abbrev pub all_answered : (ℕ → Option ℕ) → ℕ → List Number
 all_answered disc count = map (λ d. answered_as (disc d)) (range_with_len 0 count)
 
+-- the same of a worn side, of which one field in this many was read
+abbrev pub worn_field : ℕ → (ℕ → Option ℕ) → ℕ → Sightings
+worn_field every disc d = if d % every == 0 then read_as (disc d) else blank
+
+abbrev pub some_read : ℕ → (ℕ → Option ℕ) → ℕ → List Sightings
+some_read every disc count = map (worn_field every disc) (range_with_len 0 count)
+
 -- a disc with its numbers on both fields of a picture
 abbrev pub both_disc : ℕ → Option ℕ
 both_disc d = Some (d / 2)

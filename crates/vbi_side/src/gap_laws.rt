@@ -39,7 +39,7 @@ ghost use Rattle.vbi_side.specs.Drifts.{leads, IsDriftTold};
 ghost use Rattle.vbi_side.specs.Worked.{field_of};
 ghost use Rattle.vbi_side.specs.WorkedSides.{cav, cav_pal, clv, clv_pal, two_stills, two_pictures, two_answers};
 ghost use Rattle.vbi_side.specs.WorkedSides.{worked_side, worked_answers, worked_ends};
-ghost use Rattle.vbi_side.specs.Gaps.{IsGap, AreGaps, CountTo, HasRightEnds, LostAtLeast};
+ghost use Rattle.vbi_side.specs.Gaps.{IsGap, AreGaps, CountTo, HasRightEnds, LostAtLeast, HeldAtLeast};
 ghost use Rattle.vbi_side.specs.Verdicts.{yes, no, cannot_tell, verdict_of, too_few, HasNone, IsFinding, found_whole};
 
 /// What is told are gaps, each one is told, and in order: an earlier one ends where a later one begins, or before.
@@ -66,9 +66,9 @@ pub fn all_count()
         → CountTo numbering.clock i m j n }
 {}
 
-/// In a gap whose numbers are right as many fields are lost as it says, if the disc counts on by the clock: of video
-/// just as many, at either pace as many at least. And a gap of video of any kind is one: its fields aren't one run of
-/// the disc.
+/// In a gap whose numbers are right as many fields are lost as it says, or too many, if the disc counts on by the
+/// clock: of video just as many are lost, at either pace as many at least. And a gap of video of any kind is one: its
+/// fields aren't one run of the disc.
 pub fn gap_is_so()
     ensures exact { (disc : ℕ → Option ℕ) (place : ℕ → ℕ) (numbering : Numbering) (seen : List Sightings)
         (answers : List Number) (ends : List ℕ) (gap : Gap)
@@ -84,6 +84,11 @@ pub fn gap_is_so()
         → DiscCountsBy numbering.clock pace disc
         → IsGap pace slack numbering seen answers ends gap → gap.kind ≡ lost
         → HasRightEnds (captured disc place) gap → LostAtLeast place gap.after gap.before gap.fields }
+    ensures more { (pace : Pace) (slack : ℕ) (disc : ℕ → Option ℕ) (place : ℕ → ℕ) (numbering : Numbering)
+        (seen : List Sightings) (answers : List Number) (ends : List ℕ) (gap : Gap)
+        → DiscCountsBy numbering.clock pace disc
+        → IsGap pace slack numbering seen answers ends gap → gap.kind ≡ held
+        → HasRightEnds (captured disc place) gap → HeldAtLeast place gap.after gap.before gap.fields }
 {}
 
 /// Around a gap of video the capture isn't one run of the disc: if less than enough was misread around the numbers at

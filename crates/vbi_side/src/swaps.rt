@@ -80,11 +80,11 @@ fn is_stray(seen: &[Sightings], numbers: &[Number], clock: Clock, here: Place, f
 struct Search {
     /// The last field with a believed number.
     last: Option<Place>,
-    /// A field after it whose number stands a field off.
+    /// The first field after it whose number stands a field off.
     stray: Option<usize>,
 }
 
-/// The field that stands off, of those before the next one.
+/// The first field that stands off, of those before the next one.
 fn stray_with(
     seen: &[Sightings],
     numbers: &[Number],
@@ -134,7 +134,7 @@ fn with_field(
     }
 }
 
-/// The field that stands off between the last number and the one of this field, if these go on.
+/// The first field that stands off between the last number and the one of this field, if these go on.
 fn swap_before(
     seen: &[Sightings],
     numbers: &[Number],
@@ -147,6 +147,8 @@ fn swap_before(
     requires last { IsLast numbers.now field search.last }
     requires strays { AreStrays clock seen.now numbers.now search.last field search.stray }
     ensures some { IfSome result (λ k. IsSwap clock seen.now numbers.now k) }
+    ensures first { IfSome result (λ k. (j : ℕ) → j < k → (swap : IsSwap clock seen.now numbers.now j)
+        → field ≤ swap.j → ⊥) }
     ensures none { result ≡ None → (k : ℕ) → (swap : IsSwap clock seen.now numbers.now k) → swap.j ≡ field → ⊥ }
 {
     let Some(here) = search.last else {
@@ -166,6 +168,7 @@ fn swap_before(
 pub(crate) fn first_swap(seen: &[Sightings], numbers: &[Number], clock: Clock) -> Option<usize>
     requires { length seen.now ≡ length numbers.now }
     ensures some { IfSome result (λ field. IsSwap clock seen.now numbers.now field) }
+    ensures first { IfSome result (λ field. (k : ℕ) → k < field → IsSwap clock seen.now numbers.now k → ⊥) }
     ensures none { result ≡ None → (k : ℕ) → IsSwap clock seen.now numbers.now k → ⊥ }
 {
     let mut search = Search {

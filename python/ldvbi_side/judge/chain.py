@@ -36,10 +36,9 @@ def judged_of(fields: Fields, counted: Counted) -> JudgedSide:
     """The library's answer for the side, for times of NTSC by the clock that it finds. A few minutes don't show enough
     of drop-frame: if none is found, that is taken if it leaves fewer gaps, and none of its numbers is shown. An older
     library knows of no clock."""
-    packed = fields.packed
-    if counted == Counted.times:
-        packed = complete_times(packed, fields.system)
-    judge = functools.partial(judge_side, packed, fields.system, counted, may_end=fields.may_end)
+    completed = complete_times(fields.packed, fields.system) if counted == Counted.times else None
+    judge = functools.partial(judge_side, fields.packed, fields.system, counted, may_end=fields.may_end,
+                              completed=completed)
     if counted == Counted.times and fields.system == "NTSC":
         with contextlib.suppress(OSError):
             found = judge(clock="find")

@@ -1,7 +1,7 @@
 use Rattle.std.proofs.Common.{◌∙◌, sym, subst}
 use Rattle.vbi_side.specs.Gaps.{IsLast}
 use Rattle.vbi_side.specs.Swaps.{AreStrays}
-use Rattle.vbi_side.proofs.Swapping.{none_between, swap_found, none_found}
+use Rattle.vbi_side.proofs.Swapping.{none_between, swap_found, none_found, first_found}
 use Rattle.vbi_side.proofs.swaps.swap_before.Goals as goal
 
 pub returns-else-goes_on_by-clause-none : goal.returns-else-goes_on_by-clause-none
@@ -23,6 +23,14 @@ returns-then-goes_on_by-clause-some c =
 pub returns-then-goes_on_by-clause-none : goal.returns-then-goes_on_by-clause-none
 returns-then-goes_on_by-clause-none c =
     none_found c.args.clock c.args.seen.now c.args.numbers.now c.args.field _ c.in-Some.here c.args.search.stray
+    (subst (IsLast c.args.numbers.now c.args.field) c.in-Some.is c.requires.last)
+    c.in-Some-believed_at.ensures.some.1
+    (subst (λ last. AreStrays c.args.clock c.args.seen.now c.args.numbers.now last c.args.field c.args.search.stray)
+    c.in-Some.is c.requires.strays)
+
+pub returns-then-goes_on_by-clause-first : goal.returns-then-goes_on_by-clause-first
+returns-then-goes_on_by-clause-first c =
+    first_found c.args.clock c.args.seen.now c.args.numbers.now c.args.field _ c.in-Some.here c.args.search.stray
     (subst (IsLast c.args.numbers.now c.args.field) c.in-Some.is c.requires.last)
     c.in-Some-believed_at.ensures.some.1
     (subst (λ last. AreStrays c.args.clock c.args.seen.now c.args.numbers.now last c.args.field c.args.search.stray)
