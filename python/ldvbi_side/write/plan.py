@@ -66,9 +66,22 @@ def plan(sources: Sequence[Source], wanted: Wanted = Wanted()) -> Plan:
     much would be padding."""
     captures = [source.capture for source in sources]
     refuse_other_discs(captures)
+    made = planned(sources, disagreements_of(captures), wanted)
+    refuse_unwritable(captures, made, wanted)
+    return made
+
+
+def refuse_unwritable(captures: Sequence[Capture], made: Plan, wanted: Wanted = Wanted()) -> None:
+    """Raises a ValueError if captures may have two sides, or too much would be padding."""
     for capture in captures:
         _refuse_two_sides(capture, wanted.one_side)
-    disputed = disputed_in([one for one in disagreements_of(captures) if _is_elsewhere(one)])
+    _refuse_padding(made, wanted.most_padding)
+
+
+def planned(sources: Sequence[Source], disagreements: Sequence[Disagreement], wanted: Wanted = Wanted()) -> Plan:
+    """The same of captures that are known to be of one disc, and disagree so, however much would be padding."""
+    captures = [source.capture for source in sources]
+    disputed = disputed_in([one for one in disagreements if _is_elsewhere(one)])
     ranks = ranks_of(sources)
     following = [followed(source, ranks) for source in sources]
     known = Known(ranks, Lengths(following), _extent_of(captures, disputed, ranks, wanted.start),
@@ -81,9 +94,7 @@ def plan(sources: Sequence[Source], wanted: Wanted = Wanted()) -> Plan:
         first = min(first, ranks.of(wanted.start))
     nodes = Choice(runs, sources, wanted.change, (3 if known.lengths.is_film else 2) * PADDED).nodes(
         range(first, max(run.end() for run in runs)))
-    made = _Making(runs, sources, known).made(nodes, wanted.ends)
-    _refuse_padding(made, wanted.most_padding)
-    return made
+    return _Making(runs, sources, known).made(nodes, wanted.ends)
 
 
 def _runs_of(captures: Sequence[Followed], known: Known, disputed: Set[Tuple[str, int]], is_sure: bool) -> List[Run]:

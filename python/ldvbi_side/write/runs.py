@@ -136,6 +136,8 @@ def _after_last(capture: Followed, known: Known) -> Tuple[_Shared, int]:
     if end.is_marked and more > 1 and not known.lengths.is_film:
         more -= 1 - more % 2  # lead-out has fields that aren't read, too
     seen = more if _is_seen(end, 1, capture, known) else capture.shown(capture.parts[-1][-1], 1, more)
+    if capture.source.period() == 1 and not end.is_marked:
+        seen = min(seen, known.lengths.of(end.rank) - 1)  # of other numbers nothing is seen
     shared = _Shared(after=more, sure_after=seen)
     return shared, LONGEST if end.is_marked else known.extent.stop - end.rank
 
@@ -146,7 +148,8 @@ def _before_first(capture: Followed, known: Known) -> Tuple[_Shared, int]:
     more = end.fields
     if end.is_marked and not known.lengths.is_film:
         more -= more % 2  # lead-in has fields that aren't read, too
-    seen = more if _is_seen(end, -1, capture, known) else capture.shown(capture.parts[0][0], -1, more)
+    is_seen = (capture.source.period() > 1 or end.is_marked) and _is_seen(end, -1, capture, known)
+    seen = more if is_seen else capture.shown(capture.parts[0][0], -1, more)
     shared = _Shared(before=more, sure_before=seen)
     return shared, end.rank - known.extent.start
 
