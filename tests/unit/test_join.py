@@ -265,9 +265,9 @@ def test_sides_are_read_as_the_options_say(drawn):
 
 
 def check_random_set(seed):
-    """Each number is taken from a field that has it on the disc. None that can be read in a capture is missing. What is
-    lost is in no capture, and what one lacks another has. No two disagree. The fields of a stretch follow each other on
-    the disc up to that of its last number, after which there may be another one's. Returns the count of numbers."""
+    """Each number that isn't unsure is taken from a field that has it on the disc. None that can be read in a capture
+    is missing. What is lost is in no capture, and what one lacks another has. No two disagree. The fields of a stretch
+    follow each other on the disc. Returns the count of numbers."""
     ones = captures(seed, 2 + seed % 3)
     joined = as_json(join([capture_of(side_of_document(json.dumps(one.document).encode()), str(place))
                            for place, one in enumerate(ones)]))
@@ -280,8 +280,10 @@ def check_random_set(seed):
         return {one for stretch in stretches for one in range(number(stretch["first"]), number(stretch["last"]) + 1)}
 
     taken = {number(row[0]) for row in joined["taken"]}
+    unsure = numbers_in(stretch for stretch in joined["ranges"] if stretch["how"] == "unsure")
     for text, source, field, frame, _ in joined["taken"]:
-        assert (ones[int(source)].numbers[field - 1], (field + 1) // 2) == (number(text), frame)
+        assert (field + 1) // 2 == frame
+        assert ones[int(source)].numbers[field - 1] == number(text) or number(text) in unsure
     for truth in truths:
         assert truth.read.keys() <= taken
     lost = numbers_in(stretch for stretch in joined["missing"] if stretch["why"] == "lost")
@@ -292,16 +294,15 @@ def check_random_set(seed):
         assert len(numbers) == stretch["count"]
         assert all(numbers <= having[int(name)] for name in stretch["in"])
     assert joined["disagreements"] == []
-    field_of = {row[0]: row[2] for row in joined["taken"]}
-    rows = list(field_of)
+    rows = [row[0] for row in joined["taken"]]
     for stretch in joined["ranges"]:  # which have each number once
         numbers, rows = rows[:stretch["count"]], rows[stretch["count"]:]
         assert [stretch["first"], stretch["last"]] == [numbers[0], numbers[-1]]
-        if ones[0].kind != "clv-minutes":
-            order = ones[int(stretch["source"])].order[stretch["field"] - 1:field_of[stretch["last"]]]
+        if ones[0].kind != "clv-minutes" and stretch["how"] == "whole":
+            order = ones[int(stretch["source"])].order[stretch["field"] - 1:stretch["lastField"]]
             assert order == list(range(order[0], order[-1] + 1))
     assert rows == []
-    return Counter(taken=len(taken), due=sum(row[4] == "neighbours" for row in joined["taken"]),
+    return Counter(taken=len(taken), unsure=len(unsure), due=sum(row[4] == "neighbours" for row in joined["taken"]),
                    missing=sum(stretch["count"] for stretch in joined["missing"]),
                    lacking=sum(stretch["count"] for stretch in joined["lacks"]))
 
@@ -310,4 +311,4 @@ def check_random_set(seed):
 def test_random_sets():
     """Two to four captures of one drawn disc with losses, jumps and damage of their own, beside the truth."""
     counts = sum(map(check_random_set, range(100)), Counter())
-    assert counts > Counter(taken=25000, due=80, missing=90, lacking=2000)
+    assert counts > Counter(taken=25000, due=80, missing=80, lacking=2000)

@@ -38,7 +38,7 @@ def lost(one, *spans):
 
 
 # Of each case its disc, and the captures: the orders of their fields, and what draw takes besides; and what is padding.
-# The picture whose first field alone is surely its own is unsure: of AMID the player may have jumped within it
+# Of AMID a picture is unsure: the player may have jumped within it, or what is unread may be lead-out's
 CASES = {
     "whole": (VIDEO, [(VIDEO.order, {})], []),
     "pictures lost": (VIDEO, [(lost(VIDEO, (9, 0, 6)), {})], range(VIDEO.at[9], VIDEO.at[9] + 6)),
@@ -69,7 +69,7 @@ def drawn(room, name, form="json"):
         draw(room.named(letter + ".tbc"), one, order, form=form, **more)
     return "write out.tbc " + " ".join(letter + ".tbc" for letter in "abc"[:len(captures)])
 
-AMID = ("a field twice", "ahead, filled")
+AMID = ("a field twice", "ahead, filled", "unread at the ends")
 
 
 @pytest.mark.parametrize("form", ["json", "db"])

@@ -171,7 +171,9 @@ def _with_end(blocks: List[Block], last: Anchor, after: Optional[Anchor], captur
             break
         want = lengths.of(rank)
         fields = min(left, want)
-        is_sure = field + fields - last.field <= sure and (rank == last.rank or lengths.is_known(rank))
+        # fields beyond the greatest number that is read may be lead-out's
+        is_sure = field + fields - last.field <= sure and (
+            rank == last.rank or rank < known.extent.stop and lengths.is_known(rank))
         if is_on_both and fields < want:
             is_sure = False  # it may be the second field
         is_known = field + fields == last.field + 1 and not is_on_both
