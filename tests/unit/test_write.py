@@ -98,6 +98,9 @@ def test_what_is_printed(room):
     assert room.run_words(drawn(room, "pictures lost")) == (1, (
         "whole: no: 3 pictures are padding (9 to 11); 2 pictures may have another's field (8, 24)\n"
         "written: 48 fields, 5 stretches, 0 changes\na.tbc: 42 fields, 21 pictures\n"), "")
+    for words, said in (("9", "padding in fields 17 to 22, between 8 in field 15 and 12 in field 23"), ("12", None)):
+        assert room.run_words("out.tbc --seek " + words) == (
+            (1, "", "ldvbi-side: not found: %s\n" % said) if said else (0, "field 23, frame 12\n", ""))
     table = ("field,fields,frame,first,last,source,source field,how\n1,14,1,1,7,a.tbc,7,whole\n"
              "15,2,8,8,8,a.tbc,21,unsure\n17,6,9,9,11,,,padding\n23,24,12,12,23,a.tbc,23,whole\n"
              "47,2,24,24,24,a.tbc,47,unsure\n")
@@ -144,6 +147,8 @@ def test_options(room):
     status, text, _ = room.run_words("write out.tbc b.tbc --from 1")
     assert (status, text.split("\n")[0]) == (1, "whole: no: 8 pictures are padding (1 to 8)")
     assert places_in(room.named("out.tbc"), VIDEO) == [None] * 16 + inside(VIDEO)[16:]
+    assert room.run_words("out.tbc --seek 8")[2].endswith(
+        ": the numbers begin at 9, in field 17, after padding in fields 1 to 16\n")
     assert room.run_words("write out.tbc b.tbc")[1].split("\n")[0] == "whole: no: begins at 9, ends at 24"
     draw(room.named("a.tbc"), VIDEO, lost(VIDEO, (9, 0, 8)))
     assert room.run_words("write out.tbc a.tbc --sure")[1].startswith(
