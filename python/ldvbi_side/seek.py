@@ -32,8 +32,8 @@ def wanted_of(text: str) -> Wanted:
 def seek(answer: Answer, wanted: Wanted) -> Optional[Dict[str, Any]]:
     """The first field of what is wanted on a side with this answer, as a dict of `field`, `frame`, `read` and `other`;
     None if it isn't there. `read` is false if the number wasn't read in that field, but is due there by the numbers
-    around it. `other` is what was read there instead, or None. A number that was set aside is never the answer. For a
-    part of a time, the first field that has any of it counts."""
+    around it. `other` is what was read there instead, or None. A number that was set aside is never the answer, and
+    neither is a field of padding. For a part of a time, the first field that has any of it counts."""
     if wanted.kind == "chapter":
         found = [(one.field, True, None) for one in answer.chapters if one.chapter == wanted.numbers[0]]
     else:
@@ -63,7 +63,8 @@ def _numbered(answer, wanted):
         def fits(number):
             return number == begin or number.startswith(begins)
     found = [(field, True, None) for number, field, _ in answer.showings if fits(number)]
-    return found + [(one.field, False, one.read) for one in answer.unread if fits(one.number)]
+    return found + [(one.field, False, one.read) for one in answer.unread if fits(one.number)
+                    and not any(pad.first <= one.field <= pad.last for pad in answer.padding)]
 
 
 def text_of(found: Dict[str, Any]) -> str:
@@ -102,12 +103,33 @@ def why_not(answer: Answer, wanted: Wanted) -> str:
     least, greatest = (_part(end, wanted) for end in answer.numbers[1:])
     if least <= wanted.numbers <= greatest:
         return _NOWHERE
-    return _beyond("numbers", wanted.numbers < least, [(number, field) for number, field, _ in answer.showings],
+    text = _beyond("numbers", wanted.numbers < least, [(number, field) for number, field, _ in answer.showings],
                    answer.numbers.least if wanted.numbers < least else answer.numbers.greatest)
+    pad = next((one for one in answer.padding if one.first == 1 and wanted.numbers < least), None)
+    return text + (", after padding in %s" % _fields_of(pad) if pad else "")
+
+
+def _fields_of(one):
+    return "field %d" % one.first if one.first == one.last else "fields %d to %d" % (one.first, one.last)
+
+
+def _why_padding(answer, one):
+    """What is said of numbers between these fields of which some are padding, or None."""
+    pad = next((pad for pad in answer.padding if one.after < pad.last and pad.first < one.before), None)
+    if not pad:
+        return None
+    before = max((shown for shown in answer.showings if shown[1] < pad.last), key=lambda shown: shown[1], default=None)
+    after = min((shown for shown in answer.showings if shown[1] > pad.first), key=lambda shown: shown[1], default=None)
+    names = ["%s in field %d" % (shown[0], shown[1]) for shown in (before, after) if shown]
+    return "padding in %s, %s" % (_fields_of(pad), "between %s and %s" % (*names,) if len(names) == 2 else
+                                  "beside %s" % names[0])
 
 
 def _why_missing(answer, one):
     """Why numbers aren't there, and where; at the beginning of a side no number is before them."""
+    padding = _why_padding(answer, one)
+    if padding:
+        return padding
     may_skip = (answer.unit, answer.system) == ("time", "NTSC")
     undecided = "lost, unread or skipped by the disc itself" if may_skip else "lost or unread"
     place = "after field %d" % one.after if one.after else "before field %d" % one.before

@@ -7,9 +7,9 @@ import functools
 from ldvbi import Cause, FieldReadings, Reading, System
 from ldvbi.readings import Levels
 from ldvbi_side.join.captures import capture_of
-from ldvbi_side.join.joined import join
 from ldvbi_side.answer.analysis import analyse, analysed
 from ldvbi_side.side import Side
+from ldvbi_side.write.joined import join
 
 CAUSES = {"-": (Cause.blank, 0), "~": (Cause.unfinished, 0), "?": (Cause.change, 170), "!": (Cause.hold, 200)}
 BLANK = "- - -"

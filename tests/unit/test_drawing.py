@@ -17,9 +17,9 @@ from ldvbi_side.draw.drawing import drawing_of
 from ldvbi_side.draw.marks import Mark, marks_of
 from ldvbi_side.draw.svg import shortened, Svg
 from ldvbi_side.join.captures import capture_of
-from ldvbi_side.join.joined import join
 from ldvbi_side.judge.places import Break, Showing
 from ldvbi_side.judge.readings import Stray
+from ldvbi_side.write.joined import join
 import pytest
 
 SPACE = "{http://www.w3.org/2000/svg}"
@@ -214,6 +214,19 @@ def test_drawn(text, asked):
             assert any(re.search(re.escape(wanted) + r"\b", each) for each in found) == (kind == "+"), one
         else:
             assert (said[:len(wanted) - 2] + ".." if wanted.endswith("..") else said) == wanted, one
+
+
+def test_padding():
+    """Of 64 fields the 11th and the 12th are padding, whatever their lines show."""
+    one = made("1..32 12=B", side)
+    assert "padding" not in drawing_of(one, "")
+    one = made("1..32 12=B", side)
+    one.pad = [field in (11, 12) for field in range(1, 65)]
+    drawn = list(xml.fromstring(drawing_of(one, "")).iter(SPACE + "rect"))
+    boxes = [box for box in drawn if box.get("data-shown") == "padding"]
+    assert [(box.get("class"), box.get("data-fields")) for box in boxes] == [
+        ("line-%d" % line, "11-12") for line in (16, 17, 18)]
+    assert boxes[0].find(SPACE + "title").text == "line 16, fields 11 to 12: padding"
 
 
 def test_axes_and_heads():

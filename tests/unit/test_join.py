@@ -10,12 +10,13 @@ from compact import cells_of, made, span, words_of
 from discs import side
 from ldvbi_side.command.join import joined_text, NOTHING_SHOWS
 from ldvbi_side.draw.bars import bars_of
+from ldvbi_side.draw.svg import escaped
 from ldvbi_side.draw.together import page_of_joined
 from ldvbi_side.join.captures import capture_of
-from ldvbi_side.join.joined import join
 from ldvbi_side.join.plain import as_json
 from ldvbi_side.judge.places import Showing
 from ldvbi_side.side import side_of_document
+from ldvbi_side.write.joined import join
 import pytest
 from room import reason
 from simulate import captures
@@ -40,7 +41,7 @@ NAMES = {
 # Why it is so, captures, and what is said of them, whichever comes first. Field 2n - 1 has picture n.
 EITHER = """
     what each has | ONE ; OTHER | alone b 21-23 3, a 31 1 | better b 2-4 3, a 5-6 2, a 8 1, b 20 1, a 30 1
-        | alike 1 1, 7 1, 9-19 11, 24-29 6, 32-40 9 | @2 b 3 2 read | @5 a 9 5 read | @20 b 39 20 read
+        | alike 1 1, 7 1, 9-19 11, 24-29 6, 32-40 9 | @2 b 3 2 read | @5 b 9 5 read | @20 b 39 20 read
         | says better in b: 4 (pictures 2 to 4, picture 20)
         | says alike: 28 (picture 1, picture 7, pictures 9 to 19, pictures 24 to 29 and 1 more)
     shown again, and worse at first | 1..30 11..40 31=-/#16*/- ; 1..40 | alone | better | alike 1-40 40
@@ -55,12 +56,15 @@ EITHER = """
     seconds count | t100..139 ; t100..139 21.16=s4.10* | better a 0:00:04.10 1
     better than both others | 1..40 3=-/#2*/- ; 1..40 3=-/#2/- 5=? ; 1..39 3=-/#2*/- | better b 2 1
     another part | 1..10 ; 21..40 | missing 11-20 10 lost | says lacking in all: 10 (pictures 11 to 20 lost)
-    fields after the last number or before the first may have others | 1..10 Bx20 ; 21..40 | missing 11-20 10 undecided
-    as many | 1..10 Bx4 O ; Lx9 Bx5 61..80 | missing 11-12 2 undecided, 13-57 45 lost, 58-60 3 undecided
+    fields after the last number or before the first may have others | 1..10 Bx20 ; 21..40 | missing
+        | says as one file: can't tell: 10 pictures may have another's field (11 to 20)
+    as many | 1..10 Bx4 O ; Lx9 Bx5 61..80 | missing 13-57 45 lost, 58 1 undecided
+        | says together: pictures 1 to 80, 45 lost, 1 undecided
+        | says as one file: no: 46 pictures are padding (13 to 58); 5 pictures may have another's field (10 to 12, 59 to
+        60)
     minutes | n0..1x3000 Bx3000 ; n4x3000 | missing 0:02 1 undecided, 0:03 1 lost
-    what one has a field for isn't lost | 1..40 29=C ; 1..40 -29:30 | missing 15 1 unread
-    lost ones are counted first | 1..40 9=C -29:30 ; 1..40 9=C -29:30 | missing 5 1 unread, 15 1 lost
-        | says together: pictures 1 to 40, 1 lost, 1 unread
+    what one has a field for isn't missing | 1..40 29=C ; 1..40 -29:30 | missing | lacks
+    nor lacking in the other | 1..40 9=C -29:30 ; 1..40 9=C -29:30 | missing 15 1 lost | lacks
     what is due isn't missing | 1..40 29=B ; 1..40 -29:30 | missing | says together: pictures 1 to 40, none lost
     the clock | SOME ; SOME | missing | disagreements | says skipped by the disc itself: 5
     it leaves out 0:00:00.07 | SOME -1:38 ; SOME | lacks a 0:00:00.00-0:00:00.19 19 b
@@ -93,21 +97,23 @@ EITHER = """
 IN_ORDER = """
     of a still the last one | 1..20 21x4 22..40 ; 1..10 | @21 a 47 24 read
     alike | 1..40 -42 ; 1..40 -42 | @21 a 41 21 read || due | 1..40 7=B ; 1..40 7=B | @4 a 7 4 neighbours
-    shown again | 1..30 11..40 31=-/#16*/- ; 1..20 | @16 a 71 36 read | @17 a 33 17 read
+    shown again | 1..30 11..40 31=-/#16*/- ; 1..20 | @16 a 71 36 read | @17 a 73 37 read
     fewer bad lines nearby | 1..30 11..40 33.16=? ; 1..10 | @16 a 71 36 read
     the first one | 1..40 ; 1..40 ; 1..40 | ranges 1-40 a 1-80 || film | NTSC f1..20 ; NTSC f1..2 | ranges 1-20 a 1-50
     one that begins with a second field | PAL/1 1..40 -1 ; 1..10 | @1 b 1 1 read | @2 a 2 1 read
-    bad lines of 25 fields on either side | 1..80 101=?/#51/#51 ; 1..80
-        | ranges 1-38 a 1-76, 39-63 b 77-126, 64-80 a 127-160
-    a lost field ends a stretch, and b may have lost one of picture 30 | 1..40 -61:62 ; 1..40 -41:46
-        | ranges 1-29 a 1-58, 30-31 b 53-56, 32-40 a 61-78
-    one of a | 1..40 -42 ; 1 | ranges 1-21 a 1-41, 22-40 a 42-79 || at the end | 1..40 -80 ; 1 | ranges 1-40 a 1-79
-    numbers on both fields | b1..10 ; b1..20 | ranges 1-10 a 1-20, 11-20 b 21-40
+    fewer bad lines | 1..80 101=?/#51/#51 ; 1..80 | ranges 1-80 b 1-160
+    each has lost others | 1..40 -61:62 ; 1..40 -41:46 | ranges 1-23 a 1-46, 24-40 b 41-74 | says as one file: yes
+    a field lost | 1..40 -42 ; 1 | ranges 1-21 a 1-41, 22-39 a 42-77, 40 a 78-79 || at the end | 1..40 -80 ; 1
+        | ranges 1-40 a 1-79 | says as one file: no: 1 picture lacks fields (40)
+    numbers on both fields | b1..10 ; b1..20 | ranges 1-20 b 1-40
     of which the second one alone is read | b1..20 39=B Bx4 ; b1 | ranges 1-20 a 1-40
-    minutes | m59x3000 ; m58..59x3000 | ranges 0:58 b 1-3000, 0:59 a 1-3000
+    minutes | m59x3000 ; m58..59x3000 | ranges 0:58-0:59 b 1-6000
+    two sides | 1..20 Lx5 1..20 ; 1..20 | says as one file: refused: a: lead-in or lead-out stands between its numbers:
+        two sides? (--one-side says that it is one)
+    halves that meet, unread | 1..20 Bx6 ; Bx6 21..40 | missing || a copy | 1..20 -31:32 ; 1..20 -31:32 | missing 16 1 lost
     what the clock leaves out | SOME ; SOME | ranges 0:00:00.00-0:02:29.29 a 1-8990
     numbers of a detour are taken elsewhere | DETOUR ; 1..100 ; 121..180 | @151 c 61 31 read
-        | ranges 1-50 a 1-100, 51-70 b 101-140, 71-100 a 141-200, 121-180 c 1-120
+        | ranges 1-100 b 1-200, 121-180 c 1-120
     a distance | CUT ; NTSC f1..120 | says disagreements: 1 (pictures 64 to 120 in fields 157 to 285 of a and fields 159
         to 300 of b, further from those before them in one than in the other)
     up to a loss | CUT ; NTSC f1..120 -201:225 | says disagreements: 1 (pictures 64 to 80 in fields 157 to 190 of a and
@@ -176,7 +182,7 @@ def test_a_confirmed_number_is_between_those_that_are_read_and_due():
     near.analysis = near.analysis._replace(answer=known._replace(
         confirmed=[7], unread=[], showings=[*known.showings, Showing(4, 7, 7)]))
     ones = [capture_of(one, name) for one, name in zip((capture("1..40 7=B"), near, capture("1..40 7=-/-/#4*")), "abc")]
-    assert [told(as_json(join(ones[:count])), "@4") for count in (2, 3)] == ["b 7 4 near", "c 7 4 read"]
+    assert [told(as_json(join(ones[:count])), "better") for count in (2, 3)] == ["b 4 1", "c 4 1"]
 
 
 def test_texts():
@@ -186,7 +192,7 @@ def test_texts():
         "b: has 39, none of them alone, lacks 1 (picture 31 in a), whole: no", "better in b: none",
         "c: has 29, none of them alone, lacks 11 (picture 5 in a and b, picture 31 in a, pictures 32 to 40 in a "
         "and b), whole: no", "better in c: none", "alike: 39 (pictures 1 to 30, pictures 32 to 40)",
-        "lacking in all: none", "disagreements: none"]
+        "lacking in all: none", "disagreements: none", "as one file: yes"]
 
 
 def boxes(found, name):
@@ -199,15 +205,15 @@ def test_bars_and_page():
     """96 numbers on 960 pixels from 150 on: 10 pixels each. Those that touch are one."""
     found = together("1..96 -41:46", "1..96 -43:44 -21:22")  # pictures 21 to 23; 22 and 11
     assert boxes(found, "taken-from-here") == [
-        "1-19 150 190 1 to 19: taken from fields 1 to 38 of a",
-        "24-96 380 730 24 to 96: taken from fields 41 to 186 of a",
-        "20-21 340 20 20 to 21: taken from fields 37 to 40 of b", "23-23 370 10 23: taken from fields 41 to 42 of b"]
+        "1-11 150 110 1 to 11: taken from fields 1 to 22 of a",
+        "12-20 260 90 12 to 20: taken from fields 21 to 38 of b", "23-96 370 740 23 to 96: taken from fields 41 to 188 of b"]
+    assert boxes(found, "taken-unsure") == ["21-21 350 10 21: taken from fields 39 to 40 of b"]
     assert boxes(found, "in-another-capture-alone") == [
         "21-21 350 10 21: not in a, but in b", "23-23 370 10 23: not in a, but in b",
         "11-11 250 10 11: not in b, but in a"]
     assert boxes(found, "in-none") == ["22-22 360 10 22: in no capture, lost"] * 3
     texts = [list(text.itertext())[-1] for text in xml.fromstring(bars_of(found)).iter(SPACE + "text")]
-    assert texts[:1] + texts[6:10] == ["2 captures together", "a", "b", "in none: 1", "disagreements: 0"]
+    assert texts[:1] + texts[7:11] == ["2 captures together", "a", "b", "in none: 1", "disagreements: 0"]
     one, = boxes(together("1..3000 -2005:2006 -2001:2002", "1..3000"), "in-another-capture-alone")
     assert one.startswith("1001-1003 ") and one.endswith(" 1001: not in a, but in b; and 1 more")
     assert [one.split(" ", 3)[3] for one in boxes(together("DETOUR", "1..100"), "disagreement")] == [
@@ -215,7 +221,7 @@ def test_bars_and_page():
         "151 to 170: in fields 101 to 140 of a, and b otherwise"]
     page = page_of_joined(found, joined_text(found))
     # each has lost what comes after the picture, and perhaps a field of that
-    for text in (*("<p>%s</p>" % text for text in joined_text(found)), bars_of(found),
+    for text in (*("<p>%s</p>" % escaped(text) for text in joined_text(found)), bars_of(found),
                  '<details id="missing"><summary>numbers that no capture has: 1</summary>',
                  "<tr><td>22</td><td>22</td><td>1</td><td>lost</td></tr>",
                  "<tr><td>a</td><td>10</td><td>10</td><td>1</td></tr>\n<tr><td>b</td><td>20</td><td>20</td>",
@@ -234,8 +240,8 @@ def test_what_is_printed_and_written(drawn):
     for option, *wanted in (
             ("--csv", "number,source,field,frame,how", "0,side.vbi.json,1,1,read", "11,side.vbi.json,12,6,read",
              "12,other.tbc,7,4,read", "15,other.tbc,10,5,read", ""),
-            ("--ranges", "first,last,source,first field,last field", "0,0,side.vbi.json,1,1",
-             "11,11,side.vbi.json,12,12", "12,12,other.tbc,7,7", "15,15,other.tbc,10,10", "")):
+            ("--ranges", "first,last,source,first field,last field,how", "0,0,side.vbi.json,1,1,whole",
+             "11,11,side.vbi.json,12,12,whole", "12,12,other.tbc,7,7,whole", "15,15,other.tbc,10,10,whole", "")):
         rows = drawn.printed(words + option, said="ldvbi-side: %s\n" % NOTHING_SHOWS).decode().split("\n")
         assert [*rows[:2], *rows[12:14], *rows[16:]] == wanted
     for option, printed in (("", b""), ("--json ", drawn.printed(words + "--json"))):
@@ -259,9 +265,9 @@ def test_sides_are_read_as_the_options_say(drawn):
 
 
 def check_random_set(seed):
-    """Each number is taken from a field that has it on the disc. None that can be read in a capture is missing. What is
-    lost is in no capture, and what one lacks another has. No two disagree. The fields of a stretch follow each other on
-    the disc up to that of its last number, after which there may be another one's. Returns the count of numbers."""
+    """Each number that isn't unsure is taken from a field that has it on the disc. None that can be read in a capture
+    is missing. What is lost is in no capture, and what one lacks another has. No two disagree. The fields of a stretch
+    follow each other on the disc. Returns the count of numbers."""
     ones = captures(seed, 2 + seed % 3)
     joined = as_json(join([capture_of(side_of_document(json.dumps(one.document).encode()), str(place))
                            for place, one in enumerate(ones)]))
@@ -274,8 +280,10 @@ def check_random_set(seed):
         return {one for stretch in stretches for one in range(number(stretch["first"]), number(stretch["last"]) + 1)}
 
     taken = {number(row[0]) for row in joined["taken"]}
+    unsure = numbers_in(stretch for stretch in joined["ranges"] if stretch["how"] == "unsure")
     for text, source, field, frame, _ in joined["taken"]:
-        assert (ones[int(source)].numbers[field - 1], (field + 1) // 2) == (number(text), frame)
+        assert (field + 1) // 2 == frame
+        assert ones[int(source)].numbers[field - 1] == number(text) or number(text) in unsure
     for truth in truths:
         assert truth.read.keys() <= taken
     lost = numbers_in(stretch for stretch in joined["missing"] if stretch["why"] == "lost")
@@ -286,16 +294,15 @@ def check_random_set(seed):
         assert len(numbers) == stretch["count"]
         assert all(numbers <= having[int(name)] for name in stretch["in"])
     assert joined["disagreements"] == []
-    field_of = {row[0]: row[2] for row in joined["taken"]}
-    rows = list(field_of)
+    rows = [row[0] for row in joined["taken"]]
     for stretch in joined["ranges"]:  # which have each number once
         numbers, rows = rows[:stretch["count"]], rows[stretch["count"]:]
         assert [stretch["first"], stretch["last"]] == [numbers[0], numbers[-1]]
-        if ones[0].kind != "clv-minutes":
-            order = ones[int(stretch["source"])].order[stretch["field"] - 1:field_of[stretch["last"]]]
+        if ones[0].kind != "clv-minutes" and stretch["how"] == "whole":
+            order = ones[int(stretch["source"])].order[stretch["field"] - 1:stretch["lastField"]]
             assert order == list(range(order[0], order[-1] + 1))
     assert rows == []
-    return Counter(taken=len(taken), due=sum(row[4] == "neighbours" for row in joined["taken"]),
+    return Counter(taken=len(taken), unsure=len(unsure), due=sum(row[4] == "neighbours" for row in joined["taken"]),
                    missing=sum(stretch["count"] for stretch in joined["missing"]),
                    lacking=sum(stretch["count"] for stretch in joined["lacks"]))
 
@@ -304,4 +311,4 @@ def check_random_set(seed):
 def test_random_sets():
     """Two to four captures of one drawn disc with losses, jumps and damage of their own, beside the truth."""
     counts = sum(map(check_random_set, range(100)), Counter())
-    assert counts > Counter(taken=25000, due=80, missing=90, lacking=2000)
+    assert counts > Counter(taken=25000, due=80, missing=80, lacking=2000)

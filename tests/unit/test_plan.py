@@ -25,7 +25,8 @@ PLANS = """
     a detour | DETOUR ; 1..100 | 1-100 b1 || whichever comes first | 1..100 ; DETOUR | 1-100 a1
     as long as what is around it | 1..10 151..170 31..40 ; 1..40 | 1-40 b1
     its numbers are elsewhere | DETOUR ; 1..100 ; 121..180 | 1-100 b1, 101-120 x40, 121-180 c1
-    lost, and back by as much: no detour | 1 4..40 39..60 ; 1..20 | 1-3 b1, 4-38 a3, 39-60 a77
+    lost, and back by as much: no detour | 1 4..40 39..60 ; 1..20 | 1-3 b1, 4-38 a3, 39-59 a77,
+        60 a119
     both fields have numbers | b1..20 39=B Bx4 ; b1 | 1-20 a1 || and others go on | b1..10 ; b1..20 | 1-20 b1
     a swapped pair | 1..100 ~41 ; 1..10 | 1-20 a1, 21 a42, 21 a41, 22-100 a43
     each has lost others | 1..40 -61:62 ; 1..40 -41:46 | 1-23 a1, 24-40 b41
@@ -128,7 +129,7 @@ KINDS = [{}, {"system": "PAL", "back": 8}, {"odd": 1}, {"back": 2}, {"back": 12}
 
 def check_drawn(seeds, more):
     """A jump back by four fields (in PAL by eight) leaves the next field as it should be by its frame and its colour.
-    So what is only seen by these is said to be unsure, if more than such a jump may hide there."""
+    So a field beside a jump is said to be unsure if it is only seen by these."""
     counts = sum((one.compared(plan(one.sources, Wanted(one_side=True))) for one in (
         Drawn(seed, **more) for seed in seeds)), Counter())
     assert (counts["wrong"], counts["needless"], counts["sets"]) == (0, 0, len(seeds))
@@ -143,8 +144,9 @@ def test_no_field_is_another_pictures_unsaid(more):
 
 @pytest.mark.parametrize("more", KINDS)
 def test_of_some(more):
-    """The same of those in which a player jumped beside a loss."""
-    check_drawn([7, 8, 13, 14, 16, 22, 29, 31, 49], more)
+    """The same of those in which a player jumped beside a loss, of those in which it jumped within a frame, and of two
+    in which a picture stands alone between two jumps."""
+    check_drawn([7, 8, 13, 14, 16, 22, 29, 31, 49, 154, 327, 480, 515, 588, 603, 768], more)
 
 
 @pytest.mark.unrecorded
@@ -309,8 +311,13 @@ def lacking():
 
 @pytest.mark.parametrize("text", WRONG)
 def test_a_wrong_plan_is_refused(text):
+    """Pictures 10 and 40, which are unsure, stand in one stretch with those before them."""
     sources = lacking()
     found = plan(sources)
+    sure, unsure, padding, others, last = found.stretches
+    found = found._replace(stretches=[
+        sure._replace(fields=sure.fields + unsure.fields, last=unsure.last), padding,
+        others._replace(fields=others.fields + last.fields, last=last.last)])
     refuse_wrong(found, sources)
     wrong = found._replace(stretches=WRONG[text](found.stretches))
     assert reason(refuse_wrong, wrong, sources) == "the plan is wrong: " + text

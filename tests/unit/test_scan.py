@@ -179,7 +179,7 @@ def test_what_is_loaded():
     text = "import sys; from ldvbi_side.command import main, scan; print(*sys.modules)"
     loaded = subprocess.check_output([sys.executable, "-c", text], text=True).split()
     assert not {"ldvbi_side.draw.page", "ldvbi_side.draw.drawing", "ldvbi_side.draw.index", "html.parser",
-                "ldvbi_side.join.joined"} & set(loaded)
+                "ldvbi_side.write.joined"} & set(loaded)
 
 
 # Files, what is asked for, and the sides that are found; what is named is taken for one, whatever its name is

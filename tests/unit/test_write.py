@@ -37,7 +37,8 @@ def lost(one, *spans):
     return losing(one.order, *((one.at[number] + step, count) for number, step, count in spans))
 
 
-# Of each case its disc, and the captures: the orders of their fields, and what draw takes besides; and what is padding
+# Of each case its disc, and the captures: the orders of their fields, and what draw takes besides; and what is padding.
+# Of AMID a picture is unsure: the player may have jumped within it, or what is unread may be lead-out's
 CASES = {
     "whole": (VIDEO, [(VIDEO.order, {})], []),
     "pictures lost": (VIDEO, [(lost(VIDEO, (9, 0, 6)), {})], range(VIDEO.at[9], VIDEO.at[9] + 6)),
@@ -68,6 +69,8 @@ def drawn(room, name, form="json"):
         draw(room.named(letter + ".tbc"), one, order, form=form, **more)
     return "write out.tbc " + " ".join(letter + ".tbc" for letter in "abc"[:len(captures)])
 
+AMID = ("a field twice", "ahead, filled", "unread at the ends")
+
 
 @pytest.mark.parametrize("form", ["json", "db"])
 @pytest.mark.parametrize("name", CASES)
@@ -81,7 +84,8 @@ def test_what_is_written(room, name, form):
     places = places_in(room.named("out.tbc"), one, unread)
     wanted = [None if place in padding else place for place in inside(one)]
     assert places == [None] * (len(one.words) % 2) + wanted
-    assert (status, text.split(":")[1].strip()[:3]) == ((1, "no") if padding else (0, "yes\n"[:3]))
+    assert (status, text.split(":")[1].strip()) == (
+        (1, "no") if padding else (4, "can't tell") if name in AMID else (0, "yes\nwritten"))
     status, text, _ = room.run_words("out.tbc --open-end")
     assert (status, text[:10]) == ((1, "whole: no:") if padding else (0, "whole: yes"))
     assert (" padding" in text.split("\n", maxsplit=1)[0]) == bool(padding)
@@ -92,10 +96,14 @@ def test_what_is_written(room, name, form):
 
 def test_what_is_printed(room):
     assert room.run_words(drawn(room, "pictures lost")) == (1, (
-        "whole: no: 3 pictures are padding (9 to 11); 1 picture may have another's field (8)\n"
-        "written: 48 fields, 4 stretches, 0 changes\na.tbc: 42 fields, 21 pictures\n"), "")
+        "whole: no: 3 pictures are padding (9 to 11); 2 pictures may have another's field (8, 24)\n"
+        "written: 48 fields, 5 stretches, 0 changes\na.tbc: 42 fields, 21 pictures\n"), "")
+    for words, said in (("9", "padding in fields 17 to 22, between 8 in field 15 and 12 in field 23"), ("12", None)):
+        assert room.run_words("out.tbc --seek " + words) == (
+            (1, "", "ldvbi-side: not found: %s\n" % said) if said else (0, "field 23, frame 12\n", ""))
     table = ("field,fields,frame,first,last,source,source field,how\n1,14,1,1,7,a.tbc,7,whole\n"
-             "15,2,8,8,8,a.tbc,21,unsure\n17,6,9,9,11,,,padding\n23,26,12,12,24,a.tbc,23,whole\n")
+             "15,2,8,8,8,a.tbc,21,unsure\n17,6,9,9,11,,,padding\n23,24,12,12,23,a.tbc,23,whole\n"
+             "47,2,24,24,24,a.tbc,47,unsure\n")
     assert room.text("out.stretches.csv") == table
     for name in room.names():
         if name.startswith("out"):
@@ -139,10 +147,12 @@ def test_options(room):
     status, text, _ = room.run_words("write out.tbc b.tbc --from 1")
     assert (status, text.split("\n")[0]) == (1, "whole: no: 8 pictures are padding (1 to 8)")
     assert places_in(room.named("out.tbc"), VIDEO) == [None] * 16 + inside(VIDEO)[16:]
+    assert room.run_words("out.tbc --seek 8")[2].endswith(
+        ": the numbers begin at 9, in field 17, after padding in fields 1 to 16\n")
     assert room.run_words("write out.tbc b.tbc")[1].split("\n")[0] == "whole: no: begins at 9, ends at 24"
     draw(room.named("a.tbc"), VIDEO, lost(VIDEO, (9, 0, 8)))
     assert room.run_words("write out.tbc a.tbc --sure")[1].startswith(
-        "whole: no: 4 pictures are padding (9 to 12); 1 picture lacks fields (8)\n")
+        "whole: no: 4 pictures are padding (9 to 12); 2 pictures lack fields (8, 24)\n")
     draw(room.named("t.tbc"), TIMES, TIMES.order[20:])
     assert room.run_words("write time.tbc t.tbc --from 0:00:00.05")[1].startswith(
         "whole: no: 2 times are padding (0:00:00.05 to 0:00:00.06)")
@@ -183,7 +193,8 @@ def test_seams(room):
         field["fieldPhaseID"] = field["fieldPhaseID"] % 4 + 1
     room.write("b.tbc.json", json.dumps(document))
     text = room.run_words(words)[1]
-    assert text.startswith("whole: no: 1 seam\n") and text.endswith("\nseam after field 36: phase\n")
+    assert text.startswith("whole: no: 1 seam; 1 picture may have another's field (24)\n")
+    assert text.endswith("\nseam after field 36: phase\n")
 
 
 def test_what_is_read_otherwise_is_said(room, monkeypatch):

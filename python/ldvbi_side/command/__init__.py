@@ -1,6 +1,6 @@
 """The command `ldvbi-side`: its options, and what each of them writes from the judge's answer. Read in this order:
 
-statuses, parser, faults, summary, tables, map, chapters, outputs, folders, join, progress, reading, into, write,
+statuses, parser, faults, summary, tables, map, chapters, outputs, folders, progress, reading, join, into, write,
 processes, rows, parsers, scan, main
 
 `statuses` has the exit statuses, `parser` what reads words, with the options that commands share, and `faults` the

@@ -7,24 +7,28 @@ import sys
 from typing import Any, Dict, Iterator, List, Optional, Tuple
 
 from ..draw.marks import SKIPPED, fields_text
-from ..join.captures import TOGETHER, Capture
+from ..join.captures import TOGETHER, Capture, capture_of
 from ..join.entries import Dispute, Joined, Lacking, Told
-from ..join.joined import join
 from ..join.plain import as_json
 from ..outside import printable, say
+from ..side import Side
+from ..write import told
+from ..write.joined import join
+from .faults import naming
 from .folders import files_of
 from .outputs import refuse_inputs, whole_file
 from .parser import Parser, add_settings
+from .reading import loaded, source_of
 from .statuses import statuses_text
 from .summary import listed, named
 
 DESCRIPTION = """Joins two or more captures of one side by their numbers. It says which numbers they have together,
-which of these each one lacks and who has them, which of them one capture shows better than others, which all lack, and
-where two of them disagree about a number. A number that none of several TBC files reads is read together, if their
+which of these each one lacks and who has them, which of them one capture shows better than others, which all lack,
+where two of them disagree about a number, and what the command write would take from which. A number that none of several TBC files reads is read together, if their
 lines say it as one pile. Captures that can't be of one disc are refused. """ + statuses_text("join")
 NOTHING_SHOWS = "nothing but their numbers shows that these are one disc"
 TAKEN_COLUMNS = ("number", "source", "field", "frame", "how")
-RANGE_COLUMNS = ("first", "last", "source", "first field", "last field")
+RANGE_COLUMNS = ("first", "last", "source", "first field", "last field", "how")
 
 
 def join_options(program: str, words: List[str]) -> argparse.Namespace:
@@ -35,6 +39,21 @@ def join_options(program: str, words: List[str]) -> argparse.Namespace:
         parser.error("a file has to have a name")
     refuse_inputs([1, options.html], [*(file for path in options.sides for file in files_of(path)), options.meta])
     return options
+
+
+def loaded_capture(options: argparse.Namespace) -> Tuple[Side, Capture, bool]:
+    """The side that the options name, the capture that it is, with what its metadata says of each field, and whether it
+    is read from a TBC file."""
+    fields = told.Told(is_copied=False)
+    source, metadata = source_of(options, fields.add)
+    side = loaded(source, metadata, options)
+    capture = capture_of(side, options.side)
+    if metadata and told.is_database_at(metadata.path):
+        with naming(metadata.path):
+            fields.add_rows(metadata.path)
+    if metadata and len(fields) == len(side.readings):
+        capture = capture._replace(facts=fields.facts(metadata))
+    return side, capture, not isinstance(source, Side)
 
 
 def print_joined(options: argparse.Namespace, captures: List[Capture]) -> None:
@@ -66,8 +85,8 @@ def parser_of_join(program: str) -> argparse.ArgumentParser:
     output = parser.add_mutually_exclusive_group()
     output.add_argument("--csv", action="store_true", help="print a row for each number, with the capture to take it "
                         "from, and its first field and frame there")
-    output.add_argument("--ranges", action="store_true", help="print the same in stretches of numbers that one "
-                        "capture has in consecutive fields, to see which capture has which frames better")
+    output.add_argument("--ranges", action="store_true", help="print the stretches of the file that write makes of "
+                        "them: numbers that one capture has in consecutive fields")
     output.add_argument("--json", action="store_true", help="print all that they have together, as JSON")
     parser.add_argument("--html", metavar="FILE", help="write a page into this file on which the captures are bars, "
                         "one above the other; print only what another option asks for")
@@ -92,7 +111,7 @@ def _print_rows(columns, rows):
 def range_rows(joined: Joined) -> Iterator[Tuple[Any, ...]]:
     """A row for each stretch that can be taken at once."""
     for one in joined.ranges:
-        yield one.first, one.last, one.source, one.field, one.last_field
+        yield one.first, one.last, one.source, one.field, one.last_field, one.how
 
 
 # ---- As text
@@ -115,6 +134,7 @@ def joined_text(joined: Joined) -> Iterator[str]:
         yield "read together: " + listed(len(piled), piled, lambda number: named(unit, number, number))
     disputes = joined.disagreements
     yield "disagreements: " + listed(len(disputes), disputes, lambda one: _disagreement_text(one, unit))
+    yield "as one file: " + joined.written
 
 
 def _capture_lines(joined):

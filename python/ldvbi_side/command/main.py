@@ -161,16 +161,14 @@ def _options(words, settings=None):
 
 def _join(words):
     """Prints what captures have together."""
-    from ..join.captures import capture_of  # these load much that a single side doesn't need
-    from .join import join_options, print_joined
+    from .join import join_options, loaded_capture, print_joined  # which loads much that a single side doesn't need
     given = join_options(NAME, words)
     captures, statuses, is_tbc = [], [], False
     for path in given.sides:  # one at a time, so that no more than one is held as a whole
         options = _options(["--", path], settings_in(given))
-        source, metadata = source_of(options)
-        is_tbc = is_tbc or not isinstance(source, Side)
-        side = loaded(source, metadata, options)
-        captures.append(capture_of(side, path))
+        side, capture, is_stream = loaded_capture(options)
+        is_tbc = is_tbc or is_stream
+        captures.append(capture)
         statuses.append(_cut_status(side.cut, side.system, path))
     refuse_settings(given, given.sides[0], is_tbc)
     print_joined(given, captures)

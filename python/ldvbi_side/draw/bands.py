@@ -20,9 +20,10 @@ SHOWN = {
     "read only after smoothing": "#eab308",
     "word": "#86bf91",
     "blank": "#e2e8f0",
+    "padding": "#1e293b",
 }
 _OF_PASSES = {2: "read only after smoothing", 3: "recovered"}
-_NO_DAMAGE = frozenset(["recovered", "read only after smoothing", "word", "blank"])
+_NO_DAMAGE = frozenset(["recovered", "read only after smoothing", "word", "blank", "padding"])
 HEIGHT, STEP = 28, 34  # of a band, and from band to band, in pixels
 LEAST_SHARE = 4  # pixels of a band for what is neither a word of pass 1, nor blank, nor noise
 MOST_BOXES = 2000  # of a band: of noise more fields share a column
@@ -37,9 +38,10 @@ def is_noise(answer: Answer) -> bool:
 
 
 def draw_legend(svg: Svg, x: int, y: int, answer: Answer) -> None:
-    """The colours with their names, from left to right. Those of recovered words and of noise are there only if there
-    are some. All of them are within what a page 900 pixels wide shows of the drawing."""
-    is_there = {"recovered": any(rates.near for rates in answer.lines.values()), "noise": is_noise(answer)}
+    """The colours with their names, from left to right. Those of recovered words, of noise and of padding are there
+    only if there are some. All of them are within what a page 900 pixels wide shows of the drawing."""
+    is_there = {"recovered": any(rates.near for rates in answer.lines.values()), "noise": is_noise(answer),
+                "padding": bool(answer.padding)}
     for name, fill in SHOWN.items():
         if not is_there.get(name, True):
             continue
@@ -59,6 +61,8 @@ def draw_bands(svg: Svg, fields: Fields, axis: Axis, top: int, has_noise: bool =
                  for cause, passes in zip(causes, fields.passes)]
         if has_noise and line == LINES[0]:
             shown = [name if name in _NO_DAMAGE else "noise" for name in shown]
+        if fields.pad:
+            shown = ["padding" if is_pad else name for name, is_pad in zip(shown, fields.pad)]
         for begin, end, shares in _few_columns(shown, axis.step):
             cause = causes[begin - 1] if begin == end else None
             _draw_column(svg, line, (axis.pixel(begin), axis.pixel(end + 1), y), (begin, end), shares, cause)
@@ -94,7 +98,7 @@ def _draw_column(svg, line, place, fields, shares, cause):
     for name, fill in SHOWN.items():
         if name in heights:
             title = where + (name if len(shares) == 1 else _share_text(name, shares))
-            if cause and cause != "word":
+            if cause and cause != "word" and name != "padding":
                 title = where + ("%s, " % name if name in ("recovered", "noise") else "") + cause
             svg.box(x, y, max(right - x, 1), heights[name], fill, title, class_="line-%d" % line, data_shown=name,
                     data_fields="%d-%d" % fields, shape_rendering="crispEdges")

@@ -4,7 +4,7 @@ numbers its capture has, and which of these are to be taken from it. Below all o
 from typing import Any, Iterable, Iterator, List, Tuple
 
 from ..answer.whole import counted
-from ..join.entries import Joined
+from ..join.entries import WHOLE, Joined
 from .axis import LEFT, WIDTH, Axis
 from .curve import AXES, Scale
 from .marks import fields_text, span
@@ -16,12 +16,13 @@ HEIGHT, STEP = 22, 28  # of a bar, and from bar to bar, in pixels
 # What a bar shows, in the order of the legend
 COLOURS = {
     "taken from here": "#15803d",
+    "taken, unsure": "#84cc16",
     "here, too": "#bbdfc2",
     "in another capture alone": "#eab308",
     "in none": "#dc2626",
     "disagreement": "#be185d",
 }
-TAKEN, HERE, ELSEWHERE, NOWHERE, DISAGREEMENT = COLOURS
+TAKEN, UNSURE, HERE, ELSEWHERE, NOWHERE, DISAGREEMENT = COLOURS
 Stretch = Tuple[int, int, str]  # the first and the last number, and what is said of them
 
 
@@ -74,11 +75,12 @@ def _draw_capture(svg, numbers, joined, y, name, lacking):
     """The bar of a capture: all numbers, on these what is taken from it, and on top what it hasn't."""
     svg.text(LEFT - 10, y + HEIGHT / 2 + 5, shortened(name, LEFT - 20, 13), name, text_anchor="end", class_="capture")
     svg.box(LEFT, y, WIDTH, HEIGHT, COLOURS[HERE])
-    taken = [numbers.stretch(one, "taken from %s of %s" % (fields_text(one.field, one.last_field), name))
-             for one in joined.ranges if one.source == name]
+    taken, unsure = ([numbers.stretch(one, "taken from %s of %s" % (fields_text(one.field, one.last_field), name))
+                      for one in joined.ranges if one.source == name and (one.how == WHOLE) == is_sure]
+                     for is_sure in (True, False))
     elsewhere = [numbers.stretch(one, "not in %s, but in %s" % (name, " and ".join(one.in_)))
                  for one in joined.lacks if one.capture == name]
-    for state, stretches in ((TAKEN, taken), (ELSEWHERE, elsewhere), (NOWHERE, lacking)):
+    for state, stretches in ((TAKEN, taken), (UNSURE, unsure), (ELSEWHERE, elsewhere), (NOWHERE, lacking)):
         _draw_stretches(svg, numbers, y, state, stretches)
 
 

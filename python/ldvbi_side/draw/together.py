@@ -15,7 +15,7 @@ LISTS = {
     "lacks": "numbers that one capture lacks and another has", "alone": "numbers that one capture alone has",
     "better": "numbers that several captures have, and one shows better than the others",
     "missing": "numbers that no capture has",
-    "leftOut": "numbers skipped by the disc itself", "ranges": "what to take from which capture",
+    "leftOut": "numbers skipped by the disc itself", "ranges": "what the file of them takes from which capture",
 }
 
 

@@ -2,7 +2,7 @@
 
 import bisect
 import itertools
-from typing import Any, Dict, Iterable, Iterator, List, NamedTuple, Optional, Set, Tuple
+from typing import Any, Dict, Iterable, Iterator, List, NamedTuple, Optional, Sequence, Set, Tuple
 
 from ldvbi import Clock, Kind, Stream
 from ldvbi.codes import LINES, code_of
@@ -12,7 +12,6 @@ from ..judge.paces import MINUTE_FIELDS, RATES, Unit
 from ..judge.places import Break
 from ..side import Side
 
-NEARBY = 25  # fields before and after one, in which its bad lines are counted
 NUMBERS = (Kind.picture, Kind.time, Kind.clv_picture)
 DUE = "unread"  # why a number is missing that is due in a field
 READ, NEAR, TOGETHER, NEIGHBOURS = "read", "near", "together", "neighbours"
@@ -23,7 +22,7 @@ class Place(NamedTuple):
     as the map of a side has it. `is_whole` is false if a field of its picture may be lost, or be another's: right
     before a break, or within a still. `lines` is the count of lines of the first field on which the number was read; it
     is 0 if the number is the nearest word of these lines, and -1 if it is only due. `sure` is the count of those of
-    pass 1. `bad` is the count of bad lines in the fields nearby."""
+    pass 1."""
     number: int
     field: int
     last: int
@@ -31,14 +30,24 @@ class Place(NamedTuple):
     is_whole: bool
     lines: int
     sure: int
-    bad: int
+
+
+class Facts(NamedTuple):
+    """What is known of each field of a capture beside its numbers: whether it is the first one of its frame, its place
+    in the colour's sequence (from 1; 0 if that field has none), how many samples its dropouts have, and whether it is
+    padding. Each is None if that isn't known; `pad` is None if no field is padding, too."""
+    first: Optional[Sequence[bool]] = None
+    phase: Optional[Sequence[int]] = None
+    damage: Optional[Sequence[int]] = None
+    pad: Optional[Sequence[bool]] = None
 
 
 class Capture(NamedTuple):
     """A capture under its name. `breaks` are where its numbers and fields don't go on together; there are more of them
     than the library reports. `places` are in the order of its fields; `first` has the first place of each number.
     `said` has, for each kind of code, by its name, what is beside which number. `samples` is the stream from which
-    words were recovered; None if it isn't at hand. `clock` is the clock of the disc, as far as the library found it."""
+    words were recovered; None if it isn't at hand. `clock` is the clock of the disc, as far as the library found it.
+    `facts` is what is known of its fields."""
     name: str
     answer: Answer
     breaks: List[Break]
@@ -47,6 +56,7 @@ class Capture(NamedTuple):
     said: Dict[str, Dict[int, Any]]
     samples: Optional[Stream]
     clock: Clock
+    facts: Facts
 
     def kind(self) -> Tuple[Optional[str], str]:
         """What its numbers count, and its system."""
@@ -86,7 +96,8 @@ def capture_of(side: Side, name: str) -> Capture:
         first.setdefault(place.number, place)
     answer, breaks, clock = side.analysis
     return Capture(name, answer, breaks, places, first, {
-        "chapter": _chapters(answer, first), "programme status": _status(side, first)}, side.samples, clock)
+        "chapter": _chapters(answer, first), "programme status": _status(side, first)}, side.samples, clock,
+        Facts(side.first, pad=side.pad))
 
 
 # ---- Places
@@ -110,7 +121,6 @@ def _shown(answer):
 
 def _places(side):
     answer, breaks, _ = side.analysis
-    bad = _bad_before(answer)
     doubtful = answer.aside()
     is_of_two = answer.pace in ("video", "film")
     spans = [(one.after, one.before) for one in answer.lost] + [(one.after, one.before) for one in breaks]
@@ -121,16 +131,7 @@ def _places(side):
         last = _last_of(answer, one, after, is_torn)
         is_whole = not is_torn and (last > one.field or not is_of_two)
         lines, sure = {NEAR: (0, 0), NEIGHBOURS: (-1, 0)}.get(one.how) or _read_on(side, one.field, doubtful)
-        nearby = bad[min(one.field + NEARBY, answer.fields)] - bad[max(one.field - NEARBY - 1, 0)]
-        yield Place(one.number, one.field, last, one.how, is_whole, lines, sure, nearby)
-
-
-def _bad_before(answer):
-    """Of each field, from 0 on, how many bad lines there are up to its end."""
-    counts = [0] * (answer.fields + 1)
-    for one in answer.bad_lines:
-        counts[one.field] += 1
-    return list(itertools.accumulate(counts))
+        yield Place(one.number, one.field, last, one.how, is_whole, lines, sure)
 
 
 def _read_on(side, field, doubtful):

@@ -6,6 +6,9 @@ from typing import Any, List, NamedTuple, Optional
 from ..answer.entries import Extent
 
 
+WHOLE, UNSURE = "whole", "unsure"  # how the numbers of a range stand there
+
+
 class Held(NamedTuple):
     """A capture: its name, how many fields it has, whether it is whole, and its numbers."""
     name: str
@@ -71,18 +74,21 @@ class Source(NamedTuple):
 
 
 class Range(NamedTuple):
-    """Numbers that can be taken at once, `count_` of them, the name of their capture, and their fields there."""
+    """Numbers that are taken at once, `count_` of them, the name of their capture, and their fields there. `how` is
+    `whole`, or `unsure` if one may have another's field."""
     first: Any
     last: Any
     count_: int
     source: str
     field: int
     last_field: int
+    how: str
 
 
 class Joined(NamedTuple):
     """All that captures have together: the numbers that any of them has, those between them that none has, those that
-    the disc leaves out, and so on. `shown_by` has the kinds of codes which show that they are of one disc."""
+    the disc leaves out, and so on. `shown_by` has the kinds of codes which show that they are of one disc, and
+    `written` whether the file that `write` makes of them is whole by its plan, and why not."""
     version: int
     system: str
     format: str
@@ -99,3 +105,4 @@ class Joined(NamedTuple):
     disagreements: List[Dispute]
     taken: List[Source]
     ranges: List[Range]
+    written: str

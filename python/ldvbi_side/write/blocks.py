@@ -153,6 +153,10 @@ class Aside:
         """Whether a field shows nothing else than it would if it went on to this number, or from it."""
         return field not in self.all or self._fits(anchor.rank, anchor.field, field, self.all[field])
 
+    def shows(self, anchor: Anchor, field: int) -> bool:
+        """Whether a field shows a number to which it goes on from this one."""
+        return field in self.all and self.fits(anchor, field)
+
     def unlike(self, block: Block) -> bool:
         """Whether a field of a block surely shows another number than it would as the block's."""
         return any(block.field < field < block.field + block.fields

@@ -3,10 +3,8 @@
 from typing import Callable, Dict, List, Optional, Sequence
 
 from ..judge.paces import Pace
-from .blocks import Block, anchored
-from .going import Going
-from .ranks import Ranks
-from .sources import Source
+from .blocks import Block
+from .following import Followed
 
 NEARBY = 8  # numbers before or after one of film whose cadence counts for it
 
@@ -15,20 +13,20 @@ class Lengths:
     """The fields of each number: of film, the most that a capture shows, since fields get lost and not made; else by
     its cadence. A number of video has two."""
 
-    def __init__(self, sources: Sequence[Source], ranks: Ranks) -> None:
-        self.is_film = any(source.answer.pace == "film" for source in sources)
-        self.has_clock = (sources[0].answer.system, sources[0].answer.unit) == ("NTSC", "time")
+    def __init__(self, captures: Sequence[Followed]) -> None:
+        answer = captures[0].source.answer
+        self.is_film = any(one.source.answer.pace == "film" for one in captures)
+        self.has_clock = (answer.system, answer.unit) == ("NTSC", "time")
         self._known: Dict[int, int] = {}
-        for source in sources if self.is_film else ():
-            self._add(source, ranks)
+        for capture in captures if self.is_film else ():
+            self._add(capture)
 
-    def _add(self, source: Source, ranks: Ranks) -> None:
+    def _add(self, capture: Followed) -> None:
         """Takes in what a capture shows of film."""
-        going = Going(source)
-        for part in anchored(source, ranks):
+        for part in capture.parts:
             for one, other in zip(part, part[1:]):
                 fields = other.field - one.field
-                if other.rank == one.rank + 1 and going.takes_turns(one.field, fields + 1):
+                if other.rank == one.rank + 1 and capture.going.takes_turns(one.field, fields + 1):
                     self._known[one.rank] = max(self._known.get(one.rank, 2), fields)
 
     def of(self, rank: int, step: int = -1) -> int:

@@ -11,10 +11,11 @@ from ..join.others import refuse_other_discs
 from ..judge.paces import MINUTE_FIELDS, RATES, Unit
 from .blocks import Block, Run
 from .choice import CHANGE, PADDED, Choice, Node
+from .following import Followed, agreed_ends, followed
 from .lengths import Lengths
 from .padding import Layout
 from .ranks import Ranks, ranks_of
-from .runs import Known, runs_of
+from .runs import Known, runs_of, set_aside
 from .sources import Source
 from .stretches import UNSURE, WHOLE, Seam, Stretch, seams_of
 
@@ -65,13 +66,27 @@ def plan(sources: Sequence[Source], wanted: Wanted = Wanted()) -> Plan:
     much would be padding."""
     captures = [source.capture for source in sources]
     refuse_other_discs(captures)
+    made = planned(sources, disagreements_of(captures), wanted)
+    refuse_unwritable(captures, made, wanted)
+    return made
+
+
+def refuse_unwritable(captures: Sequence[Capture], made: Plan, wanted: Wanted = Wanted()) -> None:
+    """Raises a ValueError if captures may have two sides, or too much would be padding."""
     for capture in captures:
         _refuse_two_sides(capture, wanted.one_side)
-    disputed = disputed_in([one for one in disagreements_of(captures) if _is_elsewhere(one)])
+    _refuse_padding(made, wanted.most_padding)
+
+
+def planned(sources: Sequence[Source], disagreements: Sequence[Disagreement], wanted: Wanted = Wanted()) -> Plan:
+    """The same of captures that are known to be of one disc, and disagree so, however much would be padding."""
+    captures = [source.capture for source in sources]
+    disputed = disputed_in([one for one in disagreements if _is_elsewhere(one)])
     ranks = ranks_of(sources)
-    known = Known(ranks, Lengths(sources, ranks), _extent_of(captures, disputed, ranks, wanted.start))
-    runs = [run for place, source in enumerate(sources) for run in runs_of(
-        place, source, known, {field for name, field in disputed if name == source.capture.name}, wanted.sure)]
+    following = [followed(source, ranks) for source in sources]
+    known = Known(ranks, Lengths(following), _extent_of(captures, disputed, ranks, wanted.start),
+                  agreed_ends(following, -1), agreed_ends(following, 1))
+    runs = _runs_of(following, known, disputed, wanted.sure)
     if not runs:
         raise ValueError("no number is sure enough to be taken")
     first = min(run.first() for run in runs)
@@ -79,9 +94,19 @@ def plan(sources: Sequence[Source], wanted: Wanted = Wanted()) -> Plan:
         first = min(first, ranks.of(wanted.start))
     nodes = Choice(runs, sources, wanted.change, (3 if known.lengths.is_film else 2) * PADDED).nodes(
         range(first, max(run.end() for run in runs)))
-    made = _Making(runs, sources, known).made(nodes, wanted.ends)
-    _refuse_padding(made, wanted.most_padding)
-    return made
+    return _Making(runs, sources, known).made(nodes, wanted.ends)
+
+
+def _runs_of(captures: Sequence[Followed], known: Known, disputed: Set[Tuple[str, int]], is_sure: bool) -> List[Run]:
+    """The runs of all captures."""
+    found, having = [], {rank for one in captures for part in one.parts for rank, _, _ in part}
+    for place, one in enumerate(captures):
+        fields = {field for name, field in disputed if name == one.source.capture.name}
+        runs = runs_of(place, one, known, fields, is_sure)
+        found += runs
+        if not is_sure:
+            found += set_aside(place, one, known, runs, having)
+    return found
 
 
 def _refuse_two_sides(capture: Capture, is_one_side: bool) -> None:
@@ -126,21 +151,21 @@ class _Making:
         self._partial: List[int] = []
         self._unsure: List[int] = []
         self._first_field: Dict[int, int] = {}
-        self._taken: Set[Tuple[int, int]] = set()  # captures and fields of pictures that may have another's
+        self._owners: Dict[Tuple[int, int], int] = {}  # of captures' fields that may be of several numbers, the rank
 
     def made(self, nodes: List[Node], has_ends: bool) -> Plan:
         """The plan of these nodes."""
         layout, stops = self._layout, [*(node.begin for node in nodes[1:]), None]
         if has_ends:
             self._take_lead_in(nodes[0])
+        taken = [self._blocks(node, stop) for node, stop in zip(nodes, stops)]
+        self._share([one for ones in taken for one in ones])
         for place, (node, stop) in enumerate(zip(nodes, stops)):
             if node.run is None:
                 assert stop is not None  # the last rank is a run's
                 self._pad(node.begin, stop, nodes[place + 1])
-                continue
-            for block in self._runs[node.run].blocks:
-                if node.begin <= block.rank and (stop is None or block.rank < stop):
-                    self._take(self._runs[node.run].source, block)
+            for source, block in taken[place]:
+                self._take(source, block)
         if has_ends:
             self._take_lead_out(nodes[-1])
         off = int(self._begins_within_a_frame())
@@ -171,13 +196,26 @@ class _Making:
         if not block.is_sure:
             self._unsure += range(block.rank, block.end())
 
+    def _blocks(self, node: Node, stop: Optional[int]) -> List[Tuple[int, Block]]:
+        """The blocks that are taken for a node's ranks, which end before `stop`, each with its capture."""
+        if node.run is None:
+            return []
+        source, blocks = self._runs[node.run]
+        return [(source, block) for block in blocks if node.begin <= block.rank and (stop is None or block.rank < stop)]
+
+    def _share(self, taken: List[Tuple[int, Block]]) -> None:
+        """Gives each field that may be of several numbers to the one that begins first: a player jumps from the end of
+        a picture rather than from its middle."""
+        for source, block in sorted((one for one in taken if not one[1].is_sure), key=lambda one: one[1].field):
+            for field in range(block.field, block.field + block.fields):
+                self._owners.setdefault((source, field), block.rank)
+
     def _free(self, source: int, block: Block) -> Block:
         """A block without those fields that another one has got, either of which they may belong to."""
         if block.is_sure:
             return block
         fields = [field for field in range(block.field, block.field + block.fields)
-                  if (source, field) not in self._taken]
-        self._taken.update((source, field) for field in fields)
+                  if self._owners[source, field] == block.rank]
         if not fields:
             return block._replace(lead=block.lead + block.fields + block.trail, fields=0, trail=0)
         lead = fields[0] - block.field

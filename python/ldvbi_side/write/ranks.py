@@ -4,7 +4,7 @@ import bisect
 from typing import List, Sequence, Set
 
 from ldvbi import ClockKind
-from ..join.joined import CLOCK, LOST, UNDECIDED, lacking_in
+from ..join.lacking import CLOCK, LOST, UNDECIDED, between, lacking_in
 from ..judge.clock import left_out_in
 from .sources import Source
 
@@ -35,7 +35,7 @@ def ranks_of(sources: Sequence[Source]) -> Ranks:
     """The ranks of a disc's numbers. A number that no capture has, and that isn't known to be left out, is so, too, if
     a clock that the library found leaves it out, or if a capture's fields go on in its place."""
     captures = [source.capture for source in sources]
-    lacking = lacking_in(captures, sorted(set().union(*(one.first for one in captures))))
+    lacking = lacking_in(captures, between(sorted(set().union(*(one.first for one in captures)))))
     left_out = captures[0].numbers_of((one.first, one.last) for one in lacking if one.why == CLOCK)
     if captures[0].kind() != ("time", "NTSC"):
         return Ranks(left_out)

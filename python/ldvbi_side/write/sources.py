@@ -1,21 +1,11 @@
-"""A capture from which fields are taken, with what its metadata says of each field beside its numbers."""
+"""A capture from which fields are taken, with what its metadata says of each field."""
 
-from typing import Dict, NamedTuple, Optional, Sequence
+from typing import Dict, NamedTuple
 
 from ..answer.entries import Answer
-from ..join.captures import Capture
+from ..join.captures import Capture, Facts
 
 PHASES = {"NTSC": 4, "PAL": 8}  # fields after which the colour's phase is the same again
-
-
-class Facts(NamedTuple):
-    """What is known of each field of a capture: whether it is the first one of its frame, its place in the colour's
-    sequence (from 1; 0 if that field has none), how many samples its dropouts have, and whether it is padding. Each is
-    None if that isn't known; `pad` is None if no field is padding, too."""
-    first: Optional[Sequence[bool]] = None
-    phase: Optional[Sequence[int]] = None
-    damage: Optional[Sequence[int]] = None
-    pad: Optional[Sequence[bool]] = None
 
 
 class Source(NamedTuple):

@@ -2,9 +2,10 @@
 
 from typing import List, NamedTuple, Optional, Sequence, Tuple
 
+from ..join.entries import UNSURE, WHOLE
 from .sources import PHASES, Source
 
-WHOLE, UNSURE, PADDING = "whole", "unsure", "padding"
+PADDING = "padding"
 PARITY, PHASE = "parity", "phase"
 
 

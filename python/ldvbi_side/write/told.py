@@ -38,7 +38,9 @@ class Told:
     """The fields of metadata, each of which has to be added as a text is read; those of a database are read by
     `add_rows`. No more of them is kept than counts."""
 
-    def __init__(self) -> None:
+    def __init__(self, is_copied: bool = True) -> None:
+        """`is_copied` says that fields are copied, and not planned alone."""
+        self._is_copied = is_copied
         self._begins, self._lengths = array.array("Q"), array.array("I")
         self._phase, self._damage = array.array("B"), array.array("q")
         self._counts = {sound.end: array.array("q") for sound in SOUNDS}
@@ -49,14 +51,18 @@ class Told:
 
     def add(self, begin: int, text: str, field: Any) -> None:
         """Adds the next field of a text: its place, its own text and its value."""
+        if self._is_copied:
+            self._add_place(begin, text, field)
+        self._add(field.get("fieldPhaseID"), [field.get(sound.member) for sound in SOUNDS],
+                  _damage(field["dropOuts"]) if "dropOuts" in field else NONE)
+
+    def _add_place(self, begin: int, text: str, field: Any) -> None:
         try:
             place_of_words(text, field, len(self) + 1)  # which refuses what can't be copied
         except ValueError as error:
             raise ValueError("field %d: %s" % (len(self) + 1, error)) from None
         self._begins.append(begin)
         self._lengths.append(len(text))
-        self._add(field.get("fieldPhaseID"), [field.get(sound.member) for sound in SOUNDS],
-                  _damage(field["dropOuts"]) if "dropOuts" in field else NONE)
 
     def add_rows(self, path: str) -> None:
         """Adds all fields of a database."""

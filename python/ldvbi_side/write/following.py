@@ -1,0 +1,67 @@
+"""How far fields go on from a number that a capture reads, and what shows that they do."""
+
+from typing import List, NamedTuple, Sequence, Set, Tuple
+
+from ..answer.ends import LONGEST
+from .blocks import Anchor, Aside, anchored
+from .going import Going
+from .ranks import Ranks
+from .sources import Source
+
+AGREEING = 2  # captures that have the same last number, so that it is the disc's
+
+
+class End(NamedTuple):
+    """What stands beside the first or the last number of a capture: its rank, how many fields go on with it, whether
+    lead-in or lead-out comes next, and whether no field there says otherwise."""
+    rank: int
+    fields: int
+    is_marked: bool
+    is_seen: bool
+
+
+class Followed(NamedTuple):
+    """A capture with its numbers in parts in which numbers and fields go on together, and what its fields are followed
+    by."""
+    source: Source
+    parts: List[List[Anchor]]
+    going: Going
+    aside: Aside
+
+    def is_on_both(self) -> bool:
+        """Whether both fields of a picture have its number."""
+        return self.source.answer.pace == "both"
+
+    def reach(self, anchor: Anchor, step: int, most: int = LONGEST) -> Tuple[int, bool]:
+        """How many fields after a number (step 1) or before it (-1) go on with it, at most so many, and whether it is
+        seen where they end. It isn't if a field shows a number to which they don't go on: a player may have jumped
+        before that, by as many fields as the colour's phase takes to be the same again."""
+        count = self.going.count(anchor.field, step, most)
+        for place in range(1, count + 1):
+            if not self.aside.fits(anchor, anchor.field + step * place):
+                return place - 1, False
+        return count, True
+
+    def shown(self, anchor: Anchor, step: int, count: int) -> int:
+        """How many of these fields are shown to be the disc's next ones by more than their frames and the colour: up to
+        the last one that shows a number which goes on with this one, even if that isn't believed."""
+        of_picture = anchor.last - anchor.field if self.is_on_both() and step > 0 else 0
+        return max([min(of_picture, count), *(place for place in range(1, count + 1) if self.aside.shows(
+            anchor, anchor.field + step * place))])
+
+    def end(self, step: int) -> End:
+        """What stands after its last number (step 1), or before its first one (-1)."""
+        anchor = self.parts[-1][-1] if step > 0 else self.parts[0][0]
+        count, is_seen = self.reach(anchor, step)
+        return End(anchor.rank, count, self.going.is_marked(anchor.field + step * (count + 1)), is_seen)
+
+
+def followed(source: Source, ranks: Ranks) -> Followed:
+    """The capture, as its fields are followed."""
+    return Followed(source, anchored(source, ranks), Going(source), Aside(source, ranks))
+
+
+def agreed_ends(captures: Sequence[Followed], step: int) -> Set[int]:
+    """The rank that two captures or more have last (step 1), or first (-1)."""
+    ranks = [one.end(step).rank for one in captures]
+    return {one for one in ranks if ranks.count(one) >= AGREEING}

@@ -1,0 +1,100 @@
+"""What several captures of one disc's side have together."""
+
+from typing import Any, Callable, Dict, List, Set
+
+from ..answer.entries import Extent, frame_of
+from ..join import entries
+from ..join.captures import TOGETHER, Capture
+from ..join.disagreements import Part, disagreements_of, disputed_in
+from ..join.entries import Alike, Dispute, Held, Joined, Lack, Lacking, Range, Shown, Told
+from ..join.lacking import CLOCK, lacking_in, stretches_with
+from ..join.others import refuse_other_discs, shown_by
+from ..join.piles import read_together
+from ..join.standing import ALIKE, ALONE, BETTER, Standing, standings_of
+from ..judge.paces import Unit
+from .plan import Plan, planned, refuse_unwritable
+from .said import outcome_of
+from .sources import Source
+from .taken import Taken, taken_of
+
+VERSION = 1  # of the answer's form
+
+
+def join(captures: List[Capture]) -> Joined:
+    """What these captures have together, and what `write` makes of them. A ValueError if two of them can't be of one
+    disc."""
+    refuse_other_discs(captures)
+    unit, found = captures[0].unit(), disagreements_of(captures)
+    disputed = disputed_in(found)
+    made = planned([Source(one, one.facts) for one in captures], found)
+    taken, piled = taken_of(made, captures), read_together(captures, disputed)
+    standings, left_out = standings_of(captures, disputed), set(made.left_out)
+    first, last = taken[0].number, taken[-1].number
+    return Joined(
+        VERSION, captures[0].answer.system, captures[0].answer.format, unit.name, shown_by(captures),
+        [_of_capture(one) for one in captures], Extent(len(taken), unit.text_of(first), unit.text_of(last)),
+        lacking_in(captures, [number for number in made.padded if first < number < last]),
+        _skipped(made, first, last, unit),
+        [one for capture in captures for one in _lacks(capture, captures, taken, left_out)],
+        _shown(ALONE, standings, unit, left_out), _shown(BETTER, standings, unit, left_out),
+        [Alike(*one[:3]) for one in _standing_so(ALIKE, standings, lambda _: None, unit, left_out)],
+        [Dispute(one.why, [_told(one.one, unit), _told(one.other, unit)]) for one in found],
+        [entries.Source(unit.text_of(one.number), one.capture.name, one.field,
+                        frame_of(one.field, one.capture.answer.frame_begin),
+                        TOGETHER if one.number in piled else one.how) for one in taken],
+        _ranges(made, captures, unit), _written(made, captures))
+
+
+def _written(made: Plan, captures: List[Capture]) -> str:
+    """What `write` would say of these captures before it reads its output again."""
+    try:
+        refuse_unwritable(captures, made)
+    except ValueError as error:
+        return "refused: %s" % error
+    return outcome_of(made).text.split(": ", 1)[1]
+
+
+def _of_capture(capture):
+    answer = capture.answer
+    return Held(capture.name, answer.fields, answer.whole, answer.numbers._replace(count_=len(capture.first)))
+
+
+def _skipped(made: Plan, first: int, last: int, unit: Unit) -> List[Lacking]:
+    """The numbers between these that the disc's clock leaves out."""
+    return [Lacking(*one) for one in stretches_with([number for number in made.left_out if first < number < last],
+                                                    lambda _: CLOCK, unit, set())]
+
+
+def _lacks(capture: Capture, captures: List[Capture], taken: List[Taken], left_out: Set[int]) -> List[Lack]:
+    """The numbers that a capture hasn't, in stretches that the same others have."""
+    def having(number: int) -> List[str]:
+        return [other.name for other in captures if number in other.first]
+    lacking = [one.number for one in taken if one.number not in capture.first and having(one.number)]
+    return [Lack(capture.name, *one) for one in stretches_with(lacking, having, capture.unit(), left_out)]
+
+
+def _shown(how: str, standings: Dict[int, Standing], unit: Unit, left_out: Set[int]) -> List[Shown]:
+    """The numbers that stand so in a capture, with that one's name."""
+    return [Shown(name, first, last, count) for first, last, count, name in _standing_so(
+        how, standings, lambda number: standings[number].capture, unit, left_out)]
+
+
+def _standing_so(how: str, standings: Dict[int, Standing], said_of: Callable[[int], Any], unit: Unit,
+                 left_out: Set[int]) -> List[Any]:
+    """The numbers that stand so, in stretches of which the same is said."""
+    return stretches_with([number for number in sorted(standings) if standings[number].how == how], said_of, unit,
+                          left_out)
+
+
+def _told(part: Part, unit: Unit) -> Told:
+    return Told(part.name, unit.text_of(part.first), unit.text_of(part.last), part.field, part.last_field)
+
+
+def _ranges(made: Plan, captures: List[Capture], unit: Unit) -> List[Range]:
+    """The stretches of the plan that have numbers and aren't padding."""
+    left_out = set(made.left_out)
+    return [Range(unit.text_of(one.first), unit.text_of(one.last),
+                  sum(number not in left_out for number in range(one.first, one.last + 1)),
+                  captures[one.source].name, one.field, one.field + one.fields - 1, one.how)
+            for one in made.stretches if one.source is not None and one.field is not None
+            and one.first is not None and one.last is not None]
