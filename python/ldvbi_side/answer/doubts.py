@@ -50,8 +50,9 @@ def beside_in(numbers: Numbers) -> BesideOf:
 
     @functools.lru_cache(maxsize=None)
     def at(place: int, is_believed: bool, is_conflict: bool) -> Beside:
-        around = numbers.believed[place - 1:place] + numbers.believed[place + is_believed:place + is_believed + 1]
-        why = "lines" if is_conflict else "neighbours" if len(around) == 2 and numbers.fit(around) else "alone"
+        ends = place - 1, place + is_believed
+        before, after = (numbers.believed[end] if 0 <= end < len(fields) else None for end in ends)
+        why = "lines" if is_conflict else "neighbours" if numbers.fit((before, after)) else "alone"
         return Beside(why, reading_at(place - 1), reading_at(place + is_believed))
 
     def beside(field: int, is_conflict: bool = False) -> Beside:
@@ -71,7 +72,8 @@ def doubts_in(codes: Codes, found: Found) -> Doubts:
                                        numbers.taken, beside_in(numbers), numbers.unit.text_of)
     if times is not None:  # minutes, seconds and pictures that no clock shows, and seconds beside minutes alone
         parts = codes.kinds[Kind.clv_picture].keys()
-        off = [(Kind.clv_picture, field, (16,), "clock") for field in parts - times.parts.keys()]
+        off: List[Tuple[Kind, int, Lines, str]] = [
+            (Kind.clv_picture, field, (16,), "clock") for field in parts - times.parts.keys()]
         off += [(Kind.time, field, values[None], "clock")
                 for field, values in codes.kinds[Kind.time].items() if None in values]
         off += [(Kind.clv_picture, field, (16,), "minute") for field in times.parts if numbers.unit.name != "time"]

@@ -111,7 +111,8 @@ def places_of(numbers: Numbers, codes: Codes) -> Places:
         breaks += _minute_breaks(numbers.pace, showings, ends)
     number_of = {**{field: number for number, field in due}, **numbers.taken}
     return Places(numbers, showings, sorted(breaks, key=lambda one: one.after),
-                  [(step.before, step.after) for step in joined], _stills(steps), due, without_field, unseen, unshown, _left_out(numbers, steps), number_of)
+                  [(step.before, step.after) for step in joined], _stills(steps), due, without_field, unseen, unshown,
+                  _left_out(numbers, steps), number_of)
 
 
 def _begin_of_last(values):
