@@ -186,8 +186,9 @@ PATTERNS = {
     "clean": lambda count, dice: rows("1..%d" % (count // 2)),
     "lead-in": lambda count, dice: [LEAD_IN if place % 12 == 11 else row
                                     for place, row in enumerate(rows("1..%d" % (count // 2)))],
-    "noise": lambda count, dice: [row if dice.random() < 0.35 else chance(dice, 80000) if dice.random() < 0.5 else "- ? ?"
-                                  for row in rows("1..%d" % (count // 2))],
+    "noise": lambda count, dice: [
+        row if dice.random() < 0.35 else chance(dice, 80000) if dice.random() < 0.5 else "- ? ?"
+        for row in rows("1..%d" % (count // 2))],
     "small": lambda count, dice: [chance(dice, 60) if place % 2 else "- - -" for place in range(count)],
     "fast": lambda count, dice: rows(" ".join("%d..%d/3 %d..%d" % (begin, begin + 72, begin + 73, begin + 122)
                                               for begin in range(0, count * 123 // 150, 123))),

@@ -50,8 +50,9 @@ def beside_in(numbers: Numbers) -> BesideOf:
 
     @functools.lru_cache(maxsize=None)
     def at(place: int, is_believed: bool, is_conflict: bool) -> Beside:
-        around = numbers.believed[place - 1:place] + numbers.believed[place + is_believed:place + is_believed + 1]
-        why = "lines" if is_conflict else "neighbours" if len(around) == 2 and numbers.fit(around) else "alone"
+        ends = place - 1, place + is_believed
+        before, after = (numbers.believed[end] if 0 <= end < len(fields) else None for end in ends)
+        why = "lines" if is_conflict else "neighbours" if numbers.fit((before, after)) else "alone"
         return Beside(why, reading_at(place - 1), reading_at(place + is_believed))
 
     def beside(field: int, is_conflict: bool = False) -> Beside:
@@ -69,11 +70,15 @@ def doubts_in(codes: Codes, found: Found) -> Doubts:
     else:
         doubtful, conflicts = aside_of(codes, Kind.picture if numbers.unit.name == "picture" else Kind.time, readings,
                                        numbers.taken, beside_in(numbers), numbers.unit.text_of)
-    if times is not None:
-        doubtful = _off_the_clock(codes, times) + doubtful
-        if numbers.unit.name != "time":
-            doubtful = [one for field in times.parts for one in doubts_of(
-                codes, Kind.clv_picture, field, (16,), None, Beside("minute"))] + doubtful
+    if times is not None:  # minutes, seconds and pictures that no clock shows, and seconds beside minutes alone
+        parts = codes.kinds[Kind.clv_picture].keys()
+        off: List[Tuple[Kind, int, Lines, str]] = [
+            (Kind.clv_picture, field, (16,), "clock") for field in parts - times.parts.keys()]
+        off += [(Kind.time, field, values[None], "clock")
+                for field, values in codes.kinds[Kind.time].items() if None in values]
+        off += [(Kind.clv_picture, field, (16,), "minute") for field in times.parts if numbers.unit.name != "time"]
+        doubtful = [one for kind, field, lines, why in off
+                    for one in doubts_of(codes, kind, field, lines, None, Beside(why))] + doubtful
     rows = _second_rows(codes, numbers, numbers.rest_of(readings)) if numbers.judged else []
     return Doubts(doubtful, conflicts, rows)
 
@@ -153,17 +158,6 @@ def _row_of(codes, numbers, rest):
 
 
 # ---- Times
-
-def _off_the_clock(codes, times):
-    """The minutes, seconds and pictures that no clock shows."""
-    found = []
-    for field, values in codes.kinds[Kind.time].items():
-        if None in values:
-            found += doubts_of(codes, Kind.time, field, values[None], None, Beside("clock"))
-    for field in codes.kinds[Kind.clv_picture].keys() - times.parts.keys():
-        found += doubts_of(codes, Kind.clv_picture, field, (16,), None, Beside("clock"))
-    return found
-
 
 def _times_aside(times, numbers):
     """The minutes and the seconds that aren't believed, each for itself, and the fields whose lines differ."""

@@ -2,7 +2,7 @@
 gaps; and numbers that are shown again."""
 
 import bisect
-from typing import Any, Dict, Iterator, List, NamedTuple, Optional, Sequence, Set, Tuple
+from typing import Any, Dict, Iterator, List, NamedTuple, Optional, Sequence, Tuple
 
 from ldvbi import ClockKind
 from ..judge.believed import stretch_at
@@ -119,7 +119,8 @@ def _passed_over(places: Places, breaks: List[Break], losses: Between, codes: Co
         "unread": [], "undecided": [(one, one) for one in places.open], "lost": []}
     for one in breaks:
         if one.from_ < one.to and (one.kind == "held" or losses.meet(one.after, one.before)):
-            for why, first, last in Passed(one.from_ + 1, one.to - 1, *_fate(one, places.numbers, codes.fields)).parts():
+            passed = Passed(one.from_ + 1, one.to - 1, *_fate(one, places.numbers, codes.fields))
+            for why, first, last in passed.parts():
                 spans[why].append((first, last))
             shown = map(codes.sure_picture, range(one.after + 1, one.before))
             spans["undecided"] += [(number, number) for number in shown if number is not None]

@@ -28,8 +28,8 @@ def reasons_of(answer: Answer, gaps: Gaps, unit: Unit, is_strict: bool = False, 
     `is_strict`, and neither is a lack of lead-in. A lack of lead-out is no reason if it `may_end`. `unseen` are long
     stretches without a number between two that fit, each by its first field and its last."""
     begin, is_ended = begin_of(answer, gaps.judged, unit, is_strict), may_end or is_strict and not answer.lead_out
-    known = (*_lacking(answer), *_disordered(answer, gaps.judged, begin), *(_unseen(answer, may_end) if is_strict else ()),
-             *_of_another(answer, gaps))
+    known = (*_lacking(answer), *_disordered(answer, gaps.judged, begin),
+             *(_unseen(answer, may_end) if is_strict else ()), *_of_another(answer, gaps))
     open_ = (*_in_gaps(answer, gaps), *_undecided(answer, gaps), *_empty(answer, begin, unseen),
              *_unsure(answer, gaps.judged, is_ended))
     return [Ground(why, whole, text) for whole, found in ((NO, known), (OPEN, open_)) for why, text in found]
@@ -47,7 +47,7 @@ def other_file(answer: Answer) -> bool:
     return answer.cut_field is not None or answer.metadata_fields not in (None, answer.fields)
 
 
-def counted(count: int, name: str) -> str:
+def counted(count: int, name: Optional[str]) -> str:
     """A count with its name, in the plural unless it is 1."""
     return "%d %s%s" % (count, name, "" if count == 1 else "s")
 
@@ -143,8 +143,9 @@ def _of_another(answer: Answer, gaps: Gaps) -> Found:
     if near:
         yield "format", "codes of %s in %s, from field %d on" % (
             _OTHER[answer.format], counted(len(near), "field"), min(near))
-    if (answer.metadata_fields or 0) > answer.fields:
-        yield "metadata", "%s of %d that the metadata has" % (counted(answer.fields, "field"), answer.metadata_fields)
+    expected = answer.metadata_fields
+    if expected is not None and expected > answer.fields:
+        yield "metadata", "%s of %d that the metadata has" % (counted(answer.fields, "field"), expected)
     if answer.cut_field:
         yield "cut", "field %d is cut" % answer.cut_field.field
 
@@ -224,8 +225,8 @@ def _empty(answer: Answer, begin: Optional[Begin], unseen: Sequence[Tuple[int, i
 
 def _unsure(answer: Answer, judged: Optional[JudgedSide], is_ended: bool) -> Found:
     """No end of a side after the last number: the capture may end before the disc does, unless that `is_ended`. Minutes
-    alone, of which none stands between two others: of none the length is known. On film fields that may be swapped. Many
-    numbers that were set aside."""
+    alone, of which none stands between two others: of none the length is known. On film fields that may be swapped.
+    Many numbers that were set aside."""
     if answer.showings and not is_ended and not (judged and judged.reasons & Reason.no_numbers) and (
             judged.reasons & Reason.end_unseen if judged else not is_end_seen(answer)):
         yield "lead-out", "no lead-out: the disc may go on after %s %s" % (answer.unit, answer.showings[-1].number)

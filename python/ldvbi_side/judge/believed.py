@@ -204,11 +204,8 @@ def off_at_speed(numbers: Numbers, before: Reading, after: Reading) -> Optional[
     """How many fields are too many (or, negative, too few) between two readings at one other speed. It is 0 if the
     speed changes between them in a picture in which both lines have the same number; None for all others."""
     lines = _lines_between(numbers, before, after)
-    return None if lines is None else _off_on_lines(numbers, lines, before, after)
-
-
-def _off_on_lines(numbers, lines, before, after):
-    """The same for two readings on these lines."""
+    if lines is None:
+        return None
     line, other = lines
     if line.is_normal() and other.is_normal() or not line.has(before) or not other.has(after):
         return None

@@ -7,12 +7,12 @@ too, and so are minutes, of which the library believes none:
     number   1   2  903   4   5     without 903 the chain is worth 16, with it 20 less two breaks of 12
 
 The price of a step depends only on its two readings, so one pass over these finds a best chain that ends with each. Of
-the earlier ones only some are asked (`_Earlier`), so a better chain may be missed. What a pace leaves open of a number,
+the earlier ones only some are asked (`_earlier`), so a better chain may be missed. What a pace leaves open of a number,
 its variant, is found last. docs/SIDES.md has the rules."""
 
 import contextlib
 import functools
-from typing import Dict, Iterator, List, Mapping, Tuple
+from typing import Dict, List, Mapping
 
 from ldvbi import ClockKind, Counted, JudgedSide, Number, Pace as JudgedPace, State, complete_times, judge_side
 from .clock import DROP_FRAME, is_dropped
@@ -122,31 +122,18 @@ def chain(readings: List[Reading], pace: AnyPace) -> List[Reading]:
     return _between(readings, pace, False, False, False)
 
 
-class _Earlier:
-    """The earlier readings that are asked: the last few, the last one whose numbers go on to this one, the last one
-    with the same number, and the one at which the best chain of all ends."""
-
-    def __init__(self, pace: AnyPace) -> None:
-        self.pace = pace
-        self.of_row: Dict[int, int] = {}  # of each row of numbers that go on the last reading, and of each number
-        self.of_number: Dict[int, int] = {}
-
-    def asked(self, index: int, one: Reading, top: int) -> Iterator[Tuple[int, int]]:
-        """Those that are asked before this one, by their places, and what going on from each costs at least; `top` is
-        that at which the best chain ends."""
-        row = self.pace.row(one.field, one.number)
-        for step in self.pace.steps:
-            if row + step in self.of_row:
-                yield self.of_row[row + step], 0
-        if one.number in self.of_number:
-            yield self.of_number[one.number], 0
-        yield top, LEAST  # first, since few of the others are worth more then
-        for before in range(index - 1, max(index - 1 - LAST, -1), -1):
-            yield before, LEAST
-
-    def add(self, index: int, one: Reading) -> None:
-        """Takes in a reading."""
-        self.of_row[self.pace.row(one.field, one.number)] = self.of_number[one.number] = index
+def _earlier(pace, index, row, number, of_row, of_number, top):
+    """Of the earlier readings those that are asked, by their places, and what going on from each costs at least: the
+    last one whose numbers go on to this one, the last one with the same number, `top`, at which the best chain of all
+    ends, since few of the others are worth more then, and the last few."""
+    for step in pace.steps:
+        if row + step in of_row:
+            yield of_row[row + step], 0
+    if number in of_number:
+        yield of_number[number], 0
+    yield top, LEAST
+    for before in range(index - 1, max(index - 1 - LAST, -1), -1):
+        yield before, LEAST
 
 
 def _between(readings, pace, is_first_sure, is_last_sure, is_still):
@@ -155,10 +142,12 @@ def _between(readings, pace, is_first_sure, is_last_sure, is_still):
     if len(readings) < 2:
         return readings
     values, origins, stays = [], [], []
-    top, earlier = 0, _Earlier(pace)  # the reading at which the best chain of all ends
+    top = 0  # the reading at which the best chain of all ends
+    of_row, of_number = {}, {}  # of each row of numbers that go on the last reading, and of each number
     for index, one in enumerate(readings):
         best, origin, stay = (0, None, is_still) if not index else (NEVER if is_first_sure else 0, None, False)
-        for before, least in earlier.asked(index, one, top) if index else ():
+        row = pace.row(one.field, one.number)
+        for before, least in _earlier(pace, index, row, one.number, of_row, of_number, top) if index else ():
             if values[top] - least <= best:  # none is worth more
                 break
             if values[before] - least > best:
@@ -168,7 +157,7 @@ def _between(readings, pace, is_first_sure, is_last_sure, is_still):
         values.append(best + one.weight + TIE)
         origins.append(origin)
         stays.append(stay)
-        earlier.add(index, one)
+        of_row[row] = of_number[one.number] = index
         top = index if values[index] > values[top] else top
     found, place = [], len(readings) - 1 if is_last_sure else top
     while place is not None:

@@ -6,10 +6,10 @@ joined of the minutes on lines 17 and 18 and of the second and picture on line 1
    are set aside (detours.py).
 3. `anchored` takes these, and chooses among the other readings, each in its own field.
 4. `with_speeds`, `with_turned` and `with_swaps` find what the chain takes for stills or breaks, or sets aside. Speeds
-   come before swaps: a swap is found between two numbers that fit, and those of another speed fit only once it is known.
+   come before swaps: a swap is found between two numbers that fit, and those of another speed fit only then.
 
-Each step returns new `Numbers`. All later modules ask `Numbers.off` or `Numbers.fit` (believed.py) how two numbers stand
-to each other. docs/SIDES.md has the rules."""
+Each step returns new `Numbers`. All later modules ask `Numbers.off` or `Numbers.fit` (believed.py) how two numbers
+stand to each other. docs/SIDES.md has the rules."""
 
 from typing import Dict, List, NamedTuple, Optional
 

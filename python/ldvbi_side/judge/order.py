@@ -4,10 +4,9 @@ times each; and in fields that a capture has written in each other's place, so t
 after its own."""
 
 import bisect
-import collections
-import itertools
 import math
 import operator
+from collections import Counter
 from typing import Callable, Collection, Dict, List, Mapping
 
 from .believed import APART, SLOW, Line, Numbers, Stretch, line_from, meeting
@@ -26,8 +25,8 @@ TURN, TURNED, SIGNS = 5, 40, 3
 def with_turned(numbers: Numbers, readings: List[Reading]) -> Numbers:
     """These numbers, and those that a disc showed while it was turned by hand: near those before and after them, among
     breaks that are as near. The chain passes over them if two others fit by chance."""
-    near = [one for one, *around in numbers.beside(numbers.aside(readings)) if _is_turned(one, around)
-            ] if numbers.believed else []
+    aside = numbers.aside(readings) if numbers.believed else []
+    near = [one for one, before, after in numbers.beside(aside) if _is_turned(one, before, after)]
     if not near:
         return numbers
     marks = sorted([one.field for one in near] + _turns(numbers))
@@ -50,17 +49,13 @@ def _turns(numbers):
     return turns
 
 
-def _is_turned(one, around):
+def _is_turned(one, before, after):
     """Whether a number is near the believed ones around it, and is read in pass 1 or on two lines, or is one of
     these."""
-    _, number, weight, *_ = one
-    is_one = False
-    for other in around:
-        if other:
-            if abs(one.field - other.field) > TURNED or abs(number - other.number) > TURN:
-                return False
-            is_one = is_one or number == other.number
-    return weight >= WEIGHTS[1] or is_one
+    for other in (before, after):
+        if other and (abs(one.field - other.field) > TURNED or abs(one.number - other.number) > TURN):
+            return False
+    return one.weight >= WEIGHTS[1] or any(other and one.number == other.number for other in (before, after))
 
 
 # ---- Other speeds
@@ -142,28 +137,34 @@ def _loose(numbers, readings):
 
 def _lines(loose, is_both):
     """The lines on which enough of these readings are, each with its readings."""
-    found = []
-    for step, phase in itertools.product(STEPS, (0, 1)) if len(loose) >= LEAST else ():
+    found, rows = [], []
+    for phase in (0, 1) if len(loose) >= LEAST else ():
         # if both fields of a picture have its number, it begins with an odd one or with an even one
-        rows = collections.defaultdict(list)
-        for one in loose:
-            if is_both or one.field % 2 == phase:
-                rows[one.number - step * ((one.field - phase) // 2)].append(one)
-        for ones in (ones for row in rows.values() if len(row) >= LEAST for ones in _groups(row)):
-            begin = ones[0].field - (ones[0].field - phase) % 2
-            found.append((Line(step, 2, begin, ones[0].number), ones))
+        near = loose if is_both else [one for one in loose if one.field % 2 == phase]
+        rows.append((phase, near, [one.number for one in near], [(one.field - phase) // 2 for one in near]))
+    for step in STEPS:
+        for phase, near, numbers, pictures in rows:
+            for ones in _groups(near, list(map(operator.sub, numbers, map(step.__mul__, pictures)))):
+                begin = ones[0].field - (ones[0].field - phase) % 2
+                found.append((Line(step, 2, begin, ones[0].number), ones))
     return found
 
 
-def _groups(row):
-    """These readings of one line in groups that are near each other, and large enough."""
-    groups, before = [], -math.inf
-    for one in row:
-        if one.field - before > APART:
-            groups.append([])
-        groups[-1].append(one)
-        before = one.field
-    return filter(_is_enough, groups)
+def _groups(readings, keys):
+    """The readings that are on a line, as those with the same key are, in groups that are large enough."""
+    counts = Counter(keys)
+    is_often = max(counts.values(), default=0) >= LEAST
+    often = {key for key, count in counts.items() if count >= LEAST} if is_often else ()
+    last, groups = {}, []
+    for one, key in zip(readings, keys) if often else ():
+        if key not in often:
+            continue
+        ones = last.get(key)
+        if ones is None or one.field - ones[-1].field > APART:
+            last[key] = ones = []
+            groups.append(ones)
+        ones.append(one)
+    return [ones for ones in groups if _is_enough(ones)]
 
 
 def _is_enough(ones):

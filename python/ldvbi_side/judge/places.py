@@ -94,10 +94,10 @@ def places_of(numbers: Numbers, codes: Codes) -> Places:
     steps = [_step(numbers, place) for place in numbers.odd_places]
     last = _begin_of_last(numbers.values)
     begins = sorted(lead_in)
-    joins = [(step.before, step.after) for step in steps
-             if ends and _is_join(step, ends if step.place <= last else begins)]
-    joined = set(joins)
-    steps = [_joined(step) if (step.before, step.after) in joined else step for step in steps]
+    joined = [step for step in steps if ends and _is_join(step, ends if step.place <= last else begins)]
+    # where the numbers go back, it stays a break, too
+    away = {step.place for step in joined if step.after.number >= step.before.number}
+    steps = [step._replace(kind="join") if step.place in away else step for step in steps]
     due, without_field, unshown, unseen = _due(numbers, steps, codes)
     # if both lines show another number surely, none is due
     others = {one: said for one in due for said in [codes.sure_picture(one[1])] if said is not None}
@@ -110,8 +110,9 @@ def places_of(numbers: Numbers, codes: Codes) -> Places:
     if isinstance(numbers.pace, MinutePace):
         breaks += _minute_breaks(numbers.pace, showings, ends)
     number_of = {**{field: number for number, field in due}, **numbers.taken}
-    return Places(numbers, showings, sorted(breaks, key=lambda one: one.after), joins,
-                  _stills(steps), due, without_field, unseen, unshown, _left_out(numbers, steps), number_of)
+    return Places(numbers, showings, sorted(breaks, key=lambda one: one.after),
+                  [(step.before, step.after) for step in joined], _stills(steps), due, without_field, unseen, unshown,
+                  _left_out(numbers, steps), number_of)
 
 
 def _begin_of_last(values):
@@ -125,14 +126,10 @@ def _is_join(step, ends):
         bisect.bisect(ends, step.before.field) < bisect.bisect_left(ends, step.after.field))
 
 
-def _joined(step):
-    """The step as one to another side. Where the numbers go back, it stays a break, too."""
-    return step if step.after.number < step.before.number else step._replace(kind="join")
-
-
 def _step(numbers, place):
     before, after = numbers.believed[place - 1:place + 1]
-    is_second = _is_second(before, after)
+    # that of the second field of the same picture
+    is_second = after.variant > before.variant and (after.field, after.number) == (before.field + 1, before.number)
     if numbers.speeds and not is_second and off_at_speed(numbers, before, after) == 0:
         return _Step(place, before, after, "speed")
     if before.number == after.number:
@@ -140,11 +137,6 @@ def _step(numbers, place):
         return _Step(place, before, after, "same" if kind == "minute" or kind == "both" and is_second else "still")
     off = numbers.off(before, after)
     return _Step(place, before, after, "break" if off else "next", off)
-
-
-def _is_second(before, after):
-    """Whether a reading is that of the second field of the same picture."""
-    return after.variant > before.variant and (after.field, after.number) == (before.field + 1, before.number)
 
 
 def _showings(numbers, steps):
@@ -233,14 +225,12 @@ def _open(numbers, steps):
     """The numbers of gaps that a clock may have left out, if none was found."""
     gaps = [Gap(before.number + 1, after.number - 1, -off // 2) for _, before, after, kind, off in steps
             if kind == "break" and after.number > before.number and off in (-2, -4)]
-    return open_in(gaps, _runs(numbers, steps)) if gaps and numbers.clock.kind == ClockKind.plain else set()
-
-
-def _runs(numbers, steps):
-    """The first and the last number of each stretch of believed ones that go on from one to the next."""
+    if not gaps or numbers.clock.kind != ClockKind.plain:
+        return set()
     ends = [(step.before.number, step.after.number) for step in steps if step.kind not in ("same", "next")]
-    return list(zip([numbers.values[0], *(after for _, after in ends)],
-                    [*(before for before, _ in ends), numbers.values[-1]]))
+    # the first and the last number of each stretch of believed ones that go on from one to the next
+    return open_in(gaps, list(zip([numbers.values[0], *(after for _, after in ends)],
+                                  [*(before for before, _ in ends), numbers.values[-1]])))
 
 
 def _break(numbers, before, after, off):
