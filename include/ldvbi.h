@@ -249,7 +249,8 @@ typedef struct LdvbiRecord {
 /* Writes the record of a field from its lines 16, 17 and 18, as ldvbi_recover_rows_without takes them. `number` is the
  * number of the field, which in the document is counted from 1; any number is taken. The distances of nearest words in
  * the record leave out erased columns. This is proved: without erased columns the text is the one that `ldvbi extract
- * --recover` writes for the field; with them it has the words and causes of ldvbi_recover_rows_without. */
+ * --recover` writes for the field; with them it has the words and passes of ldvbi_recover_rows_without, and its causes,
+ * but for a word of pass 3 the cause as ldvbi_read_rows answers it. */
 LDVBI_RESULT LDVBI_POINTER(9) uint32_t ldvbi_recovered_record(uint32_t system, uint32_t black, uint32_t white,
     uint32_t number, const void *samples, size_t length, const LdvbiErased *erased, size_t erased_count,
     LdvbiRecord *record);
@@ -424,12 +425,13 @@ enum { LDVBI_LOOKED = 1000 };
  *
  * This is proved: the field that is answered has the number, and the field before it hasn't, as ldvbi_judge answers at
  * this pace by what ldvbi_recover_fields reads of all fields. The first field with a number is found if the side has at
- * most a million fields and its numbers lead there. They do if three things hold: along a sixteenth of the side or
- * more, any 12 fields in a row tell a number together; elsewhere none do; lower numbers are told before the field,
- * higher ones after it. A run of a disc of video is like this if it has three fields more than a sixteenth of the side,
- * and each number was read on both lines in pass 1: that is proved, too. Of other sides it isn't. Those that were tried
- * are like this if the player runs on, with any lead-in and lead-out, and each line is read. Otherwise a number may be
- * missed: to be sure that it isn't there, judge the whole side. */
+ * most a million fields, its numbers lead there, and with LDVBI_FIND_PACE also one pace is found by whichever fields
+ * around it are judged. Numbers lead there if three things hold: along a sixteenth of the side or more, any 12 fields
+ * in a row tell a number together; elsewhere none do; lower numbers are told before the field, higher ones after it. A
+ * run of a disc of video is like this if it has three fields more than a sixteenth of the side, and each number was
+ * read on both lines in pass 1: that is proved, too. Of other sides it isn't. Those that were tried are like this if
+ * the player runs on, with any lead-in and lead-out, and each line is read. Otherwise a number may be missed: to be
+ * sure that it isn't there, judge the whole side. */
 LDVBI_RESULT LDVBI_POINTER(9) uint32_t ldvbi_seek(uint32_t system, uint32_t black, uint32_t white, uint32_t counted,
     uint32_t pace, const void *bytes, size_t length, uint32_t number, LdvbiSought *sought);
 
@@ -506,11 +508,11 @@ LDVBI_RESULT uint32_t ldvbi_judge_stops(const LdvbiFieldReadings *readings, size
  * With a number on one field of each picture: if each field stands later on the disc than the one before it, and the
  * numbers at both ends of each LDVBI_LOST gap are right, the capture lacks at least `tally.lost` fields of the disc
  * between `first` and `last`. If those of a LDVBI_HELD gap are right, at least `fields` fields more stand between them
- * than the disc has there. If the numbers around gaps of LDVBI_REPLACED are right, on video, as many fields are
- * skipped between as are repeated. If also each field stands later on the disc than the one before it, none is, and the
- * run's numbers at the two gaps are wrong. And in whatever order the fields stand, if the words misread within
- * LDVBI_REACH fields of each end of a gap of video weigh less than 10, the capture isn't one run of the disc from
- * LDVBI_REACH fields before the gap to as many after it.
+ * than the disc has there. If the numbers around gaps of LDVBI_REPLACED are right, on video, as many fields are skipped
+ * between as are repeated. If also each field stands later on the disc than the one before it, none is, and the run's
+ * numbers at the two gaps are wrong. And in whatever order the fields stand, if the words misread within LDVBI_REACH
+ * fields of each end of a gap of video weigh less than 10, the capture isn't one run of the disc from LDVBI_REACH
+ * fields before the gap to as many after it.
  *
  * Some faults go unseen. Lost fields and as many doubled ones leave no gap if no number between is believed. Swapped
  * fields go unseen if their numbers weren't read, on film, and with numbers on both fields. And a disc whose own

@@ -3,11 +3,14 @@ pub mod Erasing
 mod Judged
 pub mod Marks
 mod OneRecovery
+pub mod RecordWords
 pub mod MarkedLines
 pub mod Sought
 pub mod PartOfReadings
 mod Shown
 pub mod Leading
+pub mod Narrowed
+pub mod Seen
 pub mod Running
 pub mod CompletedTimes
 pub mod Placed

@@ -1,22 +1,25 @@
 -- What the fields of a side tell of a number that is sought there, and what that says of the fields between which it is
 -- sought.
-use Rattle.std.specs.Prelude.{◌≡◌, ◌≤◌, ◌<◌, ◌+◌, ◌-◌, ◌*◌, ◌/◌, ◌⊎◌, ℕ, List, None, map, take, drop}
+use Rattle.std.specs.Prelude.{◌≡◌, ◌≤◌, ◌<◌, ◌+◌, ◌-◌, ◌*◌, ◌/◌, ◌⊎◌, ℕ, List, None, Some, map, min, take, drop}
+use Rattle.std.specs.Prelude.{slice_get}
 use Rattle.std.specs.List.{range_with_len}
 use Rattle.vbi_side.specs.declared.number.Number.{Number}
 use Rattle.vbi_side.specs.declared.pace.Pace as paces
 use Rattle.vbi_side.specs.declared.sighting.Sightings.{Sightings}
 use Rattle.vbi_side.specs.Beliefs.{reach}
 use Rattle.vbi_side.specs.Numbers.{AreAnswers}
+use Rattle.vbi_side.specs.Sightings.{Shows}
 use Rattle.vbi_c.specs.declared.halving.End.{End}
 use Rattle.vbi_c.specs.declared.halving.End.TheVariants.{First, Last}
 use Rattle.vbi_c.specs.declared.narrowing.Between.{Between}
 use Rattle.vbi_c.specs.declared.narrowing.Spot.{Spot}
+use Rattle.vbi_c.specs.declared.narrowing.Told.{Told}
 use Rattle.vbi_c.specs.declared.search.Search.{Search}
 use Rattle.vbi_c.specs.declared.seeking.Around.{Around}
 use Rattle.vbi_c.specs.Judging.{IsAskedPace}
 use Rattle.vbi_c.specs.Leads.{Leads, IsWithin, IsToldAt, IsNarrower}
 use Rattle.vbi_c.specs.Seeking.{shown_at, probe_most, probe_longest, around_most}
-use Rattle.vbi_c.specs.Telling.{TellsFrom, IsNarrowed, told_at}
+use Rattle.vbi_c.specs.Telling.{TellsFrom, IsNarrowed, IsShownBetween, told_at}
 
 -- ---- what fields tell
 
@@ -32,9 +35,22 @@ shown_from search first many = map (shows search) (range_with_len first many)
 abbrev pub TellsAt : Search → ℕ → ℕ → ℕ → Type 0
 TellsAt search field k n = TellsFrom search.seek search.bytes.now field k n
 
--- the fields from this one on tell no number: no 12 of them do, or fewer
+-- the fields from this one on tell no number: no more than this many of them do
+abbrev pub IsSilentFor : Search → ℕ → ℕ → Type 0
+IsSilentFor search field most = (k n : ℕ) → k ≤ most → field + k ≤ search.count → TellsAt search field k n → ⊥
+
+-- no 12 of them do, or fewer
 abbrev pub IsSilent : Search → ℕ → Type 0
-IsSilent search field = (k n : ℕ) → k ≤ probe_most → field + k ≤ search.count → TellsAt search field k n → ⊥
+IsSilent search field = IsSilentFor search field probe_most
+
+-- this many fields are read at a spot if few lines show a number there, and this many may be read besides
+abbrev pub read_most : ℕ → ℕ → ℕ
+read_most more spare = probe_most + min (min more (probe_longest - probe_most)) spare
+
+-- what these show is what the fields from this one on show
+pub record AreSeenFrom (search : Search) (field : ℕ) (seen : List Sightings) : Type 0 where
+  pub each : (i n : ℕ) → Shows (slice_get seen i) n
+      → (field + i < search.count) × Shows (Some (shows search (field + i))) n
 
 -- what the fields of the side tell leads to field t with the number
 abbrev pub LeadsTo : Search → ℕ → ℕ → ℕ → Type 0
@@ -70,6 +86,66 @@ pub record IsNarrowedAt (search : Search) (spot : Spot) (old new : Between) : Ty
   pub told : TellsAt search spot.field read number
   pub first : (k m : ℕ) → k < read → TellsAt search spot.field k m → ⊥
   pub narrowed : IsNarrowed search.number (told_at spot.field read) number old new
+
+-- the number is sought between others of them than before, by a line of a field from this one on: it shows a number
+-- between the two that were told at both ends
+pub record IsNarrowedByOne (search : Search) (field : ℕ) (told : Told) (old new : Between) : Type 0 where
+  pub after : ℕ
+  pub number : ℕ
+  pub inside : field + after < search.count
+  pub shown : Shows (Some (shows search (field + after))) number
+  pub between : (told.lower < number) × (number < told.higher)
+  pub narrowed : IsNarrowed search.number (min (field + after) old.high) number old new
+
+-- so it is by what is told at a spot, or by such a line
+abbrev pub IsNarrowedNear : Search → Spot → Told → Between → Between → Type 0
+IsNarrowedNear search spot told old new =
+    IsNarrowedAt search spot old new ⊎ IsNarrowedByOne search spot.field told old new
+
+-- the spots at three quarters and at one quarter of them
+abbrev pub later_in : Between → Spot
+later_in between = record {
+  field = middle_in between + (between.high - between.low) / 4;
+  more = (between.high - between.low) / 16;
+}
+
+abbrev pub earlier_in : Between → Spot
+earlier_in between = record {
+  field = between.low + (between.high - between.low) / 4;
+  more = (between.high - between.low) / 16;
+}
+
+-- by where it stands between the numbers that were told at both ends, a number is more likely after this field
+abbrev pub IsMoreLikelyAfter : ℕ → ℕ → Told → Between → Type 0
+IsMoreLikelyAfter number field told between =
+    (field - between.low) * (told.higher - told.lower) < (between.high - between.low) * (number - told.lower)
+
+-- it is sought in the half in which it is more likely, since nothing is told at the two quarters, as far as `spare`
+-- fields allow to read there
+pub record IsGuessed (search : Search) (told : Told) (spare : ℕ) (old new : Between) : Type 0 where
+  pub later : probe_most ≤ spare → IsSilent search (later_in old).field
+  pub earlier : probe_longest + probe_most ≤ spare → IsSilent search (earlier_in old).field
+  pub half : (IsMoreLikelyAfter search.number (middle_in old) told old × (new ≡ record old { low = middle_in old }))
+      ⊎ ((IsMoreLikelyAfter search.number (middle_in old) told old → ⊥)
+      × (new ≡ record old { high = middle_in old }))
+
+-- it is sought between others of them than before, if both ends have told a number and the middle none: by one of these
+-- fields in the middle, if one shows a number between the two, else by a quarter, or by a guess
+pub record IsNarrowedBetween (search : Search) (told : Told) (spare : ℕ) (seen : List Sightings) (old new : Between) :
+    Type 0 where
+  pub shown : (i n : ℕ) → IsShownBetween seen told.lower told.higher i n
+      → IsNarrowedByOne search (middle_in old) told old new
+  pub by : IsNarrowedByOne search (middle_in old) told old new
+      ⊎ IsNarrowedNear search (later_in old) told old new
+      ⊎ IsNarrowedNear search (earlier_in old) told old new
+      ⊎ IsGuessed search told spare old new
+
+-- if both ends have told a number, it is by what is told in the middle, or else in one of these ways
+abbrev pub IsHalvedByBoth : Search → Between → Between → Type 0
+IsHalvedByBoth search old new = (told : Told) → old.lower ≡ Some told.lower → old.higher ≡ Some told.higher
+    → IsNarrowedAt search (record { field = middle_in old; more = (old.high - old.low) / 8 }) old new
+    ⊎ ((spare : ℕ) × (seen : List Sightings) × AreSeenFrom search (middle_in old) seen
+    × IsNarrowedBetween search told spare seen old new)
 
 -- whatever leads to the number leads to fewer fields between which it is then: three quarters at most
 abbrev pub IsHalved : Search → Between → Between → Type 0

@@ -16,8 +16,8 @@
 ghost use Rattle.std.specs.Prelude.{◌≡◌, ℕ, ◌+◌, ◌-◌, ◌*◌, ◌/◌, ◌^◌, ◌<◌, ◌≤◌, false, true};
 ghost use Rattle.vbi_c.specs.Leads.{IsPlaced, left_after};
 ghost use Rattle.vbi_c.specs.Searches.{IsAlone, IsHalved, IsHalving, IsNarrowedAt, IsPart, IsSilent, LeadsTo};
-ghost use Rattle.vbi_c.specs.Searches.{middle_in};
-ghost use Rattle.vbi_c.specs.Seeking.{probe_most, probed_most, looked_most, left_most};
+ghost use Rattle.vbi_c.specs.Searches.{IsHalvedByBoth, IsSilentFor, middle_in, read_most};
+ghost use Rattle.vbi_c.specs.Seeking.{probe_most, probe_longest, probed_most, looked_most, left_most};
 ghost use Rattle.vbi_c.specs.Telling.{middle_of};
 
 use crate::narrowing::{Between, Spot, Told, narrow, narrow_between, narrow_either};
@@ -54,7 +54,8 @@ fn sweep(search: &Search, parts: usize, between: &mut Between, looked: &mut Look
     ensures few { looked.new.fields + looked.new.spare ≤ looked.old.fields + looked.old.spare + probe_most * parts }
     ensures kept { result ≡ false → between.new ≡ between.old }
     ensures silent { result ≡ false → (part : ℕ) → part < parts
-        → IsSilent search.now (middle_of search.now.count parts part) }
+        → IsSilentFor search.now (middle_of search.now.count parts part)
+        (read_most probe_longest (looked.old.spare - (probe_longest - probe_most) * part)) }
     ensures narrowed { result ≡ true → (spot : Spot) × (spot.field ≤ search.now.count)
         × IsNarrowedAt search.now spot between.old between.new }
 {
@@ -156,6 +157,7 @@ fn halve(search: &Search, between: &mut Between, looked: &mut Looked)
     ensures part { IsPart search.now between.new }
     ensures few { looked.new.fields + looked.new.spare ≤ looked.old.fields + looked.old.spare + probe_most }
     ensures halved { IsHalved search.now between.old between.new }
+    ensures by_both { IsHalvedByBoth search.now between.old between.new }
 {
     let width = between.high - between.low;
     let middle = Spot {

@@ -1,8 +1,8 @@
 //! What the numbers of include/ldvbi.h stand for, and which line tells what, written down by hand. A function here does
 //! nothing: its contract holds each of them.
 
-ghost use Rattle.std.specs.Prelude.{◌≡◌, ◌≤◌, ◌↔◌, ℕ, List, length, [], ◌∷◌, map, take, drop, replicate, true, false};
-ghost use Rattle.std.specs.Prelude.{Some, None, Ok, Err, Bool};
+ghost use Rattle.std.specs.Prelude.{◌≡◌, ◌≤◌, ◌*◌, ◌↔◌, ℕ, List, length, [], ◌∷◌, map, take, drop, replicate};
+ghost use Rattle.std.specs.Prelude.{Some, None, Ok, Err, Bool, true, false};
 ghost use Rattle.std.specs.List.{All};
 ghost use Rattle.vbi_words.specs.declared.code.Code.TheVariants.{Picture, Chapter, Time, ClvPicture, CxOn, CxOff};
 ghost use Rattle.vbi_words.specs.declared.code.Code.TheVariants.{Users, LeadIn, LeadOut, PictureStop, ClvMark, Other};
@@ -33,13 +33,13 @@ ghost use Rattle.vbi_c.specs.Judging.{counted_of, asked_of, given_of, pace_for_c
 ghost use Rattle.vbi_c.specs.Nearest.{near_for_c};
 ghost use Rattle.vbi_c.specs.Piling.{IsWordOf};
 ghost use Rattle.vbi_c.specs.Readings.{outcome_for_c};
-ghost use Rattle.vbi_c.specs.Record.{HasText};
+ghost use Rattle.vbi_c.specs.Record.{HasText, HasWordsOf};
 ghost use Rattle.vbi_c.specs.Recovering.{code_bytes, recovered_reading, AreRecovered, AreAllRecovered};
 ghost use Rattle.vbi_c.specs.Seeking.{shown_of, probe_most, probe_longest, probed_most, around_most, IsSought};
 ghost use Rattle.vbi_c.specs.Seeking.{IsSoughtIn};
 ghost use Rattle.vbi_c.specs.Setups.{system_of, of_system};
 ghost use Rattle.vbi_c.specs.Stops.{IsStopOf};
-ghost use Rattle.vbi_c.specs.Telling.{IsTold, TellsIn};
+ghost use Rattle.vbi_c.specs.Telling.{IsTold, TellsIn, middle_of};
 ghost use Rattle.vbi_c.specs.Ends.{ends_status, IsEndOf};
 ghost use Rattle.vbi_c.specs.Erased.{none_erased};
 ghost use Rattle.vbi_c.specs.WholeSides.{pace_given, siding_of, siding_by, numbering_of, both_by, both_for_c, slack_by};
@@ -93,9 +93,10 @@ pub fn worked_codes()
         ≡ code_as 5 0x123 0 ∷ code_as 6 0x456 0 ∷ code_as 7 7 0x89A ∷ code_as 8 0 0 ∷ code_as 9 0 0 ∷ [] }
 {}
 
-/// How many fields a search looks at, and what it answers if it finds none.
+/// How many fields a search looks at, the middles of a side's quarters, and what is answered if none is found.
 pub fn worked_searches()
     ensures reads { (probe_most ≡ 12) × (probe_longest ≡ 144) × (probed_most ≡ 812) × (around_most ≡ 188) }
+    ensures middles { map (middle_of 1000 4) (0 ∷ 1 ∷ 2 ∷ 3 ∷ []) ≡ 125 ∷ 375 ∷ 625 ∷ 875 ∷ [] }
     ensures looked { (seek : Seek) (bytes : List ℕ) (number : ℕ) (sought : LdvbiSought)
         → IsSought seek bytes number sought → sought.looked ≤ 1000 }
     ensures unfound { (seek : Seek) (bytes : List ℕ) (count number : ℕ) (sought : LdvbiSought)
@@ -140,6 +141,15 @@ pub fn one_recovery()
     ensures side { (seek : Seek) (bytes : List ℕ) (count : ℕ) (all : List LdvbiFieldReadings)
         → AreAllRecovered seek.setup bytes (λ field. none_erased seek.setup.system) count all → length all ≡ count
         → map (seen_in seek.judging) all ≡ shown_of seek bytes count }
+{}
+
+/// The record of a field has the words and passes that `ldvbi_recover_rows_without` answers of its rows and their
+/// erased columns. It has their causes, too, but for a word of pass 3: of this it has the cause of the line as it was
+/// read.
+pub fn record_is_of_rows()
+    ensures { (setup : Setup) (number : ℕ) (rows : List ℕ) (marks : List Bool) (readings : LdvbiFieldReadings)
+        → length rows ≡ 3 * line_bytes setup.system → AreRecovered setup rows marks readings
+        → HasWordsOf setup number rows marks readings }
 {}
 
 /// No line is answered with a recovered picture number of 80,000 or more, in pass 3, and no lines say one together.

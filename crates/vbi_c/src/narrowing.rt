@@ -13,8 +13,10 @@
 //! together.
 
 ghost use Rattle.std.specs.Prelude.{◌≡◌, ◌↔◌, ◌⊎◌, ℕ, ◌+◌, ◌-◌, ◌*◌, ◌<◌, ◌≤◌, false, true, None, IfSome};
-ghost use Rattle.vbi_c.specs.Searches.{IsNarrowedAt, IsPart, IsSilent, IsSpotIn};
-ghost use Rattle.vbi_c.specs.Seeking.{probe_most, looked_most};
+ghost use Rattle.vbi_c.specs.Searches.{IsNarrowedAt, IsNarrowedByOne, IsNarrowedNear, IsNarrowedBetween, IsPart};
+ghost use Rattle.vbi_c.specs.Searches.{IsSilent, IsSilentFor, IsSpotIn, IsMoreLikelyAfter, AreSeenFrom, middle_in};
+ghost use Rattle.vbi_c.specs.Searches.{read_most};
+ghost use Rattle.vbi_c.specs.Seeking.{probe_most, probe_longest, looked_most};
 ghost use Rattle.vbi_c.specs.Telling.{IsShownBetween};
 
 use crate::probing::{LONGEST, NOTHING_SEEN, PROBE, probe};
@@ -60,7 +62,10 @@ pub(crate) fn narrow(
     requires room { looked.old.fields + looked.old.spare + probe_most ≤ looked_most }
     ensures few { looked.new.fields + looked.new.spare ≤ looked.old.fields + looked.old.spare + probe_most }
     ensures kept { result ≡ false → between.new ≡ between.old }
-    ensures silent { result ≡ false → IsSilent search.now spot.field }
+    ensures spared { looked.old.spare ≤ looked.new.spare + (probe_longest - probe_most) }
+    ensures seen { AreSeenFrom search.now spot.field seen.old → AreSeenFrom search.now spot.field seen.new }
+    ensures silent { result ≡ false
+        → IsSilentFor search.now spot.field (read_most spot.more looked.old.spare) }
     ensures narrowed { result ≡ true → IsNarrowedAt search.now spot between.old between.new }
 {
     let longest = PROBE + spot.more.min(LONGEST - PROBE).min(looked.spare as usize);
@@ -105,8 +110,7 @@ fn one_between(seen: &[Sightings], lower: u32, higher: u32) -> Option<(usize, u3
 /// between the numbers that were told at both ends.
 fn is_after(number: u32, field: usize, between: &Between, told: Told) -> bool
     requires { (between.now.low ≤ field) × (field ≤ between.now.high) }
-    ensures { (result ≡ true) ↔ ((field - between.now.low) * (told.higher - told.lower)
-        < (between.now.high - between.now.low) * (number - told.lower)) }
+    ensures { (result ≡ true) ↔ IsMoreLikelyAfter number field told between.now }
 {
     let (part, whole) = (field - between.low, between.high - between.low);
     let number_part = number.saturating_sub(told.lower);
@@ -126,6 +130,10 @@ fn narrow_by_spare(
     requires room { looked.old.fields + looked.old.spare ≤ looked_most }
     ensures few { looked.new.fields + looked.new.spare ≤ looked.old.fields + looked.old.spare }
     ensures kept { result ≡ false → between.new ≡ between.old }
+    ensures spared { looked.old.spare ≤ looked.new.spare + probe_longest }
+    ensures seen { AreSeenFrom search.now spot.field seen.old → AreSeenFrom search.now spot.field seen.new }
+    ensures silent { result ≡ false → probe_most ≤ looked.old.spare
+        → IsSilentFor search.now spot.field (read_most spot.more (looked.old.spare - probe_most)) }
     ensures narrowed { result ≡ true → IsNarrowedAt search.now spot between.old between.new }
 {
     if looked.spare < PROBE as u32 {
@@ -146,8 +154,11 @@ fn narrow_by_one(
 ) -> bool
     requires part { IsPart search.now between.old }
     requires inside { (between.old.low ≤ field) × (field ≤ between.old.high) }
+    requires seen { AreSeenFrom search.now field seen.now }
     ensures kept { result ≡ false → between.new ≡ between.old }
     ensures part { IsPart search.now between.new }
+    ensures none { result ≡ false → (i n : ℕ) → IsShownBetween seen.now told.lower told.higher i n → ⊥ }
+    ensures narrowed { result ≡ true → IsNarrowedByOne search.now field told between.old between.new }
 {
     let Some((at, shown)) = one_between(seen, told.lower, told.higher) else {
         return false;
@@ -178,6 +189,9 @@ fn narrow_near(
     ensures few { looked.new.fields + looked.new.spare ≤ looked.old.fields + looked.old.spare }
     ensures kept { result ≡ false → between.new ≡ between.old }
     ensures part { IsPart search.now between.new }
+    ensures spared { looked.old.spare ≤ looked.new.spare + probe_longest }
+    ensures silent { result ≡ false → probe_most ≤ looked.old.spare → IsSilent search.now spot.field }
+    ensures narrowed { result ≡ true → IsNarrowedNear search.now spot told between.old between.new }
 {
     let mut seen = [NOTHING_SEEN; LONGEST];
     narrow_by_spare(search, spot, between, &mut seen, looked)
@@ -195,9 +209,11 @@ pub(crate) fn narrow_between(
     looked: &mut Looked,
 )
     requires part { IsPart search.now between.old }
+    requires seen { AreSeenFrom search.now (middle_in between.old) seen.now }
     requires room { looked.old.fields + looked.old.spare ≤ looked_most }
     ensures part { IsPart search.now between.new }
     ensures few { looked.new.fields + looked.new.spare ≤ looked.old.fields + looked.old.spare }
+    ensures narrowed { IsNarrowedBetween search.now told looked.old.spare seen.now between.old between.new }
 {
     let width = between.high - between.low;
     let middle = between.low + width / 2;

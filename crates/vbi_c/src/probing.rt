@@ -13,7 +13,7 @@
 ghost use Rattle.std.specs.Prelude.{◌≡◌, ◌↔◌, ℕ, ◌+◌, ◌-◌, ◌*◌, ◌<◌, ◌≤◌, min, length, take, slice_get, true};
 ghost use Rattle.std.specs.Prelude.{IfSome, None};
 ghost use Rattle.vbi_c.specs.Seeking.{probe_longest, looked_most};
-ghost use Rattle.vbi_c.specs.Searches.{shows, shown_from, TellsAt};
+ghost use Rattle.vbi_c.specs.Searches.{shows, shown_from, AreSeenFrom, TellsAt};
 ghost use Rattle.vbi_c.specs.Telling.{IsTogether, TellsIn, run_weight};
 ghost use Rattle.vbi_side.specs.Beliefs.{field_weight, sighting_weight};
 ghost use Rattle.vbi_side.specs.Paces.{fits};
@@ -165,6 +165,7 @@ pub(crate) fn probe(
     ensures inside { field + result.1 ≤ search.now.count }
     ensures counted { looked.new ≡ record looked.old { fields = looked.old.fields + result.1 } }
     ensures seen { take result.1 seen.new ≡ shown_from search.now field result.1 }
+    ensures shown { AreSeenFrom search.now field seen.old → AreSeenFrom search.now field seen.new }
     ensures told { IfSome result.0 (λ number. TellsAt search.now field result.1 number) }
     ensures first { IfSome result.0 (λ told. (k number : ℕ) → k < result.1
         → TellsAt search.now field k number → ⊥) }

@@ -1,11 +1,15 @@
 //! Which calls are refused, and with which status, written down by hand. A function here does nothing: its contract
 //! holds each of them.
 
-ghost use Rattle.std.specs.Prelude.{◌≡◌, [], ◌∷◌, map, take, drop, true, false, Some, None, Ok, Err};
+ghost use Rattle.std.specs.Prelude.{◌≡◌, ℕ, List, [], ◌∷◌, map, take, drop, true, false, Option, Some, None, Ok, Err};
+ghost use Rattle.std.specs.Prelude.{unwrap_or};
 ghost use Rattle.vbi_words.specs.declared.system.System.TheVariants.{Ntsc, Pal};
 ghost use Rattle.vbi_side.specs.declared.lines.Counted.TheVariants.{Pictures, Times};
 ghost use Rattle.vbi_side.specs.declared.pace.Pace.TheVariants.{Video, Film};
+ghost use Rattle.vbi_near.specs.Piled.{IsSaidTogether};
+ghost use Rattle.vbi_c.specs.declared.erased.LdvbiErased.{LdvbiErased};
 ghost use Rattle.vbi_c.specs.declared.judging.Asked.TheVariants.{Given, Found};
+ghost use Rattle.vbi_c.specs.declared.setup.Setup.{Setup};
 ghost use Rattle.vbi_c.specs.declared.status.Refusal.TheVariants.{System, Levels, Length, Word, Counted, Pace};
 ghost use Rattle.vbi_c.specs.declared.status.Refusal.TheVariants.{Erased, Line, Known, Clock};
 ghost use Rattle.vbi_c.specs.Chapters.{chapters_status};
@@ -13,7 +17,7 @@ ghost use Rattle.vbi_c.specs.Completing.{completing_of};
 ghost use Rattle.vbi_c.specs.Drawing.{drawing_of};
 ghost use Rattle.vbi_c.specs.Erased.{is_code_line, is_entry, may_follow, is_taken, with_erased, erases, erased_of};
 ghost use Rattle.vbi_c.specs.Judging.{judging_of, one_judging_of, shown_by};
-ghost use Rattle.vbi_c.specs.Piling.{pile_setup};
+ghost use Rattle.vbi_c.specs.Piling.{pile_setup, rows_erased, IsWordOf};
 ghost use Rattle.vbi_c.specs.Seeking.{seek_of};
 ghost use Rattle.vbi_c.specs.Setups.{setup_of, line_setup, rows_setup, fields_setup, lines_setup};
 ghost use Rattle.vbi_c.specs.Statuses.{refusal_status, status_of};
@@ -140,4 +144,16 @@ pub fn worked_piles()
     ensures lists { (pile_setup 1 16384 51200 16 1 3640 (columns_of 2 16 5 5 ∷ []) ≡ Err Erased)
         × (pile_setup 1 16384 51200 16 1 3640 (columns_of 1 17 5 5 ∷ []) ≡ Err Erased)
         × (pile_setup 2 16384 54016 16 1 3640 (columns_of 1 16 5 5 ∷ []) ≡ Err Length) }
+{}
+
+/// Dropouts are known by 1, and by 0 they aren't.
+pub fn known_by_one()
+    ensures known { (setup : Setup) (line : ℕ) (bytes : List ℕ) (erased : List LdvbiErased) (answer : ℕ)
+        → IsWordOf setup line 1 bytes erased answer → (said : Option ℕ)
+        × IsSaidTogether setup.system line setup.levels true (rows_erased setup.system line bytes erased) said
+        × (answer ≡ unwrap_or said 0) }
+    ensures unknown { (setup : Setup) (line : ℕ) (bytes : List ℕ) (erased : List LdvbiErased) (answer : ℕ)
+        → IsWordOf setup line 0 bytes erased answer → (said : Option ℕ)
+        × IsSaidTogether setup.system line setup.levels false (rows_erased setup.system line bytes erased) said
+        × (answer ≡ unwrap_or said 0) }
 {}

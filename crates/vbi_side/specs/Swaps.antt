@@ -50,8 +50,8 @@ pub record IsSwap (clock : Clock) (seen : List Sightings) (answers : List Number
   pub before : k < j
   pub stray : is_stray clock answers i m k (slice_get seen k) ≡ true
 
--- of a disc of video with a number on one field of its pictures: the field that is named was swapped and none before it,
--- or none was
+-- of a disc of video with a number on one field of its pictures: the field that is named was swapped and none before
+-- it, or none was
 abbrev pub IsSwapTold : Clock → Pace → ℕ → List Sightings → List Number → ℕ → Bool → Type 0
 IsSwapTold clock pace slack seen answers field true =
     (pace ≡ Video) × (slack ≡ 0) × IsSwap clock seen answers field

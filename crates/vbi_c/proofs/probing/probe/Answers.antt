@@ -3,6 +3,7 @@ use Rattle.std.proofs.Math.ListN.{length-set}
 use Rattle.std.proofs.lemmas.Bool.Decides.{leb_tells}
 use Rattle.vbi_c.specs.Searches.{shows, TellsAt}
 use Rattle.vbi_c.specs.Telling.{TellsIn}
+use Rattle.vbi_c.proofs.Seen.{seen_more}
 use Rattle.vbi_c.proofs.Shown.{shown_more, counted_more}
 use Rattle.vbi_c.proofs.probing.probe.Goals as goal
 
@@ -21,6 +22,8 @@ loop-i-preserved c =
     record {
       long = simp length-set c.loop-i.invariant.long;
       made = made;
+      shown = λ before. seen_more c.args.search.now c.args.field i c.loop-i.seen c.shown_at.result (omega arith)
+          (omega arith) c.shown_at.ensures.shown (c.loop-i.invariant.shown before);
       counted = counted_more c.args.looked.now c.loop-i.looked c.shown_at.new.looked i c.loop-i.invariant.counted
           c.shown_at.ensures.counted;
       silent = λ k n few tells. elim (leb_tells k i) [
@@ -42,3 +45,8 @@ returns-in-Some-clause-seen c =
 
 pub returns-in-Some-clause-first : goal.returns-in-Some-clause-first
 returns-in-Some-clause-first c = λ k n less tells. c.loop-i.invariant.silent k n (omega (arith, less)) tells
+
+pub returns-in-Some-clause-shown : goal.returns-in-Some-clause-shown
+returns-in-Some-clause-shown c = λ before.
+    seen_more c.args.search.now c.args.field c.loop-i.i c.loop-i.seen c.shown_at.result (omega arith) (omega arith)
+    c.shown_at.ensures.shown (c.loop-i.invariant.shown before)
