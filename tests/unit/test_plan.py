@@ -311,13 +311,11 @@ def lacking():
 
 @pytest.mark.parametrize("text", WRONG)
 def test_a_wrong_plan_is_refused(text):
-    """Pictures 10 and 40, which are unsure, stand in one stretch with those before them."""
+    """Picture 10, which is unsure, stands in one stretch with those before it."""
     sources = lacking()
     found = plan(sources)
-    sure, unsure, padding, others, last = found.stretches
-    found = found._replace(stretches=[
-        sure._replace(fields=sure.fields + unsure.fields, last=unsure.last), padding,
-        others._replace(fields=others.fields + last.fields, last=last.last)])
+    sure, unsure, *others = found.stretches
+    found = found._replace(stretches=[sure._replace(fields=sure.fields + unsure.fields, last=unsure.last), *others])
     refuse_wrong(found, sources)
     wrong = found._replace(stretches=WRONG[text](found.stretches))
     assert reason(refuse_wrong, wrong, sources) == "the plan is wrong: " + text

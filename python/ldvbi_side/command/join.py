@@ -24,8 +24,9 @@ from .summary import listed, named
 
 DESCRIPTION = """Joins two or more captures of one side by their numbers. It says which numbers they have together,
 which of these each one lacks and who has them, which of them one capture shows better than others, which all lack,
-where two of them disagree about a number, and what the command write would take from which. A number that none of several TBC files reads is read together, if their
-lines say it as one pile. Captures that can't be of one disc are refused. """ + statuses_text("join")
+where two of them disagree about a number, and what the command write would take from which. A number that none of
+several TBC files reads is read together, if their lines say it as one pile. Captures that can't be of one disc are
+refused. """ + statuses_text("join")
 NOTHING_SHOWS = "nothing but their numbers shows that these are one disc"
 TAKEN_COLUMNS = ("number", "source", "field", "frame", "how")
 RANGE_COLUMNS = ("first", "last", "source", "first field", "last field", "how")

@@ -13,7 +13,7 @@ AGREEING = 2  # captures that have the same last number, so that it is the disc'
 
 class End(NamedTuple):
     """What stands beside the first or the last number of a capture: its rank, how many fields go on with it, whether
-    lead-in or lead-out comes next, and whether no field there says otherwise."""
+    lead-in or lead-out comes next, and whether nothing says otherwise: a number, or a field that doesn't go on."""
     rank: int
     fields: int
     is_marked: bool
@@ -53,7 +53,9 @@ class Followed(NamedTuple):
         """What stands after its last number (step 1), or before its first one (-1)."""
         anchor = self.parts[-1][-1] if step > 0 else self.parts[0][0]
         count, is_seen = self.reach(anchor, step)
-        return End(anchor.rank, count, self.going.is_marked(anchor.field + step * (count + 1)), is_seen)
+        there = anchor.field + step * (count + 1)
+        is_seen = is_seen and (count == LONGEST or self.going.is_end(there) or self.going.is_pad(there))
+        return End(anchor.rank, count, self.going.is_marked(there), is_seen)
 
 
 def followed(source: Source, ranks: Ranks) -> Followed:

@@ -45,6 +45,10 @@ class Going:
         """Whether lead-in or lead-out stands in a field, or the capture has none there."""
         return field in self._ends or not 1 <= field <= self._fields
 
+    def is_pad(self, field: int) -> bool:
+        """Whether a field of the capture is padding."""
+        return bool(self._pad) and self._pad[field - 1]
+
     def is_marked(self, field: int) -> bool:
         """Whether lead-in or lead-out stands in a field."""
         return field in self._ends

@@ -99,20 +99,38 @@ def _shared(last: Anchor, first: Anchor, capture: Followed, lengths: Lengths) ->
 
 def _is_seen(end: End, step: int, capture: Followed, known: Known) -> bool:
     """Whether the fields after the last number of a capture (step 1), or before its first one (-1), are seen to be the
-    disc's: it lost none elsewhere, or another one has the same number there. They aren't if another one has so many
+    disc's: it cut no frame elsewhere, or another one has the same number there. They aren't if another one has so many
     numbers more that their fields may be lost here, and leave it looking the same."""
     is_agreed = end.rank in (known.ends if step > 0 else known.begins)
-    if not end.is_seen or not is_agreed and _has_losses(capture, known.lengths):
+    if not end.is_seen or not is_agreed and _cuts_frames(capture, known.lengths):
         return False
     ranks = range(end.rank, known.extent.stop) if step > 0 else range(known.extent.start, end.rank)
     lost = _fields_of(ranks, known.lengths) - end.fields - (step > 0)
     return not end.is_marked or lost < capture.source.period()
 
 
-def _has_losses(capture: Followed, lengths: Lengths) -> bool:
-    """Whether a capture has too few fields between two numbers."""
-    return any(one[-1].rank < other[0].rank and _fields_of(range(one[-1].rank, other[0].rank), lengths)
-               > other[0].field - one[-1].field for one, other in zip(capture.parts, capture.parts[1:]))
+def _cuts_frames(capture: Followed, lengths: Lengths) -> bool:
+    """Whether a capture lost fields from within a frame on, or up to within one, between two numbers, so that it may
+    have where it isn't seen. If neither frames nor the colour are known, any loss may be one."""
+    for one, other in zip(capture.parts, capture.parts[1:]):
+        last, first = one[-1], other[0]
+        fields = first.field - last.field - 1
+        if last.rank >= first.rank or _fields_of(range(last.rank, first.rank), lengths) <= fields + 1:
+            continue
+        after = capture.reach(last, 1, fields)[0]
+        before = min(capture.reach(first, -1, fields)[0], fields - after)
+        if capture.source.period() == 1 or (_whole_fields(last.rank, 1 + after, lengths) != 1 + after
+                                            or not _begins_whole(first.rank, before, lengths)):
+            return True
+    return False
+
+
+def _begins_whole(rank: int, fields: int, lengths: Lengths) -> bool:
+    """Whether so many fields before a number are whole pictures."""
+    while fields > 0:
+        rank -= 1
+        fields -= lengths.of(rank, 1)
+    return fields == 0
 
 
 def _fields_of(ranks: range, lengths: Lengths) -> int:
