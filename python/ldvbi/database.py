@@ -4,6 +4,7 @@ the columns `field_id` and `is_first_field`. There may be a table `drop_outs`. T
 ld-decode itself made: none was at hand."""
 
 import contextlib
+import os
 import pathlib
 import re
 import sqlite3
@@ -77,9 +78,16 @@ def opened(path: str) -> Iterator[sqlite3.Connection]:
             _patiently(lambda: database.execute("SELECT count(*) FROM sqlite_master"))
             yield database
     except sqlite3.Error as error:
-        raise ValueError("%s: SQLite can't read it: %s" % (path, error)) from None
+        raise ValueError("%s: SQLite can't read it: %s%s" % (path, error, _advice(path))) from None
     except ValueError as error:
         raise ValueError("%s: %s" % (path, error)) from None
+
+
+def _advice(path):
+    """What to do if a process has left a change unfinished, which only a writer of the file can undo."""
+    if not os.path.exists(path + "-journal"):
+        return ""
+    return "; a change was left unfinished: to undo it, open the file once by the program sqlite3, and ask for .tables"
 
 
 def limit_steps(database: sqlite3.Connection) -> None:

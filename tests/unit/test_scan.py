@@ -20,7 +20,7 @@ from ldvbi_side.command.main import answer_of
 from ldvbi_side.command.outputs import locked
 from ldvbi_side.command.scan import _Folder, scan
 import pytest
-from room import buffered, DEADLINE, in_database, IN_PLACE
+from room import buffered, COMMAND, DEADLINE, in_database, IN_PLACE
 from streams import TOP
 
 HEAD = "side whole lost unread format from to last lead-in lead-out fields try why".split()
@@ -295,6 +295,14 @@ def test_two_scans_at_once(room):
     with contextlib.chdir(room.folder), mock.patch.object(_Folder, "write_index", later):
         scan(["--html", "pages", "a"], answer_of)
     assert re.findall(r'href="([^"]*)"', room.text("pages/index.html")) == ["1.html", "2.html"]
+
+
+def test_few_open_files(room):
+    """What the system refuses isn't said of standard output."""
+    room.add("side.tbc")
+    limited = ["sh", "-c", 'ulimit -n 8; exec "$@"', "sh", *COMMAND]
+    assert room.run_words("scan --csv .", command=limited)[::2] == (
+        2, "ldvbi-side: Too many open files; `ulimit -n` says how many a process may open\n")
 
 
 def test_control_characters(room):
