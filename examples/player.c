@@ -74,7 +74,7 @@ static size_t search(const Side *side, int is_chapter, const char *place, uint32
             n[3] < rate, "no picture, no time, and no chapter");
     if (parts == 4) counted = LDVBI_TIMES, n[0] = ((n[0] * 60 + n[1]) * 60 + n[2]) * rate + n[3];
     LdvbiSought sought = {is_chapter ? seek_chapter(side, (int)n[0]) : side->fields, {0, 0}, 0, 0};
-    while (!is_chapter && sought.field == side->fields && *lacked < 1000) /* these fetch few fields more */
+    while (!is_chapter && sought.field == side->fields && *lacked < 1000) /* most of them fetch no other fields */
         check(ldvbi_seek(side->system, side->black, side->white, counted, LDVBI_FIND_PACE, side->bytes, side->length,
                          n[0] + (*lacked)++, &sought));
     *lacked = is_chapter ? sought.field < side->fields && chapter_of(side, sought.field) != (int)n[0] : *lacked - 1;

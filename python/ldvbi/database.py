@@ -4,7 +4,9 @@ the columns `field_id` and `is_first_field`. There may be a table `drop_outs`. T
 ld-decode itself made: none was at hand."""
 
 import contextlib
+import os
 import pathlib
+import re
 import sqlite3
 import time
 from typing import Any, Callable, Dict, Iterable, Iterator, List, Optional
@@ -18,6 +20,8 @@ _COLUMNS = {"system": "system", "black_16b_ire": "black16bIre", "white_16b_ire":
 _OF_DROPOUT = {"field_line": "fieldLine", "startx": "startx", "endx": "endx"}
 STEPS = 100000  # of SQLite's own machine, after each of which signals are heeded
 MOST_STEPS = 10000 * STEPS  # of one database: a hundred times what one of a million fields takes
+MOST_LENGTH = 1 << 26  # bytes of a value, which a function in the file could make so long that no signal is heeded
+_LIMIT_LENGTH = 0  # SQLite's number of that limit
 WAIT = 5  # seconds for a database that another process writes to
 _OPTIONAL = {"field_width": "fieldWidth", "field_height": "fieldHeight",
              "number_of_sequential_fields": "numberOfSequentialFields"}
@@ -74,13 +78,25 @@ def opened(path: str) -> Iterator[sqlite3.Connection]:
             _patiently(lambda: database.execute("SELECT count(*) FROM sqlite_master"))
             yield database
     except sqlite3.Error as error:
-        raise ValueError("%s: SQLite can't read it: %s" % (path, error)) from None
+        raise ValueError("%s: SQLite can't read it: %s%s" % (path, error, _advice(path))) from None
     except ValueError as error:
         raise ValueError("%s: %s" % (path, error)) from None
 
 
+def _advice(path):
+    """What to do if a process has left a change unfinished, which only a writer of the file can undo."""
+    if not os.path.exists(path + "-journal"):
+        return ""
+    return "; a change was left unfinished: to undo it, open the file once by the program sqlite3, and ask for .tables"
+
+
 def limit_steps(database: sqlite3.Connection) -> None:
-    """Has SQLite heed signals while it runs, and stop what would never end, as a view in the file may."""
+    """Has SQLite heed signals while it runs, and stop what would never end, as a view in the file may. What the file
+    has it call may do no harm, and make no value that is longer than any of ld-decode's."""
+    database.execute("PRAGMA trusted_schema = OFF")
+    database.execute("PRAGMA cell_size_check = ON")
+    if hasattr(database, "setlimit"):  # from Python 3.11 on
+        database.setlimit(_LIMIT_LENGTH, MOST_LENGTH)
     left = iter(range(MOST_STEPS // STEPS))
     sqlite3.enable_callback_tracebacks(True)  # so that a signal that comes in the next function isn't lost
     database.set_progress_handler(lambda: next(left, None) is None, STEPS)
@@ -130,6 +146,30 @@ def has_column_of_fields(database: sqlite3.Connection, column: str) -> bool:
     """Whether that table has a column."""
     table = table_of_fields(database)
     return table is not None and column in columns_of(database, table)
+
+
+# What stands in SQL as it is: texts, names in quotes, and comments
+_APART = re.compile(r"""'(?:[^']|'')*'|"(?:[^"]|"")*"|`[^`]*`|\[[^]]*\]|--[^\n]*|/\*.*?(?:\*/|\Z)""", re.S)
+
+
+def refuse_code(database: sqlite3.Connection, table: str) -> None:
+    """Raises a ValueError if writing to a table runs what its file has: a trigger, a check, a generated column, a
+    default that is computed, or an index that is partial or on an expression. It may write something else, or make
+    SQLite work for so long that no signal is heeded."""
+    for name, of_table in database.execute("SELECT name, tbl_name FROM sqlite_master WHERE type = 'trigger'"):
+        raise ValueError("its trigger %s of the table %s may write something else" % (name, of_table))
+    text, = database.execute("SELECT sql FROM sqlite_master WHERE type = 'table' AND name = ?", (table,)).fetchone()
+    plain = _APART.sub(" ", text or "").upper()
+    found = [what for what, is_there in (
+        ("a check", re.search(r"\bCHECK\b", plain)), ("a virtual table", re.match(r"\s*CREATE\s+VIRTUAL\b", plain)),
+        ("a generated column", re.search(r"\b(?:GENERATED|AS)\s*(?:ALWAYS\s+AS\s*)?\(", plain)),
+        ("a default that is computed", re.search(r"\bDEFAULT\s*\(", plain))) if is_there]
+    for _, index, _, _, is_partial in database.execute("PRAGMA index_list(%s)" % quoted(table)).fetchall():
+        columns = database.execute("PRAGMA index_xinfo(%s)" % quoted(index)).fetchall()
+        if is_partial or any(column[1] == -2 for column in columns):
+            found.append("the index %s, which is partial or on an expression" % index)
+    if found:
+        raise ValueError("its table %s has %s, whose code would run" % (table, found[0]))
 
 
 def quoted(name: str) -> str:

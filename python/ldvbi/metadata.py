@@ -183,11 +183,11 @@ def _level(parameters, name, notes):
     if member not in parameters:
         raise ValueError("no %s level given" % name)
     value = parameters[member]
-    if type(value) is int:
-        return value
-    if type(value) is not float or not math.isfinite(value):
+    if type(value) not in (int, float) or type(value) is float and not math.isfinite(value):
         raise ValueError("%s level is no number" % name)
-    rounded = math.floor(value + 0.5)
+    rounded = math.floor(value + 0.5) if type(value) is float else value
+    if not 0 <= rounded <= 65535:
+        raise ValueError("%s level is not from 0 to 65535" % name)
     if rounded != value:
         notes.append("%s is %s, rounded to %d" % (member, value, rounded))
     return rounded

@@ -180,6 +180,14 @@ def legible(text: str) -> str:
     return text if len(text) <= MOST_SAID else text[:MOST_SAID - end - 3] + "..." + text[-end:]
 
 
+def uncontrolled(text: str) -> str:
+    """A text with its control characters escaped. It stays as it is otherwise, even if it is no text."""
+    if text.isprintable():
+        return text
+    return "".join(one.encode("unicode_escape").decode("ascii") if ord(one) < 0x20 or 0x7F <= ord(one) < 0xA0 else one
+                   for one in text)
+
+
 def printable(text: str) -> str:
     """A text for a terminal, with a question mark for each character that isn't shown."""
     return text if text.isprintable() else "".join(one if one.isprintable() else "?" for one in text)

@@ -148,6 +148,11 @@ END
 does ${CC:-cc} -shared -fPIC -I"$top/include" -o advised.so "$tests/library/advised.c" -ldl
 does env ADVISED=advice LD_PRELOAD="$work/advised.so" "$player" side.tbc search 30
 check 'the player: nothing is read ahead' [ "$(head -n 1 advice)" = "random 0 $(wc -c < side.tbc)" ]
+# A pipe that nobody named stands in the place of the metadata: nobody waits for it.
+mkfifo absent.tbc.json
+said_line 'ldvbi: cannot read metadata'
+does "$program" extract absent.tbc
+judge 'extract beside a pipe' 1 empty "$(cat wanted)"
 # The pipe is closed before the player writes.
 { sleep 1; "$player" side.tbc search 30 play 2> err; echo $? > piped; } | :
 check 'the player: a closed pipe' [ "$(cat piped; cat err)" = 141 ]

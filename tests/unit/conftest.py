@@ -2,6 +2,7 @@
 run the command (room.py), and the order of the tests."""
 
 import os
+import signal
 import sys
 import tempfile
 
@@ -22,6 +23,10 @@ os.environ.setdefault("HYPOTHESIS_STORAGE_DIRECTORY", os.path.join(tempfile.gett
 hypothesis.settings.register_profile("same", derandomize=True, database=None, deadline=None)
 hypothesis.settings.load_profile("same")
 pytest.register_assert_rewrite("room", "compact")
+
+# A shell has what it starts behind its back ignore Ctrl-C, and the processes of tests would ignore it, too.
+if signal.getsignal(signal.SIGINT) == signal.SIG_IGN:
+    signal.signal(signal.SIGINT, signal.default_int_handler)
 
 import room as rooms  # noqa: E402
 

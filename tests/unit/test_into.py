@@ -198,7 +198,17 @@ def test_what_was_written_last_is_copied_too(room):
     (GAPS, "CREATE TABLE vbi (field_id INT, vbi0, vbi1, vbi2); INSERT INTO vbi VALUES (NULL, 1, 2, 3)", 0, ()),
     ("SQLite can't copy it: no such column: capture_id", FORM.replace("(capture_id", "(a", 1), 9, ()),
     *(("its trigger one of the table %s may write something else" % table, FORM, 0, [TRIGGER % table])
-      for table in ("vbi", "drop_outs"))))
+      for table in ("vbi", "drop_outs")),
+    *(("its table vbi has %s, whose code would run" % what, FORM.replace("vbi2 INTEGER NOT NULL", column), 0, more)
+      for what, column, more in (
+          ("a check", "vbi2 INTEGER CHECK (length(randomblob(900000000)) > 0)", ()),
+          ("a generated column", "vbi2 INTEGER, a GENERATED ALWAYS AS (zeroblob(900000000)) STORED", ()),
+          ("a generated column", "vbi2 INTEGER, a AS (length(vbi2))", ()),
+          ("a default that is computed", "vbi2 INTEGER, a DEFAULT (randomblob(900000000))", ()),
+          ("the index one, which is partial or on an expression", "vbi2 INTEGER",
+           ["CREATE INDEX one ON vbi (length(vbi1))"]),
+          ("the index one, which is partial or on an expression", "vbi2 INTEGER",
+           ["CREATE INDEX one ON vbi (vbi1) WHERE length(vbi1) > 0"])))))
 def test_refused_databases(room, text, form, count, more):
     """By their form, their fields, or statements after these."""
     make(room, *more, count=count, form=form)

@@ -33,6 +33,12 @@ PARAMETERS = """
     {"system": "PAL", "black16bIre": "-"} | no black level given
     {"system": "PAL", "white16bIre": "-"} | no white level given
     {"system": "PAL", "black16bIre": true} | black level is no number
+    {"system": "PAL", "black16bIre": -1} | black level is not from 0 to 65535
+    {"system": "PAL", "white16bIre": 65536} | white level is not from 0 to 65535
+    {"system": "PAL", "white16bIre": 65535.5} | white level is not from 0 to 65535
+    {"system": "PAL", "white16bIre": -0.51} | white level is not from 0 to 65535
+    {"system": "PAL", "white16bIre": 1e300} | white level is not from 0 to 65535
+    {"system": "PAL", "white16bIre": LONG} | white level is not from 0 to 65535
     {"system": "PAL", "white16bIre": "1"} | white level is no number
     {"system": "PAL", "black16bIre": NaN} | NO METADATA || {"system": "PAL", "white16bIre": Infinity} | NO METADATA
 """
@@ -79,7 +85,7 @@ def make(room, *statements, name="side.tbc.db"):
 
 def test_json_taken_and_refused(room):
     for text, wanted in cells_of(PARAMETERS):
-        known = {"black16bIre": 16384, "white16bIre": 51200, **json.loads(text)}
+        known = {"black16bIre": 16384, "white16bIre": 51200, **json.loads(text.replace("LONG", "9" * 400))}
         path = parameters(room, **{name: value for name, value in known.items() if value != "-"})
         if wanted in ("NTSC", "PAL"):
             assert settings_of(path) == (wanted, 16384, 51200, ())
@@ -92,8 +98,8 @@ def test_json_taken_and_refused(room):
 
 
 def test_levels_with_decimals(room):
-    """A half goes upwards, also from an even number. Whether a level fits into a sample isn't asked here."""
-    for value, rounded in ((16384.0, 16384), (16384.5, 16385), (16384.49, 16384), (1e99, int(1e99)), (-0.51, -1)):
+    """A half goes upwards, also from an even number. What is rounded has to fit into a sample."""
+    for value, rounded in ((16384.0, 16384), (16384.5, 16385), (16384.49, 16384), (65535.49, 65535), (-0.5, 0)):
         notes = () if value == rounded else ("white16bIre is %s, rounded to %d" % (value, rounded),)
         assert settings_of(parameters(room, system="PAL", black16bIre=1, white16bIre=value)) == (
             "PAL", 1, rounded, notes)
@@ -159,7 +165,10 @@ def test_an_unfinished_change_is_left_alone(room):
         copies = {end: room.read("open" + end) for end in (".db", ".db-journal")}
     for end, data in copies.items():
         room.write("copy" + end, data)
-    assert "copy.db: " in reason(settings_of, room.named("copy.db"))
+    said = reason(settings_of, room.named("copy.db"))
+    assert "copy.db: SQLite can't read it: " in said
+    assert said.endswith("; a change was left unfinished: to undo it, open the file once by the program sqlite3, and "
+                         "ask for .tables")
     assert {end: room.read("copy" + end) for end in copies} == copies
 
 

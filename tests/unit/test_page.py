@@ -1,5 +1,7 @@
 """The page of a side, and the index of many: parsed, and compared with the answer."""
 
+import base64
+import hashlib
 import os
 import re
 import xml.etree.ElementTree as xml
@@ -76,6 +78,11 @@ def test_what_is_said():
         assert '<div class="%s">whole: %s</div>' % (kind, whole) in page(text)
 
 
+def digest(script):
+    """The hash of a script, as a policy has it."""
+    return base64.b64encode(hashlib.sha256(script.encode()).digest()).decode()
+
+
 @pytest.mark.parametrize("text, title, more", (
     (page(DAMAGED, lambda one: "<svg></svg>"), "side.tbc", set()),
     (index_of("index.html", []), "LaserDisc sides", {"script"})))
@@ -83,6 +90,10 @@ def test_it_says_how_it_is_read_and_needs_nothing_else(text, title, more):
     tags = Page(text).tags
     assert text.startswith('<!DOCTYPE html>\n<html lang="en"><head><meta charset="utf-8"><title>%s</title>' % title)
     assert ("meta", {"name": "viewport", "content": "width=device-width, initial-scale=1"}) in tags
+    scripts = re.findall("<script>(.*?)</script>", text, re.S)
+    hashes = "".join("; script-src 'sha256-%s'" % digest(one) for one in scripts)
+    assert ("meta", {"http-equiv": "Content-Security-Policy", "content": "default-src 'none'; "
+                     "style-src 'unsafe-inline'; base-uri 'none'; form-action 'none'" + hashes}) in tags
     assert {"script", "link", "img", "iframe", "object", "base"} & {tag for tag, _ in tags} == more
     assert not {"src", "href", "style", "onclick"} & {name for _, known in tags for name in known}
     assert not re.search(r"url\(|@import", text)
@@ -198,7 +209,10 @@ def test_the_index(room):
         "|no|12|6, 7 to 14|8 pictures, 16 fields||16 fields lost; 8 pictures lost; begins at 7, ends at 14",
         "b/odd.vbi.json|fault|||||not JSON: line 1 is wrong from column 2 on",
         "|can't tell|9|none|none||no picture number and no time", "|yes|6|3, 1 to 3|none||"))
-    page = room.write("after.html", room.text("pages/index.html").replace("</body></html>", "") + ACTIONS)
+    # The policy lets no other script run, so that of the test is named there, too.
+    action, = re.findall("<script>(.*?)</script>", ACTIONS, re.S)
+    text = room.text("pages/index.html").replace("script-src ", "script-src 'sha256-%s' " % digest(action))
+    page = room.write("after.html", text.replace("</body></html>", "") + ACTIONS)
     words = ["chromium", "--headless=new", "--no-sandbox", "--disable-gpu", "--disable-dev-shm-usage", "--dump-dom"]
     # Chromium keeps what it remembers below HOME.
     text = room.run_words(*words, "file://" + page, command=[], env={**os.environ, "HOME": room.folder})[1]

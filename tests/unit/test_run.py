@@ -211,6 +211,13 @@ def test_while_it_is_loaded(drawn, name, number, status, more):
         drawn.stopped(process, number, status)
 
 
+def test_while_python_itself_is_loaded(drawn):
+    """The script has Python leave out the modules by which it knows of others, and in which Ctrl-C would be told."""
+    drawn.write("sitecustomize.py", "import os, signal\nos.kill(os.getpid(), signal.SIGINT)\n")
+    assert drawn.run_words("side.vbi.json --seek 3", command=[os.path.join(TOP, "python", "ldvbi-side")],
+                           env={**os.environ, "PYTHONPATH": drawn.folder}) == (0, "field 4, frame 2\n", "")
+
+
 def test_in_a_function_whose_exceptions_are_dropped(drawn):
     """As those that SQLite calls, while it reads a view that has no end. Nothing is said of that."""
     in_database(drawn.named("side.tbc.db"), *ENDLESS)

@@ -1,5 +1,6 @@
 """`scan`: the table of a folder of sides, the pages with their index, and which files of folders are sides."""
 
+import contextlib
 import csv
 import gzip
 import json
@@ -16,8 +17,10 @@ from ldvbi.packed import packed_as
 from ldvbi_side.command.folders import files_of, Found, name_below, page_names, sides_in
 from ldvbi_side.command.into import copies_in
 from ldvbi_side.command.main import answer_of
-from ldvbi_side.command.scan import scan
-from room import in_database, IN_PLACE
+from ldvbi_side.command.outputs import locked
+from ldvbi_side.command.scan import _Folder, scan
+import pytest
+from room import buffered, COMMAND, DEADLINE, in_database, IN_PLACE
 from streams import TOP
 
 HEAD = "side whole lost unread format from to last lead-in lead-out fields try why".split()
@@ -272,6 +275,41 @@ def test_refused(drawn):
     assert page_of(drawn) == "pages/side-2.html"
     os.rename(drawn.named("copies/side.tbc.json"), drawn.named("pages/index.html"))
     drawn.refused("pages/index.html is no file", "scan --html pages side.tbc")
+
+
+def test_two_scans_at_once(room):
+    """The index is written from what is in the folder then, while no other process writes one."""
+    room.add("a/1.tbc")
+    room.add("b/2.tbc")
+    write = _Folder.write_index
+
+    def later(folder, *rows):
+        assert room.run_command("scan --html pages b", env=buffered())[::2] == (0, "")
+        with locked(folder.path):
+            waiting = room.started("scan --html pages b --again")
+            with pytest.raises(subprocess.TimeoutExpired):
+                waiting.wait(2)
+        waiting.communicate(timeout=DEADLINE)
+        write(folder, *rows)
+
+    with contextlib.chdir(room.folder), mock.patch.object(_Folder, "write_index", later):
+        scan(["--html", "pages", "a"], answer_of)
+    assert re.findall(r'href="([^"]*)"', room.text("pages/index.html")) == ["1.html", "2.html"]
+
+
+def test_few_open_files(room):
+    """What the system refuses isn't said of standard output."""
+    room.add("side.tbc")
+    limited = ["sh", "-c", 'ulimit -n 8; exec "$@"', "sh", *COMMAND]
+    assert room.run_words("scan --csv .", command=limited)[::2] == (
+        2, "ldvbi-side: Too many open files; `ulimit -n` says how many a process may open\n")
+
+
+def test_control_characters(room):
+    """Of a name they are escaped, so that none acts on a terminal; JSON has the name as it is."""
+    room.add("a\x1b[31m\x85\n.tbc")
+    assert room.run_words("scan --csv .")[1].splitlines()[1].startswith("./a\\x1b[31m\\x85\\n.tbc,")
+    assert json.loads(room.run_words("scan --json .")[1])["sides"][0]["side"] == "./a\x1b[31m\x85\n.tbc"
 
 
 def test_names_and_notes(room):

@@ -152,9 +152,25 @@ def test_faults_that_nobody_thought_of(room, capsys, name, sides, read, fault):
     assert not [*pathlib.Path(room.folder).rglob("*.part")]
 
 
-def scanning(room, words):
+# Has the first process whose file is complete, and hasn't got its name, wait.
+FIRST_WAITS = """
+import os, time
+synced = os.fsync
+
+def fsync(file):
+    try:
+        os.close(os.open("waits", os.O_CREAT | os.O_EXCL))
+    except FileExistsError:
+        return synced(file)
+    time.sleep(600)
+
+os.fsync = fsync
+"""
+
+
+def scanning(room, words, **more):
     """A scan that has printed the heads of its table."""
-    process = room.started("scan --csv " + words, start_new_session=True)
+    process = room.started("scan --csv " + words, start_new_session=True, **more)
     assert process.stdout.readline().startswith(b"side,whole,")
     return process
 
@@ -184,8 +200,10 @@ def test_while_a_page_is_written(room, number, to_all, status, row, left):
     worn = line_with(0xF00001, NTSC, [(430, 441, False)])
     room.add("1.tbc", [[worn, worn, worn]] * 80)
     os.mkdir(room.named("pages"))
-    process = scanning(room, "--html pages 1.tbc")
-    while not room.names("pages"):
+    room.write("sitecustomize.py", FIRST_WAITS)
+    paths = os.pathsep.join([room.folder, os.environ["PYTHONPATH"]])
+    process = scanning(room, "--html pages 1.tbc", env={**buffered(), "PYTHONPATH": paths})
+    while not (room.names("pages") and os.path.exists(room.named("waits"))):
         assert process.poll() is None
         time.sleep(0.005)
     assert room.names("pages")[0].endswith(".part")

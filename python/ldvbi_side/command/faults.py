@@ -2,6 +2,7 @@
 
 import argparse
 import contextlib
+import errno
 import os
 import shlex
 from typing import Iterator
@@ -18,6 +19,8 @@ def fault_text(error: Exception) -> str:
     number for it."""
     if not isinstance(error, OSError) or not error.strerror:
         return str(error)
+    if error.errno in (errno.EMFILE, errno.ENFILE):
+        return "%s; `ulimit -n` says how many a process may open" % error.strerror
     # What is opened or written elsewhere has its name.
     name = STANDARD_OUTPUT if error.filename is None else error.filename
     return "%s: %s" % (STANDARD_INPUT if name == 0 else os.fsdecode(name) or "a file without a name", error.strerror)

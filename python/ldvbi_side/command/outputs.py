@@ -151,6 +151,20 @@ def _machine():
     return hashlib.sha256(os.fsencode(os.uname().nodename)).hexdigest()[:8]
 
 
+@contextlib.contextmanager
+def locked(folder: str) -> Iterator[None]:
+    """A block that no other process of this command is in at the same time, for this folder. Where the system or the
+    disk has no locks, it isn't kept from that."""
+    number = os.open(folder, os.O_RDONLY | os.O_CLOEXEC)
+    try:
+        with contextlib.suppress(ImportError, OSError):
+            import fcntl  # which not every system has
+            fcntl.flock(number, fcntl.LOCK_EX)
+        yield
+    finally:
+        os.close(number)
+
+
 def drop_parts(folder: str) -> None:
     """Removes from a folder the unfinished files of processes of this machine that have gone without removing them."""
     for name in os.listdir(folder):

@@ -5,7 +5,7 @@ import json
 import sys
 from typing import Any, Dict, List, Optional, Sequence
 
-from ..outside import legible, printable
+from ..outside import legible, printable, uncontrolled
 
 VERSION = 2  # of the form of the JSON
 # The columns, and the members of a row
@@ -75,7 +75,8 @@ class Csv(Table):
         self._table.writerow(COLUMNS)
 
     def add(self, row: Row) -> None:
-        self._table.writerow(_cells(row))
+        name, *cells = _cells(row)
+        self._table.writerow([uncontrolled(name), *cells])
         sys.stdout.flush()
 
 

@@ -15,7 +15,7 @@ from ..outside import NAME, say
 from .faults import OF_TBC, fault_text
 from .folders import Task, files_of, name_below, page_names, sides_in
 from .into import copies_in, make_folders
-from .outputs import drop_part, make_folder, refuse_inputs, whole_file
+from .outputs import drop_part, locked, make_folder, refuse_inputs, whole_file
 from .parser import words_of
 from .parsers import parser_of_scan
 from .processes import Ended, SideBySide
@@ -97,16 +97,18 @@ class _Folder:
 
     def write_index(self, tasks: Sequence[Task], rows: Sequence[Dict[str, Any]]) -> None:
         """Writes the index of these sides, and of others whose pages are there."""
-        from ..draw.index import Fault, faults_in, index_of, is_page
+        from ..draw.index import Fault, faults_in, index_of, is_page, sides_of
         read = {os.path.realpath(task.path) for task in tasks}
-        others = [os.path.join(self.path, name) for name, side in self.known.items() if side and side not in read]
+        pages = [row["page"] for row in rows if row["page"]]
         faults = [Fault(os.path.realpath(task.path), task.name, row["fault"]) for task, row in zip(tasks, rows)
                   if row["fault"] is not None]
-        faults += [one for one in faults_in(self.index) if one.side not in read and os.path.exists(one.side)]
-        pages = [row["page"] for row in rows if row["page"]]
-        text = index_of(self.index, [*pages, *filter(is_page, others)], faults, True)
-        with whole_file(self.index) as file:
-            file.write(text)
+        with locked(self.path):  # another scan may have written pages meanwhile, and an index
+            others = [os.path.join(self.path, name) for name, side in sides_of(self.path).items()
+                      if side and side not in read]
+            faults += [one for one in faults_in(self.index) if one.side not in read and os.path.exists(one.side)]
+            text = index_of(self.index, [*pages, *filter(is_page, others)], faults, True)
+            with whole_file(self.index) as file:
+                file.write(text)
 
 
 def _tasks(options, sides, folder):

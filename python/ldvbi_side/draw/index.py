@@ -14,7 +14,7 @@ from ..answer.analysis import VERSION
 from ..answer.whole import NO, OPEN, YES, counted
 from .page import CLASSES, MARK, STYLE
 from .sorting import SCRIPT, looks_of
-from .svg import escaped
+from .svg import escaped, policy
 
 FIRST, PART = 2048, 65536  # characters of a page that are read at once: at first, for most heads are short, and at most
 MOST_PARTS = 64  # in which the head of a page has an end
@@ -165,12 +165,12 @@ def index_of(path: str, pages: Iterable[str], faults: Sequence[Fault] = (), name
         rows.append(_row_of(name, link, said, is_gone))
     rows.sort(key=lambda row: (ORDER.index(row.whole), row.name.split("/")))
     return ('<!DOCTYPE html>\n<html lang="en"><head><meta charset="utf-8"><title>LaserDisc sides</title>\n'
-            '<meta name="viewport" content="width=device-width, initial-scale=1">\n<meta name="%s" content="%s">\n'
+            '%s<meta name="viewport" content="width=device-width, initial-scale=1">\n<meta name="%s" content="%s">\n'
             '<style>%s%s</style></head><body>\n<h1>%s</h1>\n<p id="filter" hidden="hidden"><label>Rows with '
             '<input type="search"/></label> <output></output></p>\n'
             '<div class="wide"><table><thead><tr>%s</tr></thead>\n<tbody>%s</tbody></table></div>\n'
             "<script>%s</script></body></html>\n" % (
-                FAULTS, escaped(json.dumps(faults)), STYLE, looks_of(COLUMNS), _counts_text(rows),
+                policy(SCRIPT), FAULTS, escaped(json.dumps(faults)), STYLE, looks_of(COLUMNS), _counts_text(rows),
                 "".join('<th scope="col">%s</th>' % name for name in COLUMNS), "\n".join(map(_text_of, rows)), SCRIPT))
 
 

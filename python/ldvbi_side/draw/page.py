@@ -12,7 +12,7 @@ from ..side import Side
 from .bands import SHOWN
 from .drawing import drawing_of
 from .folds import folds_of
-from .svg import escaped
+from .svg import escaped, policy
 
 MOST_PLOTS, MOST_PLOTTED = 200, 1500000  # bad lines, and characters of their drawings
 CLASSES = {YES: "yes", NO: "no", OPEN: "open"}
@@ -45,8 +45,8 @@ def page_of(side: Side, title: str, summary: Iterable[str], plot: Optional[Calla
 
 def _head(title, said):
     return ('<!DOCTYPE html>\n<html lang="en"><head><meta charset="utf-8"><title>%s</title>\n'
-            '<meta name="viewport" content="width=device-width, initial-scale=1">\n<meta name="%s" content="%s">\n'
-            "<style>%s</style></head><body>" % (escaped(title), MARK, escaped(json.dumps(said)), STYLE))
+            '%s<meta name="viewport" content="width=device-width, initial-scale=1">\n<meta name="%s" content="%s">\n'
+            "<style>%s</style></head><body>" % (escaped(title), policy(), MARK, escaped(json.dumps(said)), STYLE))
 
 
 def _verdict(answer):

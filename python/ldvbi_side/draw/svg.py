@@ -1,5 +1,7 @@
 """The parts of an SVG: texts, boxes, lines and paths, each with a title that a browser shows under the pointer."""
 
+import base64
+import hashlib
 import html
 from typing import Any, List, Optional
 from xml.sax import saxutils
@@ -8,6 +10,18 @@ from ..outside import shown
 
 # About the width of a character, in pixels at a font size of 1; the widest letters are wider
 CHARACTER = 0.65
+
+
+# What a page may do: show itself, its styles, and the scripts that are named. It fetches nothing.
+_POLICY = "default-src 'none'; style-src 'unsafe-inline'; base-uri 'none'; form-action 'none'"
+
+
+def policy(script: str = "") -> str:
+    """The element of a page that has a browser refuse all but what the page is known to have: styles, and this script
+    if there is one."""
+    digest = base64.b64encode(hashlib.sha256(script.encode()).digest()).decode("ascii")
+    allowed = "; script-src 'sha256-%s'" % digest if script else ""
+    return '<meta http-equiv="Content-Security-Policy" content="%s%s">\n' % (_POLICY, allowed)
 
 
 def escape(text: str) -> str:

@@ -8,7 +8,7 @@ from ..join.entries import Joined
 from ..join.plain import as_json
 from .bars import bars_of
 from .page import STYLE
-from .svg import escaped
+from .svg import escaped, policy
 
 # The lists of the answer that the page has, and how it names them
 LISTS = {
@@ -23,8 +23,8 @@ def page_of_joined(joined: Joined, lines: Iterable[str]) -> str:
     """The text of the page. `lines` say in words what was joined."""
     title = ", ".join(one.name for one in joined.captures)
     parts = ['<!DOCTYPE html>\n<html lang="en"><head><meta charset="utf-8"><title>%s</title>\n'
-             '<meta name="viewport" content="width=device-width, initial-scale=1">\n<style>%s</style></head><body>'
-             % (escaped(title), STYLE), "<h1>%s</h1>" % escaped(title)]
+             '%s<meta name="viewport" content="width=device-width, initial-scale=1">\n<style>%s</style></head><body>'
+             % (escaped(title), policy(), STYLE), "<h1>%s</h1>" % escaped(title)]
     parts += ["<p>%s</p>" % escaped(line) for line in lines]
     parts.append('<div class="wide">%s</div>' % bars_of(joined))
     plain = as_json(joined)

@@ -6,7 +6,7 @@ import contextlib
 import sqlite3
 from typing import Dict, Iterable, Iterator
 
-from ldvbi.database import column_of_fields, columns_with, limit_steps, opened, quoted, tables_of
+from ldvbi.database import column_of_fields, columns_with, limit_steps, opened, quoted, refuse_code, tables_of
 from .field import Words
 
 # What SQLite writes beside a database, each with the database's name before it
@@ -23,14 +23,14 @@ _SAY = ("CREATE TABLE IF NOT EXISTS main.%s (words TEXT NOT NULL)" % _SAID, "DEL
 
 class Rows:
     """The fields of a database: those of the table that says which fields begin a frame, or else of the table `vbi`. A
-    database of another form raises a ValueError, and so does one with a trigger, which may write something else."""
+    database of another form raises a ValueError, and so does one that runs code of its own when it is written to."""
 
     def __init__(self, path: str) -> None:
         self._path = path
         with opened(path) as database:
-            for name, table in database.execute("SELECT name, tbl_name FROM sqlite_master WHERE type = 'trigger'"):
-                raise ValueError("its trigger %s of the table %s may write something else" % (name, table))
             self._columns = columns_with(database, "vbi", ("field_id", "vbi0", "vbi1", "vbi2"))
+            for table in {"vbi", _SAID} & set(tables_of(database)):
+                refuse_code(database, table)
             fields = column_of_fields(database, "field_id")
             if fields is None:
                 fields = [field for field, in database.execute("SELECT field_id FROM vbi ORDER BY field_id")]

@@ -75,11 +75,19 @@ fn run_with_files(job: &Job) -> Result<u8, &'static str> {
 fn metadata_of(job: &Job) -> Result<Option<Vec<u8>>, &'static str> {
     match (&job.meta, &job.input) {
         (Some(path), _) => metadata(File::open(path)).map(Some),
-        (None, Some(input)) if job.looks_beside() => match File::open(format!("{input}.json")) {
+        (None, Some(input)) if job.looks_beside() => match file_at(&format!("{input}.json")) {
             Err(error) if is_absent(&error) => Ok(None),
             opened => metadata(opened).map(Some),
         },
         _ => Ok(None),
+    }
+}
+
+/// Opens a file that nobody has named. A pipe or a device in its place might have the program wait for ever.
+fn file_at(path: &str) -> std::io::Result<File> {
+    match std::fs::metadata(path)?.is_file() {
+        true => File::open(path),
+        false => Err(ErrorKind::InvalidInput.into()),
     }
 }
 

@@ -202,7 +202,8 @@ impl<'a> Side<'a> {
         let (counted, number) = place.counted(self.system)?;
         let (index, passed) = match counted {
             Some(counted) => {
-                (0..=most).find_map(|passed| Some((self.halved(counted, number.checked_add(passed)?)?, passed)))?
+                let last = if counted == Counted::Pictures { 79_999 } else { u32::MAX };
+                (0..=most.min(last.saturating_sub(number))).find_map(|passed| Some((self.halved(counted, number.checked_add(passed)?)?, passed)))?
             }
             None => self.first_from(number).and_then(|index| Some((index, self.chapter(index)?.checked_sub(number)?)))?,
         };

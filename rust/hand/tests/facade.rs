@@ -290,8 +290,11 @@ fn goes_on_to_what_a_capture_has() {
         assert_eq!((index(side.next_chapter(0)), index(side.next_chapter(9))), (Some(9), Some(69)));
         assert_eq!((index(side.next_chapter(69)), index(side.next_chapter(129))), (None, None));
         assert_eq!((index(side.previous_chapter(121)), index(side.previous_chapter(67))), (Some(9), None));
-        let numbers: Vec<_> = (0..side.len()).filter_map(|index| side.number(Counted::Pictures, index)).collect();
-        assert_eq!((numbers, side.number(Counted::Pictures, side.len())), (side.numbers(Counted::Pictures), None));
+        let numbers = side.numbers(Counted::Pictures);
+        for index in [0, 8, 9, 40, 67, 68, 121, 129] {
+            assert_eq!(side.number(Counted::Pictures, index), Some(numbers[index]));
+        }
+        assert_eq!(side.number(Counted::Pictures, side.len()), None);
     }
 }
 
@@ -320,7 +323,8 @@ fn reads_no_field_that_is_skipped() {
         assert_eq!((side.len(), side.field(COUNT)), (COUNT, None));
         assert_eq!(side.field(COUNT - 1).map(|field| field.readings), wanted);
         assert_eq!((side.fields().nth(COUNT - 1), side.fields().last()), (wanted, wanted));
-        assert_eq!((side.fields().skip(COUNT - 1).last(), side.fields().nth_back(0)), (wanted, wanted));
+        let mut rest = side.fields().skip(COUNT - 1);
+        assert_eq!((rest.next(), side.fields().nth_back(0)), (wanted, wanted));
         assert_eq!((side.fields().count(), side.stops(COUNT - 1).next()), (COUNT, None));
     }
 }

@@ -1,6 +1,7 @@
 //! Files that are opened as sides, with the metadata beside them.
 #![cfg(all(feature = "metadata", unix, target_pointer_width = "64"))]
 
+#[allow(dead_code)]
 mod drawn;
 
 use drawn::{draw, picture};
