@@ -1,5 +1,5 @@
 /* A player. It does each command in turn, and prints the field that it shows then, from 1, and its picture. `search N`
- * or `search H:MM:SS.PP` goes to a picture; if the capture lacks it, to the next one that it has. `chapter N`, `next`
+ * or `search H:MM:SS.PP` goes to a picture; if the capture lacks it, to the next one of a hundred. `chapter N`, `next`
  * and `previous` go to where a chapter begins, `play` to the next stop, and `still` stays. All but `play` find their
  * way by halving and fetch a few MB. So numbers and chapters have to rise, and on a worn side one may be missed. System
  * and levels are the first rows of a map (ldvbi-side side.tbc --map side.map). Status 1: something wasn't found; 2:
@@ -74,7 +74,7 @@ static size_t search(const Side *side, int is_chapter, const char *place, uint32
             n[3] < rate, "no picture, no time, and no chapter");
     if (parts == 4) counted = LDVBI_TIMES, n[0] = ((n[0] * 60 + n[1]) * 60 + n[2]) * rate + n[3];
     LdvbiSought sought = {is_chapter ? seek_chapter(side, (int)n[0]) : side->fields, {0, 0}, 0, 0};
-    while (!is_chapter && sought.field == side->fields && *lacked < 1000) /* most of them fetch no other fields */
+    while (!is_chapter && sought.field == side->fields && *lacked < 100) /* they fetch few fields more */
         check(ldvbi_seek(side->system, side->black, side->white, counted, LDVBI_FIND_PACE, side->bytes, side->length,
                          n[0] + (*lacked)++, &sought));
     *lacked = is_chapter ? sought.field < side->fields && chapter_of(side, sought.field) != (int)n[0] : *lacked - 1;

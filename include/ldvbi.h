@@ -17,11 +17,11 @@
  *         if (stop == LDVBI_BELIEVED) printf("the player stops in field %zu\n", i + 1);
  *     }
  *
- * If it isn't found, `at.field` is `count`. Seeking fetches 2 MB of 50 GB. Without the call of madvise the system reads
- * ahead, ten pages or more for each one that is wanted. The programs in examples/ also test what the system answers, and
- * player.c goes to chapters, too, and on from pictures that the capture lacks. In docs/, LIBRARY.md says how to link,
- * which line has which code, and how to read frames, lines of other sample rates and mapped files; PROMISES.md says
- * what is proved. Both folders are installed in share/doc/ldvbi.
+ * If it isn't found, `at.field` is `count`. Seeking fetches about 2 MB of 50 GB. Without the call of madvise the system
+ * reads ahead, ten pages or more for each one that is wanted. The programs in examples/ also test what the system
+ * answers; player.c goes to chapters, too, and on from pictures that a capture lacks. In docs/, LIBRARY.md says how to
+ * link, which line has which code, and how to read frames, lines of other sample rates and mapped files; PROMISES.md
+ * says what is proved. Both folders are installed in share/doc/ldvbi.
  *
  * Samples have 16 bits, the low byte first, as in ld-decode's TBC files: line after line, field after field. Black and
  * white are samples too: black16bIre and white16bIre of the .tbc.json. A sample above the middle of the two is high.

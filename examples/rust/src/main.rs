@@ -1,8 +1,9 @@
-//! A player. It does each command in turn, and prints the field that it shows then, from 1, and its picture. `search N`
-//! or `search H:MM:SS.PP` goes to a picture; if the capture lacks it, to the next one that it has. `chapter N`, `next`
-//! and `previous` go to where a chapter begins, `play` to the next stop, and `still` stays. All but `play` find their
-//! way by halving and fetch a few MB. So numbers and chapters have to rise, and on a worn side one may be missed. System
-//! and levels are those of the metadata beside the file. Status 1: something wasn't found; 2: something can't be read.
+//! A player. It does each command in turn, and prints the field that it shows then, from 1, and its picture.
+//! `search N` or `search H:MM:SS.PP` goes to a picture; if the capture lacks it, to the next one of a hundred.
+//! `chapter N`, `next` and `previous` go to where a chapter begins, `play` to the next stop, and `still` stays. All but
+//! `play` find their way by halving and fetch a few MB. So numbers and chapters have to rise, and on a worn side one
+//! may be missed. System and levels are those of the metadata beside the file. Status 1: something wasn't found; 2:
+//! something can't be read.
 //!     cargo run -- side.tbc search 12345 play chapter 3 next search 0:59:29.07
 use ldvbi::{Counted, Field, Place, Side};
 use std::{error::Error, io, io::Write, process::ExitCode};
@@ -38,7 +39,7 @@ fn run() -> Result<ExitCode, Box<dyn Error>> {
     while let Ok(command) = word() {
         let alone = |field| (field, 0);
         let found = match command.as_str() {
-            "search" => side.seek_on(place_of(&word()?)?, 1000),
+            "search" => side.seek_on(place_of(&word()?)?, 99),
             "chapter" => side.seek_on(Place::Chapter(word()?.parse()?), 80),
             "next" => side.next_chapter(at).map(alone),
             "previous" => side.previous_chapter(at).map(alone),

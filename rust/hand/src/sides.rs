@@ -196,18 +196,46 @@ impl<'a> Side<'a> {
     }
 
     /// The same, or else the field of the next place after it, among so many, that halving finds; and how many places
-    /// were passed over. A player shows it for a picture that the capture lacks. The fields that are read for all these
-    /// are mostly the same ones. After a chapter follows the next one that the side has.
+    /// were passed over. A player shows it for a picture that the capture lacks. After a chapter follows the next one
+    /// that the side has. If what is lacking has several stretches, the place may be one after a later stretch.
     pub fn seek_on(&self, place: Place, most: u32) -> Option<(Field, u32)> {
         let (counted, number) = place.counted(self.system)?;
         let (index, passed) = match counted {
-            Some(counted) => {
-                let last = if counted == Counted::Pictures { 79_999 } else { u32::MAX };
-                (0..=most.min(last.saturating_sub(number))).find_map(|passed| Some((self.halved(counted, number.checked_add(passed)?)?, passed)))?
+            Some(counted) => self.halved_on(counted, number, most)?,
+            None => {
+                let index = self.first_from(number)?;
+                (index, self.chapter(index)?.checked_sub(number)?)
             }
-            None => self.first_from(number).and_then(|index| Some((index, self.chapter(index)?.checked_sub(number)?)))?,
         };
         (passed <= most).then_some((self.field(index)?, passed))
+    }
+
+    /// The first field of this number, or of one of so many after it, and how far that is from it: by steps that are
+    /// doubled until one is found, and halved then.
+    fn halved_on(&self, counted: Counted, number: u32, most: u32) -> Option<(usize, u32)> {
+        let found = |passed: u32| Some((self.halved(counted, number.checked_add(passed)?)?, passed));
+        let (mut lacked, mut step) = (0, 1);
+        let mut had = found(0);
+        if had.is_some() {
+            return had;
+        }
+        while had.is_none() && lacked < most {
+            step = step.min(most - lacked);
+            had = found(lacked + step);
+            if had.is_none() {
+                lacked += step;
+                step = lacked + 1;
+            }
+        }
+        let mut had = had?;
+        while had.1 - lacked > 1 {
+            let middle = lacked + (had.1 - lacked) / 2;
+            match found(middle) {
+                Some(nearer) => had = nearer,
+                None => lacked = middle,
+            }
+        }
+        Some(had)
     }
 
     /// The first field in a row with this number, if halving finds one.
