@@ -22,7 +22,7 @@ from .ends import begin_of, unseen_between
 from .entries import Answer, Extent, Lost, Speed, Swapped, Unread
 from .gaps import Gaps, gaps_of
 from .lines import bad_lines_of, levels_of, rates_of
-from .missing import lost_fields, missing_of, repeated_of
+from .missing import lost_fields, missing_of, own_breaks, repeated_of
 from .parts import chapters_of, ends_of, padding_of, status_of, stops_of, users_of
 from .whole import reasons_of, whole_of
 
@@ -60,7 +60,7 @@ def analysed(fields: Fields) -> Analysis:
         **_of_numbers(places, gaps, doubts), **_of_parts(codes, places, doubts, begin))
     answer = _with_losses(answer, places, gaps, codes)
     reasons = reasons_of(answer, gaps, numbers.unit, fields.is_strict, fields.may_end, unseen_between(numbers))
-    return Analysis(answer._replace(whole=whole_of(reasons), reasons=reasons), _breaks(places, places.breaks),
+    return Analysis(answer._replace(whole=whole_of(reasons), reasons=reasons), _breaks(places, own_breaks(places)),
                     numbers.clock)
 
 

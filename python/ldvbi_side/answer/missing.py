@@ -163,6 +163,26 @@ def lost_fields(places: Places, gaps: Gaps, first: Sequence[bool]) -> List[Lost]
                                for field in fields if field not in swapped and not sides.meet(field - 1, field)])
 
 
+def own_breaks(places: Places) -> List[Break]:
+    """The breaks of the numbers that are believed here. If a picture was read in one of its two fields, it isn't known
+    in which. So if one field is lost, such pictures before the loss may stand after it, if their field is taken for the
+    first one. (The chain of numbers has the break as late as it can be.)"""
+    pace = places.numbers.pace
+    if not pace or pace.kind != "both":
+        return places.breaks
+    return [one._replace(after=_first_after(places.numbers, one.after)) if one.kind == "lost" and one.fields == 1
+            else one for one in places.breaks]
+
+
+def _first_after(numbers, after):
+    """The first field after which the one may be lost that is lost after this one."""
+    place = bisect.bisect(numbers.fields, after) - 1
+    while place > 0 and numbers.believed[place].variant == 0 and numbers.off(
+            numbers.believed[place - 1], numbers.believed[place]) == 0:
+        place -= 1
+    return numbers.fields[place]
+
+
 def _swapped_parity(numbers, first):
     """The fields that have the parity of the one before since two are swapped: the first of these, and the one after
     both."""

@@ -86,30 +86,21 @@ class Pace:
         return (2 * fields + 1) // 5 if self.kind == "film" else fields // 2
 
 
-class _Whole:
-    """A pace of numbers that stand on all their fields. Nothing is left open of one."""
-    kind = ""
-    variants, change, period, steps = 1, 0, 1, (0, -1)
+class MinutePace:
+    """The pace of minutes, each of which stands on all its fields. A minute has about `fields` of them, at least
+    `shortest` and at most `longest`."""
+    kind, variants, change, period, least, steps = "minute", 1, 0, 1, 1, (0, -1)
+
+    def __init__(self, system: str) -> None:
+        self.shortest, self.fields, self.longest = MINUTE_FIELDS[system]
 
     def row(self, field: int, number: int) -> int:
         """As `Pace` has it."""
         return number
 
-    def off(self, fields: int, number: int, step: int, variant: int = 0, other: int = 0) -> int:
-        """As `Pace` has it."""
-        raise NotImplementedError
-
     def least_off(self, fields: int, number: int, step: int) -> int:
         """As `Pace` has it."""
         return self.off(fields, number, step)
-
-
-class MinutePace(_Whole):
-    """The pace of minutes. A minute has about `fields` of them, at least `shortest` and at most `longest`."""
-    kind, least = "minute", 1
-
-    def __init__(self, system: str) -> None:
-        self.shortest, self.fields, self.longest = MINUTE_FIELDS[system]
 
     def off(self, fields: int, number: int, step: int, variant: int = 0, other: int = 0) -> int:
         return fields - step * self.fields if step < 0 or self.least_wrong(fields, step) else 0
@@ -124,15 +115,23 @@ class MinutePace(_Whole):
         return min(fields - few, 0) or max(fields - many, 0)
 
 
-class ChapterPace(_Whole):
+class ChapterPace:
     """The pace of chapters, which have any length. The next chapter is no break. Each one that is passed over counts as
     a picture would. Going back counts as all 80 would, since that can't be without a break of the pictures' numbers.
     One chapter that is passed over in many fields may have been there without being read. The numbers here are 100
     times the count of breaks up to the field, plus the chapter: at such a break any chapter may follow, for the least
     price."""
-    kind, period = "chapter", 100
+    kind, variants, change, period, steps = "chapter", 1, 0, 100, (0, -1)
     ALL = 80  # chapters, 0 to 79
     MANY = 18  # fields
+
+    def row(self, field: int, number: int) -> int:
+        """As `Pace` has it."""
+        return number
+
+    def least_off(self, fields: int, number: int, step: int) -> int:
+        """As `Pace` has it."""
+        return self.off(fields, number, step)
 
     def off(self, fields: int, number: int, step: int, variant: int = 0, other: int = 0) -> int:
         chapters = (number + step) % 100 - number % 100
