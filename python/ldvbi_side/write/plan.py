@@ -205,7 +205,8 @@ class _Making:
         if not self._layout.has_swapped(source, block.field, block.fields):
             return [(block, block.field, block.field + block.fields)]
         ends = [block.field + block.fields * step // block.ranks for step in range(block.ranks + 1)]
-        return [(block._replace(rank=block.rank + step, ranks=1), *ends[step:step + 2]) for step in range(block.ranks)]
+        return [(block._replace(rank=block.rank + step, ranks=1), ends[step], ends[step + 1])
+                for step in range(block.ranks)]
 
     def _blocks(self, node: Node, stop: Optional[int]) -> List[Tuple[int, Block]]:
         """The blocks that are taken for a node's ranks, which end before `stop`, each with its capture."""
