@@ -2,6 +2,7 @@
 were made; and what is refused before that."""
 
 import json
+import os
 import random
 from collections import Counter, defaultdict
 
@@ -124,6 +125,7 @@ class Drawn:
                 if number and any(order[at:at + len(ones)] == ones for at in range(len(order)))}
 
 
+SETS = int(os.environ.get("SETS", "100"))  # of each kind; docs/MEASURED.md has what 2,000 gave
 KINDS = [{}, {"system": "PAL", "back": 8}, {"odd": 1}, {"back": 2}, {"back": 12}]
 
 
@@ -139,14 +141,14 @@ def check_drawn(seeds, more):
 @pytest.mark.unrecorded
 @pytest.mark.parametrize("more", KINDS)
 def test_no_field_is_another_pictures_unsaid(more):
-    check_drawn(range(100), more)
+    check_drawn(range(SETS), more)
 
 
 @pytest.mark.parametrize("more", KINDS)
 def test_of_some(more):
-    """The same of those in which a player jumped beside a loss, of those in which it jumped within a frame, and of two
-    in which a picture stands alone between two jumps."""
-    check_drawn([7, 8, 13, 14, 16, 22, 29, 31, 49, 154, 327, 480, 515, 588, 603, 768], more)
+    """The same of those in which a player jumped beside a loss, of those in which it jumped within a frame, of four
+    in which a picture stands alone between two jumps, and of one in which two fields look swapped."""
+    check_drawn([7, 8, 13, 14, 16, 22, 29, 31, 49, 154, 327, 480, 515, 588, 603, 768, 2139, 2292, 2363], more)
 
 
 @pytest.mark.unrecorded

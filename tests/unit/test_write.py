@@ -158,6 +158,25 @@ def test_options(room):
     assert room.run_words("write o.tbc a.tbc --meta a.tbc.json --recovered")[0] == 1
 
 
+@pytest.mark.parametrize("form", ["json", "db"])
+def test_two_worn_captures_make_one_whole_side(room, form):
+    """One lost fields within a picture, and has some unread; the other one went back, and lost others. Both have jumps
+    within frames, so that pictures beside them are unsure in one, and sure in the other."""
+    orders = [lost(VIDEO, (5, 1, 4), (18, 0, 3)), going_back(lost(VIDEO, (10, 1, 7)), VIDEO.at[21], VIDEO.at[15] + 1)]
+    for letter, order, more in zip("ab", orders, ({"unread": range(VIDEO.at[12], VIDEO.at[13])}, {"jitter": 1})):
+        draw(room.named(letter + ".tbc"), VIDEO, order, form=form, **more)
+    joined = room.run_words("join a.tbc b.tbc --ranges")[1].split("\n")[1:-1]
+    status, text, said = room.run_words("write out.tbc a.tbc b.tbc --ends")
+    assert (status, text.split("\n")[0], said) == (0, "whole: yes", "")
+    assert places_in(room.named("out.tbc"), VIDEO, range(VIDEO.at[12], VIDEO.at[13])) == VIDEO.order
+    status, text, _ = room.run_words("out.tbc")
+    assert (status, text.split("\n")[0]) == (0, "whole: yes")
+    # join has said from where, without the ends
+    rows = [row.split(",") for row in room.text("out.stretches.csv").split("\n")[1:-1]]
+    assert [[row.split(",")[place] for place in (0, 1, 2, 3, 5)] for row in joined] == [
+        [row[3], row[4], row[5], row[6], row[7]] for row in rows if row[3]]
+
+
 def test_it_cant_be_told(room):
     """A player stood still in a frame of film that shows no number."""
     draw(room.named("a.tbc"), FILM, standing(FILM.order, FILM.at[11] + 1, 4))

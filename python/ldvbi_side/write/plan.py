@@ -99,14 +99,15 @@ def planned(sources: Sequence[Source], disagreements: Sequence[Disagreement], wa
 
 def _runs_of(captures: Sequence[Followed], known: Known, disputed: Set[Tuple[str, int]], is_sure: bool) -> List[Run]:
     """The runs of all captures."""
-    found, having = [], {rank for one in captures for part in one.parts for rank, _, _ in part}
-    for place, one in enumerate(captures):
-        fields = {field for name, field in disputed if name == one.source.capture.name}
-        runs = runs_of(place, one, known, fields, is_sure)
-        found += runs
-        if not is_sure:
-            found += set_aside(place, one, known, runs, having)
-    return found
+    found = [runs_of(place, one, known, {field for name, field in disputed if name == one.source.capture.name}, is_sure)
+             for place, one in enumerate(captures)]
+    runs = [run for ones in found for run in ones]
+    if is_sure or not any(one.aside.sure for one in captures):
+        return runs
+    having = {rank for run in runs for block in run.blocks if not block.lead + block.trail
+              for rank in range(block.rank, block.end())}
+    return runs + [run for place, one in enumerate(captures)
+                   for run in set_aside(place, one, known, found[place], having)]
 
 
 def _refuse_two_sides(capture: Capture, is_one_side: bool) -> None:
@@ -187,7 +188,9 @@ class _Making:
             layout.pad(block.lead, first, last)
             return
         layout.pad(block.lead, first, first)
-        layout.take(source, block.field, block.fields, first, last, WHOLE if block.is_sure else UNSURE)
+        how = WHOLE if block.is_sure else UNSURE
+        for one, begin, end in self._parts(source, block):
+            layout.take(source, begin, end - begin, number(one.rank), number(one.end() - 1), how)
         for step in range(block.ranks if not self._known.lengths.is_film else 1):
             self._first_field[block.rank + step] = layout.out - block.fields - block.lead + 2 * step
         layout.pad(block.trail, last, last)
@@ -195,6 +198,15 @@ class _Making:
             self._partial.append(block.rank)
         if not block.is_sure:
             self._unsure += range(block.rank, block.end())
+
+    def _parts(self, source: int, block: Block) -> List[Tuple[Block, int, int]]:
+        """A block with its first field and the one after its last. One of several numbers with swapped fields, which
+        stand in stretches of their own, has a part for each number."""
+        if not self._layout.has_swapped(source, block.field, block.fields):
+            return [(block, block.field, block.field + block.fields)]
+        ends = [block.field + block.fields * step // block.ranks for step in range(block.ranks + 1)]
+        return [(block._replace(rank=block.rank + step, ranks=1), ends[step], ends[step + 1])
+                for step in range(block.ranks)]
 
     def _blocks(self, node: Node, stop: Optional[int]) -> List[Tuple[int, Block]]:
         """The blocks that are taken for a node's ranks, which end before `stop`, each with its capture."""

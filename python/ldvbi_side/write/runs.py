@@ -56,8 +56,8 @@ def runs_of(place: int, capture: Followed, known: Known, disputed: Set[int], is_
 
 
 def set_aside(place: int, capture: Followed, known: Known, runs: Sequence[Run], having: Set[int]) -> Iterator[Run]:
-    """A run for each number that no capture has, though a field of this one shows it clearly: between two jumps its
-    place doesn't say that it is right. It may be wrong, and so isn't sure; `having` has the ranks of the others."""
+    """A run for each number that no capture has in full, though a field of this one shows it clearly: between two jumps
+    its place doesn't say that it is right. It may be wrong, and so isn't sure; `having` has the ranks of the others."""
     wanted = [(field, rank) for field, ranks in sorted(capture.aside.sure.items()) for rank in ranks
               if rank in known.extent and rank not in having]
     for field, rank in wanted:
