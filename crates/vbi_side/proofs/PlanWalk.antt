@@ -119,7 +119,8 @@ pub in_its_place : (layout : Layout) (numbers : List Number) (plan : List Stretc
 in_its_place layout numbers plan i j n f r reached own counts = record {
   own = own;
   from_first = first_from layout.spacing layout.begin (rank_at layout plan 0) f r (out_at plan i + j)
-      (kept layout.clock n) reached.from_first counts (elim reached.origin [ inl same ↦ inl same | inr one ↦ inr one.0 ]);
+      (kept layout.clock n) reached.from_first counts
+      (elim reached.origin [ inl same ↦ inl same | inr one ↦ inr one.0 ]);
   from_each = λ k h m before shows. goes_from layout.spacing (out_at plan k + h) (kept layout.clock m) f r
       (out_at plan i + j) (kept layout.clock n) (reached.from_each k h m before shows) counts;
 }
