@@ -95,7 +95,7 @@ enum LdvbiStatus {
     LDVBI_BAD_LENGTH = 3, /* not the length of the call's lines or fields in this system, or arrays differ in length */
     LDVBI_BAD_WORD = 4,   /* a word is not from 0x800000 to 0xFFFFFF (0 is allowed if it stands for no word) */
     LDVBI_BAD_COUNTED = 5, /* `counted` is neither LDVBI_PICTURES nor LDVBI_TIMES */
-    LDVBI_BAD_PACE = 6,    /* `pace` is none of LDVBI_VIDEO, LDVBI_FILM and LDVBI_FIND_PACE */
+    LDVBI_BAD_PACE = 6,    /* `pace` is none of LDVBI_VIDEO, LDVBI_FILM and LDVBI_FIND_PACE; `spacing` has no name */
     LDVBI_BAD_ERASED = 7,  /* a list of LdvbiErased isn't sorted, or an entry isn't as that struct says */
     LDVBI_BAD_LINE = 8,    /* `line` is none of 16, 17 and 18; tested before a list */
     LDVBI_BAD_KNOWN = 9,   /* `known` is neither 0 nor 1; tested before a list */
@@ -687,9 +687,9 @@ LDVBI_RESULT LDVBI_POINTER(6) LDVBI_POINTER(15) uint32_t ldvbi_judge_side_by_clo
  * A plan is done, and ldvbi_check_plan answers LDVBI_PLANNED, exactly if the following holds of each stretch:
  *   - It has a field, and one at least for each number for which it stands. No number stands before an earlier one.
  *   - If it isn't padding, its fields are all of its capture, and no stretch before it has one of them.
- *   - Each believed number of these fields is one for which the stretch stands, and is in its place: as many fields
- *     after field `begin` of the file, in which the plan's first number begins, as its rank counts to by `spacing`, and,
- *     but by LDVBI_SPACING_BOTH, as many after each believed number before it.
+ *   - Each believed number of these fields is one for which the stretch stands, and is in its place. It stands as many
+ *     fields after field `begin` of the file, in which the plan's first number begins, as its rank counts to by
+ *     `spacing`; and as many after each believed number before it, but not by LDVBI_SPACING_BOTH.
  *   - If it is padding, it stands for no number that is believed of any field.
  * Else `stretch` is the first one of which that isn't so, and `rule` says which rule it breaks.
  *
@@ -738,8 +738,8 @@ typedef struct LdvbiChecked {
 
 /* Checks a plan. `spacing` is of enum LdvbiSpacing, and any other number is LDVBI_BAD_PACE. If the disc leaves out
  * numbers by no clock that LdvbiClock has, give ranks in place of all numbers, and LDVBI_PLAIN. */
-LDVBI_RESULT LDVBI_POINTER(2) LDVBI_POINTER(11) uint32_t ldvbi_check_plan(uint32_t spacing, const LdvbiClock *clock,
-    size_t begin, uint32_t end, const LdvbiNumber *numbers, size_t number_count, const LdvbiCapture *captures,
+LDVBI_RESULT LDVBI_POINTER(4) LDVBI_POINTER(11) uint32_t ldvbi_check_plan(uint32_t spacing, size_t begin, uint32_t end,
+    const LdvbiClock *clock, const LdvbiNumber *numbers, size_t number_count, const LdvbiCapture *captures,
     size_t capture_count, const LdvbiStretch *plan, size_t stretch_count, LdvbiChecked *checked);
 
 /* ---- Drawing. Writes the samples of a line that shows the word in black and white. For 0 the line is blank. `length`

@@ -29,7 +29,8 @@ one above that, or in lib/ of the folder to which `make install` installed both;
 Read first `classes` (what a word says) and `codes` (on which lines), then `library` and `samples` (the calls of C and
 the memory that they get), then `dropouts`, `readings`, `near`, `stream`, `judging`, `sides`, `plans` and `seeking`
 (these calls in Python), and last `document` and `metadata` (with `scanner` and `database`), which read the files beside
-a TBC file. The package `ldvbi_side` says what the words of a whole side mean. It builds on this package, which doesn't import it.
+a TBC file. The package `ldvbi_side` says what the words of a whole side mean. It builds on this package, which doesn't
+import it.
 """
 
 

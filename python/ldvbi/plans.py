@@ -58,10 +58,10 @@ _MOST = (1 << 8 * struct.calcsize("N")) - 1
 
 def check_plan(captures: Iterable[Any], plan: Sequence[Stretch], end: int, spacing: Union[Spacing, str] = Spacing.video,
                clock: Clock = Clock(ClockKind.plain), begin: int = 0) -> Optional[Fault]:
-    """None if a plan is done, else its first `Fault`. `captures` has for each capture the numbers that `judge` returned,
-    or the bytes of these as the library writes them. The plan stands for the numbers from its first stretch's to before
-    `end`; the first one begins in field `begin` of the file, counted from 0. `spacing` is a `Spacing` or its name, and
-    `clock` says which numbers the disc leaves out; if no `Clock` does, give ranks in place of all numbers.
+    """None if a plan is done, else its first `Fault`. `captures` has the numbers of each capture that `judge` returned,
+    or their bytes as the library writes them. The plan stands for the numbers from its first stretch's to before `end`;
+    the first one begins in field `begin` of the file, counted from 0. `spacing` is a `Spacing` or its name, and `clock`
+    says which numbers the disc leaves out; if no `Clock` does, give ranks in place of all numbers.
 
     If a plan is done, each number stands in just one stretch; no field stands twice in the file; each believed number
     of a field that is taken is in its place; and padding stands for no number that is believed of a capture. If the
@@ -79,9 +79,9 @@ def check_plan(captures: Iterable[Any], plan: Sequence[Stretch], end: int, spaci
         first += count
     stretches = b"".join([_stretch_of(one, spans) for one in plan])
     checked = ctypes.create_string_buffer(_CHECKED.size)
-    check(call(_spacing_number(spacing), PACKED_CLOCK.pack(*map(number_of, Clock._fields, clock)), _size(begin),
-               number_of("end", end), b"".join(numbers), first, b"".join([_CAPTURE.pack(*one) for one in spans]),
-               len(spans), stretches, len(plan), checked))
+    check(call(_spacing_number(spacing), _size(begin), number_of("end", end),
+               PACKED_CLOCK.pack(*map(number_of, Clock._fields, clock)), b"".join(numbers), first,
+               b"".join([_CAPTURE.pack(*one) for one in spans]), len(spans), stretches, len(plan), checked))
     stretch, rule = _CHECKED.unpack(checked)
     return Fault(_RULES.get(rule, rule), stretch) if rule else None
 

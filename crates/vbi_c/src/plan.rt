@@ -40,9 +40,9 @@ fn layout_of(spacing: u32, clock: &LdvbiClock, begin: usize, end: u32) -> Result
 #[unsafe(no_mangle)]
 pub extern "C" fn ldvbi_check_plan(
     spacing: u32,
-    clock: &LdvbiClock,
     begin: usize,
     end: u32,
+    clock: &LdvbiClock,
     numbers: &[Number],
     captures: &[Capture],
     plan: &[Stretch],
