@@ -146,7 +146,7 @@ def _text_of(found: Fault, made: Plan, shown: _Shown) -> str:
     if found.rule == Rule.misplaced:
         return _misplaced(one, made, shown) or "a number of fields %d to %d is out of its place" % (
             one.out, one.outs()[-1])
-    if found.rule == Rule.hidden:
+    if found.rule == Rule.hidden and one.first is not None and one.last is not None:
         return "%s to %s are padding, and a capture has one of them" % (text(one.first), text(one.last))
     return "fields %d to %d stand for more numbers than they have fields" % (one.out, one.outs()[-1])
 
