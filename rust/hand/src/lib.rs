@@ -92,6 +92,7 @@ mod lines;
 mod meta;
 #[allow(dead_code, unused_imports)]
 mod near;
+mod plans;
 #[allow(dead_code, unused_imports)]
 mod side;
 mod sides;
@@ -102,6 +103,7 @@ mod words;
 pub use crate::judged::Judged;
 pub use crate::lines::{Error, Feeder};
 pub use crate::near::Near;
+pub use crate::plans::{check_plan, Layout, PlanFault, Rule, Spacing, Stretch};
 pub use crate::side::{Counted, Tally};
 pub use crate::sides::{Field, Number, Place, Side};
 pub use crate::whole::{Clock, Gap, GapKind, Reason, SideOptions, Verdict, Whole};
