@@ -685,7 +685,8 @@ LDVBI_RESULT LDVBI_POINTER(6) LDVBI_POINTER(15) uint32_t ldvbi_judge_side_by_clo
  * how many numbers the disc has below it, by the clock.
  *
  * A plan is done, and ldvbi_check_plan answers LDVBI_PLANNED, exactly if the following holds of each stretch:
- *   - It has a field, and one at least for each number for which it stands. No number stands before an earlier one.
+ *   - It has a field, and one at least for each number for which it stands. The number after these isn't lower than its
+ *     own.
  *   - If it isn't padding, its fields are all of its capture, and no stretch before it has one of them.
  *   - Each believed number of these fields is one for which the stretch stands, and is in its place. It stands as many
  *     fields after field `begin` of the file, in which the plan's first number begins, as its rank counts to by
