@@ -95,7 +95,7 @@ enum LdvbiStatus {
     LDVBI_BAD_LENGTH = 3, /* not the length of the call's lines or fields in this system, or arrays differ in length */
     LDVBI_BAD_WORD = 4,   /* a word is not from 0x800000 to 0xFFFFFF (0 is allowed if it stands for no word) */
     LDVBI_BAD_COUNTED = 5, /* `counted` is neither LDVBI_PICTURES nor LDVBI_TIMES */
-    LDVBI_BAD_PACE = 6,    /* `pace` is none of LDVBI_VIDEO, LDVBI_FILM and LDVBI_FIND_PACE */
+    LDVBI_BAD_PACE = 6,    /* `pace` is none of LDVBI_VIDEO, LDVBI_FILM and LDVBI_FIND_PACE; `spacing` has no name */
     LDVBI_BAD_ERASED = 7,  /* a list of LdvbiErased isn't sorted, or an entry isn't as that struct says */
     LDVBI_BAD_LINE = 8,    /* `line` is none of 16, 17 and 18; tested before a list */
     LDVBI_BAD_KNOWN = 9,   /* `known` is neither 0 nor 1; tested before a list */
@@ -678,6 +678,73 @@ LDVBI_RESULT LDVBI_POINTER(6) LDVBI_POINTER(15) uint32_t ldvbi_judge_side_by_clo
     uint32_t pace, uint32_t both, uint32_t may_end, const LdvbiClock *clock, const LdvbiSightings *seen,
     size_t seen_count, const LdvbiNumber *numbers, size_t number_count, const uint32_t *ends, size_t end_count,
     LdvbiGap *gaps, size_t gap_room, LdvbiSide *side);
+
+/* ---- The plan of a file that is made from several captures of a disc
+ *
+ * The fields of all captures are counted through from 0, one capture after the other; `numbers` has what ldvbi_judge
+ * answered of each. A plan says in stretches which fields stand one after the other in the file: some of a capture, or
+ * padding. A stretch stands for the disc's numbers from its own `number` to before that of the next stretch, the last
+ * one to before `end`; for none if the two are the same, as padding in place of a part of a picture. A number's rank is
+ * how many numbers the disc has below it, by the clock.
+ *
+ * A plan is done, and ldvbi_check_plan answers LDVBI_PLANNED, exactly if the following holds of each stretch:
+ *   - It has a field, and one at least for each number for which it stands. The number after these isn't lower than its
+ *     own.
+ *   - If it isn't padding, its fields are all of its capture, and no stretch before it has one of them.
+ *   - Each believed number of these fields is one for which the stretch stands, and is in its place. It stands as many
+ *     fields after field `begin` of the file, in which the plan's first number begins, as its rank counts to by
+ *     `spacing`; and as many after each believed number before it, but not by LDVBI_SPACING_BOTH.
+ *   - If it is padding, it stands for no number that is believed of any field.
+ * Else `stretch` is the first one of which that isn't so, and `rule` says which rule it breaks.
+ *
+ * This is proved, too, of a plan that is done: each rank from the first number's to before that of `end` stands in just
+ * one stretch; no field stands twice in the file; and by LDVBI_SPACING_VIDEO, if the disc counts on by the clock and
+ * the believed numbers are right, each field of the file that shows a number is the disc's field in its place, and so
+ * is each field between two such of a stretch, provided that its capture's fields stand in the disc's order. Of a field
+ * before the first number of its stretch or after the last one nothing is known: a player may have jumped there.
+ *
+ * The time grows with the fields of the plan and of the captures, with the square of the count of stretches, and, for
+ * each stretch of padding that stands for a number, with the fields of the captures once more. */
+enum LdvbiSpacing {          /* how far apart two numbers stand, of which one has the next rank */
+    LDVBI_SPACING_VIDEO = 1, /* two fields */
+    LDVBI_SPACING_FILM = 2,  /* two or three */
+    LDVBI_SPACING_BOTH = 3,  /* two, or one or three: numbers are on both fields of a picture, and each may be read in
+                                its second field alone */
+    LDVBI_SPACING_RISING = 4 /* one or more, as minutes have thousands */
+};
+
+typedef struct LdvbiCapture {
+    size_t first;  /* its first field, among those of all captures */
+    size_t fields; /* how many it has */
+} LdvbiCapture;
+
+typedef struct LdvbiStretch {
+    size_t field;     /* its first field, among those of all captures; of padding this isn't read */
+    size_t fields;    /* how many it has */
+    size_t capture;   /* the capture that has them, counted from 0; of padding this isn't read */
+    uint32_t number;  /* the first number for which it stands */
+    uint32_t padding; /* 0 if it is of a capture; else it is padding */
+} LdvbiStretch;
+
+enum LdvbiRule { /* what is found of a plan */
+    LDVBI_PLANNED = 0,
+    LDVBI_DISORDERED = 1, /* the stretch has no field, too few, or a number before that of an earlier one */
+    LDVBI_NOT_THERE = 2,  /* its fields aren't all of its capture, or that isn't among the numbers */
+    LDVBI_TWICE = 3,      /* a stretch before it has one of its fields */
+    LDVBI_MISPLACED = 4,  /* a number of its fields is out of its place */
+    LDVBI_HIDDEN = 5      /* it is padding, and a number for which it stands is believed of a field */
+};
+
+typedef struct LdvbiChecked {
+    size_t stretch; /* the first stretch that breaks a rule, counted from 0; if none does, how many there are */
+    uint32_t rule;  /* of enum LdvbiRule */
+} LdvbiChecked;
+
+/* Checks a plan. `spacing` is of enum LdvbiSpacing, and any other number is LDVBI_BAD_PACE. If the disc leaves out
+ * numbers by no clock that LdvbiClock has, give ranks in place of all numbers, and LDVBI_PLAIN. */
+LDVBI_RESULT LDVBI_POINTER(4) LDVBI_POINTER(11) uint32_t ldvbi_check_plan(uint32_t spacing, size_t begin, uint32_t end,
+    const LdvbiClock *clock, const LdvbiNumber *numbers, size_t number_count, const LdvbiCapture *captures,
+    size_t capture_count, const LdvbiStretch *plan, size_t stretch_count, LdvbiChecked *checked);
 
 /* ---- Drawing. Writes the samples of a line that shows the word in black and white. For 0 the line is blank. `length`
  * has to be ldvbi_line_bytes(system). */

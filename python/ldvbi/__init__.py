@@ -27,9 +27,10 @@ one above that, or in lib/ of the folder to which `make install` installed both;
 `classify` and `format_of` need no library. Nothing else is needed but CPython and its standard library.
 
 Read first `classes` (what a word says) and `codes` (on which lines), then `library` and `samples` (the calls of C and
-the memory that they get), then `dropouts`, `readings`, `near`, `stream`, `judging`, `sides` and `seeking` (these calls
-in Python), and last `document` and `metadata` (with `scanner` and `database`), which read the files beside a TBC file.
-The package `ldvbi_side` says what the words of a whole side mean. It builds on this package, which doesn't import it.
+the memory that they get), then `dropouts`, `readings`, `near`, `stream`, `judging`, `sides`, `plans` and `seeking`
+(these calls in Python), and last `document` and `metadata` (with `scanner` and `database`), which read the files beside
+a TBC file. The package `ldvbi_side` says what the words of a whole side mean. It builds on this package, which doesn't
+import it.
 """
 
 
@@ -38,6 +39,7 @@ from .judging import (End, Number, State, complete_times, find_pace, first_of, j
                       judge_field, judge_stops)
 from .library import Both, Counted, Pace, System
 from .near import Near, nearest, recover_pile
+from .plans import Fault, Rule, Spacing, Stretch, check_plan
 from .readings import (PACKED_FIELD, Cause, FieldReadings, Reading, draw_line, field_bytes, line_bytes, read_field,
                        read_line, read_rows)
 from .seeking import Sought, seek
@@ -46,9 +48,9 @@ from .stream import BLOCK, Stream, fields
 
 __all__ = ["System", "Cause", "Kind", "Format", "Counted", "Pace", "Both", "State", "End", "Reading", "FieldReadings",
            "Code", "Number", "Near", "Sought", "Verdict", "Reason", "GapKind", "Gap", "Tally", "ClockKind", "Clock",
-           "JudgedSide", "Stream", "line_bytes", "field_bytes", "read_line", "read_rows", "read_field", "fields",
-           "classify", "format_of", "judge", "judge_field", "complete_times", "find_pace", "judge_chapters",
-           "judge_stops", "judge_ends", "find_clock", "judge_side", "first_of", "seek", "nearest", "recover_pile",
-           "draw_line"]
+           "JudgedSide", "Spacing", "Rule", "Stretch", "Fault", "Stream", "line_bytes", "field_bytes", "read_line",
+           "read_rows", "read_field", "fields", "classify", "format_of", "judge", "judge_field", "complete_times",
+           "find_pace", "judge_chapters", "judge_stops", "judge_ends", "find_clock", "judge_side", "check_plan",
+           "first_of", "seek", "nearest", "recover_pile", "draw_line"]
 
 __version__ = "0.2.0"

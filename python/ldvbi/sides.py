@@ -122,7 +122,7 @@ class JudgedSide(NamedTuple):
 
 _PACKED_GAP = struct.Struct("@NNQQIII0Q")  # LdvbiGap
 _PACKED_SIDE = struct.Struct("@N4QN6QNNNII")  # LdvbiSide, whose first members are LdvbiTally
-_PACKED_CLOCK = struct.Struct("=III")  # LdvbiClock
+PACKED_CLOCK = struct.Struct("=III")  # LdvbiClock
 _ROOM = 64  # gaps, at first: few sides have more
 _KINDS = dict(enumerate(GapKind, 1))
 _CLOCKS = dict(enumerate(ClockKind))
@@ -188,7 +188,7 @@ def _judge_by(clock: Any) -> Tuple[Any, List[bytes]]:
         return call, []
     if not isinstance(clock, tuple) or len(clock) != len(Clock._fields):
         raise ValueError("clock is no Clock, nor to be found")
-    packed = _PACKED_CLOCK.pack(*map(number_of, Clock._fields, clock))
+    packed = PACKED_CLOCK.pack(*map(number_of, Clock._fields, clock))
     nothing = [None, 0] * 4  # of no field the library tests the clock alone
     check(call(System.NTSC, Counted.times, Pace.video, Both.on_one, 0, packed, *nothing,
                ctypes.create_string_buffer(_PACKED_SIDE.size)))
@@ -217,14 +217,14 @@ def _fields_of(readings, system, counted, pace, both, completed=None):
 
 def _found_clock(fields: _Fields) -> bytes:
     """The clock that the judged numbers tell, as the library wrote it."""
-    found = ctypes.create_string_buffer(_PACKED_CLOCK.size)
+    found = ctypes.create_string_buffer(PACKED_CLOCK.size)
     asked = *fields.asked, fields.pace, fields.on_both
     check(later_call("ldvbi_find_clock")(*asked, fields.numbers, fields.length, found))
     return bytes(found)
 
 
-def _clock_of(packed=bytes(_PACKED_CLOCK.size)):
-    kind, period, phase = _PACKED_CLOCK.unpack(packed)
+def _clock_of(packed=bytes(PACKED_CLOCK.size)):
+    kind, period, phase = PACKED_CLOCK.unpack(packed)
     return Clock(_CLOCKS.get(kind, kind), period, phase)
 
 

@@ -18,6 +18,7 @@ from collections import namedtuple
 
 TOP = pathlib.Path(__file__).resolve().parents[2]
 sys.path.insert(0, str(TOP / "simulated"))
+from rust_given import random_plan, rarely, skipping
 from simulate import simulated
 
 COMMANDS = ["line", "extract", "show", "draw"]
@@ -54,11 +55,6 @@ def put_files(folder):
     for name, data in (("line.raw", ramp), ("beside.raw", ramp), ("wrong.raw", ramp), ("meta.json", videos),
                        ("beside.raw.json", videos), ("bad.json", videos[:-1]), ("wrong.raw.json", videos[:-1])):
         (folder / name).write_bytes(data)
-
-
-def rarely(wrong, right):
-    """What is right, and seldom one of those that are wrong."""
-    return random.choice(wrong) if random.random() < 0.05 else right
 
 
 def option(name, values):
@@ -214,8 +210,8 @@ def field_of(system, lines):
 CALLS = {name: (returned, re.findall(r"(const )?(\w+) (\*?)(\w+)", parameters)) for returned, name, parameters in
          re.findall(r"^(?:LDVBI_[^ ]+ )*(uint32_t|size_t) (ldvbi_\w+)\(([^()]*)\);",
                     (TOP / "include/ldvbi.h").read_text(encoding="utf-8"), re.M)}
-ITEMS = {"void": 1, "uint32_t": 4, "LdvbiNumber": 8, "LdvbiClock": 12, "LdvbiErased": 16, "LdvbiSightings": 20,
-         "LdvbiFieldReadings": 24}
+ITEMS = {"void": 1, "uint32_t": 4, "LdvbiNumber": 8, "LdvbiClock": 12, "LdvbiErased": 16, "LdvbiCapture": 16,
+         "LdvbiSightings": 20, "LdvbiFieldReadings": 24, "LdvbiStretch": 32}
 # What there is after each pointer to something that is written
 PATTERN = b"\xa5" * 2 ** 13
 
@@ -244,9 +240,9 @@ def answer_of(library, name, arguments):
     places = [ctypes.create_string_buffer(PATTERN, len(PATTERN)) if one is ... else one for one in arguments]
     answer = function(*places)
     written = [bytearray(place.raw) for place, one in zip(places, arguments) if one is ...]
-    if "ldvbi_judge_side" in name:
-        for gap in range(0, len(PATTERN) - 48, 48):  # Anything may stand between two members of a gap.
-            written[0][gap + 44:gap + 48] = bytes(4)
+    gaps = range(44, len(PATTERN) - 4, 48) if "ldvbi_judge_side" in name else ()
+    for at in (12, ) if name == "ldvbi_check_plan" else gaps:  # Anything may stand where no member does.
+        written[0][at:at + 4] = bytes(4)
     return answer, written
 
 
@@ -291,6 +287,7 @@ def compare_judges(call):
     yield call("ldvbi_judge_side", given)
     yield call("ldvbi_judge_side_by_clock", given)
     yield call("ldvbi_find_clock", given, counted=2, numbers=random.choice([numbers, skipping(given["clock"])]))
+    yield call("ldvbi_check_plan", given, **random_plan(numbers))
 
 
 def random_clock():
@@ -299,14 +296,6 @@ def random_clock():
     phase = random.choice([0, random.randrange(period), period - 1, rarely([period], 0)])
     return struct.pack("<III", random.choice([0, 1, 2, 2, 2, 2, rarely([3, 258], 0)]), period, phase)
 
-
-def skipping(clock):
-    """Numbers on every other field, around some that this clock leaves out, a few of which are there."""
-    kind, period, phase = struct.unpack("<III", clock)
-    places, gone = (range(1800, 9000, 1800), (0, 1)) if kind == 1 else (range(phase, 9999, period)[:20], (0, ))
-    numbers = [place + at for place in places for at in range(-2, 4)
-               if place + at >= 0 and (at not in gone or random.random() < 0.05)]
-    return b"".join(struct.pack("<IIQ", number, random.choice([1] * 20 + [2]), 0) for number in numbers)
 
 
 def compare_seek(call):

@@ -31,7 +31,8 @@ def named(*names):
 _MEMBERS = {
     "Reading": "cause pass column word", "FieldReadings": "lines", "Near": "word start distance rival longer",
     "Erased": "field line first last", "Record": "length text", "Code": "kind first second",
-    "Clock": "kind period phase",
+    "Clock": "kind period phase", "Capture": "first fields", "Stretch": "field fields capture number padding",
+    "Checked": "stretch rule",
     "Sighting": "number weight", "Sightings": "line_17 line_18 instead", "Number": "number state",
     "Sought": "field number pace looked", "Gap": "after before fields shown from to kind",
     "Tally": "gaps lost held stood stills still_end back joined open_gaps lost_numbers undecided unread",

@@ -82,7 +82,7 @@ check 'a status that nobody looks at is warned of' grep -q warn_unused_result er
 check 'what is written is never null' [ "$(grep -c 'Wnonnull]' err)" = 1 ]
 
 PYTHONPATH=$PYTHONPATH:$tests/unit
-for part in refusals judged lines worn; do
+for part in refusals judged plans lines worn; do
     check "the tests of $part" prints 0 '0 wrong' python3 "$here/$part.py"
 done
 finish

@@ -323,6 +323,22 @@ def test_a_wrong_plan_is_refused(text):
     assert reason(refuse_wrong, wrong, sources) == "the plan is wrong: " + text
 
 
+def test_what_isnt_sure_may_be_padding():
+    """Numbers at another speed, which `--sure` leaves out, are believed of their fields."""
+    sources = [source("1..20 21..40/2 41..60")]
+    found = plan(sources, Wanted(sure=True))
+    assert stretches_text(found) == "1-20 a1, 21-41 x42, 42-60 a63"
+    refuse_wrong(found, sources)
+
+
+def test_padding_hides_no_number_of_another_capture():
+    sources = lacking()
+    found = plan(sources)
+    refuse_wrong(found, [*sources, source("1..10", "b")])
+    text = "the plan is wrong: 11 to 12 are padding, and a capture has one of them"
+    assert reason(refuse_wrong, found, [*sources, source("5..20", "b")]) == text
+
+
 def test_padding_hides_no_number():
     sources = lacking()
     found = plan(sources)

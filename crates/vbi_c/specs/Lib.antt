@@ -25,3 +25,4 @@ pub mod Telling
 pub mod Leads
 pub mod Completing
 pub mod Worked
+pub mod Plans

@@ -27,6 +27,7 @@ mod nearest;
 mod one_field;
 mod pace;
 mod piling;
+mod plan;
 mod probing;
 mod reading;
 mod record;
@@ -58,6 +59,7 @@ pub use nearest::{LdvbiNear, ldvbi_nearest};
 pub use one_field::ldvbi_judge_field;
 pub use pace::ldvbi_find_pace;
 pub use piling::ldvbi_recover_pile;
+pub use plan::ldvbi_check_plan;
 pub use reading::LdvbiReading;
 pub use record::{LdvbiRecord, ldvbi_recovered_record};
 pub use recovering::{

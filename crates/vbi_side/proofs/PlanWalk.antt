@@ -8,7 +8,7 @@ use Rattle.vbi_side.specs.declared.plan.Spacing.{Spacing}
 use Rattle.vbi_side.specs.declared.plan.Spacing.TheVariants.{Video, Both, Film, Rising}
 use Rattle.vbi_side.specs.declared.plan.Stretch.{Stretch}
 use Rattle.vbi_side.specs.Clocks.{kept}
-use Rattle.vbi_side.specs.Plans.{CountsOn, GoesOn, IsBefore, IsInPlace, IsReached, Origin, Shows, StandsFor}
+use Rattle.vbi_side.specs.Plans.{CountsOn, GoesOn, IsBefore, IsInPlace, IsReached, Shows, StandsFor}
 use Rattle.vbi_side.specs.Plans.{is_both}
 use Rattle.vbi_side.specs.Plans.{AreOf, IsGood, out_at, rank_at, fields_in}
 use Rattle.vbi_side.proofs.Telling.{some_is}
@@ -87,39 +87,15 @@ one_number numbers plan i j m n one other =
     let e : Some one.stretch ≡ Some other.stretch = sym one.there ∙ other.there in
     grind (arith, e, one.believed, other.believed)
 
--- what was reached before a field was reached before the next one
-origin_on : (layout : Layout) (numbers : List Number) (plan : List Stretch) (i j f r : ℕ)
-    → Origin layout numbers plan i j f r → Origin layout numbers plan i (j + 1) f r
-origin_on layout numbers plan i j f r (inl same) = inl same
-origin_on layout numbers plan i j f r (inr one) =
-    let t = one.1 in inr (one.0, (t.0, t.1, t.2, later t.0 t.1 i j t.3, t.4, t.5, t.6))
-  where
-    later : (k h i j : ℕ) → IsBefore k h i j → IsBefore k h i (j + 1)
-    later k h i j (inl less) = inl less
-    later k h i j (inr here) = inr (here.0, omega (arith, here.1))
-
--- where a field shows no number, what was reached stays
-pub reached_on : (layout : Layout) (numbers : List Number) (plan : List Stretch) (i j f r : ℕ)
-    → ((n : ℕ) → Shows numbers plan i j n → ⊥) → IsReached layout numbers plan i j f r
-    → IsReached layout numbers plan i (j + 1) f r
-reached_on layout numbers plan i j f r none reached = record {
-  from_first = reached.from_first;
-  from_each = λ k h m before shows. elim (before_more k h i j before) [
-    | inl less ↦ reached.from_each k h m less shows
-    | inr same ↦ absurd (none m (subst (λ x. Shows numbers plan i x m) same.1
-        (subst (λ x. Shows numbers plan x h m) same.0 shows)))
-  ];
-  origin = origin_on layout numbers plan i j f r reached.origin;
-}
-
--- where one does, it is in its place if it counts on from what was reached
+-- a number is in its place if it counts on from what was reached
 pub in_its_place : (layout : Layout) (numbers : List Number) (plan : List Stretch) (i j n f r : ℕ)
     → IsReached layout numbers plan i j f r → StandsFor layout plan i (kept layout.clock n)
     → CountsOn layout.spacing f r (out_at plan i + j) (kept layout.clock n) → IsInPlace layout numbers plan i j n
 in_its_place layout numbers plan i j n f r reached own counts = record {
   own = own;
   from_first = first_from layout.spacing layout.begin (rank_at layout plan 0) f r (out_at plan i + j)
-      (kept layout.clock n) reached.from_first counts (elim reached.origin [ inl same ↦ inl same | inr one ↦ inr one.0 ]);
+      (kept layout.clock n) reached.from_first counts
+      (elim reached.origin [ inl same ↦ inl same | inr one ↦ inr one.0 ]);
   from_each = λ k h m before shows. goes_from layout.spacing (out_at plan k + h) (kept layout.clock m) f r
       (out_at plan i + j) (kept layout.clock n) (reached.from_each k h m before shows) counts;
 }

@@ -68,8 +68,8 @@ is_both spacing = false
 
 -- ---- the rule
 
--- stretch i has a field, and no number before that of the stretch before; and a field at least for each number from its
--- first one to before that of the next stretch: for these it stands
+-- stretch i stands for the numbers from its own to before that of the next stretch: that isn't lower, and the stretch
+-- has a field, and one at least for each of these numbers
 abbrev pub IsOrdered : Layout → List Stretch → ℕ → Type 0
 IsOrdered layout plan i = (0 < fields_in (slice_get plan i))
     × (rank_at layout plan i ≤ rank_at layout plan (suc i))

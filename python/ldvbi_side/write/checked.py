@@ -1,23 +1,30 @@
 """The finished plan beside what each capture shows: whether it is one that may be written."""
 
-from typing import Iterator, List, Optional, Sequence, Set, Tuple
+from typing import Dict, Iterator, List, NamedTuple, Optional, Sequence, Tuple
 
+import ldvbi
+from ldvbi import Fault, Rule, Spacing, State
+from ldvbi.judging import PACKED_NUMBER
+from ..join.disagreements import disagreements_of, disputed_in
+from .lengths import Lengths
 from .plan import Plan
+from .ranks import Ranks
+from .runs import Known, runs_of
 from .sources import Source, straightened
 from .stretches import Stretch
 
 
 def refuse_wrong(made: Plan, sources: Sequence[Source]) -> None:
-    """Raises a ValueError unless a plan is right: its numbers ascend, and those that the disc has are all there; each
-    field is one of its capture, and is taken once; each number that is believed stands in the field of the output that
-    its place says; and no number is padding that a capture shows in a field that is taken."""
-    for why in (_disorder(made), _wrong_field(made, sources), _wrong_number(made, sources)):
-        if why:
-            raise ValueError("the plan is wrong: " + why)
+    """Raises a ValueError unless a plan is right: the library says that it is done, and what the plan says of itself,
+    which numbers are padding and where each begins, is so."""
+    shown = _Shown(made, sources)
+    why = _disorder(made) or _fault(made, shown) or _wrong_number(made, shown)
+    if why:
+        raise ValueError("the plan is wrong: " + why)
 
 
 def _disorder(made: Plan) -> Optional[str]:
-    """Where fields of the output, or numbers, don't follow each other."""
+    """Where fields of the output, or numbers, don't follow each other by what the plan says of its stretches."""
     out, left_out = 1, set(made.left_out)
     last: Optional[int] = None
     for one in made.stretches:
@@ -33,43 +40,139 @@ def _disorder(made: Plan) -> Optional[str]:
     return None if out == made.fields + 1 else "it has %d fields" % (out - 1)
 
 
-def _wrong_field(made: Plan, sources: Sequence[Source]) -> Optional[str]:
-    """A field that its capture hasn't, or that is taken twice."""
-    taken: List[Set[int]] = [set() for _ in sources]
+# ---- As the library checks it
+
+class _Shown:
+    """What each capture shows: of each field, counted from 1, its number as a rank. Swapped fields have none, nor have
+    fields of numbers that the plan left aside."""
+
+    def __init__(self, made: Plan, sources: Sequence[Source]) -> None:
+        self.sources, self.ranks = sources, Ranks(set(made.left_out))
+        self.is_video = sources[0].answer.pace in ("video", "both")
+        self.places: List[Dict[int, int]] = []
+        for source in sources:
+            pairs = straightened(source.answer)
+            self.places.append({field: source.capture.ordinal(number) for number, field, _ in source.answer.showings
+                                if field not in pairs})
+
+    def packed(self) -> Iterator[bytes]:
+        """The numbers of each capture as the library has them."""
+        for source, places in zip(self.sources, self.places):
+            room = bytearray(PACKED_NUMBER.size * source.answer.fields)
+            for field, number in places.items():
+                PACKED_NUMBER.pack_into(room, PACKED_NUMBER.size * (field - 1), self.ranks.of(number), State.believed)
+            yield room
+
+    def set_aside(self, made: Plan) -> None:
+        """Leaves out the numbers of fields that aren't taken, of which it isn't sure that they are these numbers', or
+        whose run another capture disputes."""
+        taken = {(one.source, field) for one in made.stretches if one.source is not None and one.field is not None
+                 for field in range(one.field, one.field + one.fields)}
+        captures = [source.capture for source in self.sources]
+        disputed = disputed_in(disagreements_of(captures))
+        read = [self.ranks.of(number) for places in self.places for number in places.values()]
+        known = Known(self.ranks, Lengths(self.sources, self.ranks), range(min(read), max(read) + 1))
+        for place, (source, places) in enumerate(zip(self.sources, self.places)):
+            runs = runs_of(place, source, known, {field for name, field in disputed if name == source.capture.name})
+            sure = {block.field for run in runs for block in run.blocks if block.is_sure}
+            for field in [field for field in places if (place, field) not in taken and field not in sure]:
+                del places[field]
+
+    def of(self, one: Stretch) -> Iterator[Tuple[int, int]]:
+        """Each number that the fields of a stretch show, and that field of the output."""
+        if one.source is not None and one.field is not None and one.first is not None:
+            for step in range(one.fields):
+                number = self.places[one.source].get(one.field + step)
+                if number is not None:
+                    yield number, one.out + step
+
+
+class _Begun(NamedTuple):
+    """Where the numbers of a plan begin: the first one's rank, its field of the output, and the rank after the last."""
+    rank: int
+    out: int
+    end: int
+
+
+def _begun(made: Plan, ranks: Ranks) -> _Begun:
+    of_numbers = [one for one in made.stretches if one.first is not None]
+    first, last = of_numbers[0].first, of_numbers[-1].last
+    assert first is not None and last is not None
+    return _Begun(ranks.of(first), made.first_field.get(first, of_numbers[0].out), ranks.of(last) + 1)
+
+
+def _stretches(made: Plan, shown: _Shown, begun: _Begun) -> List[ldvbi.Stretch]:
+    """The stretches as the library has them. Each stands for the numbers from its own to before that of the next one:
+    one of padding for those that are padding as a whole."""
+    found: List[ldvbi.Stretch] = []
+    rank, before = begun.rank, None
     for one in made.stretches:
-        if one.source is None or one.field is None:
-            continue
-        fields = range(one.field, one.field + one.fields)
-        if fields[0] < 1 or fields[-1] > sources[one.source].answer.fields:
-            return "%s has no field %d" % (sources[one.source].capture.name, fields[-1])
-        if not taken[one.source].isdisjoint(fields):
-            return "field %d of %s is taken twice" % (fields[0], sources[one.source].capture.name)
-        taken[one.source].update(fields)
+        if one.first is not None and one.last is not None:
+            begins = shown.ranks.of(one.first)
+            if before is not None and before.last is not None and before.last >= one.first:  # goes on with its number
+                if one.source is None:
+                    begins += 1
+                elif before.source is not None:  # a swapped pair cuts it
+                    begins = begun.rank + (one.out - begun.out + 1) // 2
+            rank, before = max(rank, begins), one
+        elif before is not None:
+            rank = begun.end
+        found.append(ldvbi.Stretch(one.source, (one.field or 1) - 1, one.fields, rank))
+    return found
+
+
+def _fault(made: Plan, shown: _Shown) -> Optional[str]:
+    """What the library finds wrong. Padding may hide what isn't sure, or what another capture disputes."""
+    begun = _begun(made, shown.ranks)
+    stretches, spacing = _stretches(made, shown, begun), _SPACINGS[str(shown.sources[0].answer.pace)]
+    found = ldvbi.check_plan(shown.packed(), stretches, begun.end, spacing, begin=begun.out - 1)
+    if found and found.rule == Rule.hidden:
+        shown.set_aside(made)
+        found = ldvbi.check_plan(shown.packed(), stretches, begun.end, spacing, begin=begun.out - 1)
+    return found and _text_of(found, made, shown)
+
+
+_SPACINGS = {"video": Spacing.video, "film": Spacing.film, "both": Spacing.both, "minute": Spacing.rising}
+
+
+def _text_of(found: Fault, made: Plan, shown: _Shown) -> str:
+    """What is said of a fault."""
+    one, text = made.stretches[found.stretch], made.count_unit().text_of
+    name = "" if one.source is None else shown.sources[one.source].capture.name
+    if found.rule == Rule.not_there:
+        return "%s has no field %d" % (name, (one.field or 0) + one.fields - 1)
+    if found.rule == Rule.twice:
+        return "field %d of %s is taken twice" % (one.field or 0, name)
+    if found.rule == Rule.misplaced:
+        return _misplaced(one, made, shown) or "a number of fields %d to %d is out of its place" % (
+            one.out, one.outs()[-1])
+    if found.rule == Rule.hidden and one.first is not None and one.last is not None:
+        return "%s to %s are padding, and a capture has one of them" % (text(one.first), text(one.last))
+    return "fields %d to %d stand for more numbers than they have fields" % (one.out, one.outs()[-1])
+
+
+# ---- What the plan says of itself
+
+def _misplaced(one: Stretch, made: Plan, shown: _Shown) -> Optional[str]:
+    """The first number of a stretch that is elsewhere than the plan says."""
+    text, is_on_both = made.count_unit().text_of, shown.sources[0].answer.pace == "both"
+    for number, out in shown.of(one):
+        wanted = made.first_field.get(number)
+        if wanted is None:
+            return "%s stands in field %d, where another number is" % (text(number), out)
+        if out - wanted not in ((0, 1) if is_on_both else (0,)):
+            return "%s stands in field %d, not %d" % (text(number), out, wanted)
     return None
 
 
-def _wrong_number(made: Plan, sources: Sequence[Source]) -> Optional[str]:
-    """A number that stands in another field than its place says, or that is padding though it is shown."""
-    shown, is_on_both = set(), sources[0].answer.pace == "both"
-    for number, out in _shown(made.stretches, sources):
-        wanted = made.first_field.get(number)
-        if wanted is not None and out - wanted not in ((0, 1) if is_on_both else (0,)):
-            return "%s stands in field %d, not %d" % (made.count_unit().text_of(number), out, wanted)
-        if wanted is None:
-            return "%s stands in field %d, where another number is" % (made.count_unit().text_of(number), out)
-        shown.add(number)
-    hidden = sorted(shown.intersection(made.padded))
-    return "%s is padding" % made.count_unit().text_of(hidden[0]) if hidden else None
-
-
-def _shown(stretches: Sequence[Stretch], sources: Sequence[Source]) -> Iterator[Tuple[int, int]]:
-    """Each number that a taken field shows, and that field of the output, but for swapped fields."""
-    places = [{field: source.capture.ordinal(number) for number, field, _ in source.answer.showings}
-              for source in sources]
-    for one in stretches:
-        if one.source is not None and one.field is not None and one.first is not None:
-            pairs = straightened(sources[one.source].answer)
-            for step in range(one.fields):
-                number = places[one.source].get(one.field + step)
-                if number is not None and one.field + step not in pairs:
-                    yield number, one.out + step
+def _wrong_number(made: Plan, shown: _Shown) -> Optional[str]:
+    """A number that stands elsewhere than the plan says, or that it says is padding though it is shown."""
+    padded = set(made.padded)
+    for one in made.stretches:
+        why = _misplaced(one, made, shown)
+        if why:
+            return why
+        hidden = padded.intersection(number for number, _ in shown.of(one))
+        if hidden:
+            return "%s is padding" % made.count_unit().text_of(min(hidden))
+    return None

@@ -5,7 +5,7 @@
 #![allow(clippy::missing_safety_doc)]
 use crate::c::{self, LdvbiClock, LdvbiCode, LdvbiErased, LdvbiFieldReadings, LdvbiNear, LdvbiReading, LdvbiRecord};
 use crate::c::LdvbiSought;
-use crate::side::{Finding, Gap, Number, Sightings};
+use crate::side::{Capture, Checked, Finding, Gap, Number, Sightings, Stretch};
 use std::mem::size_of;
 use std::slice::{from_raw_parts, from_raw_parts_mut};
 
@@ -115,5 +115,7 @@ exports! {
         clock: &mut LdvbiClock) -> u32;
     fn ldvbi_judge_side_by_clock(system: u32, counted: u32, pace: u32, both: u32, may_end: u32, clock: &LdvbiClock,
         seen: &[Sightings], numbers: &[Number], ends: &[u32], gaps: &mut [Gap], side: &mut Finding) -> u32;
+    fn ldvbi_check_plan(spacing: u32, begin: usize, end: u32, clock: &LdvbiClock, numbers: &[Number],
+        captures: &[Capture], plan: &[Stretch], checked: &mut Checked) -> u32;
     fn ldvbi_first_of(numbers: &[Number], number: u32) -> usize;
 }

@@ -104,6 +104,7 @@ mod near;
 #[cfg(all(feature = "metadata", unix, target_pointer_width = "64"))]
 #[allow(unsafe_code)]
 mod opened;
+mod plans;
 #[cfg(not(one_file))]
 #[allow(dead_code, unused_imports)]
 mod side;
@@ -120,6 +121,7 @@ pub use crate::meta::MetaFault;
 pub use crate::near::Near;
 #[cfg(all(feature = "metadata", unix, target_pointer_width = "64"))]
 pub use crate::opened::OpenError;
+pub use crate::plans::{check_plan, Layout, PlanFault, Rule, Spacing, Stretch};
 pub use crate::side::{Counted, Tally};
 pub use crate::sides::{Field, Number, Place, Side};
 pub use crate::whole::{Clock, Gap, GapKind, Reason, SideOptions, Verdict, Whole};

@@ -29,6 +29,17 @@ impl Number {
         [Number::Nothing, Number::Believed(n), Number::Doubtful(n), Number::Due(n)][judged.state as usize]
     }
 
+    /// As the library's calls take it.
+    pub(crate) fn judged(self) -> side::Number {
+        let (number, state) = match self {
+            Number::Nothing => (0, 0),
+            Number::Believed(number) => (number, 1),
+            Number::Doubtful(number) => (number, 2),
+            Number::Due(number) => (number, 3),
+        };
+        side::Number { number, state }
+    }
+
     /// The number, if it is believed or due.
     pub fn known(self) -> Option<u32> {
         match self {

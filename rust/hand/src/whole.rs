@@ -39,7 +39,7 @@ pub enum Clock {
 
 impl Clock {
     /// As the library's calls take it, if it is one.
-    fn for_c(self) -> Result<LdvbiClock, Error> {
+    pub(crate) fn for_c(self) -> Result<LdvbiClock, Error> {
         match self {
             Clock::Plain => Ok(PLAIN),
             Clock::DropFrame => Ok(LdvbiClock { kind: 1, period: 0, phase: 0 }),
