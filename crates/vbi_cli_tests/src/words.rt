@@ -221,6 +221,7 @@ fn paths_are_kept_as_they_are(rt: HostRuntime) -> Result<(), Fail> {
             let job = read_after(rt.alloc(), command, words)?;
             let wanted = Held {
                 verb,
+                recover: false,
                 overrides: NONE,
                 meta,
                 input,
@@ -237,6 +238,7 @@ fn takes(alloc: Global, option: &str, value: &str, overrides: Overrides) -> Resu
         let job = read_after(alloc, command, &[option, value])?;
         let wanted = Held {
             verb,
+            recover: false,
             overrides,
             meta: None,
             input: None,
