@@ -3,7 +3,7 @@
 //! `run` is the one loop, over the kind of text (`Kind`, texts.rt). A line is read into the intake's one array. The
 //! kinds with recovered words keep the bytes of rows 15, 16 and 17 besides, in room that their caller here has; the
 //! other two have no such room.
-ghost use Rattle.std.specs.Prelude.{◌≡◌, ◌+◌, ◌*◌, ◌^◌, ◌<◌, ◌≤◌, ◌++◌, [], length, take, drop, IsTrue, IfErr};
+ghost use Rattle.std.specs.Prelude.{◌≡◌, ◌⊎◌, ◌+◌, ◌*◌, ◌^◌, ◌<◌, ◌≤◌, ◌++◌, [], length, take, drop, IsTrue, IfErr};
 ghost use Rattle.vbi_words.specs.Geometry.{height_of, line_bytes};
 ghost use Rattle.vbi_line.specs.Counted.{failures_of, IsSameDevice};
 ghost use Rattle.vbi_line.specs.Intake as intakes;
@@ -109,7 +109,8 @@ fn end_at_limit<K: Kind, R: Read, W: Write>(
     }
 }
 
-/// Writes the text of a stream, with room for the rows that are kept.
+/// Writes the text of a stream, with room for the rows that are kept: three lines if the kind of text has recovered
+/// words, else none.
 fn run<K: Kind, R: Read, W: Write>(
     config: &Config,
     intake: &mut Intake<R>,
@@ -117,6 +118,7 @@ fn run<K: Kind, R: Read, W: Write>(
     held: &mut [u8],
 ) -> Result<Summary, RunFault>
     requires room { IsTrue K.KEEPS → length held.old ≡ 3 * line_bytes config.now.system }
+    requires no_more { IsTrue K.KEEPS ⊎ (length held.old ≡ 0) }
     requires intake { IsFresh intake.old config.now.system }
     requires outlet { outlets.IsFresh outlet.old }
     ensures same_reader { IsSameDevice (intakes.counted_of intake.old) (intakes.counted_of intake.new) }
@@ -161,8 +163,8 @@ pub fn extract<R: Read, W: Write>(
 }
 
 /// As `extract`, with recovered words: the clauses are the same with this document's texts. Of each field the bytes of
-/// rows 15, 16 and 17 are held until it is whole: three lines beside the one that is read. How often recovery looks at
-/// their samples isn't counted: the summary counts the looks of the readings.
+/// rows 15, 16 and 17 are held until it is whole: three lines beside the one that is read (`room` of `run`). How often
+/// recovery looks at their samples isn't counted: the summary counts the looks of the readings.
 pub fn extract_recovered<R: Read, W: Write>(
     config: &Config,
     intake: &mut Intake<R>,
