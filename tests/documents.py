@@ -230,7 +230,7 @@ def promises():
     yield len(begins) == len(bullets), f"README.md has {len(bullets)} promises, and texts/promised.txt {len(begins)}"
 
 
-CHECKS = {"promises": (promises, 15), "links": (links, 70), "paths": (paths, 120), "names": (names, 800),
+CHECKS = {"promises": (promises, 17), "links": (links, 70), "paths": (paths, 120), "names": (names, 800),
           "faults": (faults, 28), "numbers": (numbers, 100), "measured": (measured, 20)}
 
 
