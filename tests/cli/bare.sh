@@ -22,7 +22,7 @@ has_mirror() {
 }
 if [ "$(id -u)" != 0 ] || ! command -v debootstrap > /dev/null || ! unshare --mount true || ! has_mirror; then
     echo 'bare: there is no root, no debootstrap, or no mirror of Debian' >&2
-    leave_out 8
+    leave_out 9
     finish
 fi
 
