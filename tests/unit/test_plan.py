@@ -324,10 +324,11 @@ def test_a_wrong_plan_is_refused(text):
 
 
 def test_what_isnt_sure_may_be_padding():
-    """Numbers at another speed, which `--sure` leaves out, are believed of their fields."""
+    """Numbers at another speed, which `--sure` leaves out, are believed of their fields. So is the last field left out,
+    of which no number says whose it is."""
     sources = [source("1..20 21..40/2 41..60")]
     found = plan(sources, Wanted(sure=True))
-    assert stretches_text(found) == "1-20 a1, 21-41 x42, 42-60 a63"
+    assert stretches_text(found) == "1-20 a1, 21-41 x42, 42-60 a63, 60 x1"
     refuse_wrong(found, sources)
 
 

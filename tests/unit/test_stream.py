@@ -9,6 +9,7 @@ import sys
 from unittest import mock
 
 import ldvbi
+from ldvbi.rows import File
 import pytest
 from room import reason
 from streams import NTSC, PAL, pictures, write_stream
@@ -95,6 +96,15 @@ def test_closed(room):
     for call in (lambda: side[0], lambda: side[1:2], lambda: list(side), lambda: list(begun), lambda: side.rows(0)):
         assert reason(call) == "the stream is closed"
     assert len(side) == COUNT
+
+
+def test_a_closed_file(room):
+    """As another thread may find it between two reads."""
+    file = File(room.write("file", b"bytes"))
+    assert file.read(1, 2) == b"yt"
+    file.close()
+    for call in (lambda: file.read(1, 2), lambda: file.fetch(0, 1), file.mapped):
+        assert reason(call) == "the stream is closed"
 
 
 def test_nothing_stays_open(room):

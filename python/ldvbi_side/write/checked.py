@@ -6,6 +6,7 @@ import ldvbi
 from ldvbi import Fault, Rule, Spacing, State
 from ldvbi.judging import PACKED_NUMBER
 from ..join.disagreements import disagreements_of, disputed_in
+from .following import agreed_ends, followed
 from .lengths import Lengths
 from .plan import Plan
 from .ranks import Ranks
@@ -71,9 +72,11 @@ class _Shown:
         captures = [source.capture for source in self.sources]
         disputed = disputed_in(disagreements_of(captures))
         read = [self.ranks.of(number) for places in self.places for number in places.values()]
-        known = Known(self.ranks, Lengths(self.sources, self.ranks), range(min(read), max(read) + 1))
-        for place, (source, places) in enumerate(zip(self.sources, self.places)):
-            runs = runs_of(place, source, known, {field for name, field in disputed if name == source.capture.name})
+        following = [followed(source, self.ranks) for source in self.sources]
+        known = Known(self.ranks, Lengths(following), range(min(read), max(read) + 1), agreed_ends(following, -1),
+                      agreed_ends(following, 1))
+        for place, (one, places) in enumerate(zip(following, self.places)):
+            runs = runs_of(place, one, known, {field for name, field in disputed if name == one.source.capture.name})
             sure = {block.field for run in runs for block in run.blocks if block.is_sure}
             for field in [field for field in places if (place, field) not in taken and field not in sure]:
                 del places[field]

@@ -97,10 +97,12 @@ impl Stretch {
     /// becomes the greatest, which is none either.
     fn for_c(&self, spans: &[side::Capture]) -> side::Stretch {
         let Stretch { from, fields, number } = *self;
-        let Some((capture, field)) = from else {
-            return side::Stretch { field: 0, fields, capture: 0, number, padding: 1 };
-        };
-        let first = spans.get(capture).map_or(0, |span| span.first);
-        side::Stretch { field: first.saturating_add(field), fields, capture, number, padding: 0 }
+        match from {
+            Some((capture, field)) => {
+                let first = spans.get(capture).map_or(0, |span| span.first);
+                side::Stretch { field: first.saturating_add(field), fields, capture, number, padding: 0 }
+            }
+            None => side::Stretch { field: 0, fields, capture: 0, number, padding: 1 },
+        }
     }
 }
