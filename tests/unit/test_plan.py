@@ -301,7 +301,9 @@ WRONG = {
         out=19, fields=6), ones[2]],
     "field 21 is planned as field 22": lambda ones: [ones[0], ones[1]._replace(out=22), ones[2]],
     "it has 78 fields": lambda ones: [*ones[:2], ones[2]._replace(fields=54)],
-    "a has no field 78": lambda ones: [*ones[:2], ones[2]._replace(field=23)]}
+    "a has no field 78": lambda ones: [*ones[:2], ones[2]._replace(field=23)],
+    "fields 21 to 21 stand for more numbers than they have fields": lambda ones: [ones[0], ones[1]._replace(
+        fields=1), ones[2]._replace(out=22, fields=59, field=18)]}
 
 
 def lacking():
