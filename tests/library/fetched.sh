@@ -27,6 +27,8 @@ if [ "$built" = "$top/rust" ]; then
     export CARGO_TARGET_DIR="$top/rust/out" RUSTFLAGS=
     check 'the player in Rust is built' does sh -c 'cd project && cargo build --quiet'
     players="$players;$CARGO_TARGET_DIR/debug/player|"
+else
+    leave_out 15
 fi
 
 # fetches NAME STATUS COMMAND..: checks that a command ends so, writes what is in `wanted`, and fetches 1 to 12 MB
